@@ -1,0 +1,142 @@
+-- What the verdict on a list of options says of it.
+use Rattle.std.proofs.Common.{◌≡◌, ℕ, ◌+◌, ◌<◌, ◌≤◌, ◌↔◌, Bool, true, false, not, cond, ◌&&◌, ◌==◌, nat_lt, nat_le, List, [], ◌∷◌, length, count_by, find, Option, Some, None, refl, sym, ap, ◌∙◌, arith, inl, inr, IsTrue}
+use Rattle.std.proofs.lemmas.Bool.Decides.{nat_tests}
+use Rattle.std.proofs.lemmas.Bool.{both_ways, cases_Bool, lt-ltb, ltb-true, or_left, or_right, or_cases, eq-eqb, eqb-true}
+use Rattle.std.proofs.lemmas.List.Sums.{list_all-from_AllPass}
+use Rattle.std.specs.List.{range_with_len, list_any}
+use Rattle.cover_problem.specs.ExactCover.{uses, IsExactCover}
+use Rattle.cover_problem.specs.Numbers.{is_in, is_distinct}
+use Rattle.cover_problem.specs.Prefix.{are_options, AreOptions}
+use Rattle.cover_problem.specs.Problem.{Problem, IsProblem, option_numbers, items_of, names_item}
+use Rattle.cover_problem.specs.Verdict.{verdict_of, first_uncovered, first_twice, twice_or_exact, uncovered_or}
+use Rattle.cover_problem.specs.declared.verdict.Verdict.{Verdict}
+use Rattle.cover_problem.specs.declared.verdict.Verdict.TheVariants as verdicts
+use Rattle.cover_problem.proofs.Among.{all_at, all_by, range_in, range_low, range_high}
+use Rattle.cover_problem.proofs.Counts.{uses_of_list, count_none}
+use Rattle.cover_problem.proofs.Named.{option_named}
+
+-- ---- options in range
+
+pub are_options_by : (p : Problem) (options : List ℕ) → AreOptions p options → are_options p options ≡ true
+are_options_by p options each =
+    list_all-from_AllPass (λ o. nat_lt o (length p.options)) options (λ k d lt. lt-ltb _ _ (each k d lt))
+
+pub option_within : (p : Problem) (options : List ℕ) (o : ℕ) → are_options p options ≡ true → is_in options o ≡ true → o < length p.options
+option_within p options o each here = ltb-true o (length p.options) (all_at (λ x. nat_lt x (length p.options)) options o each here)
+
+pub uses_counted : (p : Problem) (options : List ℕ) (item : ℕ) → AreOptions p options → is_distinct options ≡ true
+    → uses p (is_in options) item ≡ count_by (λ o. names_item p o item) options
+uses_counted p options item each distinct =
+    uses_of_list p options item distinct (λ o here. option_within p options o (are_options_by p options each) here)
+
+-- ---- the first number that passes a test
+
+find_none_at : (test : ℕ → Bool) (xs : List ℕ) (x : ℕ) → find test xs ≡ None → is_in xs x ≡ true → test x ≡ false
+find_none_at test [] x none here = absurd (both_ways false refl here)
+find_none_at test (y ∷ ys) x none here =
+    elim (cases_Bool (test y)) [
+      | inl passes ↦ let found : find test (y ∷ ys) ≡ Some y = rw passes refl in absurd (let clash : Some y ≡ None = sym found ∙ none in cc)
+      | inr fails ↦ let later : find test ys ≡ None = rw fails at none in
+          elim (or_cases (y == x) (is_in ys x) here) [
+            | inl same ↦ ap test (sym (eqb-true y x same)) ∙ fails
+            | inr there ↦ find_none_at test ys x later there
+          ]
+    ]
+
+find_none_by : (test : ℕ → Bool) (xs : List ℕ) → ((x : ℕ) → is_in xs x ≡ true → test x ≡ false) → find test xs ≡ None
+find_none_by test [] each = refl
+find_none_by test (y ∷ ys) each =
+    let fails : test y ≡ false = each y (or_left (y == y) (is_in ys y) (eq-eqb y y refl)) in
+    rw fails (find_none_by test ys (λ x there. each x (or_right (y == x) (is_in ys x) there)))
+
+-- ---- items that no option names
+
+and_none : (b : Bool) → (b && false) ≡ false
+and_none true = refl
+and_none false = refl
+
+unnamed : (p : Problem) (o item : ℕ) → IsProblem p → o < length p.options → length p.names ≤ item → names_item p o item ≡ false
+unnamed p o item problem within beyond =
+    elim (cases_Bool (names_item p o item)) [
+      | inl named ↦ let below : item < length p.names = ltb-true item (length p.names) (all_at (λ i. nat_lt i (length p.names)) (items_of p o) item (problem.each_named o [] within) named) in
+          absurd (omega arith)
+      | inr other ↦ other
+    ]
+
+uses_unnamed : (p : Problem) (chosen : ℕ → Bool) (item : ℕ) → IsProblem p → length p.names ≤ item → uses p chosen item ≡ 0
+uses_unnamed p chosen item problem beyond =
+    count_none (λ o. chosen o && names_item p o item) (option_numbers p)
+    (λ o here.
+    let high = range_high 0 (length p.options) o here in
+    ap (λ b. chosen o && b) (unnamed p o item problem (omega (arith, high)) beyond) ∙ and_none (chosen o))
+
+-- ---- the verdict
+
+-- nothing is wrong with the list
+pub record Passes (p : Problem) (options : List ℕ) : Type 0 where
+  pub within : are_options p options ≡ true
+  pub distinct : is_distinct options ≡ true
+  pub covered : first_uncovered p options ≡ None
+  pub once : first_twice p options ≡ None
+
+passes_exact : (p : Problem) (options : List ℕ) → Passes p options → verdict_of p options ≡ verdicts.Exact
+passes_exact p options passes = rw (passes.within, passes.distinct, passes.covered, passes.once) refl
+
+exact_passes : (p : Problem) (options : List ℕ) → verdict_of p options ≡ verdicts.Exact → Passes p options
+exact_passes p options exact = within (are_options p options) (is_distinct options) (first_uncovered p options) (first_twice p options) refl refl refl refl exact
+  where
+    within : (a b : Bool) (c d : Option ℕ) → are_options p options ≡ a → is_distinct options ≡ b → first_uncovered p options ≡ c → first_twice p options ≡ d
+        → cond (not a) verdicts.NoSuchOption (cond (not b) verdicts.ChosenTwice (uncovered_or c (twice_or_exact d))) ≡ verdicts.Exact
+        → Passes p options
+    within true true None None ea eb ec ed e = record { within = ea; distinct = eb; covered = ec; once = ed }
+    within false b c d ea eb ec ed e = absurd (cc)
+    within true false c d ea eb ec ed e = absurd (cc)
+    within true true (Some item) d ea eb ec ed e = absurd (cc)
+    within true true None (Some item) ea eb ec ed e = absurd (cc)
+
+some_use : (n : ℕ) → (n == 0) ≡ false → 1 ≤ n
+some_use n fails = elim (cases_Bool (nat_lt 0 n)) [
+  | inl some ↦ let above = ltb-true 0 n some in omega arith
+  | inr none ↦ grind (arith, nat_tests)
+]
+
+few_uses : (n : ℕ) → nat_le 2 n ≡ false → n ≤ 1
+few_uses n fails = grind (arith, nat_tests)
+
+pub exact_of_passes : (p : Problem) (options : List ℕ) → IsProblem p → Passes p options → IsExactCover p (is_in options)
+exact_of_passes p options problem passes = record {
+  in_range = λ o here. option_within p options o passes.within here;
+  primary = λ item within.
+      let below : item < length p.names = let few = problem.primary in omega (arith, few) in
+      let one = some_use (uses p (is_in options) item) (find_none_at (λ i. uses p (is_in options) i == 0) (range_with_len 0 p.primary) item passes.covered (range_in 0 p.primary item (omega arith) (omega arith))) in
+      let most = few_uses (uses p (is_in options) item) (find_none_at (λ i. nat_le 2 (uses p (is_in options) i)) (range_with_len 0 (length p.names)) item passes.once (range_in 0 (length p.names) item (omega arith) (omega arith))) in
+      omega (arith, one, most);
+  others = λ item. elim (cases_Bool (nat_lt item (length p.names))) [
+    | inl named ↦ let below = ltb-true item (length p.names) named in
+        few_uses (uses p (is_in options) item) (find_none_at (λ i. nat_le 2 (uses p (is_in options) i)) (range_with_len 0 (length p.names)) item passes.once (range_in 0 (length p.names) item (omega arith) (omega arith)))
+    | inr other ↦ let beyond : length p.names ≤ item = grind (arith, nat_tests) in
+        let none = uses_unnamed p (is_in options) item problem beyond in omega (arith, none)
+  ];
+}
+
+no_zero : (n : ℕ) → n ≡ 1 → (n == 0) ≡ false
+no_zero n e = grind (arith, nat_tests)
+
+no_two : (n : ℕ) → n ≤ 1 → nat_le 2 n ≡ false
+no_two n l = grind (arith, nat_tests)
+
+pub passes_of_exact : (p : Problem) (options : List ℕ) → is_distinct options ≡ true → IsExactCover p (is_in options) → Passes p options
+passes_of_exact p options distinct cover = record {
+  within = all_by (λ o. nat_lt o (length p.options)) options (λ o here. lt-ltb o (length p.options) (cover.in_range o here));
+  distinct = distinct;
+  covered = find_none_by (λ i. uses p (is_in options) i == 0) (range_with_len 0 p.primary)
+      (λ item here. let high = range_high 0 p.primary item here in no_zero (uses p (is_in options) item) (cover.primary item (omega (arith, high))));
+  once = find_none_by (λ i. nat_le 2 (uses p (is_in options) i)) (range_with_len 0 (length p.names))
+      (λ item here. no_two (uses p (is_in options) item) (cover.others item));
+}
+
+pub verdict_exact : (p : Problem) (options : List ℕ) → IsProblem p → (verdict_of p options ≡ verdicts.Exact) ↔ ((is_distinct options ≡ true) × IsExactCover p (is_in options))
+verdict_exact p options problem = (
+  (λ exact. let passes = exact_passes p options exact in (passes.distinct, exact_of_passes p options problem passes)),
+  (λ both. passes_exact p options (passes_of_exact p options both.0 both.1)),
+)

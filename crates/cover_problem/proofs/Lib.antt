@@ -1,0 +1,15 @@
+pub mod Among
+pub mod Apart
+pub mod Checks
+pub mod Clashes
+pub mod Counts
+pub mod Covering
+pub mod Extending
+pub mod Fewest
+pub mod Named
+pub mod Outcomes
+pub mod Prefixes
+pub mod Remaining
+pub mod Sets
+pub mod Steps
+pub mod Unbounded

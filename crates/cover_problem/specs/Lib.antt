@@ -1,0 +1,9 @@
+pub mod Branching
+pub mod ExactCover
+pub mod Examples
+pub mod Numbers
+pub mod Onward
+pub mod Prefix
+pub mod Problem
+pub mod Search
+pub mod Verdict

@@ -1,0 +1,34 @@
+-- What a test of a list of options answers.
+use Rattle.std.specs.Prelude.{ℕ, List, length, Option, Some, None, find, not, ◌==◌, nat_le, if◌then◌else◌}
+use Rattle.std.specs.List.{range_with_len}
+use Rattle.cover_problem.specs.ExactCover.{uses}
+use Rattle.cover_problem.specs.Numbers.{is_in, is_distinct}
+use Rattle.cover_problem.specs.Prefix.{are_options}
+use Rattle.cover_problem.specs.Problem.{Problem}
+use Rattle.cover_problem.specs.declared.verdict.Verdict.{Verdict}
+use Rattle.cover_problem.specs.declared.verdict.Verdict.TheVariants as verdicts
+
+-- the first primary item that no option of the list names
+abbrev pub first_uncovered : Problem → List ℕ → Option ℕ
+first_uncovered problem options = find (λ item. uses problem (is_in options) item == 0) (range_with_len 0 problem.primary)
+
+-- the first item that two options of the list name
+abbrev pub first_twice : Problem → List ℕ → Option ℕ
+first_twice problem options = find (λ item. nat_le 2 (uses problem (is_in options) item)) (range_with_len 0 (length problem.names))
+
+abbrev pub twice_or_exact : Option ℕ → Verdict
+twice_or_exact (Some item) = verdicts.CoveredTwice item
+twice_or_exact None = verdicts.Exact
+
+abbrev pub uncovered_or : Option ℕ → Verdict → Verdict
+uncovered_or (Some item) later = verdicts.Uncovered item
+uncovered_or None later = later
+
+-- the first of these that holds: a number of no option, an option twice, an uncovered primary item, an item covered twice; else it is exact
+abbrev pub verdict_of : Problem → List ℕ → Verdict
+verdict_of problem options =
+    if not (are_options problem options)
+    then verdicts.NoSuchOption
+    else (if not (is_distinct options)
+    then verdicts.ChosenTwice
+    else uncovered_or (first_uncovered problem options) (twice_or_exact (first_twice problem options)))

@@ -1,0 +1,81 @@
+ghost use Rattle.std.specs.Prelude.{◌≡◌, ◌<◌, length, true, ◌↔◌, find, ◌==◌, nat_le, IfSome};
+ghost use Rattle.cover_problem.specs.ExactCover.{uses, IsExactCover};
+ghost use Rattle.cover_problem.specs.Numbers.{is_in, is_distinct};
+ghost use Rattle.cover_problem.specs.Prefix.{AreOptions};
+ghost use Rattle.cover_problem.specs.Verdict.{verdict_of, first_uncovered, first_twice};
+
+use crate::prefix::{are_options, option_names};
+use crate::problem::Problem;
+use crate::verdict::Verdict;
+
+/// Whether no number stands in the list twice.
+fn is_distinct(numbers: &[u16]) -> bool
+    ensures { result ≡ is_distinct numbers.now }
+{
+    for (place, number) in numbers.iter().enumerate() {
+        if numbers[place + 1..].contains(number) {
+            return false;
+        }
+    }
+    true
+}
+
+/// How many of the options name the item.
+fn uses(problem: &Problem, options: &[u16], item: u16) -> usize
+    requires options { AreOptions problem.now options.now }
+    requires distinct { is_distinct options.now ≡ true }
+    ensures { result ≡ uses problem.now (is_in options.now) item }
+{
+    options
+        .iter()
+        .filter(|option| option_names(problem, **option, item))
+        .count()
+}
+
+/// The first primary item that no option of the list names.
+fn first_uncovered(problem: &Problem, options: &[u16]) -> Option<u16>
+    requires options { AreOptions problem.now options.now }
+    requires distinct { is_distinct options.now ≡ true }
+    ensures { result ≡ first_uncovered problem.now options.now }
+{
+    (0..problem.primary() as u16).find(|item| uses(problem, options, *item) == 0)
+}
+
+/// The first item that two options of the list name.
+fn first_twice(problem: &Problem, options: &[u16]) -> Option<u16>
+    requires options { AreOptions problem.now options.now }
+    requires distinct { is_distinct options.now ≡ true }
+    ensures { result ≡ first_twice problem.now options.now }
+{
+    (0..problem.items() as u16).find(|item| uses(problem, options, *item) >= 2)
+}
+
+/// The first thing that is wrong with the list.
+fn verdict_on(problem: &Problem, options: &[u16]) -> Verdict
+    ensures { result ≡ verdict_of problem.now options.now }
+{
+    if !are_options(problem, options) {
+        return Verdict::NoSuchOption;
+    }
+    if !is_distinct(options) {
+        return Verdict::ChosenTwice;
+    }
+    if let Some(item) = first_uncovered(problem, options) {
+        return Verdict::Uncovered(item);
+    }
+    match first_twice(problem, options) {
+        Some(item) => Verdict::CoveredTwice(item),
+        None => Verdict::Exact,
+    }
+}
+
+/// Tests whether the list is an exact cover with each option once, and tells the first thing that is wrong.
+///
+/// It takes no memory, and time of the order of the items by the items of the list's options.
+pub fn check_cover(problem: &Problem, options: &[u16]) -> Verdict
+    ensures verdict { result ≡ verdict_of problem.now options.now }
+    ensures exact { (result ≡ Verdict.Exact) ↔ ((is_distinct options.now ≡ true) × IsExactCover problem.now (is_in options.now)) }
+{
+    let _items = problem.items();
+    verdict_on(problem, options)
+}

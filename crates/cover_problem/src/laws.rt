@@ -1,0 +1,63 @@
+//! What holds of the definitions: each function is a law, and does nothing.
+
+ghost use Rattle.std.specs.Prelude.{◌≡◌, ℕ, ◌+◌, ◌<◌, ◌≤◌, List, [], ◌∷◌, length, count_by, Bool, true, false, Option, Some, None};
+ghost use Rattle.cover_problem.specs.Problem.{Problem as ProblemValue, names_item};
+ghost use Rattle.cover_problem.specs.Numbers.{is_in, is_distinct};
+ghost use Rattle.cover_problem.specs.ExactCover.{IsExactCover, uses};
+ghost use Rattle.cover_problem.specs.Prefix.{IsBarren, is_prefix, clash, extends, IsCoverOver};
+ghost use Rattle.cover_problem.specs.Branching.{branch_item, children, IsOpen, IsFirstFewest};
+ghost use Rattle.cover_problem.specs.Search.{first_some, visits_until, first, visits, outcome, Covers, Barren, Spent};
+ghost use Rattle.cover_problem.specs.Examples.{small};
+
+/// The branch item is the uncovered primary item with fewest live options, and the first of those. A prefix without one is complete.
+pub fn branch_item_is_first_fewest()
+    ensures item { (problem : ProblemValue) (prefix : List ℕ) (item : ℕ) →
+        branch_item problem prefix ≡ Some item → IsFirstFewest problem prefix item }
+    ensures complete { (problem : ProblemValue) (prefix : List ℕ) (item : ℕ) →
+        branch_item problem prefix ≡ None → IsOpen problem prefix item → ⊥ }
+{}
+
+/// First and visits by those of the children, with no bound.
+pub fn search_by_children()
+    ensures complete { (problem : ProblemValue) (prefix : List ℕ) →
+        branch_item problem prefix ≡ None → first problem prefix ≡ Some prefix }
+    ensures first { (problem : ProblemValue) (prefix : List ℕ) (item : ℕ) →
+        branch_item problem prefix ≡ Some item → first problem prefix ≡ first_some (first problem) (children problem prefix) }
+    ensures visits { (problem : ProblemValue) (prefix : List ℕ) →
+        visits problem prefix ≡ 1 + visits_until (first problem) (visits problem) (children problem prefix) }
+{}
+
+/// What a search finds is an exact cover that extends the prefix, and where it finds none there is none.
+pub fn first_is_an_exact_cover()
+    ensures found { (problem : ProblemValue) (prefix cover : List ℕ) →
+        is_prefix problem prefix ≡ true → first problem prefix ≡ Some cover → IsCoverOver problem prefix cover }
+    ensures barren { (problem : ProblemValue) (prefix : List ℕ) →
+        first problem prefix ≡ None → IsBarren problem prefix }
+{}
+
+/// Each exact cover that extends a prefix extends exactly one child of it.
+pub fn one_child_of_each_cover()
+    ensures { (problem : ProblemValue) (chosen : ℕ → Bool) (prefix : List ℕ) (item : ℕ) → IsExactCover problem chosen →
+        extends chosen prefix ≡ true → branch_item problem prefix ≡ Some item → count_by (extends chosen) (children problem prefix) ≡ 1 }
+{}
+
+/// Two options of an exact cover do not clash.
+pub fn covers_have_no_clash()
+    ensures { (problem : ProblemValue) (chosen : ℕ → Bool) (o p : ℕ) → IsExactCover problem chosen →
+        chosen o ≡ true → chosen p ≡ true → (o ≡ p → ⊥) → clash problem o p ≡ false }
+{}
+
+/// How often a list without repeats names an item is how often its set does.
+pub fn uses_of_a_list()
+    ensures { (problem : ProblemValue) (options : List ℕ) (item : ℕ) → is_distinct options ≡ true →
+        ((o : ℕ) → is_in options o ≡ true → o < length problem.options) →
+        uses problem (is_in options) item ≡ count_by (λ o. names_item problem o item) options }
+{}
+
+/// The search of a small problem.
+pub fn small_search()
+    ensures first { first small [] ≡ Some (3 ∷ 4 ∷ 0 ∷ []) }
+    ensures visits { visits small [] ≡ 6 }
+    ensures found { outcome small [] 6 ≡ Covers (3 ∷ 4 ∷ 0 ∷ []) }
+    ensures spent { outcome small [] 5 ≡ Spent }
+{}

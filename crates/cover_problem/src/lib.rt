@@ -1,0 +1,25 @@
+//! Exact cover problems, and what a list of options means in one.
+//!
+//! An exact cover is a set of options in which each primary item stands exactly once and each secondary item at most
+//! once. The crate has the problem as a value, tests of lists of options, and, as functions that do nothing, the laws
+//! of the definitions on which the searches rest.
+#![tactic(auto)]
+
+mod answer;
+mod check;
+mod laws;
+mod lists;
+mod prefix;
+mod problem;
+mod verdict;
+
+pub use answer::Answer;
+pub use check::check_cover;
+pub use laws::{
+    branch_item_is_first_fewest, covers_have_no_clash, first_is_an_exact_cover,
+    one_child_of_each_cover, search_by_children, small_search, uses_of_a_list,
+};
+pub use lists::{Name, Numbers};
+pub use prefix::{clash, in_file_order, is_covered, is_live, is_prefix, option_names};
+pub use problem::Problem;
+pub use verdict::Verdict;

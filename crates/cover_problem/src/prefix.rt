@@ -1,0 +1,85 @@
+ghost use Rattle.std.specs.Prelude.{◌≡◌, ◌<◌, ◌≤◌, ◌+◌, length, ◌↔◌, IsTrue};
+ghost use Rattle.cover_problem.specs.Problem.{names_item};
+ghost use Rattle.cover_problem.specs.Prefix.{are_options, is_covered, clash, is_live, are_apart, is_prefix, AreOptions, InFileOrder};
+ghost use Rattle.std.specs.List.Sorted.{IsStrictlyIncreasing};
+
+use crate::problem::Problem;
+
+/// Whether the option names the item.
+pub fn option_names(problem: &Problem, option: u16, item: u16) -> bool
+    requires { option < length problem.now.options }
+    ensures { result ≡ names_item problem.now option item }
+{
+    problem.option(option).iter().any(|own| *own == item)
+}
+
+/// Whether one of the options names the item.
+pub fn is_covered(problem: &Problem, chosen: &[u16], item: u16) -> bool
+    requires { AreOptions problem.now chosen.now }
+    ensures { result ≡ is_covered problem.now chosen.now item }
+{
+    chosen
+        .iter()
+        .any(|option| option_names(problem, *option, item))
+}
+
+/// Whether the two options have an item in common.
+pub fn clash(problem: &Problem, first: u16, second: u16) -> bool
+    requires first { first < length problem.now.options }
+    requires second { second < length problem.now.options }
+    ensures { result ≡ clash problem.now first second }
+{
+    problem
+        .option(first)
+        .iter()
+        .any(|item| option_names(problem, second, *item))
+}
+
+/// Whether the option clashes with none of the chosen ones.
+pub fn is_live(problem: &Problem, chosen: &[u16], option: u16) -> bool
+    requires chosen { AreOptions problem.now chosen.now }
+    requires option { option < length problem.now.options }
+    ensures { result ≡ is_live problem.now chosen.now option }
+{
+    chosen.iter().all(|own| !clash(problem, *own, option))
+}
+
+pub fn are_options(problem: &Problem, numbers: &[u16]) -> bool
+    ensures test { result ≡ are_options problem.now numbers.now }
+    ensures each { IsTrue result ↔ AreOptions problem.now numbers.now }
+{
+    numbers.iter().all(|o| (*o as usize) < problem.options())
+}
+
+/// Whether these are options of the problem, no two of which clash.
+pub fn is_prefix(problem: &Problem, options: &[u16]) -> bool
+    ensures { result ≡ is_prefix problem.now options.now }
+{
+    if !are_options(problem, options) {
+        return false;
+    }
+    for (place, option) in options.iter().enumerate() {
+        if !is_live(problem, &options[place + 1..], *option) {
+            return false;
+        }
+    }
+    true
+}
+
+fn ascends(numbers: &[u16]) -> bool
+    ensures { IsTrue result ↔ IsStrictlyIncreasing numbers.now }
+{
+    for place in 1..numbers.len() {
+        if numbers[place - 1] >= numbers[place] {
+            return false;
+        }
+    }
+    true
+}
+
+/// Whether these are options of the problem, in the order of the file and none of them twice.
+pub fn in_file_order(problem: &Problem, options: &[u16]) -> bool
+    ensures { IsTrue result ↔ InFileOrder problem.now options.now }
+{
+    are_options(problem, options) && ascends(options)
+}

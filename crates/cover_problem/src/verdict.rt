@@ -1,0 +1,14 @@
+/// What a test of a list of options answers: the first of these that holds.
+#[derive(Clone, Copy, Debug, PartialEq, Eq)]
+pub enum Verdict {
+    /// A number of the list is no option's.
+    NoSuchOption,
+    /// An option stands in the list twice.
+    ChosenTwice,
+    /// This primary item, the first such, is named by none of the options.
+    Uncovered(u16),
+    /// This item, the first such, is named by two of the options or more.
+    CoveredTwice(u16),
+    /// The options are an exact cover.
+    Exact,
+}
