@@ -1,19 +1,17 @@
 -- What the verdict on a list of options says of it.
-use Rattle.std.proofs.Common.{◌≡◌, ℕ, ◌+◌, ◌<◌, ◌≤◌, ◌↔◌, Bool, true, false, not, cond, ◌&&◌, ◌==◌, nat_lt, nat_le, List, [], ◌∷◌, length, count_by, find, Option, Some, None, refl, sym, ap, ◌∙◌, arith, inl, inr, IsTrue}
+use Rattle.std.proofs.Common.{◌≡◌, ℕ, ◌<◌, ◌≤◌, ◌↔◌, Bool, true, false, not, cond, ◌&&◌, ◌==◌, nat_lt, nat_le, List, [], ◌∷◌, length, count_by, find, Option, Some, None, refl, sym, ap, ◌∙◌, arith, inl, inr}
 use Rattle.std.proofs.lemmas.Bool.Decides.{nat_tests}
 use Rattle.std.proofs.lemmas.Bool.{both_ways, cases_Bool, lt-ltb, ltb-true, or_left, or_right, or_cases, eq-eqb, eqb-true}
 use Rattle.std.proofs.lemmas.List.Sums.{list_all-from_AllPass}
-use Rattle.std.specs.List.{range_with_len, list_any}
+use Rattle.std.specs.List.{range_with_len}
 use Rattle.cover_problem.specs.ExactCover.{uses, IsExactCover}
 use Rattle.cover_problem.specs.Numbers.{is_in, is_distinct}
 use Rattle.cover_problem.specs.Prefix.{are_options, AreOptions}
 use Rattle.cover_problem.specs.Problem.{Problem, IsProblem, option_numbers, items_of, names_item}
 use Rattle.cover_problem.specs.Verdict.{verdict_of, first_uncovered, first_twice, twice_or_exact, uncovered_or}
-use Rattle.cover_problem.specs.declared.verdict.Verdict.{Verdict}
 use Rattle.cover_problem.specs.declared.verdict.Verdict.TheVariants as verdicts
-use Rattle.cover_problem.proofs.Among.{all_at, all_by, range_in, range_low, range_high}
+use Rattle.cover_problem.proofs.Among.{all_at, all_by, range_in, range_high}
 use Rattle.cover_problem.proofs.Counts.{uses_of_list, count_none}
-use Rattle.cover_problem.proofs.Named.{option_named}
 
 -- ---- options in range
 

@@ -7,6 +7,7 @@ pub mod Covering
 pub mod Extending
 pub mod Fewest
 pub mod Named
+pub mod Ordered
 pub mod Outcomes
 pub mod Prefixes
 pub mod Remaining

@@ -3,8 +3,8 @@
 ghost use Rattle.std.specs.Prelude.{◌≡◌, ℕ, ◌+◌, ◌<◌, ◌≤◌, List, [], ◌∷◌, length, count_by, Bool, true, false, Option, Some, None};
 ghost use Rattle.cover_problem.specs.Problem.{Problem as ProblemValue, names_item};
 ghost use Rattle.cover_problem.specs.Numbers.{is_in, is_distinct};
-ghost use Rattle.cover_problem.specs.ExactCover.{IsExactCover, uses};
-ghost use Rattle.cover_problem.specs.Prefix.{IsBarren, is_prefix, clash, extends, IsCoverOver};
+ghost use Rattle.cover_problem.specs.ExactCover.{IsExactCover, uses, in_order};
+ghost use Rattle.cover_problem.specs.Prefix.{IsBarren, is_prefix, clash, extends, InFileOrder, IsCoverOver};
 ghost use Rattle.cover_problem.specs.Branching.{branch_item, children, IsOpen, IsFirstFewest};
 ghost use Rattle.cover_problem.specs.Search.{first_some, visits_until, first, visits, outcome, Covers, Barren, Spent};
 ghost use Rattle.cover_problem.specs.Examples.{small};
@@ -52,6 +52,11 @@ pub fn uses_of_a_list()
     ensures { (problem : ProblemValue) (options : List ℕ) (item : ℕ) → is_distinct options ≡ true →
         ((o : ℕ) → is_in options o ≡ true → o < length problem.options) →
         uses problem (is_in options) item ≡ count_by (λ o. names_item problem o item) options }
+{}
+
+/// The options of a list, taken in file order, are in file order, and none of them stands there twice.
+pub fn in_order_is_in_file_order()
+    ensures { (problem : ProblemValue) (options : List ℕ) → InFileOrder problem (in_order problem options) }
 {}
 
 /// The search of a small problem.
