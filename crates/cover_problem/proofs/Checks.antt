@@ -8,7 +8,7 @@ use Rattle.cover_problem.specs.ExactCover.{uses, IsExactCover}
 use Rattle.cover_problem.specs.Numbers.{is_in, is_distinct}
 use Rattle.cover_problem.specs.Prefix.{are_options, AreOptions}
 use Rattle.cover_problem.specs.Problem.{Problem, IsProblem, option_numbers, items_of, names_item}
-use Rattle.cover_problem.specs.Verdict.{verdict_of, first_uncovered, first_twice, twice_or_exact, uncovered_or}
+use Rattle.cover_problem.specs.Verdict.{verdict_of, first_uncovered, first_twice, twice_or_exact, uncovered_or, TellsItemOf}
 use Rattle.cover_problem.specs.declared.verdict.Verdict.TheVariants as verdicts
 use Rattle.cover_problem.proofs.Among.{all_at, all_by, range_in, range_high}
 use Rattle.cover_problem.proofs.Counts.{uses_of_list, count_none}
@@ -138,3 +138,31 @@ verdict_exact p options problem = (
   (λ exact. let passes = exact_passes p options exact in (passes.distinct, exact_of_passes p options problem passes)),
   (λ both. passes_exact p options (passes_of_exact p options both.0 both.1)),
 )
+
+-- ---- the item that is told
+
+find_some_in : (test : ℕ → Bool) (xs : List ℕ) (x : ℕ) → find test xs ≡ Some x → is_in xs x ≡ true
+find_some_in test [] x found = absurd (cc)
+find_some_in test (y ∷ ys) x found =
+    elim (cases_Bool (test y)) [
+      | inl passes ↦ let here : Some y ≡ Some x = rw passes at found in
+          let same : y ≡ x = cc in
+          or_left (y == x) (is_in ys x) (eq-eqb y x same)
+      | inr fails ↦ let later : find test ys ≡ Some x = rw fails at found in
+          or_right (y == x) (is_in ys x) (find_some_in test ys x later)
+    ]
+
+pub told_item : (p : Problem) (options : List ℕ) → IsProblem p → TellsItemOf p (verdict_of p options)
+told_item p options problem = within (are_options p options) (is_distinct options) (first_uncovered p options) (first_twice p options) refl refl
+  where
+    within : (a b : Bool) (c d : Option ℕ) → first_uncovered p options ≡ c → first_twice p options ≡ d
+        → TellsItemOf p (cond (not a) verdicts.NoSuchOption (cond (not b) verdicts.ChosenTwice (uncovered_or c (twice_or_exact d))))
+    within false b c d ec ed = tt
+    within true false c d ec ed = tt
+    within true true (Some item) d ec ed =
+        let high = range_high 0 p.primary item (find_some_in (λ i. uses p (is_in options) i == 0) (range_with_len 0 p.primary) item ec) in
+        let few = problem.primary in omega (arith, high, few)
+    within true true None (Some item) ec ed =
+        let high = range_high 0 (length p.names) item (find_some_in (λ i. nat_le 2 (uses p (is_in options) i)) (range_with_len 0 (length p.names)) item ed) in
+        omega (arith, high)
+    within true true None None ec ed = tt

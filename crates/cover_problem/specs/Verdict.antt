@@ -1,5 +1,5 @@
 -- What a test of a list of options answers.
-use Rattle.std.specs.Prelude.{ℕ, List, length, Option, Some, None, find, not, ◌==◌, nat_le, if◌then◌else◌}
+use Rattle.std.specs.Prelude.{ℕ, ◌<◌, List, length, Option, Some, None, find, not, ◌==◌, nat_le, if◌then◌else◌}
 use Rattle.std.specs.List.{range_with_len}
 use Rattle.cover_problem.specs.ExactCover.{uses}
 use Rattle.cover_problem.specs.Numbers.{is_in, is_distinct}
@@ -32,3 +32,11 @@ verdict_of problem options =
     else (if not (is_distinct options)
     then verdicts.ChosenTwice
     else uncovered_or (first_uncovered problem options) (twice_or_exact (first_twice problem options)))
+
+-- an item that a verdict tells is one of the problem
+abbrev pub TellsItemOf : Problem → Verdict → Type 0
+TellsItemOf problem (verdicts.Uncovered item) = item < length problem.names
+TellsItemOf problem (verdicts.CoveredTwice item) = item < length problem.names
+TellsItemOf problem verdicts.NoSuchOption = Unit {0}
+TellsItemOf problem verdicts.ChosenTwice = Unit {0}
+TellsItemOf problem verdicts.Exact = Unit {0}

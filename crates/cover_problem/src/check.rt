@@ -2,7 +2,7 @@ ghost use Rattle.std.specs.Prelude.{◌≡◌, ◌<◌, length, true, ◌↔◌,
 ghost use Rattle.cover_problem.specs.ExactCover.{uses, IsExactCover};
 ghost use Rattle.cover_problem.specs.Numbers.{is_in, is_distinct};
 ghost use Rattle.cover_problem.specs.Prefix.{AreOptions};
-ghost use Rattle.cover_problem.specs.Verdict.{verdict_of, first_uncovered, first_twice};
+ghost use Rattle.cover_problem.specs.Verdict.{verdict_of, first_uncovered, first_twice, TellsItemOf};
 
 use crate::prefix::{are_options, option_names};
 use crate::problem::Problem;
@@ -74,6 +74,7 @@ fn verdict_on(problem: &Problem, options: &[u16]) -> Verdict
 /// It takes no memory, and time of the order of the items by the items of the list's options.
 pub fn check_cover(problem: &Problem, options: &[u16]) -> Verdict
     ensures verdict { result ≡ verdict_of problem.now options.now }
+    ensures item { TellsItemOf problem.now result }
     ensures exact { (result ≡ Verdict.Exact) ↔ ((is_distinct options.now ≡ true) × IsExactCover problem.now (is_in options.now)) }
 {
     let _items = problem.items();

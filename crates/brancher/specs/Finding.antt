@@ -1,0 +1,8 @@
+-- What a search of a prefix with some fuel came to.
+use Rattle.std.specs.Prelude.{ℕ, List}
+use Rattle.cover_problem.specs.Search as search
+
+pub record Finding : Type 0 where
+  pub prefix : List ℕ
+  pub fuel : ℕ
+  pub outcome : search.Outcome

@@ -1,0 +1,52 @@
+ghost use Rattle.std.specs.Prelude.{◌≡◌, IfOk};
+
+use crate::outcome::Outcome;
+use cover_problem::Numbers;
+use std::alloc::AllocError;
+use std::marker::Model;
+
+/// What a search of a prefix with some fuel came to, copied out of its searcher.
+#[derive(Drop)]
+pub struct Finding {
+    prefix: Numbers,
+    fuel: u64,
+    outcome: Outcome,
+    cover: Numbers,
+}
+
+impl Model for Finding {
+    ghost use Rattle.brancher.specs.Finding.{Finding as FindingValue};
+    ghost use Rattle.brancher.specs.Visit.{outcome_told};
+
+    ghost Value = { FindingValue };
+
+    ghost view = { λ f. record { prefix = f.prefix; fuel = f.fuel; outcome = outcome_told f.outcome f.cover } };
+}
+
+impl Finding {
+    /// The prefix that was searched.
+    pub fn prefix(&self) -> &[u16]
+        ensures { result.now ≡ self.now.prefix }
+    {
+        self.prefix.as_slice()
+    }
+
+    /// How many visits the search was allowed.
+    pub fn fuel(&self) -> u64
+        ensures { result ≡ self.now.fuel }
+    {
+        self.fuel
+    }
+
+    /// An equal finding; the only error is want of memory.
+    pub fn copy(&self) -> Result<Finding, AllocError>
+        ensures { IfOk result (λ copied. copied ≡ self.now) }
+    {
+        Ok(Finding {
+            prefix: self.prefix.copy()?,
+            fuel: self.fuel,
+            outcome: self.outcome,
+            cover: self.cover.copy()?,
+        })
+    }
+}

@@ -1,0 +1,98 @@
+-- What holds of each run.
+use Rattle.std.specs.Prelude.{◌≡◌, ◌≢◌, ◌⊎◌, ℕ, ◌≤◌, Bool, List, Option, Some, None, option_map, slice_get}
+use Rattle.cover_problem.specs.ExactCover.{IsExactCover, in_order}
+use Rattle.cover_problem.specs.Numbers.{is_in}
+use Rattle.cover_problem.specs.Problem.{Problem}
+use Rattle.cover_world.specs.Worlds.{Acts, EachStep, Restarts, Run, SomeTime, World, WorldEvent, after}
+use Rattle.node_core.specs.Requests.{registry}
+use Rattle.node_core.specs.SiteView.{View}
+use Rattle.node_core.specs.declared.event.Event.{Event}
+use Rattle.node_core.specs.declared.event.Event.TheVariants.{Deliver, Post}
+use Rattle.packet_wire.specs.declared.packet.Body.{Body}
+use Rattle.packet_wire.specs.declared.packet.Body.TheVariants.{Return}
+use Rattle.root_registry.specs.RegistryStep.{root_result}
+use Rattle.spawn_frame.specs.Units.{Entry, guest_in}
+use Rattle.spawn_frame.specs.declared.child_result.ChildResult.{ChildResult}
+use Rattle.spawn_frame.specs.declared.child_result.ChildResult.TheVariants.{Cover, Empty}
+use Rattle.spawn_frame.specs.declared.site.ChildName.{ChildName}
+use Rattle.spawn_frame.specs.declared.status.Status.TheVariants.{Aborted, Done, Settled}
+
+-- what a site of this world holds
+pub record HasChild (world : World) (name : ChildName) (entry : Entry) : Type 0 where
+  pub view : View
+  pub is : slice_get world.sites name.site.node ≡ Some view
+  pub site : view.site ≡ name.site
+  pub child : slice_get view.own name.serial ≡ Some entry
+
+pub record HasGuest (world : World) (name : ChildName) (entry : Entry) : Type 0 where
+  pub node : ℕ
+  pub attempt : ℕ
+  pub view : View
+  pub is : slice_get world.sites node ≡ Some view
+  pub guest : guest_in view.guests name attempt ≡ Some entry
+
+-- the owner has the child done with this result, or a thief has settled on it
+pub record OwnerAccepts (world : World) (name : ChildName) (result : ChildResult) : Type 0 where
+  pub entry : Entry
+  pub has : HasChild world name entry
+  pub done : entry.status ≡ Done result
+
+pub record ThiefAccepts (world : World) (name : ChildName) (result : ChildResult) : Type 0 where
+  pub entry : Entry
+  pub has : HasGuest world name entry
+  pub settled : entry.status ≡ Settled result
+
+abbrev pub Accepts : ChildName → ChildResult → World → Type 0
+Accepts name result world = OwnerAccepts world name result ⊎ ThiefAccepts world name result
+
+-- no two results of one name are accepted in the run, whenever and wherever
+abbrev pub OneResult : {problem : Problem} {start end : World} → Run problem start end → Type 0
+OneResult run = (name : ChildName) (r s : ChildResult) → SomeTime (Accepts name r) run → SomeTime (Accepts name s) run → r ≡ s
+
+abbrev pub attempt_of : Body → ℕ → ℕ
+attempt_of (Return serial attempt result) own = attempt
+attempt_of _ own = own
+
+-- the attempt at which an event lets a result enter: that of the job or the packet, else the child's own
+abbrev pub attempt_in : Event → ℕ → ℕ
+attempt_in (Post job finding) own = job.attempt
+attempt_in (Deliver packet) own = attempt_of packet.body own
+attempt_in _ own = own
+
+abbrev pub attempt_at : WorldEvent → ℕ → ℕ
+attempt_at (Acts node event) own = attempt_in event own
+attempt_at (Restarts node incarnation limit) own = own
+
+-- the child becomes done in this step
+pub record ResultEnters (old : World) (event : WorldEvent) (new : World) (name : ChildName) (attempt : ℕ) : Type 0 where
+  pub before : Entry
+  pub has : HasChild old name before
+  pub not_done : (result : ChildResult) → before.status ≢ Done result
+  pub result : ChildResult
+  pub done : OwnerAccepts new name result
+  pub attempt_is : attempt ≡ attempt_at event before.attempt
+
+-- no result enters at a child that is aborted in this world, or at an attempt that is superseded in it
+abbrev pub NoneLate : World → World → WorldEvent → World → Type 0
+NoneLate now old event new =
+    (name : ChildName) (entry : Entry) (attempt : ℕ) → HasChild now name entry → ResultEnters old event new name attempt
+    → (entry.status ≢ Aborted) × (entry.attempt ≤ attempt)
+
+abbrev pub in_file_order : Problem → ChildResult → ChildResult
+in_file_order problem (Cover options) = Cover (in_order problem options)
+in_file_order problem Empty = Empty
+
+abbrev pub published_by : Problem → Option View → Option ChildResult
+published_by problem None = None
+published_by problem (Some registry) = option_map (in_file_order problem) (root_result registry)
+
+-- the root's result once it is done: a cover in file order, or Empty for no cover
+abbrev pub published : Problem → World → Option ChildResult
+published problem world = published_by problem (slice_get world.sites 0)
+
+pub record Safe {problem : Problem} {start now end : World} (e : Run problem start now) (f : Run problem now end) : Type 0 where
+  pub one_result : OneResult (after e f)
+  pub none_late : EachStep (NoneLate now) f
+  pub covers : (options : List ℕ) → published problem end ≡ Some (Cover options) → IsExactCover problem (is_in options)
+  pub no_cover : published problem end ≡ Some Empty → (chosen : ℕ → Bool) → IsExactCover problem chosen → ⊥
+  pub kept : (answer : ChildResult) → published problem now ≡ Some answer → published problem end ≡ Some answer

@@ -1,0 +1,62 @@
+-- What a site does unasked: it asks for work, gives a child out anew, and says again what may be lost.
+use Rattle.std.specs.Prelude.{◌≡◌, ◌≢◌, ℕ, suc, ◌<◌, ◌≤◌, Bool, List, [], ◌∷◌, ◌++◌, Some, slice_get, slice_index, nat_lt}
+use Rattle.node_core.specs.Results.{return_packets}
+use Rattle.node_core.specs.SiteView.{View, with_own}
+use Rattle.node_core.specs.declared.reply.Reply.{Reply}
+use Rattle.node_core.specs.declared.reply.Reply.TheVariants.{Ignored, Moved}
+use Rattle.packet_wire.specs.declared.packet.Body.TheVariants.{Give, Steal}
+use Rattle.packet_wire.specs.declared.packet.Packet.{Packet}
+use Rattle.spawn_frame.specs.Units.{Entry, GuestEntry, change_at, redone}
+use Rattle.spawn_frame.specs.declared.site.Site.{Site}
+use Rattle.spawn_frame.specs.declared.status.Status.{Status}
+use Rattle.spawn_frame.specs.declared.status.Status.TheVariants.{Finished, Out}
+use Rattle.spawn_frame.specs.declared.unit.Unit.TheVariants.{Guest}
+
+abbrev pub registry : Site
+registry = record { node = 0; incarnation = 1 }
+
+abbrev pub known_site : View → ℕ → Site
+known_site view node = record { node = node; incarnation = slice_index view.known node }
+
+-- a later incarnation of the site's node is known
+abbrev pub is_older : List ℕ → Site → Bool
+is_older known site = nat_lt site.incarnation (slice_index known site.node)
+
+pub record AskStep (old : View) (victim : ℕ) (out : List Packet) (new : View) : Type 0 where
+  pub another : victim ≢ old.site.node
+  pub exists : victim ≤ old.nodes
+  pub after : new ≡ old
+  pub sends : out ≡ record { from = old.site; to = known_site old victim; body = Steal } ∷ []
+
+abbrev pub last_attempt : ℕ
+last_attempt = 4294967295
+
+pub record RedoStep (old : View) (serial : ℕ) (out : List Packet) (new : View) : Type 0 where
+  pub entry : Entry
+  pub thief : Site
+  pub is : slice_get old.own serial ≡ Some entry
+  pub out_there : entry.status ≡ Out thief
+  pub not_last : entry.attempt < last_attempt
+  pub after : new ≡ with_own old (change_at redone old.own serial)
+  pub sends : out ≡ []
+
+abbrev pub give_again : Site → ℕ → Entry → Status → List Packet
+give_again from serial entry (Out thief) = record { from = from; to = thief; body = Give serial entry.attempt entry.prefix } ∷ []
+give_again from serial entry _ = []
+
+abbrev pub gives_again : Site → ℕ → List Entry → List Packet
+gives_again from serial [] = []
+gives_again from serial (c ∷ cs) = give_again from serial c c.status ++ gives_again from (suc serial) cs
+
+abbrev pub return_again : Site → GuestEntry → Status → List Packet
+return_again from g (Finished result) = return_packets from (Guest g.name g.entry.attempt) result
+return_again from g _ = []
+
+abbrev pub returns_again : Site → List GuestEntry → List Packet
+returns_again from [] = []
+returns_again from (g ∷ gs) = return_again from g g.entry.status ++ returns_again from gs
+
+-- the reply of an event that only sends
+abbrev pub moved_by : List Packet → Reply
+moved_by [] = Ignored
+moved_by (p ∷ ps) = Moved

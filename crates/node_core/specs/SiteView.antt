@@ -1,0 +1,38 @@
+-- All that a site knows.
+use Rattle.std.specs.Prelude.{ℕ, Bool, List, map, Option}
+use Rattle.packet_wire.specs.declared.packet.Body.TheVariants.{Abort}
+use Rattle.packet_wire.specs.declared.packet.Packet.{Packet}
+use Rattle.spawn_frame.specs.Aborts.{Reached, reached}
+use Rattle.spawn_frame.specs.Units.{Entry, GuestEntry, Table, table_gets, table_guests, table_own, unit_of}
+use Rattle.spawn_frame.specs.declared.site.Site.{Site}
+use Rattle.spawn_frame.specs.declared.status.Status.{Status}
+use Rattle.spawn_frame.specs.declared.unit.Unit.{Unit as WorkUnit}
+
+-- all that a site knows
+pub record View : Type 0 where
+  pub table : Table
+  pub open table use *
+  pub nodes : ℕ  -- how many there are beside the registry
+  pub known : List ℕ  -- the known incarnation of each node
+  pub over : Bool
+
+abbrev pub unit_in : View → WorkUnit → Option Entry
+unit_in view unit = unit_of view.table unit
+
+abbrev pub with_table : View → Table → View
+with_table view table = record { table = table; nodes = view.nodes; known = view.known; over = view.over }
+
+abbrev pub with_own : View → List Entry → View
+with_own view own = with_table view (table_own view.table own)
+
+abbrev pub with_guests : View → List GuestEntry → View
+with_guests view guests = with_table view (table_guests view.table guests)
+
+abbrev pub unit_gets : View → WorkUnit → Status → View
+unit_gets view unit status = with_table view (table_gets view.table unit status)
+
+abbrev pub abort_packet : Site → Reached → Packet
+abort_packet from r = record { from = from; to = r.thief; body = Abort r.serial r.attempt }
+
+abbrev pub abort_packets : Site → ℕ → List Entry → List Entry → List Packet
+abort_packets from serial old new = map (λ r. abort_packet from r) (reached serial old new)

@@ -1,0 +1,81 @@
+ghost use Rattle.std.specs.Prelude.{◌≡◌, IfOk};
+
+use crate::incarnations::Incarnations;
+use cover_problem::Numbers;
+use spawn_frame::{Attempt, Cause, ChildResult, Site};
+use std::alloc::AllocError;
+
+/// What a packet says. The child of a `Return` is of the receiver's site; that of a `Give`, `Accept`, `Refuse` or
+/// `Abort` is of the sender's. Children go by their serial number there and the attempt.
+#[derive(Drop)]
+pub enum Body {
+    /// A node tells the registry that it is there.
+    Hello,
+    /// The registry tells a node the known incarnations.
+    Members(Incarnations),
+    /// A node asks for work.
+    Steal,
+    /// A child is given, with its prefix.
+    Give(u32, Attempt, Numbers),
+    /// There is no work to give.
+    NoWork,
+    /// A thief returns the result of a child.
+    Return(u32, Attempt, ChildResult),
+    /// The owner tells the result that the child has.
+    Accept(u32, Attempt, ChildResult),
+    /// The owner refuses a result.
+    Refuse(u32, Attempt, Cause),
+    /// The owner wants the child no more.
+    Abort(u32, Attempt),
+    /// The registry has its answer.
+    Over,
+}
+
+impl Body {
+    /// An equal body; the only error is want of memory.
+    pub fn copy(&self) -> Result<Body, AllocError>
+        ensures { IfOk result (λ copied. copied ≡ self.now) }
+    {
+        match self {
+            Body::Hello => Ok(Body::Hello),
+            Body::Members(incarnations) => Ok(Body::Members(incarnations.copy()?)),
+            Body::Steal => Ok(Body::Steal),
+            Body::Give(serial, attempt, prefix) => {
+                Ok(Body::Give(*serial, *attempt, prefix.copy()?))
+            }
+            Body::NoWork => Ok(Body::NoWork),
+            Body::Return(serial, attempt, result) => {
+                Ok(Body::Return(*serial, *attempt, result.copy()?))
+            }
+            Body::Accept(serial, attempt, result) => {
+                Ok(Body::Accept(*serial, *attempt, result.copy()?))
+            }
+            Body::Refuse(serial, attempt, cause) => Ok(Body::Refuse(*serial, *attempt, *cause)),
+            Body::Abort(serial, attempt) => Ok(Body::Abort(*serial, *attempt)),
+            Body::Over => Ok(Body::Over),
+        }
+    }
+}
+
+/// A message from one site to another.
+#[derive(Drop)]
+pub struct Packet {
+    /// The site that sent it.
+    pub from: Site,
+    /// The site that it is for.
+    pub to: Site,
+    pub body: Body,
+}
+
+impl Packet {
+    /// An equal packet; the only error is want of memory.
+    pub fn copy(&self) -> Result<Packet, AllocError>
+        ensures { IfOk result (λ copied. copied ≡ self.now) }
+    {
+        Ok(Packet {
+            from: self.from,
+            to: self.to,
+            body: self.body.copy()?,
+        })
+    }
+}

@@ -1,0 +1,2 @@
+//! What the registry does at each event.
+#![tactic(auto)]

@@ -1,0 +1,37 @@
+-- The children of a unit, and what they come to together.
+use Rattle.std.specs.Prelude.{ℕ, Bool, true, false, List, [], ◌∷◌, filter, Option, Some, None}
+use Rattle.spawn_frame.specs.Names.{same_unit}
+use Rattle.spawn_frame.specs.Units.{Entry}
+use Rattle.spawn_frame.specs.declared.child_result.ChildResult.{ChildResult}
+use Rattle.spawn_frame.specs.declared.child_result.ChildResult.TheVariants.{Cover, Empty}
+use Rattle.spawn_frame.specs.declared.status.Status.{Status}
+use Rattle.spawn_frame.specs.declared.status.Status.TheVariants.{Done}
+use Rattle.spawn_frame.specs.declared.unit.Unit.{Unit as WorkUnit}
+
+abbrev pub is_unit : Option WorkUnit → WorkUnit → Bool
+is_unit None unit = false
+is_unit (Some parent) unit = same_unit parent unit
+
+-- the children of a unit, by serial
+abbrev pub frame : WorkUnit → List Entry → List Entry
+frame unit own = filter (λ c. is_unit c.parent unit) own
+
+abbrev pub cover_of : Status → Option (List ℕ)
+cover_of (Done (Cover options)) = Some options
+cover_of _ = None
+
+abbrev pub is_empty_handed : Status → Bool
+is_empty_handed (Done Empty) = true
+is_empty_handed _ = false
+
+abbrev pub first_result : Option (List ℕ) → Bool → Option ChildResult → Option ChildResult
+first_result (Some options) empty rest = Some (Cover options)
+first_result None empty None = None
+first_result None empty (Some (Cover options)) = Some (Cover options)
+first_result None true (Some Empty) = Some Empty
+first_result None false (Some Empty) = None
+
+-- What a frame gives: the first cover among its children, else Empty where all are done with Empty, else nothing yet.
+abbrev pub frame_result : List Entry → Option ChildResult
+frame_result [] = Some Empty
+frame_result (c ∷ cs) = first_result (cover_of c.status) (is_empty_handed c.status) (frame_result cs)

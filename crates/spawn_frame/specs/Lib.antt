@@ -1,0 +1,4 @@
+pub mod Aborts
+pub mod Frames
+pub mod Names
+pub mod Units

@@ -1,0 +1,25 @@
+ghost use Rattle.std.specs.Prelude.{◌≡◌, IfOk};
+
+use cover_problem::Numbers;
+use std::alloc::AllocError;
+
+/// What the search of a child came to.
+#[derive(Drop)]
+pub enum ChildResult {
+    /// An exact cover that extends the child's prefix, by the numbers of its options.
+    Cover(Numbers),
+    /// There is none.
+    Empty,
+}
+
+impl ChildResult {
+    /// An equal result; the only error is want of memory.
+    pub fn copy(&self) -> Result<ChildResult, AllocError>
+        ensures { IfOk result (λ copied. copied ≡ self.now) }
+    {
+        match self {
+            ChildResult::Cover(options) => Ok(ChildResult::Cover(options.copy()?)),
+            ChildResult::Empty => Ok(ChildResult::Empty),
+        }
+    }
+}

@@ -1,0 +1,22 @@
+//! Names: sites, children and attempts.
+
+/// One run of one node: each start of a node has a greater incarnation.
+#[derive(Clone, Copy, Debug, PartialEq, Eq, PartialOrd, Ord)]
+pub struct Site {
+    /// 0 for the registry, 1 to 16 for the nodes beside it.
+    pub node: u8,
+    /// From 1; always 1 at the registry.
+    pub incarnation: u32,
+}
+
+/// A child of a search, named by the site that made it, whoever works on it.
+#[derive(Clone, Copy, Debug, PartialEq, Eq, PartialOrd, Ord)]
+pub struct ChildName {
+    /// The site that made it.
+    pub site: Site,
+    /// How many children that site had made before.
+    pub serial: u32,
+}
+
+/// How often a child was given out anew: from 1, and one more for each redo.
+pub type Attempt = u32;

@@ -1,0 +1,48 @@
+ghost use Rattle.std.specs.Prelude.{◌≡◌, IfOk};
+
+use crate::child_result::ChildResult;
+use crate::site::Site;
+use std::alloc::AllocError;
+
+/// How far a unit of work is. An own child is never `Finished`, `Settled` or `Dropped`; a guest is never `Out`, `Done`
+/// or `Aborted`.
+#[derive(Drop)]
+pub enum Status {
+    /// It waits for a worker.
+    Ready,
+    /// A worker of this site has it.
+    Here,
+    /// It is a frame: its children are own children of this site.
+    Split,
+    /// The own child was given to a thief.
+    Out(Site),
+    /// The own child has its result.
+    Done(ChildResult),
+    /// The own child is wanted no more.
+    Aborted,
+    /// The guest has a result, which its owner hasn't judged yet.
+    Finished(ChildResult),
+    /// The guest's owner accepted this result, which may be another than the guest's own.
+    Settled(ChildResult),
+    /// The guest is wanted no more.
+    Dropped,
+}
+
+impl Status {
+    /// An equal status; the only error is want of memory.
+    pub fn copy(&self) -> Result<Status, AllocError>
+        ensures { IfOk result (λ copied. copied ≡ self.now) }
+    {
+        match self {
+            Status::Ready => Ok(Status::Ready),
+            Status::Here => Ok(Status::Here),
+            Status::Split => Ok(Status::Split),
+            Status::Out(thief) => Ok(Status::Out(*thief)),
+            Status::Done(result) => Ok(Status::Done(result.copy()?)),
+            Status::Aborted => Ok(Status::Aborted),
+            Status::Finished(result) => Ok(Status::Finished(result.copy()?)),
+            Status::Settled(result) => Ok(Status::Settled(result.copy()?)),
+            Status::Dropped => Ok(Status::Dropped),
+        }
+    }
+}
