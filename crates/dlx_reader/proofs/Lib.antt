@@ -1,0 +1,6 @@
+pub mod AnswerCounts
+pub mod AnswerNames
+pub mod AnswerOptions
+pub mod AnswerReads
+pub mod AnswerTexts
+pub mod Written
