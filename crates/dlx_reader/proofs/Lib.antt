@@ -1,4 +1,5 @@
 pub mod AnswerCounts
+pub mod AnswerExample
 pub mod AnswerNames
 pub mod AnswerOptions
 pub mod AnswerReads

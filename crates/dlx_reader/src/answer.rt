@@ -77,11 +77,7 @@ fn options_of(
 ///
 /// A fault is the first of these: `BadHead`, `WrongCount`, then `UnknownOption` of the first such line. `Memory` comes
 /// only where a growth was refused.
-pub fn read_answer(
-    alloc: Global,
-    text: &[u8],
-    problem: &Problem,
-) -> Result<Answer, AnswerFault>
+pub fn read_answer(alloc: Global, text: &[u8], problem: &Problem) -> Result<Answer, AnswerFault>
     ensures answer { IfOk result (IsAnswerOf text.now problem.now) }
     ensures fault { IfErr result (λ fault. fault ≢ AnswerFault.Memory → IsFaultOf text.now problem.now fault) }
 

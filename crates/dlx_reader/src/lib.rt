@@ -13,3 +13,6 @@ pub use answer::read_answer;
 pub use answer_fault::AnswerFault;
 pub use devices::{CountedReader, CountedWriter, DeviceFault, Sink, Source};
 pub use writing::{WriteFault, write_answer, write_bytes};
+
+#[cfg(test)]
+mod answer_tests;

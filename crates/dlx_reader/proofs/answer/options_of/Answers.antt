@@ -11,7 +11,7 @@ returns-in_default-clause-fault c =
     let here = line_at c.args.lines.now c.loop-line.line-index c.line-item.result c.loop-line-test.true c.line-item.is in
     let none = rw (c.deref.ensures.value, c.deref-in-loop-line.ensures.value) at c.in_default.ensures.none in
     unknown_at c.args.problem.now (lines_seen c.args.lines.now) c.loop-line.line-index (line_of c.line-item.result) c.loop-line.options.items inside here c.loop-line.invariant.options
-        (λ o free. none o (unflagged_from_free c.args.problem.now c.loop-line.used.items c.loop-line.options.items _ o c.loop-line.invariant.flags c.loop-line.invariant.long free))
+    (λ o free. none o (unflagged_from_free c.args.problem.now c.loop-line.used.items c.loop-line.options.items _ o c.loop-line.invariant.flags c.loop-line.invariant.long free))
 
 pub loop-line-preserved : goal.loop-line-preserved
 loop-line-preserved c =
