@@ -1,0 +1,25 @@
+-- The texts of lists of items and options, from a place on.
+use Rattle.std.proofs.Common.{◌≡◌, ℕ, ◌+◌, ◌<◌, List, ◌∷◌, ◌++◌, length, get_or, drop, add-one, drop-cons, refl, take, ◌-◌, ◌≤◌, [], arith, suc, ap, sym, ◌∙◌, append-nil}
+use Rattle.std.proofs.Math.Seq.{take-length}
+use Rattle.std.specs.List.{flat_map}
+use Rattle.cover_problem.specs.Problem.{Problem}
+use Rattle.dlx_reader.specs.Writing.{name_text, items_text, names_after, option_text}
+
+pub options_step : (p : Problem) (os : List ℕ) (k : ℕ) → k < length os → flat_map (option_text p) (drop k os) ≡ option_text p (get_or os k 0) ++ flat_map (option_text p) (drop (k + 1) os)
+options_step p os k h = rw (add-one, drop-cons os k 0) refl
+
+pub names_step : (p : Problem) (is : List ℕ) (k : ℕ) → k < length is → names_after p (drop k is) ≡ (32 ∷ name_text p (get_or is k 0)) ++ names_after p (drop (k + 1) is)
+names_step p is k h = rw (add-one, drop-cons is k 0) refl
+
+-- the first name, and each other after a space
+pub items_cons : (p : Problem) (i : ℕ) (is : List ℕ) → items_text p (i ∷ is) ≡ name_text p i ++ names_after p is
+items_cons p i [] = sym (append-nil (name_text p i))
+items_cons p i (j ∷ is) = ap (λ t. name_text p i ++ (32 ∷ t)) (items_cons p j is)
+
+-- the first item, and the others, as a slice's pattern gives them
+pub items_split : (p : Problem) (is : List ℕ) → 1 ≤ length is → items_text p is ≡ name_text p (get_or is 0 0) ++ names_after p (take (length is - 1) (drop 1 is))
+items_split p [] h = absurd (omega arith)
+items_split p (i ∷ is) h =
+    let n : suc (length is) - 1 ≡ length is = omega arith in
+    let e : take (suc (length is) - 1) is ≡ is = rw n (take-length is) in
+    items_cons p i is ∙ ap (λ t. name_text p i ++ names_after p t) (sym e)

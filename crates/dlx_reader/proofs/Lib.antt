@@ -1,0 +1,7 @@
+pub mod AnswerCounts
+pub mod AnswerExample
+pub mod AnswerNames
+pub mod AnswerOptions
+pub mod AnswerReads
+pub mod AnswerTexts
+pub mod Written

@@ -1,0 +1,139 @@
+//! Readers and writers that count their failures.
+
+ghost use Rattle.std.specs.Prelude.{◌≡◌, ◌-◌, ◌<◌, ◌≤◌, ◌^◌, ℕ, length, IfOk};
+ghost use Rattle.std.specs.Io.KnownBytes.{ReadConsumes, WriteAppends};
+ghost use Rattle.dlx_reader.specs.Devices.{IsCounted};
+
+use std::io;
+use std::io::{Read, Write};
+
+/// A device failed, and its count of failures rose.
+#[derive(Clone, Copy, Debug, PartialEq, Eq)]
+pub struct DeviceFault;
+
+/// A reader that counts its failures. It is read by `fetch` alone, whose contract ties a fault to the count.
+pub trait Source: io::Read {
+    ghost failed: { Self → ℕ };
+
+    /// How often the reader has failed so far.
+    fn failures(&self) -> u64
+        ensures { result ≡ failed self.now };
+
+    /// One read into the buffer. It answers the number of bytes read, which is 0 only at the end or where the
+    /// buffer is empty.
+    ///
+    /// A fault comes only where the read failed: then nothing was read, and `failures` rose.
+    fn fetch(&mut self, buffer: &mut [u8]) -> Result<usize, DeviceFault>
+        requires { failed self.old < 2 ^ 64 - 1 }
+        ensures bound { IfOk result (λ count. count ≤ length buffer.new) }
+        ensures bytes { ReadConsumes (Self.remaining self.old) (Self.remaining self.new) result buffer.new }
+        ensures failed { IsCounted (failed self.old) (failed self.new) result };
+}
+
+/// A writer that counts its failures. It is written by `put` alone, whose contract ties a fault to the count.
+pub trait Sink: io::Write {
+    ghost failed: { Self → ℕ };
+
+    /// How often the writer has failed so far.
+    fn failures(&self) -> u64
+        ensures { result ≡ failed self.now };
+
+    /// One write. It answers how many bytes of the piece it took, which is at least one unless the piece is empty.
+    ///
+    /// A fault comes only where the write failed, or took nothing of a piece that isn't empty: then nothing was
+    /// written, and `failures` rose.
+    fn put(&mut self, piece: &[u8]) -> Result<usize, DeviceFault>
+        requires { failed self.old < 2 ^ 64 - 1 }
+        ensures bound { IfOk result (λ count. count ≤ length piece.now) }
+        ensures some { IfOk result (λ count. 0 < length piece.now → 0 < count) }
+        ensures bytes { WriteAppends (Self.contents self.old) (Self.contents self.new) result piece.now }
+        ensures failed { IsCounted (failed self.old) (failed self.new) result };
+}
+
+/// A reader, with the number of its failures.
+#[derive(Drop)]
+pub struct CountedReader<R> {
+    inner: R,
+    failures: u64,
+}
+
+impl<R: Read> CountedReader<R> {
+    /// The reader, which hasn't failed so far.
+    pub fn new(inner: R) -> Self
+        ensures { result ≡ record { inner = inner; failures = 0 } }
+    {
+        CountedReader { inner, failures: 0 }
+    }
+}
+
+impl<R: Read> Read for CountedReader<R> {
+    ghost remaining = { λ s. R.remaining s.inner };
+
+    fn read(&mut self, buf: &mut [u8]) -> io::Result<usize> {
+        self.inner.read(buf)
+    }
+}
+
+impl<R: Read> Source for CountedReader<R> {
+    ghost failed = { λ s. s.failures };
+
+    fn failures(&self) -> u64 {
+        self.failures
+    }
+
+    fn fetch(&mut self, buffer: &mut [u8]) -> Result<usize, DeviceFault> {
+        match self.inner.read(buffer) {
+            Ok(count) => Ok(count),
+            Err(_) => {
+                self.failures += 1;
+                Err(DeviceFault)
+            }
+        }
+    }
+}
+
+/// A writer, with the number of its failures.
+#[derive(Drop)]
+pub struct CountedWriter<W> {
+    inner: W,
+    failures: u64,
+}
+
+impl<W: Write> CountedWriter<W> {
+    /// The writer, which hasn't failed so far.
+    pub fn new(inner: W) -> Self
+        ensures { result ≡ record { inner = inner; failures = 0 } }
+    {
+        CountedWriter { inner, failures: 0 }
+    }
+}
+
+impl<W: Write> Write for CountedWriter<W> {
+    ghost contents = { λ s. W.contents s.inner };
+
+    fn write(&mut self, buf: &[u8]) -> io::Result<usize> {
+        self.inner.write(buf)
+    }
+
+    fn flush(&mut self) -> io::Result<()> {
+        self.inner.flush()
+    }
+}
+
+impl<W: Write> Sink for CountedWriter<W> {
+    ghost failed = { λ s. s.failures };
+
+    fn failures(&self) -> u64 {
+        self.failures
+    }
+
+    fn put(&mut self, piece: &[u8]) -> Result<usize, DeviceFault> {
+        match self.inner.write(piece) {
+            Ok(count) if count > 0 || piece.is_empty() => Ok(count),
+            _ => {
+                self.failures += 1;
+                Err(DeviceFault)
+            }
+        }
+    }
+}
