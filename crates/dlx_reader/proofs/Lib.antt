@@ -1,0 +1,9 @@
+pub mod Differing
+pub mod Firsts
+pub mod ItemLines
+pub mod Lawful
+pub mod Naming
+pub mod OptionLines
+pub mod OptionWords
+pub mod Problems
+pub mod Words

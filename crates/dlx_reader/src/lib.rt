@@ -1,0 +1,11 @@
+//! Problems from text.
+#![tactic(auto)]
+
+mod fault;
+mod kept;
+mod lines;
+mod names;
+mod reading;
+
+pub use fault::ReadFault;
+pub use reading::{Read, read_problem};
