@@ -9,3 +9,6 @@ mod reading;
 
 pub use fault::ReadFault;
 pub use reading::{Read, read_problem};
+
+#[cfg(test)]
+mod tests;
