@@ -29,7 +29,7 @@ pub item_read : (line : ℕ) (names : List (List ℕ)) (divided : Bool) (word : 
 unfolding item_at
 item_read line names divided word state h = let two = after_ok (item_tests line names divided word) (add_name names (name_part word), divided || begins_with_bar word) state h in (sym two.0, two.1)
 
-add_names : (names rest : List (List ℕ)) (name : List ℕ) → add_name names name ++ rest ≡ names ++ cond (not (length name == 0)) (name ∷ rest) rest
+pub add_names : (names rest : List (List ℕ)) (name : List ℕ) → add_name names name ++ rest ≡ names ++ cond (not (length name == 0)) (name ∷ rest) rest
 add_names names rest name =
     elim (length name == 0) as (λ b. cond b names (names ++ name ∷ []) ++ rest ≡ names ++ cond (not b) (name ∷ rest) rest) [
       | true ↦ refl

@@ -1,9 +1,12 @@
 pub mod Differing
+pub mod FirstFaults
 pub mod Firsts
 pub mod ItemLines
 pub mod Lawful
 pub mod Naming
 pub mod OptionLines
 pub mod OptionWords
+pub mod Placed
 pub mod Problems
+pub mod Relation
 pub mod Words

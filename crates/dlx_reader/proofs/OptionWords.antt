@@ -85,7 +85,7 @@ pub record ReadsOption (names : List (List ℕ)) (items : List ℕ) (words : Lis
   pub distinct : is_distinct items ≡ true → is_distinct read ≡ true
   pub differ : names_differ names ≡ true → are_below (length names) items ≡ true → names_differ (names_of names items) ≡ true → names_differ (names_of names read) ≡ true
 
-names_of-push : (names : List (List ℕ)) (items read : List ℕ) (item : ℕ) (word : List ℕ) → read ≡ items ++ item ∷ [] → get_or names item [] ≡ word → names_of names read ≡ names_of names items ++ word ∷ []
+pub names_of-push : (names : List (List ℕ)) (items read : List ℕ) (item : ℕ) (word : List ℕ) → read ≡ items ++ item ∷ [] → get_or names item [] ≡ word → names_of names read ≡ names_of names items ++ word ∷ []
 names_of-push names items read item word e same = rw (e, map-append (λ i. get_or names i []) items (item ∷ []), same) refl
 
 option_more : (line : ℕ) (names : List (List ℕ)) (items : List ℕ) (word : List ℕ) (words : List (List ℕ)) (more read : List ℕ) → ReadsWord line names items word more → ReadsOption names more words read → ReadsOption names items (word ∷ words) read

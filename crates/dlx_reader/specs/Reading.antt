@@ -94,13 +94,17 @@ pub record Reading : Type 0 where
   pub options : List (List ℕ)
   pub ignored : ℕ
 
+-- what is read, of its parts
+abbrev pub reading_by : List (List ℕ) → ℕ → List (List ℕ) × ℕ → Reading
+reading_by names primary kept = record { names = names; primary = primary; options = kept.0; ignored = kept.1 }
+
 -- what is read in the lines that say something
 unfoldable pub reading_of : List (ℕ × List (List ℕ)) → Result Reading ReadFault
 reading_of [] = Err faults.NoItems
 reading_of (first ∷ others) = do
   names ← items_from first.0 [] false first.1
   kept ← options_from names (primary_in first.1) [] 0 others
-  Ok (record { names = names; primary = primary_in first.1; options = kept.0; ignored = kept.1 })
+  Ok (reading_by names (primary_in first.1) kept)
 
 -- a problem and the number of ignored options, as what is read
 abbrev pub read_by : Problem → ℕ → Reading

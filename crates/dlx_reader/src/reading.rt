@@ -1,13 +1,15 @@
 //! Reading a problem, in the general form of the input of Knuth's program DLX1.
 
-ghost use Rattle.std.specs.Prelude.{◌≡◌, [], ◌++◌, ◌∷◌, ◌≤◌, ◌<◌, ◌+◌, ◌^◌, length, true, false, None, IfOk, IsTrue, All, drop};
+ghost use Rattle.std.specs.Prelude.{◌≡◌, [], ◌++◌, ◌∷◌, ◌≤◌, ◌<◌, ◌+◌, ◌^◌, length, true, false, Some, IfOk, IfErr, IsTrue, All, drop};
 ghost use Rattle.std.specs.List.{list_any, list_all};
 ghost use Rattle.cover_problem.specs.Numbers.{are_below, some_below};
 ghost use Rattle.cover_problem.specs.Problem.{problem_by};
 ghost use Rattle.dlx_reader.specs.Content.{is_content, content_from, content_of};
-ghost use Rattle.dlx_reader.specs.Faults.{is_illegal, name_tests};
+ghost use Rattle.dlx_reader.specs.Faults.{first_fault, is_illegal, name_tests};
 ghost use Rattle.dlx_reader.specs.Items.{name_part, primary_in};
 ghost use Rattle.dlx_reader.specs.Lines.{is_word};
+ghost use Rattle.dlx_reader.specs.ProblemOf.{IsProblemOf};
+ghost use Rattle.dlx_reader.specs.declared.fault.ReadFault.TheVariants.{Memory};
 ghost use Rattle.dlx_reader.specs.Reading.{Gives, texts, after, item_at, items_from, option_item_at, option_from, keep_at, option_at, options_from, reading_of, read_by};
 
 use crate::fault::ReadFault;
@@ -218,14 +220,22 @@ fn read_content(
     })
 }
 
-/// The problem of a text.
+/// Reads the lines of a text.
 #[tactic(auto, unfolding(crate::specs::Reading::reading_of))]
-pub fn read_problem(alloc: Global, text: &[u8]) -> Result<Read, ReadFault>
-    ensures gives { Gives (λ read. read_by read.problem read.ignored) result (reading_of (content_of text.now)) }
+fn read_lines(alloc: Global, text: &[u8]) -> Result<Read, ReadFault>
+    ensures { Gives (λ read. read_by read.problem read.ignored) result (reading_of (content_of text.now)) }
 {
     let lines = lines_of(alloc, text)?;
     let Some(Line { number, words }) = item_line(alloc, &lines)? else {
         return Err(ReadFault::NoItems);
     };
     read_content(alloc, &words, number, &lines[number..])
+}
+
+/// The problem of a text.
+pub fn read_problem(alloc: Global, text: &[u8]) -> Result<Read, ReadFault>
+    ensures problem { IfOk result (λ read. IsProblemOf text.now read.problem read.ignored) }
+    ensures fault { IfErr result (λ e. (e ≡ Memory → ⊥) → first_fault text.now ≡ Some e) }
+{
+    read_lines(alloc, text)
 }
