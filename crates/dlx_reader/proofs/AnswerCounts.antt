@@ -1,7 +1,7 @@
 -- The number that decimal digits write.
+use Rattle.dlx_reader.specs.Lines.{texts_of}
 use Rattle.std.proofs.Common.{◌≡◌, ℕ, ◌+◌, ◌-◌, ◌*◌, ◌<◌, ◌≤◌, List, [], ◌∷◌, length, take, get_or, true, ◌∙◌, ap, arith, rules, refl, codes, Option, Some, None, IfSome}
 use Rattle.std.specs.Borrow.{Bor}
-use Rattle.dlx_reader.specs.AnswerLines.{texts_of}
 use Rattle.dlx_reader.specs.AnswerSteps.{IsHeadOf, IsCoverOf}
 use Rattle.dlx_reader.specs.declared.answer_head.Head.{Head}
 use Rattle.dlx_reader.specs.declared.answer_head.Head.TheVariants.{NoCover, Cover}

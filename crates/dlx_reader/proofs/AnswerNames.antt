@@ -5,11 +5,11 @@ use Rattle.std.proofs.lemmas.Slice.Eq.{bytes_eq-Decides}
 use Rattle.std.specs.Str.{bytes_eq}
 use Rattle.std.specs.Borrow.{Bor}
 use Rattle.cover_problem.specs.Problem.{Problem, items_of}
-use Rattle.dlx_reader.specs.Lines.{lines_of}
+use Rattle.dlx_reader.specs.Lines.{lines_of, texts_of}
 use Rattle.dlx_reader.specs.Answers.{worded_lines, head_words, further_lines}
 use Rattle.dlx_reader.specs.Writing.{name_text, names_of}
-use Rattle.dlx_reader.specs.AnswerLines.{texts_of, line_of, lines_seen}
-use Rattle.dlx_reader.specs.declared.answer_lines.AnswerLine.{AnswerLine}
+use Rattle.dlx_reader.specs.AnswerLines.{line_of, lines_seen}
+use Rattle.dlx_reader.specs.declared.lines.Line.{Line}
 
 -- what `!=` says of two texts
 pub texts_differ : (a b : List ℕ) (r : Bool) → r ≡ not (bytes_eq a b) → r ≡ true → a ≡ b → ⊥
@@ -43,14 +43,14 @@ pub names_other : (p : Problem) (o : ℕ) (items : List ℕ) → items ≡ items
 names_other p o items is words i d in_items in_words other same = other (sym (name_at p o items is i in_items) ∙ ap (λ names. get_or names i []) same ∙ word_at words i d in_words)
 
 -- a line at a place, as the code holds it
-pub line_at : (lines : List AnswerLine) (i : ℕ) (line : AnswerLine) → i < length lines → line ≡ get_or lines i line → get_or (lines_seen lines) i (0, []) ≡ line_of line
+pub line_at : (lines : List Line) (i : ℕ) (line : Line) → i < length lines → line ≡ get_or lines i line → get_or (lines_seen lines) i (0, []) ≡ line_of line
 line_at lines i line inside is = get_or-map line_of lines i line (0, []) inside ∙ ap line_of (sym is)
 
 -- ---- the lines of a text, as the code holds them
 
-pub head_is : (text : List ℕ) (lines : List AnswerLine) (first : AnswerLine) → lines_seen lines ≡ worded_lines 1 (lines_of text) → 1 ≤ length lines → first ≡ get_or lines 0 first → head_words text ≡ texts_of first.words.items
+pub head_is : (text : List ℕ) (lines : List Line) (first : Line) → lines_seen lines ≡ worded_lines 1 (lines_of text) → 1 ≤ length lines → first ≡ get_or lines 0 first → head_words text ≡ texts_of first.words.items
 head_is text lines first is some here =
     ap (λ (ls : List (ℕ × List (List ℕ))). (get_or ls 0 (0, [])).1) (sym is) ∙ ap (λ (line : ℕ × List (List ℕ)). line.1) (line_at lines 0 first (omega arith) here)
 
-pub further_is : (text : List ℕ) (lines : List AnswerLine) → lines_seen lines ≡ worded_lines 1 (lines_of text) → further_lines text ≡ lines_seen (take (length lines - 1) (drop 1 lines))
+pub further_is : (text : List ℕ) (lines : List Line) → lines_seen lines ≡ worded_lines 1 (lines_of text) → further_lines text ≡ lines_seen (take (length lines - 1) (drop 1 lines))
 further_is text lines is = ap (drop 1) (sym is) ∙ drop-map line_of 1 lines ∙ ap lines_seen (sym (take_rest lines 1))

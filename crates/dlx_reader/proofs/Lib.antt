@@ -4,4 +4,16 @@ pub mod AnswerNames
 pub mod AnswerOptions
 pub mod AnswerReads
 pub mod AnswerTexts
+pub mod Differing
+pub mod FirstFaults
+pub mod Firsts
+pub mod ItemLines
+pub mod Lawful
+pub mod Naming
+pub mod OptionLines
+pub mod OptionWords
+pub mod Placed
+pub mod Problems
+pub mod Relation
+pub mod Words
 pub mod Written

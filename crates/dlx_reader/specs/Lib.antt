@@ -1,6 +1,13 @@
 pub mod AnswerLines
 pub mod AnswerSteps
 pub mod Answers
+pub mod Content
 pub mod Devices
+pub mod Faults
+pub mod Items
 pub mod Lines
+pub mod Names
+pub mod OptionLines
+pub mod ProblemOf
+pub mod Reading
 pub mod Writing

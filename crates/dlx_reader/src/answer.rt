@@ -1,16 +1,18 @@
 //! Answers from text.
 
+ghost use Rattle.dlx_reader.specs.Lines.{texts_of};
 ghost use Rattle.std.specs.Prelude.{◌≡◌, ◌≢◌, ℕ, ◌<◌, length, IfSome, IfNone, IfOk, IfErr, ◌↔◌, IsTrue, Result};
 ghost use Rattle.cover_problem.specs.declared.answer.Answer.{Answer as AnswerValue};
 ghost use Rattle.dlx_reader.specs.declared.answer_fault.AnswerFault.{AnswerFault as Fault};
 ghost use Rattle.dlx_reader.specs.Writing.{names_of};
 ghost use Rattle.dlx_reader.specs.Answers.{AreOptionsOf, IsFirstUnknown, IsAnswerOf, IsFaultOf, IsReadOf};
-ghost use Rattle.dlx_reader.specs.AnswerLines.{texts_of, lines_seen};
+ghost use Rattle.dlx_reader.specs.AnswerLines.{lines_seen};
 ghost use Rattle.dlx_reader.specs.AnswerSteps.{IsUnflagged, IsLowestUnflagged, IsOptionFault};
 
 use crate::answer_fault::AnswerFault;
 use crate::answer_head::{Head, head_of};
-use crate::answer_lines::{AnswerLine, answer_lines};
+use crate::answer_lines::answer_lines;
+use crate::lines::Line;
 use cover_problem::{Answer, Numbers, Problem};
 use std::alloc::Global;
 
@@ -48,11 +50,7 @@ fn lowest_free(problem: &Problem, used: &[bool], words: &[&[u8]]) -> Option<u16>
 }
 
 /// The options of the lines, in their order.
-fn options_of(
-    alloc: Global,
-    lines: &[AnswerLine],
-    problem: &Problem,
-) -> Result<Numbers, AnswerFault>
+fn options_of(alloc: Global, lines: &[Line], problem: &Problem) -> Result<Numbers, AnswerFault>
     ensures options { IfOk result (AreOptionsOf problem.now (lines_seen lines.now)) }
     ensures fault { IfErr result (IsOptionFault problem.now (lines_seen lines.now)) }
 {

@@ -1,9 +1,9 @@
+ghost use Rattle.dlx_reader.specs.Lines.{texts_of};
 ghost use Rattle.std.specs.Prelude.{◌≡◌, ◌≤◌, ℕ, length, IfSome, IfNone, true, ◌↔◌, IsTrue};
 ghost use Rattle.std.specs.List.{list_all};
 ghost use Rattle.std.specs.Char.{is_ascii_digit};
 ghost use Rattle.std.specs.Str.Parse.{digits_value};
 ghost use Rattle.dlx_reader.specs.Answers.{IsCount, IsHead};
-ghost use Rattle.dlx_reader.specs.AnswerLines.{texts_of};
 ghost use Rattle.dlx_reader.specs.AnswerSteps.{IsHeadOf, IsCoverOf};
 
 /// What the first line of an answer says.

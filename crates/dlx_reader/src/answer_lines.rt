@@ -1,21 +1,14 @@
 ghost use Rattle.std.specs.Prelude.{◌≡◌, IfOk};
-ghost use Rattle.dlx_reader.specs.Lines.{lines_of};
+ghost use Rattle.dlx_reader.specs.Lines.{lines_of, texts_of};
 ghost use Rattle.dlx_reader.specs.Answers.{worded_lines};
-ghost use Rattle.dlx_reader.specs.AnswerLines.{lines_seen, texts_of};
+ghost use Rattle.dlx_reader.specs.AnswerLines.{lines_seen};
 
-use crate::lines::{lines_of, words_of};
+use crate::lines::{Line, lines_of, words_of};
 use std::alloc::{AllocError, Global};
-
-/// A line that isn't blank: its number, counted from 1 over all lines, and its words.
-#[derive(Drop)]
-pub struct AnswerLine<'a> {
-    pub number: usize,
-    pub words: Vec<&'a [u8]>,
-}
 
 /// Those of the lines that aren't blank.
 #[tactic(auto, unfolding(crate::specs::Answers::worded_lines))]
-fn worded_lines<'a>(alloc: Global, lines: &[&'a [u8]]) -> Result<Vec<AnswerLine<'a>>, AllocError>
+fn worded_lines<'a>(alloc: Global, lines: &[&'a [u8]]) -> Result<Vec<Line<'a>>, AllocError>
     ensures { IfOk result (λ v. lines_seen v.items ≡ worded_lines 1 (texts_of lines.now)) }
 {
     let mut worded = Vec::new(alloc);
@@ -23,14 +16,14 @@ fn worded_lines<'a>(alloc: Global, lines: &[&'a [u8]]) -> Result<Vec<AnswerLine<
         let words = words_of(alloc, line)?;
         if !words.is_empty() {
             let number = place + 1;
-            worded.push(AnswerLine { number, words })?;
+            worded.push(Line { number, words })?;
         }
     }
     Ok(worded)
 }
 
 /// The lines of a text that aren't blank.
-pub fn answer_lines(alloc: Global, text: &[u8]) -> Result<Vec<AnswerLine<'_>>, AllocError>
+pub fn answer_lines(alloc: Global, text: &[u8]) -> Result<Vec<Line<'_>>, AllocError>
     ensures { IfOk result (λ v. lines_seen v.items ≡ worded_lines 1 (lines_of text.now)) }
 {
     let lines = lines_of(alloc, text)?;

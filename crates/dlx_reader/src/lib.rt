@@ -1,4 +1,4 @@
-//! Problems from text, and answers to text and from it.
+//! Problems from text, in the general form of the input of Knuth's program DLX1, and answers to text and from it.
 #![tactic(auto)]
 
 mod answer;
@@ -6,13 +6,21 @@ mod answer_fault;
 mod answer_head;
 mod answer_lines;
 mod devices;
+mod fault;
+mod kept;
 mod lines;
+mod names;
+mod reading;
 mod writing;
 
 pub use answer::read_answer;
 pub use answer_fault::AnswerFault;
 pub use devices::{CountedReader, CountedWriter, DeviceFault, Sink, Source};
+pub use fault::ReadFault;
+pub use reading::{Read, read_problem};
 pub use writing::{WriteFault, write_answer, write_bytes};
 
 #[cfg(test)]
 mod answer_tests;
+#[cfg(test)]
+mod tests;

@@ -1,5 +1,5 @@
+use Rattle.dlx_reader.specs.Lines.{texts_of}
 use Rattle.std.proofs.Common.{ℕ, ◌<◌}
-use Rattle.dlx_reader.specs.AnswerLines.{texts_of}
 use Rattle.dlx_reader.specs.AnswerSteps.{IsUnflagged}
 use Rattle.dlx_reader.proofs.answer.lowest_free.Given as goal
 

@@ -1,6 +1,7 @@
+use Rattle.dlx_reader.specs.Lines.{texts_of}
 use Rattle.std.proofs.Common.{◌≡◌, ◌+◌, ◌++◌, drop}
 use Rattle.dlx_reader.specs.Answers.{worded_lines}
-use Rattle.dlx_reader.specs.AnswerLines.{lines_seen, texts_of}
+use Rattle.dlx_reader.specs.AnswerLines.{lines_seen}
 use Rattle.dlx_reader.proofs.answer_lines.worded_lines.Given as goal
 
 abbrev pub invariant-loop-place : goal.invariant-loop-place

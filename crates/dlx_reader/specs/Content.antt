@@ -1,0 +1,20 @@
+-- The lines of a text that say something: neither blank nor comments (the general form of the input of Knuth's DLX1).
+use Rattle.std.specs.Prelude.{ℕ, List, [], ◌∷◌, map, filter, slice_index, ◌==◌, Bool, false, not}
+use Rattle.std.specs.List.{enumerate_from}
+use Rattle.dlx_reader.specs.Lines.{lines_of, words_of}
+
+abbrev pub begins_with_bar : List ℕ → Bool
+begins_with_bar word = slice_index word 0 == 124
+
+-- whether a line with these words says something: it has a word, and the first does not begin with `|`
+abbrev pub is_content : List (List ℕ) → Bool
+is_content [] = false
+is_content (word ∷ words) = not (begins_with_bar word)
+
+-- those lines that say something, each as its words, beside its number
+unfoldable pub content_from : ℕ → List (List ℕ) → List (ℕ × List (List ℕ))
+content_from number lines = filter (λ line. is_content line.1) (enumerate_from number (map words_of lines))
+
+-- the lines of a text that say something, numbered from 1 among all its lines
+abbrev pub content_of : List ℕ → List (ℕ × List (List ℕ))
+content_of text = content_from 1 (lines_of text)

@@ -1,0 +1,88 @@
+//! The names of the items, with an index by which a name's item is found.
+
+ghost use Rattle.std.specs.Prelude.{◌≡◌, ◌<◌, ◌≤◌, ℕ, List, [], ◌∷◌, ◌++◌, length, false, IfSome, OnOk, OnErr};
+
+use cover_problem::Name;
+use std::alloc::{AllocError, Global};
+use std::collections::HashMap;
+use std::marker::Model;
+
+/// The names of the items in their order, of which there are at most 1,000. Each is found in the time of one look-up.
+#[derive(Drop)]
+pub struct Names<'a> {
+    list: Vec<Name>,
+    index: HashMap<&'a [u8], u16>,
+}
+
+impl<'a> Model for Names<'a> {
+    ghost use Rattle.std.specs.Prelude.{ℕ, List, length, ◌≤◌};
+    ghost use Rattle.dlx_reader.specs.Names.{IsIndex};
+
+    ghost Value = { List (List ℕ) };
+
+    ghost view = { λ n. n.list.items };
+
+    ghost invariant = { λ n. (length n.list.items ≤ 1000) × IsIndex n.list.items n.index };
+}
+
+impl<'a> Names<'a> {
+    ghost use Rattle.dlx_reader.specs.Names.{is_among, item_named};
+
+    /// No names.
+    pub fn new(alloc: Global) -> Names<'a>
+        ensures { result ≡ [] }
+    {
+        Names {
+            list: Vec::new(alloc),
+            index: HashMap::new(alloc),
+        }
+    }
+
+    /// How many names there are.
+    pub fn len(&self) -> usize
+        ensures len { result ≡ length self.now }
+        ensures most { result ≤ 1000 }
+    {
+        self.list.len()
+    }
+
+    /// The number of the item with a name, counted from 0.
+    pub fn item_named(&self, word: &[u8]) -> Option<u16>
+        ensures item { result ≡ item_named self.now word.now }
+        ensures within { IfSome result (λ item. item < length self.now) }
+        ensures most { length self.now ≤ 1000 }
+    {
+        self.index.get(word).copied()
+    }
+
+    /// Whether an item has this name.
+    pub fn contains(&self, word: &[u8]) -> bool
+        ensures among { result ≡ is_among self.now word.now }
+        ensures most { length self.now ≤ 1000 }
+    {
+        self.item_named(word).is_some()
+    }
+
+    /// Adds a name that is new. The only error is want of memory, and the names are then as before.
+    pub fn push(&mut self, alloc: Global, word: &'a [u8]) -> Result<(), AllocError>
+        requires fresh { is_among self.old word.now ≡ false }
+        requires room { length self.old < 1000 }
+        ensures ok { OnOk result (self.new ≡ self.old ++ word.now ∷ []) }
+        ensures err { OnErr result (self.new ≡ self.old) }
+    {
+        let number = self.list.len() as u16;
+        let name = Name::from_vec(Vec::from_slice(alloc, word)?);
+        self.list.reserve(1)?;
+        self.index.insert(word, number)?;
+        self.list.push_reserved(name);
+        Ok(())
+    }
+
+    /// The names in their order.
+    pub fn into_list(self) -> Vec<Name>
+        ensures { result.items ≡ self.entry }
+    {
+        let Names { list, index: _ } = self;
+        list
+    }
+}

@@ -1,0 +1,241 @@
+//! Reading a problem, in the general form of the input of Knuth's program DLX1.
+
+ghost use Rattle.std.specs.Prelude.{◌≡◌, [], ◌++◌, ◌∷◌, ◌≤◌, ◌<◌, ◌+◌, ◌^◌, length, true, false, Some, IfOk, IfErr, IsTrue, All, drop};
+ghost use Rattle.std.specs.List.{list_any, list_all};
+ghost use Rattle.cover_problem.specs.Numbers.{are_below, some_below};
+ghost use Rattle.cover_problem.specs.Problem.{problem_by};
+ghost use Rattle.dlx_reader.specs.Content.{is_content, content_from, content_of};
+ghost use Rattle.dlx_reader.specs.Faults.{first_fault, is_illegal, name_tests};
+ghost use Rattle.dlx_reader.specs.Items.{name_part, primary_in};
+ghost use Rattle.dlx_reader.specs.Lines.{is_word, texts_of};
+ghost use Rattle.dlx_reader.specs.ProblemOf.{IsProblemOf};
+ghost use Rattle.dlx_reader.specs.declared.fault.ReadFault.TheVariants.{Memory};
+ghost use Rattle.dlx_reader.specs.Reading.{Gives, after, item_at, items_from, option_item_at, option_from, keep_at, option_at, options_from, reading_of, read_by};
+
+use crate::fault::ReadFault;
+use crate::kept::Kept;
+use crate::lines::{Line, begins_with_bar, is_content, item_line, lines_of, words_of};
+use crate::names::Names;
+use cover_problem::{Numbers, Problem};
+use std::alloc::Global;
+
+/// The greatest number of items.
+const MOST_ITEMS: usize = 1000;
+
+/// The greatest number of bytes of a name.
+const LONGEST_NAME: usize = 32;
+
+fn has_illegal(name: &[u8]) -> bool
+    ensures { result ≡ list_any is_illegal name.now }
+{
+    name.iter().any(|byte| matches!(*byte, 0 | b':' | b'|'))
+}
+
+/// Tests the bytes of a name, and how many there are.
+fn test_name(name: &[u8], line: usize) -> Result<(), ReadFault>
+    ensures { Gives (λ _. name.now) result (after (name_tests line name.now) name.now) }
+{
+    if has_illegal(name) {
+        return Err(ReadFault::IllegalByte(line));
+    }
+    if name.len() > LONGEST_NAME {
+        return Err(ReadFault::NameTooLong(line));
+    }
+    Ok(())
+}
+
+/// The name that a word of the item line gives.
+fn name_part(word: &[u8]) -> &[u8]
+    ensures { result.now ≡ name_part word.now }
+{
+    match word {
+        [b'|', name @ ..] => name,
+        _ => word,
+    }
+}
+
+/// Reads a further word of the item line.
+#[tactic(auto, unfolding(crate::specs::Reading::item_at))]
+fn read_item<'a>(
+    alloc: Global,
+    names: &mut Names<'a>,
+    divided: &mut bool,
+    word: &'a [u8],
+    line: usize,
+) -> Result<(), ReadFault>
+    ensures gives { Gives (λ _. (names.new, divided.new)) result (item_at line names.old divided.old word.now) }
+{
+    let name = name_part(word);
+    test_name(name, line)?;
+    if names.contains(name) {
+        return Err(ReadFault::DuplicateItem(line));
+    }
+    if begins_with_bar(word) {
+        if *divided {
+            return Err(ReadFault::SecondBar(line));
+        }
+        *divided = true;
+    }
+    if name.is_empty() {
+        return Ok(());
+    }
+    if names.len() == MOST_ITEMS {
+        return Err(ReadFault::TooManyItems(line));
+    }
+    names.push(alloc, name)?;
+    Ok(())
+}
+
+/// Reads the words of the item line.
+#[tactic(auto, unfolding(crate::specs::Reading::items_from))]
+fn read_items<'a>(alloc: Global, words: &[&'a [u8]], line: usize) -> Result<Names<'a>, ReadFault>
+    ensures { Gives (λ names. names) result (items_from line [] false (texts_of words.now)) }
+{
+    let mut names = Names::new(alloc);
+    let mut divided = false;
+    for word in words {
+        read_item(alloc, &mut names, &mut divided, word, line)?;
+    }
+    Ok(names)
+}
+
+/// How many of the words stand before the separator.
+fn primary_in(words: &[&[u8]]) -> usize
+    ensures { result ≡ primary_in (texts_of words.now) }
+{
+    for (place, word) in words.iter().enumerate() {
+        if begins_with_bar(word) {
+            return place;
+        }
+    }
+    words.len()
+}
+
+/// Reads a further word of an option.
+#[tactic(auto, unfolding(crate::specs::Reading::option_item_at))]
+fn read_option_item(
+    names: &Names,
+    items: &mut Vec<u16>,
+    word: &[u8],
+    line: usize,
+) -> Result<(), ReadFault>
+    ensures gives { Gives (λ _. items.new.items) result (option_item_at line names.now items.old.items word.now) }
+{
+    test_name(word, line)?;
+    let Some(item) = names.item_named(word) else {
+        return Err(ReadFault::UnknownItem(line));
+    };
+    if items.contains(&item) {
+        return Err(ReadFault::DuplicateInOption(line));
+    }
+    items.push(item)?;
+    Ok(())
+}
+
+/// Reads the words of an option.
+#[tactic(auto, unfolding(crate::specs::Reading::option_from))]
+fn read_option(
+    alloc: Global,
+    names: &Names,
+    words: &[&[u8]],
+    line: usize,
+) -> Result<Vec<u16>, ReadFault>
+    ensures gives { Gives (λ items. items.items) result (option_from line names.now [] (texts_of words.now)) }
+{
+    let mut items = Vec::with_capacity(alloc, words.len())?;
+    for word in words {
+        read_option_item(names, &mut items, word, line)?;
+    }
+    Ok(items)
+}
+
+/// Reads an option's line, and keeps the option or counts it as ignored.
+#[tactic(auto, unfolding(crate::specs::Reading::option_at))]
+fn read_option_line(
+    alloc: Global,
+    names: &Names,
+    primary: usize,
+    kept: &mut Kept,
+    words: &[&[u8]],
+    line: usize,
+) -> Result<(), ReadFault>
+    requires ignored { kept.old.ignored < line }
+    ensures gives { Gives (λ _. (kept.new.options, kept.new.ignored)) result (option_at names.now primary kept.old.options kept.old.ignored (line, texts_of words.now)) }
+    ensures ignored { kept.new.ignored ≤ kept.old.ignored + 1 }
+{
+    let items = read_option(alloc, names, words, line)?;
+    kept.keep(primary, items, line)
+}
+
+/// Reads the lines after the item line, which has this number.
+#[tactic(auto, unfolding(crate::specs::Reading::options_from, crate::specs::Content::content_from))]
+fn read_options(
+    alloc: Global,
+    names: &Names,
+    primary: usize,
+    lines: &[&[u8]],
+    before: usize,
+) -> Result<Kept, ReadFault>
+    requires { before + length lines.now < 2 ^ 64 }
+    ensures { Gives (λ kept. (kept.options, kept.ignored)) result (options_from names.now primary [] 0 (content_from (before + 1) (texts_of lines.now))) }
+{
+    let mut kept = Kept::new(alloc);
+    for (place, line) in lines.iter().enumerate() {
+        let words = words_of(alloc, line)?;
+        if is_content(&words) {
+            let number = before + place + 1;
+            read_option_line(alloc, names, primary, &mut kept, &words, number)?;
+        }
+    }
+    Ok(kept)
+}
+
+/// A problem, and how many options were ignored since they have no primary item.
+#[derive(Drop)]
+pub struct Read {
+    pub problem: Problem,
+    pub ignored: usize,
+}
+
+/// Reads the words of the item line, which has this number, and the lines after it.
+#[tactic(auto, unfolding(crate::specs::Reading::reading_of))]
+fn read_content(
+    alloc: Global,
+    words: &[&[u8]],
+    number: usize,
+    others: &[&[u8]],
+) -> Result<Read, ReadFault>
+    requires content { is_content (texts_of words.now) ≡ true }
+    requires words { list_all is_word (texts_of words.now) ≡ true }
+    requires count { number + length others.now < 2 ^ 64 }
+    ensures { Gives (λ read. read_by read.problem read.ignored) result (reading_of ((number, texts_of words.now) ∷ content_from (number + 1) (texts_of others.now))) }
+{
+    let names = read_items(alloc, words, number)?;
+    let primary = primary_in(words);
+    let kept = read_options(alloc, &names, primary, others, number)?;
+    let ignored = kept.ignored();
+    Ok(Read {
+        problem: Problem::from_parts(names.into_list(), primary, kept.into_list()),
+        ignored,
+    })
+}
+
+/// Reads the lines of a text.
+#[tactic(auto, unfolding(crate::specs::Reading::reading_of))]
+fn read_lines(alloc: Global, text: &[u8]) -> Result<Read, ReadFault>
+    ensures { Gives (λ read. read_by read.problem read.ignored) result (reading_of (content_of text.now)) }
+{
+    let lines = lines_of(alloc, text)?;
+    let Some(Line { number, words }) = item_line(alloc, &lines)? else {
+        return Err(ReadFault::NoItems);
+    };
+    read_content(alloc, &words, number, &lines[number..])
+}
+
+/// The problem of a text.
+pub fn read_problem(alloc: Global, text: &[u8]) -> Result<Read, ReadFault>
+    ensures problem { IfOk result (λ read. IsProblemOf text.now read.problem read.ignored) }
+    ensures fault { IfErr result (λ e. (e ≡ Memory → ⊥) → first_fault text.now ≡ Some e) }
+{
+    read_lines(alloc, text)
+}

@@ -1,0 +1,115 @@
+//! Texts at the limits, and one above.
+
+use crate::ReadFault::{DuplicateItem, IllegalByte, TooManyItems, TooManyNodes, TooManyOptions};
+use crate::read_problem;
+use std::alloc::{AllocError, Global};
+use std::test::Fail;
+
+/// So many names.
+fn names(alloc: Global, count: u16) -> Result<String, AllocError> {
+    let mut text = String::new(alloc);
+    for item in 0..count {
+        write!(text, "n{item} ")?;
+    }
+    Ok(text)
+}
+
+/// So many times a line.
+fn repeat(text: &mut String, line: &str, count: u16) -> Result<(), AllocError> {
+    for _ in 0..count {
+        text.push_str(line)?;
+    }
+    Ok(())
+}
+
+/// An item line of 1,000 names, with this after them.
+fn full_line(alloc: Global, more: &str) -> Result<String, AllocError> {
+    let mut text = names(alloc, 1000)?;
+    text.push_str(more)?;
+    Ok(text)
+}
+
+#[test]
+fn items(rt: HostRuntime) -> Result<(), Fail> {
+    let alloc = rt.alloc();
+    assert_eq!(rt;
+        read_problem(alloc, full_line(alloc, "")?.as_bytes())?
+            .problem
+            .items(),
+        1000
+    );
+    assert_eq!(rt;
+        read_problem(alloc, full_line(alloc, "|")?.as_bytes())?
+            .problem
+            .items(),
+        1000
+    );
+    for (more, fault) in [
+        ("m", TooManyItems(1)),
+        ("|m", TooManyItems(1)),
+        ("| m", TooManyItems(1)),
+        ("m n0", TooManyItems(1)),
+        ("n0 m", DuplicateItem(1)),
+        ("|n999", DuplicateItem(1)),
+        ("m:", IllegalByte(1)),
+    ] {
+        let text = full_line(alloc, more)?;
+        assert_eq!(rt;
+            read_problem(alloc, text.as_bytes()).err(),
+            Some(fault),
+            "{more:?}"
+        );
+    }
+    Ok(())
+}
+
+#[test]
+fn options(rt: HostRuntime) -> Result<(), Fail> {
+    let alloc = rt.alloc();
+    let mut text = String::from_str(alloc, "a | x\n")?;
+    repeat(&mut text, "a\n", 20000)?;
+    repeat(&mut text, "x\n", 3)?;
+    let read = read_problem(alloc, text.as_bytes())?;
+    assert_eq!(rt; read.problem.options(), 20000);
+    assert_eq!(rt; read.ignored, 3);
+    text.push_str("\na x")?;
+    let fault = read_problem(alloc, text.as_bytes()).err();
+    assert_eq!(rt; fault, Some(TooManyOptions(20006)));
+    Ok(())
+}
+
+#[test]
+fn occurrences(rt: HostRuntime) -> Result<(), Fail> {
+    let alloc = rt.alloc();
+    let line = names(alloc, 1000)?;
+    let mut text = line.clone()?;
+    text.push('\n')?;
+    for _ in 0..200 {
+        text.push_str(line.as_str())?;
+        text.push('\n')?;
+    }
+    let read = read_problem(alloc, text.as_bytes())?;
+    assert_eq!(rt; read.problem.options(), 200);
+    text.push_str("n0\n")?;
+    let fault = read_problem(alloc, text.as_bytes()).err();
+    assert_eq!(rt; fault, Some(TooManyNodes(202)));
+    Ok(())
+}
+
+/// Both limits at one option: that of the options counts.
+#[test]
+fn both(rt: HostRuntime) -> Result<(), Fail> {
+    let alloc = rt.alloc();
+    let line = names(alloc, 10)?;
+    let mut text = String::new(alloc);
+    for _ in 0..20001 {
+        text.push_str(line.as_str())?;
+        text.push('\n')?;
+    }
+    let read = read_problem(alloc, text.as_bytes())?;
+    assert_eq!(rt; read.problem.options(), 20000);
+    text.push_str("n0\n")?;
+    let fault = read_problem(alloc, text.as_bytes()).err();
+    assert_eq!(rt; fault, Some(TooManyOptions(20002)));
+    Ok(())
+}

@@ -1,0 +1,184 @@
+//! Texts with the fault or the problem that the rules of the format give them, worked out by hand.
+
+use crate::ReadFault::{
+    self, DuplicateInOption, DuplicateItem, IllegalByte, NameTooLong, NoItems, SecondBar,
+    UnknownItem,
+};
+use crate::{Read, read_problem};
+use std::alloc::{AllocError, Global};
+use std::test::Fail;
+
+/// 32 bytes, and one more.
+const LONGEST: &str = "aaaaaaaaaabbbbbbbbbbccccccccccdd";
+
+static FAULTS: [(&str, ReadFault); 75] = [
+    // No item line: empty, blank lines and comments alone.
+    ("", NoItems),
+    ("\n", NoItems),
+    (" \t\r\n", NoItems),
+    ("\u{b}\u{c}\r \n", NoItems),
+    ("|", NoItems),
+    ("| note\n  | note\n", NoItems),
+    ("|a b\n\n|", NoItems),
+    // On the item line: a byte that no name has.
+    ("a:\n", IllegalByte(1)),
+    (":", IllegalByte(1)),
+    ("a b:c\n", IllegalByte(1)),
+    ("\0", IllegalByte(1)),
+    ("a b\0c\n", IllegalByte(1)),
+    ("a b|c\n", IllegalByte(1)),
+    ("a b|\n", IllegalByte(1)),
+    ("a ||x\n", IllegalByte(1)),
+    ("a ||\n", IllegalByte(1)),
+    ("a |:\n", IllegalByte(1)),
+    ("a | x|y\n", IllegalByte(1)),
+    ("\n| a:\n\na:", IllegalByte(4)),
+    // In an option: the same, and each bar.
+    ("a\na | a\n", IllegalByte(2)),
+    ("a\na:red\n", IllegalByte(2)),
+    ("a\na |a\n", IllegalByte(2)),
+    ("a\na\0", IllegalByte(2)),
+    ("a\na a|\n", IllegalByte(2)),
+    ("\n\n| c\na\n\na a:\n", IllegalByte(6)),
+    ("a | x\nx x:\n", IllegalByte(2)),
+    ("a | x\nx |\na\n", IllegalByte(2)),
+    // More than 32 bytes, of which the separator's bar is none.
+    ("aaaaaaaaaabbbbbbbbbbccccccccccddd\n", NameTooLong(1)),
+    ("a |aaaaaaaaaabbbbbbbbbbccccccccccddd", NameTooLong(1)),
+    (
+        "| c\na\naaaaaaaaaabbbbbbbbbbccccccccccddd\n",
+        NameTooLong(3),
+    ),
+    ("a\na aaaaaaaaaabbbbbbbbbbccccccccccddd a\n", NameTooLong(2)),
+    ("éééééééééééééééée\n", NameTooLong(1)),
+    // A name twice on the item line.
+    ("a a\n", DuplicateItem(1)),
+    ("a b a", DuplicateItem(1)),
+    ("a |a\n", DuplicateItem(1)),
+    ("a | a\n", DuplicateItem(1)),
+    ("a |x x\n", DuplicateItem(1)),
+    ("a | x x\n", DuplicateItem(1)),
+    ("\n\na a\n", DuplicateItem(3)),
+    ("| c\na a\n", DuplicateItem(2)),
+    ("a b\ra\n", DuplicateItem(1)),
+    ("a\u{b}a\n", DuplicateItem(1)),
+    ("a\u{c}a\n", DuplicateItem(1)),
+    // A second separator.
+    ("a | x | y\n", SecondBar(1)),
+    ("a | |\n", SecondBar(1)),
+    ("a | | a\n", SecondBar(1)),
+    ("a |x |y\n", SecondBar(1)),
+    ("a |x | y\n", SecondBar(1)),
+    ("\na | |x\n", SecondBar(2)),
+    // A word that is no item's name.
+    ("a\nb\n", UnknownItem(2)),
+    ("a\na b", UnknownItem(2)),
+    ("a\n\n|\n\tb", UnknownItem(4)),
+    ("a\n| x:\n\n|\nb", UnknownItem(5)),
+    ("a | x\nX\n", UnknownItem(2)),
+    ("ab\na b\n", UnknownItem(2)),
+    ("a\r\nb\r\n", UnknownItem(2)),
+    ("a\u{a0}b\na\n", UnknownItem(2)),
+    ("a | x\nx\nx y\n", UnknownItem(3)),
+    // An item twice in an option.
+    ("a\na a\n", DuplicateInOption(2)),
+    ("a | x\na x x\n", DuplicateInOption(2)),
+    ("a b\na b a", DuplicateInOption(2)),
+    ("a | x\na\nx x\n", DuplicateInOption(3)),
+    // Two faults in a word: that of the lesser number.
+    ("a |x |x\n", DuplicateItem(1)),
+    ("a | |a\n", DuplicateItem(1)),
+    ("a | x |:\n", IllegalByte(1)),
+    ("a | |aaaaaaaaaabbbbbbbbbbccccccccccddd\n", NameTooLong(1)),
+    ("aaaaaaaaaabbbbbbbbbbccccccccccdd:\n", IllegalByte(1)),
+    ("a\naaaaaaaaaabbbbbbbbbbccccccccccddd\n", NameTooLong(2)),
+    ("a\nb:\n", IllegalByte(2)),
+    // Two faults in a line, and in two lines: the former.
+    ("a b\na c a\n", UnknownItem(2)),
+    ("a b\na a c\n", DuplicateInOption(2)),
+    ("a a :\n", DuplicateItem(1)),
+    ("a a\nb\n", DuplicateItem(1)),
+    ("a\nb\nc:\n", UnknownItem(2)),
+    ("a\na a\n\0\n", DuplicateInOption(2)),
+];
+
+#[test]
+fn faults(rt: HostRuntime) {
+    for (text, fault) in FAULTS.iter() {
+        let found = read_problem(rt.alloc(), text.as_bytes()).err();
+        assert_eq!(rt; found, Some(*fault), "{text:?}");
+    }
+}
+
+/// The names; how many are primary; the options' items, each line ended by a comma; how many options are ignored.
+fn shown(alloc: Global, read: &Read) -> Result<Vec<u8>, AllocError> {
+    let mut text = Vec::new(alloc);
+    for item in 0..read.problem.items() as u16 {
+        text.extend_from_slice(read.problem.name(item))?;
+        text.push(b' ')?;
+    }
+    text.extend_from_slice(format!(in alloc; "/ {} /", read.problem.primary())?.as_bytes())?;
+    for option in 0..read.problem.options() as u16 {
+        for item in read.problem.option(option) {
+            text.extend_from_slice(format!(in alloc; " {item}")?.as_bytes())?;
+        }
+        text.push(b',')?;
+    }
+    text.extend_from_slice(format!(in alloc; " / {}", read.ignored)?.as_bytes())?;
+    Ok(text)
+}
+
+static PROBLEMS: [(&str, &str); 18] = [
+    (
+        "a b c d e f g\nc e\na d g\nb c f\na d f\nb g\nd e g\n",
+        "a b c d e f g / 7 / 2 4, 0 3 6, 1 2 5, 0 3 5, 1 6, 3 4 6, / 0",
+    ),
+    ("a b | x\na x\nb x\nb\n", "a b x / 2 / 0 2, 1 2, 1, / 0"),
+    ("a", "a / 1 / / 0"),
+    ("a |x", "a x / 1 / / 0"),
+    ("a |\na\n", "a / 1 / 0, / 0"),
+    ("a b |\n b a\n", "a b / 2 / 1 0, / 0"),
+    ("a | x\nx\na", "a x / 1 / 0, / 1"),
+    ("a | x y\nx y\nx\ny a x\ny\n", "a x y / 1 / 2 0 1, / 3"),
+    ("a |x y\ny a\n", "a x y / 1 / 2 0, / 0"),
+    ("a\na\na\na\n", "a / 1 / 0, 0, 0, / 0"),
+    ("a b\r\na\r\nb\r\n", "a b / 2 / 0, 1, / 0"),
+    (
+        "\n | head |\n\n\ta\tb | c \n|a b:\n c a \n\n b\n| end",
+        "a b c / 2 / 2 0, 1, / 0",
+    ),
+    ("a\u{b}b\u{c}c\n\u{c}c\u{b}a\n", "a b c / 3 / 2 0, / 0"),
+    ("é a\na é\n", "é a / 2 / 1 0, / 0"),
+    ("A a\nA\na\n", "A a / 2 / 0, 1, / 0"),
+    ("none cover\ncover none\n", "none cover / 2 / 1 0, / 0"),
+    (LONGEST, "aaaaaaaaaabbbbbbbbbbccccccccccdd / 1 / / 0"),
+    (
+        "a |aaaaaaaaaabbbbbbbbbbccccccccccdd\naaaaaaaaaabbbbbbbbbbccccccccccdd\n",
+        "a aaaaaaaaaabbbbbbbbbbccccccccccdd / 1 / / 1",
+    ),
+];
+
+#[test]
+fn problems(rt: HostRuntime) -> Result<(), Fail> {
+    let alloc = rt.alloc();
+    for (text, problem) in PROBLEMS.iter() {
+        let read = read_problem(alloc, text.as_bytes())?;
+        assert_eq!(rt;
+            shown(alloc, &read)?.as_slice(),
+            problem.as_bytes(),
+            "{text:?}"
+        );
+    }
+    Ok(())
+}
+
+#[test]
+fn bytes_above_127(rt: HostRuntime) -> Result<(), Fail> {
+    let alloc = rt.alloc();
+    let read = read_problem(alloc, b"\x80\xff | \xfe\n\xfe \x80\xff\n")?;
+    assert_eq!(rt;
+        shown(alloc, &read)?.as_slice(),
+        b"\x80\xff \xfe / 1 / 1 0, / 0".as_slice()
+    );
+    Ok(())
+}
