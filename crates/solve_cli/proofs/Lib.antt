@@ -1,0 +1,3 @@
+pub mod Told
+pub mod Pairs
+pub mod Listed

@@ -1,0 +1,12 @@
+-- Exit statuses of faults.
+use Rattle.std.specs.Prelude.{ℕ}
+use Rattle.solve_cli.specs.declared.fault.EngineFault.{EngineFault}
+use Rattle.solve_cli.specs.declared.fault.EngineFault.TheVariants as faults
+
+-- 3 for a refused file or a failed device, 5 for want of memory
+abbrev pub fault_status : EngineFault → ℕ
+fault_status faults.Read = 3
+fault_status (faults.File fault) = 3
+fault_status (faults.Answer fault) = 3
+fault_status faults.Write = 3
+fault_status faults.Memory = 5

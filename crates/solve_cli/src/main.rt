@@ -1,0 +1,72 @@
+//! `solve_cli`: finds an exact cover of a problem in the format of Knuth's DLX1, or shows that there is none.
+#![tactic(auto)]
+
+ghost use Rattle.std.specs.Prelude.{◌≤◌};
+
+mod alone;
+mod check;
+mod command_line;
+mod fault;
+mod input;
+mod lines;
+mod settings;
+mod tell;
+
+use crate::alone::alone_engine;
+use crate::command_line::{SettingsFault, settings};
+use crate::fault::EngineFault;
+use crate::settings::{Mode, Settings};
+use crate::tell::{tell, tell_fault};
+use dlx_reader::{CountedReader, CountedWriter};
+use std::fs::File;
+use std::process::ExitCode;
+use std::{env, io};
+
+/// Runs `alone` on a file, and answers the exit status.
+fn run_alone(rt: &HostRuntime, file: &str, fuel: u64) -> u8
+    requires { 1 ≤ fuel }
+{
+    let mut errors = CountedWriter::new(rt.stderr());
+    let Ok(file) = File::open(rt, file) else {
+        return tell_fault(&EngineFault::Read, &mut errors);
+    };
+    let mut source = CountedReader::new(file);
+    let mut sink = CountedWriter::new(rt.stdout());
+    match alone_engine(rt.alloc(), fuel, &mut source, &mut sink) {
+        Ok(end) => tell(end.status, end.ignored, &mut errors),
+        Err(fault) => tell_fault(&fault, &mut errors),
+    }
+}
+
+fn run(rt: &HostRuntime, settings: &Settings) -> u8 {
+    match settings.mode {
+        Mode::Alone => run_alone(rt, settings.file, settings.fuel),
+        Mode::Check => 2,
+    }
+}
+
+/// Runs what a command line asks for, and answers the exit status: 2 for a fault of the command line.
+fn run_words(rt: &HostRuntime, words: &[&str]) -> u8 {
+    match settings(rt.alloc(), words) {
+        Ok(settings) => run(rt, &settings),
+        Err(SettingsFault::Line(error)) => {
+            let _ = error.print(rt);
+            if error.use_stderr() { 2 } else { 0 }
+        }
+        Err(SettingsFault::Memory) => {
+            tell_fault(&EngineFault::Memory, &mut CountedWriter::new(rt.stderr()))
+        }
+    }
+}
+
+fn main(rt: HostRuntime) -> io::Result<ExitCode> {
+    let mut given = Vec::new(rt.alloc());
+    for word in env::args(&rt)? {
+        given.push(word)?;
+    }
+    let mut words = Vec::new(rt.alloc());
+    for word in &given {
+        words.push(word.as_str())?;
+    }
+    Ok(ExitCode::from(run_words(&rt, &words)))
+}
