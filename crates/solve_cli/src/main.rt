@@ -13,9 +13,9 @@ mod settings;
 mod tell;
 
 use crate::alone::alone_engine;
+use crate::check::check_engine;
 use crate::command_line::{SettingsFault, settings};
 use crate::fault::EngineFault;
-use crate::settings::{Mode, Settings};
 use crate::tell::{tell, tell_fault};
 use dlx_reader::{CountedReader, CountedWriter};
 use std::fs::File;
@@ -38,17 +38,33 @@ fn run_alone(rt: &HostRuntime, file: &str, fuel: u64) -> u8
     }
 }
 
-fn run(rt: &HostRuntime, settings: &Settings) -> u8 {
-    match settings.mode {
-        Mode::Alone => run_alone(rt, settings.file, settings.fuel),
-        Mode::Check => 2,
+/// Runs `check` on a file and an answer's file, and answers the exit status.
+fn run_check(rt: &HostRuntime, file: &str, answer: &str, fuel: u64) -> u8
+    requires { 1 ≤ fuel }
+{
+    let mut errors = CountedWriter::new(rt.stderr());
+    let Ok(file) = File::open(rt, file) else {
+        return tell_fault(&EngineFault::Read, &mut errors);
+    };
+    let Ok(answer) = File::open(rt, answer) else {
+        return tell_fault(&EngineFault::Read, &mut errors);
+    };
+    let mut file = CountedReader::new(file);
+    let mut answer = CountedReader::new(answer);
+    let mut sink = CountedWriter::new(rt.stdout());
+    match check_engine(rt.alloc(), fuel, &mut file, &mut answer, &mut sink) {
+        Ok(end) => tell(end.status, end.ignored, &mut errors),
+        Err(fault) => tell_fault(&fault, &mut errors),
     }
 }
 
-/// Runs what a command line asks for, and answers the exit status: 2 for a fault of the command line.
+/// Runs what a command line asks for, and answers the exit status: 2 for a fault of the command line, 0 for help.
 fn run_words(rt: &HostRuntime, words: &[&str]) -> u8 {
     match settings(rt.alloc(), words) {
-        Ok(settings) => run(rt, &settings),
+        Ok(settings) => match settings.answer {
+            None => run_alone(rt, settings.file, settings.fuel),
+            Some(answer) => run_check(rt, settings.file, answer, settings.fuel),
+        },
         Err(SettingsFault::Line(error)) => {
             let _ = error.print(rt);
             if error.use_stderr() { 2 } else { 0 }
@@ -70,3 +86,6 @@ fn main(rt: HostRuntime) -> io::Result<ExitCode> {
     }
     Ok(ExitCode::from(run_words(&rt, &words)))
 }
+
+#[cfg(test)]
+mod tests;
