@@ -1,7 +1,7 @@
 -- The fault of the reading word by word is the first fault of the text.
-use Rattle.std.proofs.Common.{◌≡◌, ℕ, ◌+◌, ◌≤◌, List, [], ◌∷◌, ◌++◌, length, Option, Some, None, Result, Ok, Err, Bool, true, false, cond, refl, sym, ap, ◌∙◌, arith, append_assoc, append-nil, length-append, map, filter, take, get_or, not, ◌==◌, ◌||◌, ◌&&◌, nat_lt, is_some, suc}
-use Rattle.std.specs.List.{flat_map, list_any, list_all, sum_by}
-use Rattle.std.proofs.lemmas.Bool.{true≢false, not_from_true, not_from_false, le-ltb}
+use Rattle.std.proofs.Common.{◌≡◌, ℕ, ◌+◌, ◌≤◌, List, [], ◌∷◌, ◌++◌, length, Option, Some, None, Result, Ok, Err, Bool, true, false, cond, refl, sym, ap, ◌∙◌, arith, append-nil, length-append, map, take, not, ◌==◌, ◌||◌, nat_lt, is_some, suc}
+use Rattle.std.specs.List.{flat_map, list_any, sum_by}
+use Rattle.std.proofs.lemmas.Bool.{le-ltb}
 use Rattle.std.proofs.lemmas.List.{map-append}
 use Rattle.std.proofs.lemmas.List.Elements.{filter-append}
 use Rattle.std.proofs.lemmas.List.Folds.{list_any-append}
@@ -19,7 +19,7 @@ use Rattle.dlx_reader.specs.declared.fault.ReadFault.TheVariants as faults
 use Rattle.dlx_reader.proofs.ItemLines.{items_read, add_names}
 use Rattle.dlx_reader.proofs.Naming.{named_at, is_some-named}
 use Rattle.dlx_reader.proofs.OptionLines.{keep_read, words_in}
-use Rattle.dlx_reader.proofs.OptionWords.{ReadsWord, ReadsOption, word_read, option_read, same_item, same_primary, are_below-push, names_of-push}
+use Rattle.dlx_reader.proofs.OptionWords.{word_read, option_read, same_item, same_primary, are_below-push, names_of-push}
 use Rattle.dlx_reader.proofs.Placed.{or_first, first_of-append, fault_of, fault_of-after, fault_of-then, placed_from, placed_from-start, first_of-placed}
 
 -- ---- the item line
@@ -71,12 +71,12 @@ unfolding option_from
 option_fault line names items [] differ below = refl
 option_fault line names items (word ∷ words) differ below =
     (elim (option_item_at line names items word) as (λ r. option_item_at line names items word ≡ r → fault_of (r >>= (λ more. option_from line names more words)) ≡ or_first (fault_of r) (first_of (flat_map (λ place. option_tests line names place.0 place.1) (placed_from (names_of names items ++ word ∷ []) words)))) [
-      Ok more ↦ λ e.
-        let one = word_read line names items word more e in
-        let at = named_at names word one.item one.named in
-        let further : names_of names more ≡ names_of names items ++ word ∷ [] = names_of-push names items more one.item word one.whole at.1 in
-        option_fault line names more words differ (rw one.whole (are_below-push (length names) items one.item below at.0)) ∙ ap (λ before. first_of (flat_map (λ place. option_tests line names place.0 place.1) (placed_from before words))) further
-    | Err fault ↦ λ e. refl
+      | Ok more ↦ λ e.
+          let one = word_read line names items word more e in
+          let at = named_at names word one.item one.named in
+          let further : names_of names more ≡ names_of names items ++ word ∷ [] = names_of-push names items more one.item word one.whole at.1 in
+          option_fault line names more words differ (rw one.whole (are_below-push (length names) items one.item below at.0)) ∙ ap (λ before. first_of (flat_map (λ place. option_tests line names place.0 place.1) (placed_from before words))) further
+      | Err fault ↦ λ e. refl
     ]) refl
     ∙ ap (λ found. or_first found (first_of (flat_map (λ place. option_tests line names place.0 place.1) (placed_from (names_of names items ++ word ∷ []) words)))) (word_fault line names items word differ below)
     ∙ sym (first_of-placed (λ place. option_tests line names place.0 place.1) (names_of names items) word words)
@@ -107,19 +107,20 @@ keep_fault : (line primary : ℕ) (names options : List (List ℕ)) (ignored : �
 unfolding keep_at
 keep_fault line primary names options ignored items count occurrences =
     elim (some_below primary items) as (λ b. fault_of {A = List (List ℕ) × ℕ} (cond b (after ((nat_lt 20000 (length options + 1), faults.TooManyOptions line) ∷ (nat_lt 200000 (sum_by length options + length items), faults.TooManyNodes line) ∷ []) (options ++ items ∷ [], ignored)) (Ok (options, ignored + 1))) ≡ first_of (limit_tests line (map (names_of names) options ++ cond b (names_of names items ∷ []) []))) [
-      true ↦
-        fault_of-after ((nat_lt 20000 (length options + 1), faults.TooManyOptions line) ∷ (nat_lt 200000 (sum_by length options + length items), faults.TooManyNodes line) ∷ []) (options ++ items ∷ [], ignored)
-        ∙ same_tests (length options + 1) (length (map (names_of names) options ++ names_of names items ∷ [])) (sum_by length options + length items) (sum_by length (map (names_of names) options ++ names_of names items ∷ []))
-        (omega (arith, length-append (map (names_of names) options) (names_of names items ∷ []), length-map_names names options))
-        (omega (arith, sum_by-append length (map (names_of names) options) (names_of names items ∷ []), sum_by-cons length (names_of names items) [], length-names_of names items, sum-names_of names options))
-    | false ↦
-        same_none (length (map (names_of names) options ++ [])) (sum_by length (map (names_of names) options ++ []))
-        (omega (arith, ap length (append-nil (map (names_of names) options)), length-map_names names options))
-        (omega (arith, ap (sum_by length) (append-nil (map (names_of names) options)), sum-names_of names options))
+      | true ↦
+          fault_of-after ((nat_lt 20000 (length options + 1), faults.TooManyOptions line) ∷ (nat_lt 200000 (sum_by length options + length items), faults.TooManyNodes line) ∷ []) (options ++ items ∷ [], ignored)
+          ∙ same_tests (length options + 1) (length (map (names_of names) options ++ names_of names items ∷ [])) (sum_by length options + length items) (sum_by length (map (names_of names) options ++ names_of names items ∷ []))
+          (omega (arith, length-append (map (names_of names) options) (names_of names items ∷ []), length-map_names names options))
+          (omega (arith, sum_by-append length (map (names_of names) options) (names_of names items ∷ []), sum_by-cons length (names_of names items) [], length-names_of names items, sum-names_of names options))
+      | false ↦
+          same_none (length (map (names_of names) options ++ [])) (sum_by length (map (names_of names) options ++ []))
+          (omega (arith, ap length (append-nil (map (names_of names) options)), length-map_names names options))
+          (omega (arith, ap (sum_by length) (append-nil (map (names_of names) options)), sum-names_of names options))
     ]
   where
     same_tests : (a b c d : ℕ) → a ≡ b → c ≡ d → first_of ((nat_lt 20000 a, faults.TooManyOptions line) ∷ (nat_lt 200000 c, faults.TooManyNodes line) ∷ []) ≡ first_of ((nat_lt 20000 b, faults.TooManyOptions line) ∷ (nat_lt 200000 d, faults.TooManyNodes line) ∷ [])
     same_tests a b c d e f = rw (e, f) refl
+
     same_none : (a b : ℕ) → a ≤ 20000 → b ≤ 200000 → None ≡ first_of ((nat_lt 20000 a, faults.TooManyOptions line) ∷ (nat_lt 200000 b, faults.TooManyNodes line) ∷ [])
     same_none a b p q = rw (le-ltb 20000 a p, le-ltb 200000 b q) refl
 
@@ -147,11 +148,11 @@ line_fault : (names : List (List ℕ)) (primary : ℕ) (options : List (List ℕ
 unfolding option_at
 line_fault names primary options ignored before line differ count occurrences same =
     (elim (option_from line.0 names [] line.1) as (λ r. option_from line.0 names [] line.1 ≡ r → fault_of (r >>= (λ items. keep_at line.0 primary options ignored items)) ≡ or_first (fault_of r) (first_of (limit_tests line.0 (kept_lines (take primary names) (words_in (before ++ line ∷ [])))))) [
-      Ok items ↦ λ e.
-        let read = option_read line.0 names [] line.1 items e in
-        keep_fault line.0 primary names options ignored items count occurrences
-        ∙ ap (λ kept. first_of (limit_tests line.0 kept)) (kept_more names options primary items before line differ (read.below refl) read.whole same)
-    | Err fault ↦ λ e. refl
+      | Ok items ↦ λ e.
+          let read = option_read line.0 names [] line.1 items e in
+          keep_fault line.0 primary names options ignored items count occurrences
+          ∙ ap (λ kept. first_of (limit_tests line.0 kept)) (kept_more names options primary items before line differ (read.below refl) read.whole same)
+      | Err fault ↦ λ e. refl
     ]) refl
     ∙ ap (λ found. or_first found (first_of (limit_tests line.0 (kept_lines (take primary names) (words_in (before ++ line ∷ [])))))) (option_words_fault line.0 names line.1 differ)
     ∙ sym (first_of-append (flat_map (λ p. option_tests line.0 names p.0 p.1) (placed line.1)) (limit_tests line.0 (kept_lines (take primary names) (words_in (before ++ line ∷ [])))))
@@ -166,15 +167,15 @@ line_left : (names : List (List ℕ)) (primary : ℕ) (options : List (List ℕ)
 unfolding option_at
 line_left names primary options ignored before line more differ left h =
     (elim (option_from line.0 names [] line.1) as (λ r. option_from line.0 names [] line.1 ≡ r → (r >>= (λ items. keep_at line.0 primary options ignored items)) ≡ Ok more → LeavesLine names primary (before ++ line ∷ []) more.0) [
-      Ok items ↦ λ e g.
-        let read = option_read line.0 names [] line.1 items e in
-        let kept = keep_read line.0 primary options ignored items more g in
-        record {
-          count = kept.count left.count;
-          occurrences = kept.occurrences left.occurrences;
-          named = kept_named names options primary ignored items more kept.kept ∙ kept_more names options primary items before line differ (read.below refl) read.whole left.named;
-        }
-    | Err fault ↦ λ e g. absurd (cc)
+      | Ok items ↦ λ e g.
+          let read = option_read line.0 names [] line.1 items e in
+          let kept = keep_read line.0 primary options ignored items more g in
+          record {
+            count = kept.count left.count;
+            occurrences = kept.occurrences left.occurrences;
+            named = kept_named names options primary ignored items more kept.kept ∙ kept_more names options primary items before line differ (read.below refl) read.whole left.named;
+          }
+      | Err fault ↦ λ e g. absurd (cc)
     ]) refl h
 
 options_fault : (names : List (List ℕ)) (primary : ℕ) (options : List (List ℕ)) (ignored : ℕ) (before lines : List (ℕ × List (List ℕ))) → names_differ names ≡ true → LeavesLine names primary before options → fault_of (options_from names primary options ignored lines) ≡ first_of (flat_map (line_tests names (take primary names)) (placed_from before lines))
@@ -182,8 +183,8 @@ unfolding options_from
 options_fault names primary options ignored before [] differ left = refl
 options_fault names primary options ignored before (line ∷ lines) differ left =
     (elim (option_at names primary options ignored line) as (λ r. option_at names primary options ignored line ≡ r → fault_of (r >>= (λ state. options_from names primary state.0 state.1 lines)) ≡ or_first (fault_of r) (first_of (flat_map (line_tests names (take primary names)) (placed_from (before ++ line ∷ []) lines)))) [
-      Ok more ↦ λ e. options_fault names primary more.0 more.1 (before ++ line ∷ []) lines differ (line_left names primary options ignored before line more differ left e)
-    | Err fault ↦ λ e. refl
+      | Ok more ↦ λ e. options_fault names primary more.0 more.1 (before ++ line ∷ []) lines differ (line_left names primary options ignored before line more differ left e)
+      | Err fault ↦ λ e. refl
     ]) refl
     ∙ ap (λ found. or_first found (first_of (flat_map (line_tests names (take primary names)) (placed_from (before ++ line ∷ []) lines)))) (line_fault names primary options ignored before line differ left.count left.occurrences left.named)
     ∙ sym (first_of-placed (line_tests names (take primary names)) before line lines)
@@ -195,14 +196,14 @@ unfolding reading_of
 content_fault [] = refl
 content_fault (first ∷ others) =
     (elim (items_from first.0 [] false first.1) as (λ r. items_from first.0 [] false first.1 ≡ r → fault_of (r >>= (λ names. options_from names (primary_in first.1) [] 0 others >>= (λ kept. Ok (reading_by names (primary_in first.1) kept)))) ≡ or_first (fault_of r) (first_of (flat_map (line_tests (names_in first.1) (primary_names first.1)) (placed others)))) [
-      Ok names ↦ λ e.
-        let read = items_read first.0 [] false first.1 names e in
-        let none : LeavesLine names (primary_in first.1) [] [] = record { count = omega arith; occurrences = omega arith; named = refl } in
-        last (options_from names (primary_in first.1) [] 0 others) (λ kept. reading_by names (primary_in first.1) kept)
-        ∙ options_fault names (primary_in first.1) [] 0 [] others (read.differ refl) none
-        ∙ ap (λ places. first_of (flat_map (line_tests names (take (primary_in first.1) names)) places)) (placed_from-start others)
-        ∙ named names read.whole
-    | Err fault ↦ λ e. refl
+      | Ok names ↦ λ e.
+          let read = items_read first.0 [] false first.1 names e in
+          let none : LeavesLine names (primary_in first.1) [] [] = record { count = omega arith; occurrences = omega arith; named = refl } in
+          last (options_from names (primary_in first.1) [] 0 others) (λ kept. reading_by names (primary_in first.1) kept)
+          ∙ options_fault names (primary_in first.1) [] 0 [] others (read.differ refl) none
+          ∙ ap (λ places. first_of (flat_map (line_tests names (take (primary_in first.1) names)) places)) (placed_from-start others)
+          ∙ named names read.whole
+      | Err fault ↦ λ e. refl
     ]) refl
     ∙ ap (λ found. or_first found (first_of (flat_map (line_tests (names_in first.1) (primary_names first.1)) (placed others)))) (item_line_fault first)
     ∙ sym (first_of-append (item_line_tests first) (flat_map (line_tests (names_in first.1) (primary_names first.1)) (placed others)))
@@ -210,6 +211,7 @@ content_fault (first ∷ others) =
     last : {A B : Type 0} (r : Result A ReadFault) (f : A → B) → fault_of (r >>= (λ kept. Ok (f kept))) ≡ fault_of r
     last (Ok x) f = refl
     last (Err fault) f = refl
+
     named : (names : List (List ℕ)) → names ≡ names_in first.1 → first_of (flat_map (line_tests names (take (primary_in first.1) names)) (placed others)) ≡ first_of (flat_map (line_tests (names_in first.1) (primary_names first.1)) (placed others))
     named names e = rw e refl
 

@@ -1,3 +1,4 @@
+pub mod Determined
 pub mod Differing
 pub mod FirstFaults
 pub mod Firsts
@@ -9,4 +10,5 @@ pub mod OptionWords
 pub mod Placed
 pub mod Problems
 pub mod Relation
+pub mod Whole
 pub mod Words

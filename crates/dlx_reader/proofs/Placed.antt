@@ -15,8 +15,8 @@ pub first_of-append : (xs ys : List (Bool × ReadFault)) → first_of (xs ++ ys)
 first_of-append [] ys = refl
 first_of-append (test ∷ xs) ys =
     elim test.0 as (λ b. cond b (Some test.1) (first_of (xs ++ ys)) ≡ or_first (cond b (Some test.1) (first_of xs)) (first_of ys)) [
-      true ↦ refl
-    | false ↦ first_of-append xs ys
+      | true ↦ refl
+      | false ↦ first_of-append xs ys
     ]
 
 -- ---- the fault of a reading
@@ -34,8 +34,8 @@ pub after_is : {A : Type 0} (tests : List (Bool × ReadFault)) (x : A) → after
 after_is [] x = refl
 after_is (test ∷ tests) x =
     elim test.0 as (λ b. cond b (Err test.1) (after tests x) ≡ given (cond b (Some test.1) (first_of tests)) x) [
-      true ↦ refl
-    | false ↦ after_is tests x
+      | true ↦ refl
+      | false ↦ after_is tests x
     ]
 
 pub fault_of-after : {A : Type 0} (tests : List (Bool × ReadFault)) (x : A) → fault_of (after tests x) ≡ first_of tests

@@ -1,13 +1,13 @@
 -- What is read has the relation to the text, and nothing else has it.
-use Rattle.std.proofs.Common.{◌≡◌, ℕ, ◌+◌, ◌≤◌, List, [], ◌∷◌, ◌++◌, length, Result, Ok, Err, Bool, true, false, cond, refl, sym, ap, ◌∙◌, arith, map, count_by, not, take, drop, get_or, ◌&&◌, subst}
+use Rattle.std.proofs.Common.{◌≡◌, ℕ, ◌+◌, List, [], ◌∷◌, Ok, Err, true, false, refl, ap, ◌∙◌, arith, count_by, not, take, drop, get_or, ◌&&◌, subst}
 use Rattle.std.specs.List.{list_all}
 use Rattle.std.proofs.lemmas.Bool.{and_parts}
-use Rattle.cover_problem.specs.Problem.{Problem, IsProblem}
+use Rattle.cover_problem.specs.Problem.{Problem}
 use Rattle.dlx_reader.specs.Content.{is_content, content_of}
 use Rattle.dlx_reader.specs.Items.{names_in, primary_in, primary_names}
 use Rattle.dlx_reader.specs.Lines.{is_word}
 use Rattle.dlx_reader.specs.ProblemOf.{IsProblemIn, IsProblemOf}
-use Rattle.dlx_reader.specs.OptionLines.{names_of, names_primary, kept_lines}
+use Rattle.dlx_reader.specs.OptionLines.{names_primary, kept_lines}
 use Rattle.dlx_reader.specs.Reading.{◌>>=◌, Reading, items_from, options_from, reading_of, read_by}
 use Rattle.dlx_reader.proofs.ItemLines.{items_read}
 use Rattle.dlx_reader.proofs.OptionLines.{words_in, options_read}
@@ -40,16 +40,16 @@ content_related [] problem ignored each h = absurd (cc)
 content_related (first ∷ others) problem ignored each h =
     let lawful = and_parts (is_content first.1) (list_all is_word first.1) (and_parts (is_content first.1 && list_all is_word first.1) (list_all (λ line. is_content line.1 && list_all is_word line.1) others) each).0 in
     (elim (items_from first.0 [] false first.1) as (λ r. items_from first.0 [] false first.1 ≡ r → (r >>= (λ names. options_from names (primary_in first.1) [] 0 others >>= (λ kept. Ok (record { names = names; primary = primary_in first.1; options = kept.0; ignored = kept.1 })))) ≡ Ok (read_by problem ignored) → IsProblemIn first.1 (words_in others) problem ignored) [
-      Ok names ↦ λ items g.
-        (elim (options_from names (primary_in first.1) [] 0 others) as (λ r. options_from names (primary_in first.1) [] 0 others ≡ r → (r >>= (λ kept. Ok (record { names = names; primary = primary_in first.1; options = kept.0; ignored = kept.1 }))) ≡ Ok (read_by problem ignored) → IsProblemIn first.1 (words_in others) problem ignored) [
-          Ok kept ↦ λ options whole.
-            let read : Reading = record { names = names; primary = primary_in first.1; options = kept.0; ignored = kept.1 } in
-            let made : read ≡ read_by problem ignored = cc in
-            let related = parts_related first.0 first.1 others names kept lawful.0 lawful.1 items options in
-            subst (λ (r : Reading). IsProblemIn first.1 (words_in others) (record { names = r.names; primary = r.primary; options = r.options }) r.ignored) made related
-        | Err fault ↦ λ options whole. absurd (cc)
-        ]) refl g
-    | Err fault ↦ λ items g. absurd (cc)
+      | Ok names ↦ λ items g.
+          (elim (options_from names (primary_in first.1) [] 0 others) as (λ r. options_from names (primary_in first.1) [] 0 others ≡ r → (r >>= (λ kept. Ok (record { names = names; primary = primary_in first.1; options = kept.0; ignored = kept.1 }))) ≡ Ok (read_by problem ignored) → IsProblemIn first.1 (words_in others) problem ignored) [
+            | Ok kept ↦ λ options whole.
+                let read : Reading = record { names = names; primary = primary_in first.1; options = kept.0; ignored = kept.1 } in
+                let made : read ≡ read_by problem ignored = cc in
+                let related = parts_related first.0 first.1 others names kept lawful.0 lawful.1 items options in
+                subst (λ (r : Reading). IsProblemIn first.1 (words_in others) (record { names = r.names; primary = r.primary; options = r.options }) r.ignored) made related
+            | Err fault ↦ λ options whole. absurd (cc)
+          ]) refl g
+      | Err fault ↦ λ items g. absurd (cc)
     ]) refl h
 
 pub text_related : (text : List ℕ) (problem : Problem) (ignored : ℕ) → reading_of (content_of text) ≡ Ok (read_by problem ignored) → IsProblemOf text problem ignored

@@ -1,4 +1,4 @@
-use Rattle.std.proofs.Common.{◌≡◌, ◌+◌}
+use Rattle.std.proofs.Common.{◌+◌}
 use Rattle.dlx_reader.specs.Content.{content_from}
 use Rattle.dlx_reader.specs.Reading.{texts}
 use Rattle.dlx_reader.proofs.Problems.{read_is_problem}

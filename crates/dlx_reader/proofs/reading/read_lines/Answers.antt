@@ -1,4 +1,4 @@
-use Rattle.std.proofs.Common.{◌≡◌, ap, ◌∙◌}
+use Rattle.std.proofs.Common.{ap, ◌∙◌}
 use Rattle.dlx_reader.specs.Reading.{texts}
 use Rattle.dlx_reader.proofs.Words.{first_words}
 use Rattle.dlx_reader.proofs.reading.read_lines.Goals as goal
