@@ -1,7 +1,7 @@
 -- The fault of the reading word by word is the first fault of the text.
-use Rattle.std.proofs.Common.{◌≡◌, ℕ, ◌+◌, ◌≤◌, List, [], ◌∷◌, ◌++◌, length, Option, Some, None, Result, Ok, Err, Bool, true, false, cond, refl, sym, ap, ◌∙◌, arith, append_assoc, append-nil, length-append, map, filter, take, get_or, not, ◌==◌, ◌||◌, ◌&&◌, nat_lt, is_some, suc}
-use Rattle.std.specs.List.{flat_map, list_any, list_all, sum_by}
-use Rattle.std.proofs.lemmas.Bool.{true≢false, not_from_true, not_from_false, le-ltb}
+use Rattle.std.proofs.Common.{◌≡◌, ℕ, ◌+◌, ◌≤◌, List, [], ◌∷◌, ◌++◌, length, Option, Some, None, Result, Ok, Err, Bool, true, false, cond, refl, sym, ap, ◌∙◌, arith, append-nil, length-append, map, take, not, ◌==◌, ◌||◌, nat_lt, is_some, suc}
+use Rattle.std.specs.List.{flat_map, list_any, sum_by}
+use Rattle.std.proofs.lemmas.Bool.{le-ltb}
 use Rattle.std.proofs.lemmas.List.{map-append}
 use Rattle.std.proofs.lemmas.List.Elements.{filter-append}
 use Rattle.std.proofs.lemmas.List.Folds.{list_any-append}
@@ -19,7 +19,7 @@ use Rattle.dlx_reader.specs.declared.fault.ReadFault.TheVariants as faults
 use Rattle.dlx_reader.proofs.ItemLines.{items_read, add_names}
 use Rattle.dlx_reader.proofs.Naming.{named_at, is_some-named}
 use Rattle.dlx_reader.proofs.OptionLines.{keep_read, words_in}
-use Rattle.dlx_reader.proofs.OptionWords.{ReadsWord, ReadsOption, word_read, option_read, same_item, same_primary, are_below-push, names_of-push}
+use Rattle.dlx_reader.proofs.OptionWords.{word_read, option_read, same_item, same_primary, are_below-push, names_of-push}
 use Rattle.dlx_reader.proofs.Placed.{or_first, first_of-append, fault_of, fault_of-after, fault_of-then, placed_from, placed_from-start, first_of-placed}
 
 -- ---- the item line

@@ -1,5 +1,5 @@
 -- The first test that holds.
-use Rattle.std.proofs.Common.{◌≡◌, List, [], ◌∷◌, ◌++◌, Option, Some, None, Result, Ok, Err, Bool, true, false, cond, refl}
+use Rattle.std.proofs.Common.{◌≡◌, List, [], ◌∷◌, Some, None, Ok, Err, Bool, true, false, cond, refl}
 use Rattle.dlx_reader.specs.Faults.{first_of}
 use Rattle.dlx_reader.specs.Reading.{after}
 use Rattle.dlx_reader.specs.declared.fault.ReadFault.{ReadFault}

@@ -1,5 +1,5 @@
 -- What the item line gives.
-use Rattle.std.proofs.Common.{◌≡◌, ℕ, ◌+◌, ◌<◌, ◌≤◌, List, [], ◌∷◌, ◌++◌, length, Result, Ok, Err, Bool, true, false, nat_eq, nat_lt, not, ◌&&◌, ◌||◌, ◌==◌, cond, refl, sym, ap, ◌∙◌, arith, append_assoc, append-nil, length-append, count_by, filter, map}
+use Rattle.std.proofs.Common.{◌≡◌, ℕ, ◌+◌, ◌≤◌, List, [], ◌∷◌, ◌++◌, length, Ok, Err, Bool, true, false, nat_eq, not, ◌&&◌, ◌||◌, ◌==◌, cond, refl, sym, ◌∙◌, arith, append_assoc, append-nil, length-append, count_by}
 use Rattle.std.specs.List.{list_any, list_all}
 use Rattle.std.specs.Cmp.Lexicographic.{pointwise}
 use Rattle.std.proofs.lemmas.Bool.{true≢false, and_parts, and_from, ltb-false}
@@ -11,7 +11,6 @@ use Rattle.dlx_reader.specs.Faults.{item_tests}
 use Rattle.dlx_reader.specs.Items.{name_part, names_in}
 use Rattle.dlx_reader.specs.Lines.{is_word}
 use Rattle.dlx_reader.specs.Reading.{◌>>=◌, add_name, item_at, items_from}
-use Rattle.dlx_reader.specs.declared.fault.ReadFault.{ReadFault}
 use Rattle.dlx_reader.proofs.Differing.{names_differ-push}
 use Rattle.dlx_reader.proofs.Firsts.{Fails, after_ok}
 use Rattle.dlx_reader.proofs.Lawful.{is_inner, part_inner, is_name_from}
@@ -50,7 +49,7 @@ add_differ names name fresh h =
       | false ↦ names_differ-push names name h fresh
     ]
 
-length-add : (names : List (List ℕ)) (name : List ℕ) → length (add_name names name) ≡ length names + length (cond (not (length name == 0)) (name ∷ []) [])
+pub length-add : (names : List (List ℕ)) (name : List ℕ) → length (add_name names name) ≡ length names + length (cond (not (length name == 0)) (name ∷ []) [])
 length-add names name =
     elim (length name == 0) as (λ b. length (cond b names (names ++ name ∷ [])) ≡ length names + length (cond (not b) (name ∷ []) [])) [
       | true ↦ omega arith

@@ -1,13 +1,12 @@
 -- Bytes of words and of names.
-use Rattle.std.proofs.Common.{◌≡◌, ℕ, ◌<◌, ◌≤◌, List, [], ◌∷◌, ◌++◌, length, drop, Bool, true, false, nat_eq, nat_lt, nat_le, ◌≢◌, not, ◌&&◌, ◌||◌, ◌==◌, cond, refl, sym, ap, ◌∙◌, arith, get_or}
+use Rattle.std.proofs.Common.{◌≡◌, ℕ, List, [], ◌∷◌, length, Bool, true, false, nat_lt, nat_le, ◌≢◌, not, ◌&&◌, ◌||◌, ◌==◌, cond, refl, sym, arith}
 use Rattle.std.specs.List.{list_any, list_all}
-use Rattle.std.proofs.lemmas.Bool.{true≢false, and_parts, and_from, not-true, not_from_false, or_parts, or_from, false_from_ne_true, ltb-false, le-leb, eqb-false, ne_eqb}
+use Rattle.std.proofs.lemmas.Bool.{and_parts, and_from, not-true, not_from_false, or_parts, ltb-false, le-leb, eqb-false, ne_eqb}
 use Rattle.cover_problem.specs.Numbers.{is_in}
 use Rattle.cover_problem.specs.Problem.{forbidden, is_name}
-use Rattle.dlx_reader.specs.Content.{begins_with_bar}
 use Rattle.dlx_reader.specs.Faults.{is_illegal}
 use Rattle.dlx_reader.specs.Items.{name_part}
-use Rattle.dlx_reader.specs.Lines.{is_white, is_word}
+use Rattle.dlx_reader.specs.Lines.{is_white}
 
 -- whether the byte may stand in a word
 abbrev pub is_inner : ℕ → Bool

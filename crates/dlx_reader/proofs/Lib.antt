@@ -4,6 +4,7 @@ pub mod AnswerNames
 pub mod AnswerOptions
 pub mod AnswerReads
 pub mod AnswerTexts
+pub mod Determined
 pub mod Differing
 pub mod FirstFaults
 pub mod Firsts
@@ -15,5 +16,6 @@ pub mod OptionWords
 pub mod Placed
 pub mod Problems
 pub mod Relation
+pub mod Whole
 pub mod Words
 pub mod Written

@@ -1,7 +1,7 @@
 -- What the lines of options give.
-use Rattle.std.proofs.Common.{◌≡◌, ℕ, ◌+◌, ◌<◌, ◌≤◌, List, [], ◌∷◌, ◌++◌, length, Result, Ok, Err, Bool, true, false, nat_eq, nat_lt, not, ◌&&◌, ◌||◌, ◌==◌, cond, refl, sym, ap, ◌∙◌, arith, append_assoc, append-nil, length-append, map, get_or, take, count_by, filter}
-use Rattle.std.specs.List.{list_any, list_all, sum_by}
-use Rattle.std.proofs.lemmas.Bool.{true≢false, and_parts, and_from, ltb-false}
+use Rattle.std.proofs.Common.{◌≡◌, ℕ, ◌+◌, ◌≤◌, List, [], ◌∷◌, ◌++◌, length, Ok, Err, Bool, true, false, nat_lt, not, ◌&&◌, cond, refl, sym, ap, ◌∙◌, arith, append_assoc, append-nil, length-append, map, take, count_by}
+use Rattle.std.specs.List.{list_all, sum_by}
+use Rattle.std.proofs.lemmas.Bool.{and_parts, and_from, ltb-false}
 use Rattle.std.proofs.lemmas.List.{map-append}
 use Rattle.std.proofs.lemmas.List.Folds.{list_all-append}
 use Rattle.std.proofs.lemmas.List.Sums.{sum_by-cons, sum_by-append}
@@ -10,7 +10,6 @@ use Rattle.cover_problem.specs.Problem.{names_differ}
 use Rattle.dlx_reader.specs.Names.{is_among}
 use Rattle.dlx_reader.specs.OptionLines.{names_of, names_primary, is_option_line, kept_lines}
 use Rattle.dlx_reader.specs.Reading.{◌>>=◌, after, option_from, keep_at, option_at, options_from}
-use Rattle.dlx_reader.specs.declared.fault.ReadFault.{ReadFault}
 use Rattle.dlx_reader.specs.declared.fault.ReadFault.TheVariants as faults
 use Rattle.dlx_reader.proofs.Firsts.{after_ok}
 use Rattle.dlx_reader.proofs.OptionWords.{ReadsOption, option_read, same_primary}

@@ -1,8 +1,7 @@
 -- What the words of an option give.
-use Rattle.std.proofs.Common.{◌≡◌, ℕ, ◌+◌, ◌<◌, ◌≤◌, List, [], ◌∷◌, ◌++◌, length, Option, Some, None, Result, Ok, Err, Bool, true, false, nat_eq, nat_lt, not, ◌&&◌, ◌||◌, ◌==◌, cond, refl, sym, ap, ◌∙◌, arith, append_assoc, append-nil, length-append, map, get_or, take, is_some}
-use Rattle.std.specs.List.{list_any, list_all}
-use Rattle.std.specs.Cmp.Lexicographic.{pointwise}
-use Rattle.std.proofs.lemmas.Bool.{true≢false, and_parts, and_from, or_parts, or_from, not-true, not_from_false, ltb-true, lt-ltb, eqb-false, ne_eqb}
+use Rattle.std.proofs.Common.{◌≡◌, ℕ, ◌<◌, List, [], ◌∷◌, ◌++◌, length, Option, Some, None, Ok, Err, true, false, nat_lt, not, ◌&&◌, ◌||◌, ◌==◌, refl, sym, ap, ◌∙◌, append_assoc, append-nil, get_or, take, is_some}
+use Rattle.std.specs.List.{list_all}
+use Rattle.std.proofs.lemmas.Bool.{and_parts, and_from, or_parts, or_from, not-true, not_from_false, ltb-true, lt-ltb, eqb-false, ne_eqb}
 use Rattle.std.proofs.lemmas.List.{map-append}
 use Rattle.std.proofs.lemmas.List.Folds.{list_all-append, list_any-append}
 use Rattle.cover_problem.specs.Numbers.{is_in, is_distinct, are_below, some_below}
@@ -11,7 +10,6 @@ use Rattle.dlx_reader.specs.Faults.{name_tests}
 use Rattle.dlx_reader.specs.Names.{is_among, item_named}
 use Rattle.dlx_reader.specs.OptionLines.{names_of, names_primary}
 use Rattle.dlx_reader.specs.Reading.{◌>>=◌, after, known_item, option_item_at, option_from}
-use Rattle.dlx_reader.specs.declared.fault.ReadFault.{ReadFault}
 use Rattle.dlx_reader.specs.declared.fault.ReadFault.TheVariants as faults
 use Rattle.dlx_reader.proofs.Differing.{names_differ-push, same_name, among_first}
 use Rattle.dlx_reader.proofs.Firsts.{Fails, after_ok}

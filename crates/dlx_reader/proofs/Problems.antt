@@ -1,7 +1,7 @@
 -- What is read is a problem.
-use Rattle.std.proofs.Common.{◌≡◌, ℕ, ◌+◌, ◌<◌, ◌≤◌, List, [], ◌∷◌, ◌++◌, length, drop, Result, Ok, Err, Bool, true, false, not, ◌&&◌, ◌==◌, cond, refl, sym, ap, ◌∙◌, arith, get_or}
-use Rattle.std.specs.List.{All, list_all, sum_by}
-use Rattle.std.proofs.lemmas.Bool.{true≢false, and_parts}
+use Rattle.std.proofs.Common.{◌≡◌, ℕ, ◌+◌, ◌≤◌, List, [], ◌∷◌, length, drop, Ok, true, false, not, ◌&&◌, ◌==◌, cond, refl, arith, get_or}
+use Rattle.std.specs.List.{list_all}
+use Rattle.std.proofs.lemmas.Bool.{and_parts}
 use Rattle.std.proofs.lemmas.List.Sums.{AllPass-from_list_all}
 use Rattle.cover_problem.specs.Numbers.{is_distinct, are_below, some_below}
 use Rattle.cover_problem.specs.Problem.{IsProblem, problem_by, is_name}
@@ -11,7 +11,7 @@ use Rattle.dlx_reader.specs.Lines.{is_word}
 use Rattle.dlx_reader.specs.Reading.{items_from, options_from}
 use Rattle.dlx_reader.proofs.ItemLines.{items_read}
 use Rattle.dlx_reader.proofs.Lawful.{is_inner}
-use Rattle.dlx_reader.proofs.OptionLines.{is_option, words_in, options_read}
+use Rattle.dlx_reader.proofs.OptionLines.{is_option, options_read}
 
 -- each word before the separator gives a name
 pub primary-le : (words : List (List ℕ)) → list_all is_word words ≡ true → primary_in words ≤ length (names_in words)

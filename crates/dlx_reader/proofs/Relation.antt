@@ -1,13 +1,13 @@
 -- What is read has the relation to the text, and nothing else has it.
-use Rattle.std.proofs.Common.{◌≡◌, ℕ, ◌+◌, ◌≤◌, List, [], ◌∷◌, ◌++◌, length, Result, Ok, Err, Bool, true, false, cond, refl, sym, ap, ◌∙◌, arith, map, count_by, not, take, drop, get_or, ◌&&◌, subst}
+use Rattle.std.proofs.Common.{◌≡◌, ℕ, ◌+◌, List, [], ◌∷◌, Ok, Err, true, false, refl, ap, ◌∙◌, arith, count_by, not, take, drop, get_or, ◌&&◌, subst}
 use Rattle.std.specs.List.{list_all}
 use Rattle.std.proofs.lemmas.Bool.{and_parts}
-use Rattle.cover_problem.specs.Problem.{Problem, IsProblem}
+use Rattle.cover_problem.specs.Problem.{Problem}
 use Rattle.dlx_reader.specs.Content.{is_content, content_of}
 use Rattle.dlx_reader.specs.Items.{names_in, primary_in, primary_names}
 use Rattle.dlx_reader.specs.Lines.{is_word}
 use Rattle.dlx_reader.specs.ProblemOf.{IsProblemIn, IsProblemOf}
-use Rattle.dlx_reader.specs.OptionLines.{names_of, names_primary, kept_lines}
+use Rattle.dlx_reader.specs.OptionLines.{names_primary, kept_lines}
 use Rattle.dlx_reader.specs.Reading.{◌>>=◌, Reading, items_from, options_from, reading_of, read_by}
 use Rattle.dlx_reader.proofs.ItemLines.{items_read}
 use Rattle.dlx_reader.proofs.OptionLines.{words_in, options_read}

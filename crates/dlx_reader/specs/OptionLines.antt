@@ -1,5 +1,5 @@
 -- What the lines of options say: each is a list of different names of items, and is kept where one of these is primary.
-use Rattle.std.specs.Prelude.{ℕ, List, map, filter, slice_index_or, [], Bool, not, ◌&&◌}
+use Rattle.std.specs.Prelude.{ℕ, List, map, filter, slice_index_or, [], Bool, ◌&&◌}
 use Rattle.std.specs.List.{list_any, list_all}
 use Rattle.cover_problem.specs.Problem.{names_differ}
 use Rattle.dlx_reader.specs.Names.{is_among}

@@ -31,3 +31,7 @@ option_lines text = map (λ line. line.1) (drop 1 (content_of text))
 -- the text has this problem, and so many ignored options
 abbrev pub IsProblemOf : List ℕ → Problem → ℕ → Type 0
 IsProblemOf text problem ignored = IsProblemIn (item_words text) (option_lines text) problem ignored
+
+-- the text has no problem
+abbrev pub HasNoProblem : List ℕ → Type 0
+HasNoProblem text = (problem : Problem) (ignored : ℕ) → IsProblemOf text problem ignored → ⊥

@@ -5,7 +5,7 @@ use Rattle.std.specs.List.{sum_by}
 use Rattle.std.specs.Borrow.{Bor}
 use Rattle.cover_problem.specs.Numbers.{is_in, some_below}
 use Rattle.cover_problem.specs.Problem.{Problem}
-use Rattle.dlx_reader.specs.Content.{begins_with_bar, content_of}
+use Rattle.dlx_reader.specs.Content.{begins_with_bar}
 use Rattle.dlx_reader.specs.Items.{name_part, primary_in}
 use Rattle.dlx_reader.specs.Names.{item_named}
 use Rattle.dlx_reader.specs.Faults.{name_tests, item_tests}

@@ -8,6 +8,7 @@ mod answer_lines;
 mod devices;
 mod fault;
 mod kept;
+mod laws;
 mod lines;
 mod names;
 mod reading;
@@ -17,6 +18,7 @@ pub use answer::read_answer;
 pub use answer_fault::AnswerFault;
 pub use devices::{CountedReader, CountedWriter, DeviceFault, Sink, Source};
 pub use fault::ReadFault;
+pub use laws::one_problem_or_first_fault;
 pub use reading::{Read, read_problem};
 pub use writing::{WriteFault, write_answer, write_bytes};
 

@@ -1,6 +1,6 @@
 //! Reading a problem, in the general form of the input of Knuth's program DLX1.
 
-ghost use Rattle.std.specs.Prelude.{◌≡◌, [], ◌++◌, ◌∷◌, ◌≤◌, ◌<◌, ◌+◌, ◌^◌, length, true, false, Some, IfOk, IfErr, IsTrue, All, drop};
+ghost use Rattle.std.specs.Prelude.{◌≡◌, ◌≢◌, [], ◌++◌, ◌∷◌, ◌≤◌, ◌<◌, ◌+◌, ◌^◌, length, true, false, Some, IfOk, IfErr, IsTrue, All, drop};
 ghost use Rattle.std.specs.List.{list_any, list_all};
 ghost use Rattle.cover_problem.specs.Numbers.{are_below, some_below};
 ghost use Rattle.cover_problem.specs.Problem.{problem_by};
@@ -8,7 +8,7 @@ ghost use Rattle.dlx_reader.specs.Content.{is_content, content_from, content_of}
 ghost use Rattle.dlx_reader.specs.Faults.{first_fault, is_illegal, name_tests};
 ghost use Rattle.dlx_reader.specs.Items.{name_part, primary_in};
 ghost use Rattle.dlx_reader.specs.Lines.{is_word, texts_of};
-ghost use Rattle.dlx_reader.specs.ProblemOf.{IsProblemOf};
+ghost use Rattle.dlx_reader.specs.ProblemOf.{HasNoProblem, IsProblemOf};
 ghost use Rattle.dlx_reader.specs.declared.fault.ReadFault.TheVariants.{Memory};
 ghost use Rattle.dlx_reader.specs.Reading.{Gives, after, item_at, items_from, option_item_at, option_from, keep_at, option_at, options_from, reading_of, read_by};
 
@@ -232,10 +232,20 @@ fn read_lines(alloc: Global, text: &[u8]) -> Result<Read, ReadFault>
     read_content(alloc, &words, number, &lines[number..])
 }
 
-/// The problem of a text.
+/// Reads a problem in the general form of the input of Knuth's program DLX1.
+///
+/// A line ends at byte 10 or at the end of the text; words are divided by the bytes 9, 11, 12, 13 and 32. Blank lines, and
+/// lines whose first word begins with `|`, are skipped. The first other line names the items, of which those behind a word
+/// that begins with `|` are secondary. Each later line is an option, a list of different names of items; options without a
+/// primary item are ignored, and counted.
+///
+/// An error other than `Memory` is the first fault of the text in reading order, with its line counted from 1.
 pub fn read_problem(alloc: Global, text: &[u8]) -> Result<Read, ReadFault>
     ensures problem { IfOk result (λ read. IsProblemOf text.now read.problem read.ignored) }
-    ensures fault { IfErr result (λ e. (e ≡ Memory → ⊥) → first_fault text.now ≡ Some e) }
+
+    // A text that has a problem is refused only where memory runs out.
+    ensures refused { IfErr result (λ e. e ≢ Memory → HasNoProblem text.now) }
+    ensures fault { IfErr result (λ e. e ≢ Memory → first_fault text.now ≡ Some e) }
 {
     read_lines(alloc, text)
 }

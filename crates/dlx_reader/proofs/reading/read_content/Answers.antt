@@ -1,5 +1,5 @@
 use Rattle.dlx_reader.specs.Lines.{texts_of}
-use Rattle.std.proofs.Common.{◌≡◌, ◌+◌}
+use Rattle.std.proofs.Common.{◌+◌}
 use Rattle.dlx_reader.specs.Content.{content_from}
 use Rattle.dlx_reader.proofs.Problems.{read_is_problem}
 use Rattle.dlx_reader.proofs.reading.read_content.Goals as goal

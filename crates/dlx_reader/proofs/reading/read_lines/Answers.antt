@@ -1,5 +1,5 @@
 use Rattle.dlx_reader.specs.Lines.{texts_of}
-use Rattle.std.proofs.Common.{◌≡◌, ap, ◌∙◌}
+use Rattle.std.proofs.Common.{ap, ◌∙◌}
 use Rattle.dlx_reader.proofs.Words.{first_words}
 use Rattle.dlx_reader.proofs.reading.read_lines.Goals as goal
 

@@ -1,4 +1,4 @@
-use Rattle.std.proofs.Common.{◌≡◌, ◌∙◌, ap, is_some}
+use Rattle.std.proofs.Common.{◌∙◌, ap, is_some}
 use Rattle.dlx_reader.proofs.Naming.{is_some-named}
 use Rattle.dlx_reader.proofs.names.Names.contains.Goals as goal
 

@@ -1,4 +1,4 @@
-use Rattle.std.proofs.Common.{◌≡◌, ℕ, Option, subst, sym, ap, ◌∙◌, length, ◌<◌, IfSome}
+use Rattle.std.proofs.Common.{◌∙◌}
 use Rattle.dlx_reader.proofs.Naming.{named_within}
 use Rattle.dlx_reader.proofs.names.Names.item_named.Goals as goal
 

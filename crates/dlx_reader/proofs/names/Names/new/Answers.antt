@@ -1,4 +1,4 @@
-use Rattle.std.proofs.Common.{arith, rules}
+use Rattle.std.proofs.Common.{rules}
 use Rattle.dlx_reader.specs.Names.{item_named}
 use Rattle.dlx_reader.proofs.names.Names.new.Goals as goal
 

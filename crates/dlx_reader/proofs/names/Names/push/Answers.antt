@@ -1,4 +1,4 @@
-use Rattle.std.proofs.Common.{◌≡◌, arith, length, sym, ◌∙◌, ap, ◌<◌, ◌≤◌, Some, length-append, [], ◌∷◌, ◌++◌, cond, nat_eq, rules}
+use Rattle.std.proofs.Common.{◌≡◌, arith, length, ◌∙◌, ap, Some, length-append, [], ◌∷◌, ◌++◌, cond, nat_eq, rules}
 use Rattle.std.specs.Cmp.Lexicographic.{pointwise}
 use Rattle.std.proofs.lemmas.Map.Text.{hash_map_updates_str}
 use Rattle.dlx_reader.specs.Names.{item_named}
