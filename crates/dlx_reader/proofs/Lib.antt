@@ -1,7 +1,11 @@
 pub mod AnswerCounts
 pub mod AnswerExample
+pub mod AnswerMatched
 pub mod AnswerNames
 pub mod AnswerOptions
 pub mod AnswerReads
 pub mod AnswerTexts
+pub mod AnswerWords
+pub mod AnswersAgain
+pub mod NameBytes
 pub mod Written

@@ -4,6 +4,7 @@
 mod answer;
 mod answer_fault;
 mod answer_head;
+mod answer_laws;
 mod answer_lines;
 mod devices;
 mod lines;
@@ -11,6 +12,7 @@ mod writing;
 
 pub use answer::read_answer;
 pub use answer_fault::AnswerFault;
+pub use answer_laws::{a_text_gives_one_read, written_answers_are_read};
 pub use devices::{CountedReader, CountedWriter, DeviceFault, Sink, Source};
 pub use writing::{WriteFault, write_answer, write_bytes};
 
