@@ -1,5 +1,7 @@
 pub mod AnswerCounts
 pub mod AnswerExample
+pub mod AnswerFree
+pub mod AnswerGiven
 pub mod AnswerMatched
 pub mod AnswerNames
 pub mod AnswerOptions

@@ -18,8 +18,9 @@ pub fn written_answers_are_read()
     ensures none { (problem : ProblemValue) → IsAnswerOf (answer_text problem NoCover) problem NoCover }
 {}
 
-/// A text gives at most one answer or first fault.
-pub fn a_text_gives_one_read()
-    ensures { (text : List ℕ) (problem : ProblemValue) (read other : Result AnswerValue Fault) →
+/// Each text gives an answer or a first fault, and no other.
+pub fn each_text_gives_one_read()
+    ensures some { (text : List ℕ) (problem : ProblemValue) → (read : Result AnswerValue Fault) × IsReadOf text problem read }
+    ensures one { (text : List ℕ) (problem : ProblemValue) (read other : Result AnswerValue Fault) →
         IsReadOf text problem read → IsReadOf text problem other → read ≡ other }
 {}

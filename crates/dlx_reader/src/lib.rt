@@ -12,7 +12,7 @@ mod writing;
 
 pub use answer::read_answer;
 pub use answer_fault::AnswerFault;
-pub use answer_laws::{a_text_gives_one_read, written_answers_are_read};
+pub use answer_laws::{each_text_gives_one_read, written_answers_are_read};
 pub use devices::{CountedReader, CountedWriter, DeviceFault, Sink, Source};
 pub use writing::{WriteFault, write_answer, write_bytes};
 
