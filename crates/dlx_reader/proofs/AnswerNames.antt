@@ -1,12 +1,12 @@
 -- The names of an option beside the words of a line.
-use Rattle.std.proofs.Common.{◌≡◌, ℕ, ◌+◌, ◌-◌, ◌≤◌, drop, ◌<◌, List, [], length, take, get_or, map, sym, ap, ◌∙◌, arith, refl, Bool, true, false, not}
-use Rattle.std.proofs.lemmas.List.{get_or-map, length-map, take_more_same, take_rest, drop-map}
+use Rattle.std.proofs.Common.{◌≡◌, ℕ, ◌+◌, ◌≤◌, ◌<◌, List, [], length, take, get_or, map, sym, ap, ◌∙◌, arith, refl, Bool, true, false, not}
+use Rattle.std.proofs.lemmas.List.{get_or-map, length-map, take_more_same}
 use Rattle.std.proofs.lemmas.Slice.Eq.{bytes_eq-Decides}
 use Rattle.std.specs.Str.{bytes_eq}
 use Rattle.std.specs.Borrow.{Bor}
 use Rattle.cover_problem.specs.Problem.{Problem, items_of}
 use Rattle.dlx_reader.specs.Lines.{lines_of, texts_of}
-use Rattle.dlx_reader.specs.Answers.{worded_lines, head_words, further_lines}
+use Rattle.dlx_reader.specs.Answers.{worded_lines, head_words}
 use Rattle.dlx_reader.specs.Writing.{name_text, names_of}
 use Rattle.dlx_reader.specs.AnswerLines.{line_of, lines_seen}
 use Rattle.dlx_reader.specs.declared.lines.Line.{Line}
@@ -51,6 +51,3 @@ line_at lines i line inside is = get_or-map line_of lines i line (0, []) inside 
 pub head_is : (text : List ℕ) (lines : List Line) (first : Line) → lines_seen lines ≡ worded_lines 1 (lines_of text) → 1 ≤ length lines → first ≡ get_or lines 0 first → head_words text ≡ texts_of first.words.items
 head_is text lines first is some here =
     ap (λ (ls : List (ℕ × List (List ℕ))). (get_or ls 0 (0, [])).1) (sym is) ∙ ap (λ (line : ℕ × List (List ℕ)). line.1) (line_at lines 0 first (omega arith) here)
-
-pub further_is : (text : List ℕ) (lines : List Line) → lines_seen lines ≡ worded_lines 1 (lines_of text) → further_lines text ≡ lines_seen (take (length lines - 1) (drop 1 lines))
-further_is text lines is = ap (drop 1) (sym is) ∙ drop-map line_of 1 lines ∙ ap lines_seen (sym (take_rest lines 1))

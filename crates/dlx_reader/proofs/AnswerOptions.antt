@@ -1,6 +1,6 @@
 -- The options of lines: how a reader comes to them, and that there is one list of them.
-use Rattle.std.proofs.Common.{◌≡◌, ℕ, ◌+◌, ◌<◌, ◌≤◌, List, [], ◌∷◌, ◌++◌, length, take, drop, get_or, set, Bool, true, false, ◌||◌, ◌==◌, zero, suc, inl, inr, take-append-drop, length-take, length-set, replicate, ◌∙◌, sym, ap, subst, arith, refl, length-append}
-use Rattle.std.proofs.lemmas.List.{length-replicate, get_or-replicate, get_or-set_other, get_or-set_same, get_or_append_left, get_or_push, get_or-take, get_or_at, take_all, take-take, take_at, take-append-le, take_more_same, take_more, drop_more}
+use Rattle.std.proofs.Common.{◌≡◌, ℕ, ◌+◌, ◌<◌, ◌≤◌, List, [], ◌∷◌, ◌++◌, length, take, drop, get_or, set, Bool, true, false, ◌||◌, ◌==◌, zero, suc, inl, inr, take-append-drop, length-take, length-set, ◌∙◌, sym, ap, subst, arith, refl, length-append}
+use Rattle.std.proofs.lemmas.List.{get_or-set_other, get_or-set_same, get_or_append_left, get_or_push, get_or-take, get_or_at, take_all, take-take, take_at, take-append-le, take_more_same, take_more, drop_more}
 use Rattle.std.proofs.lemmas.List.Folds.{list_any-append}
 use Rattle.std.proofs.lemmas.Bool.{cases_lt, cases_eq, or_left, or_right, eq-eqb, ne_eqb}
 use Rattle.cover_problem.specs.Problem.{Problem}
@@ -23,9 +23,6 @@ lowest_from_unflagged p flags used words o are long h = record {
   free = free_from_unflagged p flags used words o are long h.open_option;
   lowest = λ k free. h.lowest k (unflagged_from_free p flags used words k are long free);
 }
-
-pub AreFlags-none : (n : ℕ) → AreFlags (replicate n false) []
-AreFlags-none n k h = let inside : k < n = omega (arith, length-replicate n false) in get_or-replicate n k false false inside
 
 is_in-push_same : (used : List ℕ) (o : ℕ) → is_in (used ++ o ∷ []) o ≡ true
 is_in-push_same used o = list_any-append (λ x. x == o) used (o ∷ []) ∙ or_right (is_in used o) (o == o || false) (or_left (o == o) false (eq-eqb o o refl))

@@ -1,8 +1,8 @@
 -- What a writer holds after several writes.
-use Rattle.std.proofs.Common.{◌≡◌, ℕ, ◌+◌, ◌<◌, ◌≤◌, List, ◌++◌, length, take, Option, append_assoc, sym, ◌∙◌, ap, refl, arith, [], append-nil, subst, length-append, Result, Ok, Err}
+use Rattle.std.proofs.Common.{◌≡◌, ℕ, ◌+◌, ◌<◌, ◌≤◌, List, ◌++◌, length, take, Option, append_assoc, sym, ◌∙◌, ap, refl, arith, [], append-nil, length-append, Result, Ok, Err}
 use Rattle.dlx_reader.specs.Devices.{AppendsFront, IsWritten}
 use Rattle.std.specs.Io.KnownBytes.{Appends}
-use Rattle.std.proofs.KnownBytes.{Appends-nil, Appends-trans}
+use Rattle.std.proofs.KnownBytes.{Appends-trans}
 use Rattle.std.specs.List.{between}
 use Rattle.std.proofs.lemmas.Slice.{between_to_end}
 use Rattle.std.proofs.Math.Seq.{take-add}
@@ -20,14 +20,8 @@ pub record Going (old now : Option (List ℕ)) (left whole : List ℕ) : Type 0 
   pub known : Appends old now done
   pub parts : whole ≡ done ++ left
 
-pub going_start : (a : Option (List ℕ)) (whole : List ℕ) → Going a a whole whole
-going_start a whole = record { done = []; known = Appends-nil a; parts = refl }
-
 pub going_on : (a b c : Option (List ℕ)) (piece left whole : List ℕ) → Going a b (piece ++ left) whole → Appends b c piece → Going a c left whole
 going_on a b c piece left whole g q = record { done = g.done ++ piece; known = Appends-trans a b c g.done piece g.known q; parts = g.parts ∙ sym (append_assoc g.done piece left) }
-
-pub going_end : (a b : Option (List ℕ)) (whole : List ℕ) → Going a b [] whole → Appends a b whole
-going_end a b whole g = let P : List ℕ → Type 0 = λ text. Appends a b text in subst P (sym (g.parts ∙ append-nil g.done)) g.known
 
 pub going_fault : (a b c : Option (List ℕ)) (piece left whole : List ℕ) → Going a b (piece ++ left) whole → AppendsFront b c piece → AppendsFront a c whole
 going_fault a b c piece left whole g q =

@@ -67,7 +67,8 @@ pub record IsLowestFree (problem : Problem) (used : List ℕ) (words : List (Lis
 -- the options of lines, in their order: for each line the lowest free one, where those of the lines before it are used
 pub record AreOptionsOf (problem : Problem) (lines : List (ℕ × List (List ℕ))) (options : List ℕ) : Type 0 where
   pub count : length options ≡ length lines
-  pub each : (k : ℕ) → k < length lines → IsLowestFree problem (take k options) (slice_index_or lines k (0, [])).1 (slice_index options k)
+  pub each : (k : ℕ) → k < length lines →
+      IsLowestFree problem (take k options) (slice_index_or lines k (0, [])).1 (slice_index options k)
 
 -- the number of the first line for which no option is free, where those of the lines before it are used
 pub record IsFirstUnknown (problem : Problem) (lines : List (ℕ × List (List ℕ))) (number : ℕ) : Type 0 where
@@ -84,13 +85,15 @@ pub record IsFirstUnknown (problem : Problem) (lines : List (ℕ × List (List �
 -- the answer of a text: `none` and no further line, or `cover k` and the lines of k options
 abbrev pub IsAnswerOf : List ℕ → Problem → Answer → Type 0
 IsAnswerOf text problem NoCover = IsNoneHead (head_words text) × (further_lines text ≡ [])
-IsAnswerOf text problem (Cover options) = IsCoverHead (head_words text) (length (further_lines text)) × AreOptionsOf problem (further_lines text) options
+IsAnswerOf text problem (Cover options) =
+    IsCoverHead (head_words text) (length (further_lines text)) × AreOptionsOf problem (further_lines text) options
 
 -- the first fault of a text: no such head, else another number of lines than it says, else a line without an option
 abbrev pub IsFaultOf : List ℕ → Problem → AnswerFault → Type 0
 IsFaultOf text problem BadHead = (count : ℕ) → IsHead (head_words text) count → ⊥
 IsFaultOf text problem WrongCount = (count : ℕ) × IsHead (head_words text) count × (length (further_lines text) ≢ count)
-IsFaultOf text problem (UnknownOption number) = IsHead (head_words text) (length (further_lines text)) × IsFirstUnknown problem (further_lines text) number
+IsFaultOf text problem (UnknownOption number) =
+    IsHead (head_words text) (length (further_lines text)) × IsFirstUnknown problem (further_lines text) number
 IsFaultOf text problem Memory = ⊥
 
 -- what a text gives: its answer, or its first fault

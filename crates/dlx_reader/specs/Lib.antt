@@ -1,3 +1,4 @@
+pub mod AnswerLaws
 pub mod AnswerLines
 pub mod AnswerSteps
 pub mod Answers

@@ -15,10 +15,6 @@ name_text problem item = slice_index_or problem.names item []
 abbrev pub names_of : Problem → ℕ → List (List ℕ)
 names_of problem option = map (name_text problem) (items_of problem option)
 
--- each name after a space
-abbrev pub names_after : Problem → List ℕ → List ℕ
-names_after problem items = flat_map (λ item. 32 ∷ name_text problem item) items
-
 -- the names of items, with one space between
 abbrev pub items_text : Problem → List ℕ → List ℕ
 items_text problem items = join_with_byte 32 (map (name_text problem) items)
@@ -40,3 +36,9 @@ answer_text problem NoCover = codes "none\n"
 abbrev pub IsWritable : Problem → Answer → Type 0
 IsWritable problem (Cover options) = InFileOrder problem options
 IsWritable problem NoCover = Unit {0}
+
+-- ---- a part of it, for the loop that writes it
+
+-- each name after a space
+abbrev pub names_after : Problem → List ℕ → List ℕ
+names_after problem items = flat_map (λ item. 32 ∷ name_text problem item) items

@@ -9,6 +9,7 @@ ghost use Rattle.dlx_reader.specs.AnswerSteps.{IsHeadOf, IsCoverOf};
 /// What the first line of an answer says.
 #[derive(Clone, Copy, Debug, PartialEq, Eq)]
 pub enum Head {
+    /// There is none.
     NoCover,
     /// A cover of so many options.
     Cover(usize),
@@ -17,7 +18,7 @@ pub enum Head {
 impl Head {
     ghost use Rattle.dlx_reader.specs.AnswerSteps.{lines_after};
 
-    /// How many lines follow.
+    /// How many lines follow that aren't blank.
     pub fn lines(self) -> usize
         ensures { result ≡ lines_after self }
     {
@@ -28,6 +29,7 @@ impl Head {
     }
 }
 
+/// Whether each byte is a decimal digit.
 fn are_digits(bytes: &[u8]) -> bool
     ensures { result ≡ list_all is_ascii_digit bytes.now }
 {

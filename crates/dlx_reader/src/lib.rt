@@ -4,6 +4,7 @@
 mod answer;
 mod answer_fault;
 mod answer_head;
+mod answer_laws;
 mod answer_lines;
 mod devices;
 mod fault;
@@ -16,6 +17,7 @@ mod writing;
 
 pub use answer::read_answer;
 pub use answer_fault::AnswerFault;
+pub use answer_laws::{each_text_gives_one_read, written_answers_are_read};
 pub use devices::{CountedReader, CountedWriter, DeviceFault, Sink, Source};
 pub use fault::ReadFault;
 pub use laws::one_problem_or_first_fault;
