@@ -1,0 +1,97 @@
+-- What the options of a prefix cover.
+use Rattle.std.proofs.Common.{◌≡◌, ℕ, zero, suc, ◌+◌, ◌<◌, ◌≤◌, List, [], ◌∷◌, ◌++◌, length, Bool, true, false, not, ◌==◌, ◌&&◌, ◌||◌, get_or, refl, arith, sym, ap, ◌∙◌, inl, inr, ◌⊎◌, append-nil, subst}
+use Rattle.std.specs.Prelude.{nat_lt}
+use Rattle.std.specs.List.{flat_map, list_any, list_all, All}
+use Rattle.std.proofs.lemmas.Bool.{both_ways, and_parts, and_from, or_cases, or_left, or_right, not-true, not_from_false, false_from_ne_true, cases_Bool, eqb-true, eq-eqb, ltb-true}
+use Rattle.std.proofs.lemmas.List.Concat.{flat_map-append}
+use Rattle.std.proofs.lemmas.List.Elements.{All-get_or}
+use Rattle.std.proofs.lemmas.List.Folds.{list_all-append}
+use Rattle.cover_problem.specs.Branching.{is_choice}
+use Rattle.cover_problem.specs.Numbers.{is_in, is_distinct, some_below, are_below}
+use Rattle.cover_problem.specs.Prefix.{clash, is_live, are_apart, are_options, is_prefix, is_covered, AreOptions}
+use Rattle.cover_problem.specs.Problem.{Problem, IsProblem, items_of, names_item}
+use Rattle.cover_problem.proofs.Among.{all_at, all_by, any_at, some_with}
+use Rattle.cover_problem.proofs.Clashes.{clash_by, clash_item, clash_both}
+use Rattle.cover_problem.proofs.Named.{option_named}
+use Rattle.cover_problem.proofs.Prefixes.{prefix_more, prefix_options}
+use Rattle.dancing_links.specs.Choices.{covered_items}
+use Rattle.dancing_links.proofs.Present.{among-append, same_flags}
+use Rattle.dancing_links.proofs.Tables.{option_distinct}
+
+-- whether an item is among the covered ones
+pub covered_in : (p : Problem) (os : List ℕ) (i : ℕ) → is_in (covered_items p os) i ≡ is_covered p os i
+covered_in p [] i = refl
+covered_in p (o ∷ os) i = among-append (items_of p o) (covered_items p os) i ∙ ap (λ (b : Bool). names_item p o i || b) (covered_in p os i)
+
+pub covered_push : (p : Problem) (os : List ℕ) (o : ℕ) → covered_items p (os ++ o ∷ []) ≡ covered_items p os ++ items_of p o
+covered_push p os o = flat_map-append (items_of p) os (o ∷ []) ∙ ap (λ is. covered_items p os ++ is) (append-nil (items_of p o))
+
+-- an item of a live option is not covered
+pub live_uncovered : (p : Problem) (os : List ℕ) (o i : ℕ) → is_live p os o ≡ true → names_item p o i ≡ true → is_covered p os i ≡ false
+live_uncovered p os o i live named = false_from_ne_true (is_covered p os i) (λ covers.
+    let by = some_with (λ q. names_item p q i) os covers in
+    let apart = all_at (λ q. not (clash p q o)) os by.0 live by.1 in
+    both_ways (clash p by.0 o) (not-true (clash p by.0 o) apart) (clash_by p by.0 o i by.2 named))
+
+distinct-append : (xs ys : List ℕ) → is_distinct xs ≡ true → is_distinct ys ≡ true → ((i : ℕ) → is_in xs i ≡ true → is_in ys i ≡ false) → is_distinct (xs ++ ys) ≡ true
+distinct-append [] ys dx dy apart = dy
+distinct-append (x ∷ xs) ys dx dy apart =
+    let parts = and_parts (not (is_in xs x)) (is_distinct xs) dx in
+    let here : is_in ys x ≡ false = apart x (or_left (x == x) (is_in xs x) (eq-eqb x x refl)) in
+    let new : is_in (xs ++ ys) x ≡ false = among-append xs ys x ∙ rw (not-true (is_in xs x) parts.0, here) refl in
+    and_from (not (is_in (xs ++ ys) x)) (is_distinct (xs ++ ys)) (not_from_false (is_in (xs ++ ys) x) new)
+    (distinct-append xs ys parts.1 dy (λ i h. apart i (or_right (x == i) (is_in xs i) h)))
+
+-- no item is covered twice
+pub covered_distinct : (p : Problem) (os : List ℕ) → IsProblem p → are_options p os ≡ true → are_apart p os ≡ true → is_distinct (covered_items p os) ≡ true
+covered_distinct p [] is options apart = refl
+covered_distinct p (o ∷ os) is options apart =
+    let both = and_parts (nat_lt o (length p.options)) (are_options p os) options in
+    let parts = and_parts (is_live p os o) (are_apart p os) apart in
+    distinct-append (items_of p o) (covered_items p os) (option_distinct p o is (ltb-true o (length p.options) both.0)) (covered_distinct p os is both.1 parts.1)
+    (λ i named. covered_in p os i ∙ live_uncovered p os o i parts.0 named)
+
+-- a live option goes with the prefix
+pub prefix_push : (p : Problem) (os : List ℕ) (o : ℕ) → IsProblem p → is_prefix p os ≡ true → o < length p.options → is_live p os o ≡ true → is_prefix p (os ++ o ∷ []) ≡ true
+prefix_push p os o is prefix inside live =
+    let P : List ℕ → Type 0 = λ items. some_below p.primary items ≡ true in
+    let some : some_below p.primary (items_of p o) ≡ true = All-get_or P p.options o [] inside is.each_primary in
+    let item = some_with (λ i. nat_lt i p.primary) (items_of p o) some in
+    prefix_more p os item.0 o prefix inside (and_from (is_live p os o) (names_item p o item.0) live item.1)
+
+apart_front : (p : Problem) (xs ys : List ℕ) → are_apart p (xs ++ ys) ≡ true → are_apart p xs ≡ true
+apart_front p [] ys h = refl
+apart_front p (x ∷ xs) ys h =
+    let parts = and_parts (is_live p (xs ++ ys) x) (are_apart p (xs ++ ys)) h in
+    let live = sym (list_all-append (λ q. not (clash p q x)) xs ys) ∙ parts.0 in
+    and_from (is_live p xs x) (are_apart p xs) (and_parts (is_live p xs x) (is_live p ys x) live).0 (apart_front p xs ys parts.1)
+
+-- the front of a prefix is one
+pub prefix_front : (p : Problem) (xs ys : List ℕ) → is_prefix p (xs ++ ys) ≡ true → is_prefix p xs ≡ true
+prefix_front p xs ys h =
+    let parts = and_parts (are_options p (xs ++ ys)) (are_apart p (xs ++ ys)) h in
+    let options = sym (list_all-append (λ o. nat_lt o (length p.options)) xs ys) ∙ parts.0 in
+    and_from (are_options p xs) (are_apart p xs) (and_parts (are_options p xs) (are_options p ys) options).0 (apart_front p xs ys parts.1)
+
+-- an item that an option names is one of the problem
+pub named_below : (p : Problem) (o i : ℕ) → IsProblem p → o < length p.options → names_item p o i ≡ true → i < length p.names
+named_below p o i is inside named =
+    let P : List ℕ → Type 0 = λ items. are_below (length p.names) items ≡ true in
+    let below : are_below (length p.names) (items_of p o) ≡ true = All-get_or P p.options o [] inside is.each_named in
+    ltb-true i (length p.names) (all_at (λ j. nat_lt j (length p.names)) (items_of p o) i below named)
+
+pub covered_below : (p : Problem) (os : List ℕ) (i : ℕ) → IsProblem p → are_options p os ≡ true → is_covered p os i ≡ true → i < length p.names
+covered_below p os i is options covers =
+    let by = some_with (λ q. names_item p q i) os covers in
+    named_below p by.0 i is (ltb-true by.0 (length p.options) (all_at (λ q. nat_lt q (length p.options)) os by.0 options by.1)) by.2
+
+-- an option is live where none of its items is covered
+pub live_by_items : (p : Problem) (os : List ℕ) (o : ℕ) → list_all (λ i. not (is_covered p os i)) (items_of p o) ≡ is_live p os o
+live_by_items p os o =
+    let free : Bool = list_all (λ i. not (is_covered p os i)) (items_of p o) in
+    same_flags free (is_live p os o)
+    (λ none. all_by (λ q. not (clash p q o)) os (λ q chosen. not_from_false (clash p q o) (false_from_ne_true (clash p q o) (λ meets.
+        let item = clash_item p q o meets in
+        let uncovered = not-true (is_covered p os item.item) (all_at (λ i. not (is_covered p os i)) (items_of p o) item.item none item.second) in
+        both_ways (is_covered p os item.item) uncovered (any_at (λ r. names_item p r item.item) os q chosen item.first)))))
+    (λ live. all_by (λ i. not (is_covered p os i)) (items_of p o) (λ i named. not_from_false (is_covered p os i) (live_uncovered p os o i live named)))

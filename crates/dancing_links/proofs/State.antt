@@ -1,0 +1,142 @@
+-- What the links tell of the nodes, once items are covered.
+use Rattle.std.proofs.Common.{◌≡◌, ℕ, zero, suc, ◌+◌, ◌-◌, ◌<◌, ◌≤◌, List, [], ◌∷◌, ◌++◌, length, Bool, true, false, not, ◌==◌, ◌||◌, get_or, refl, arith, sym, ap, ◌∙◌, inl, inr, ◌⊎◌, subst}
+use Rattle.std.proofs.lemmas.Bool.{both_ways, or_cases, or_left, or_right, cases_Bool, cases_eq, cases_lt, eq-eqb, ne_eqb, eqb-true}
+use Rattle.std.proofs.lemmas.List.{get_or_default}
+use Rattle.cover_problem.specs.Prefix.{is_covered}
+use Rattle.cover_problem.specs.Problem.{Problem, IsProblem}
+use Rattle.dancing_links.specs.declared.link.Link.{Link}
+use Rattle.dancing_links.specs.Choices.{IsLinks, covered_items, out_of}
+use Rattle.dancing_links.specs.Columns.{Columns, among, outs, unlinked, unlinks, up_of, down_of, covered, IsTable, IsSpelled, IsBuilt, IsOpen, AreOpen, outs_all, links_all}
+use Rattle.dancing_links.specs.Table.{table, heads_of}
+use Rattle.dancing_links.proofs.Law.{between, from_up, up-unlinked_other, down-unlinked_at, down-unlinked_other, spelled_unlink}
+use Rattle.dancing_links.proofs.Walk.{AreIn, item_out, whole_item}
+use Rattle.dancing_links.proofs.Chain.{going_all}
+use Rattle.dancing_links.proofs.Choose.{spelled_cover}
+use Rattle.dancing_links.proofs.Undone.{spelled_all}
+use Rattle.dancing_links.proofs.Unique.{one_spelling}
+use Rattle.dancing_links.proofs.Present.{IsOut, with_all, out_start, out_all}
+use Rattle.dancing_links.proofs.Prefixed.{covered_in}
+use Rattle.dancing_links.proofs.Chosen.{table_of, covered_new, covered_open}
+
+-- a node that is out is not known by its neighbour above
+abbrev pub IsAway : Columns → List ℕ → List Link → Type 0
+IsAway c out m = (y : ℕ) → c.heads ≤ y → y < c.tails → among out y ≡ true → down_of m (up_of m y) ≡ y → ⊥
+
+away_unlink : (c : Columns) (out : List ℕ) (m : List Link) (x : ℕ) → IsSpelled c out m → c.heads ≤ x → x < c.tails → among out x ≡ false → IsAway c out m → IsAway c (x ∷ out) (unlinked m x)
+away_unlink c out m x s low high here away = λ y low_y high_y gone back.
+    let b = between c out m x s low high here in
+    let d = s.down x high here in
+    elim (cases_eq y x) [
+      | inl e ↦
+          let up : up_of (unlinked m x) y ≡ up_of m x = ap (up_of (unlinked m x)) e ∙ up-unlinked_other m x x b.up_in b.down_other in
+          b.down_other (sym e ∙ sym back ∙ ap (down_of (unlinked m x)) up ∙ down-unlinked_at m x b.up_in b.down_in)
+      | inr ne ↦
+          let was : among out y ≡ true = elim (or_cases (x == y) (among out y) gone) [ inl t ↦ absurd (ne (sym (eqb-true x y t))) | inr t ↦ t ] in
+          let other : y ≡ down_of m x → ⊥ = (λ e. both_ways (among out (down_of m x)) d.in_down (ap (among out) (sym e) ∙ was)) in
+          let up : up_of (unlinked m x) y ≡ up_of m y = up-unlinked_other m x y b.up_in other in
+          elim (cases_eq (up_of m y) (up_of m x)) [
+            | inl e ↦ other (sym back ∙ ap (down_of (unlinked m x)) (up ∙ e) ∙ down-unlinked_at m x b.up_in b.down_in)
+            | inr apart ↦ away y low_y high_y was (sym (down-unlinked_other m x (up_of m y) b.down_in apart) ∙ ap (down_of (unlinked m x)) (sym up) ∙ back)
+          ]
+    ]
+
+away_unlinks : (c : Columns) (out : List ℕ) (m : List Link) (xs : List ℕ) → IsSpelled c out m → AreIn c out xs → IsAway c out m → IsAway c (outs xs out) (unlinks m xs)
+away_unlinks c out m [] s are away = away
+away_unlinks c out m (x ∷ xs) s are away = away_unlinks c (x ∷ out) (unlinked m x) xs (spelled_unlink c out m x s are.0.0 are.0.1 are.0.2) are.1 (away_unlink c out m x s are.0.0 are.0.1 are.0.2 away)
+
+-- all that covering an item takes out can be taken out in turn
+pub covered_are_in : (c : Columns) (out : List ℕ) (m : List Link) (i : ℕ) → IsTable c → IsSpelled c out m → IsOpen c out i → AreIn c out (covered c out i)
+unfolding covered
+covered_are_in c out m i t s can =
+    ((omega arith, omega (arith, can.item, t.order), can.here), going_all c ((c.heads + i) ∷ out) i (unlinked m (c.heads + i)) t can.item (item_out c out i m t can s) (whole_item c out i t can))
+
+away_all : (c : Columns) (out : List ℕ) (m : List Link) (is : List ℕ) → IsTable c → IsSpelled c out m → AreOpen c out is → IsAway c out m → IsAway c (outs_all c out is) (links_all c out m is)
+away_all c out m [] t s are away = away
+away_all c out m (i ∷ is) t s are away =
+    away_all c (outs (covered c out i) out) (unlinks m (covered c out i)) is t (spelled_cover c out m i t s are.0) are.1
+    (away_unlinks c out m (covered c out i) s (covered_are_in c out m i t s are.0) away)
+
+pub among_with_all : (is items : List ℕ) (k : ℕ) → among (with_all is items) k ≡ (among items k || among is k)
+among_with_all is [] k = refl
+among_with_all is (i ∷ items) k =
+    among_with_all (i ∷ is) items k ∙ elim (cases_Bool (i == k)) [
+      | inl t ↦ rw t (elim (cases_Bool (among items k)) [ inl u ↦ rw u refl | inr u ↦ rw u refl ])
+      | inr f ↦ rw f refl
+    ]
+
+-- what the links tell
+pub record IsState (p : Problem) (c : Columns) (os : List ℕ) (m : List Link) : Type 0 where
+  pub is_problem : IsProblem p
+  pub layout : c ≡ table p
+  pub table_is : IsTable c
+  pub spelled : IsSpelled c (out_of p c os) m
+  pub away : IsAway c (out_of p c os) m
+  pub out : IsOut c (with_all [] (covered_items p os)) (out_of p c os)
+
+pub state_of : (p : Problem) (c : Columns) (os : List ℕ) (m : List Link) (counts : List ℕ) (room : ℕ) → IsLinks p c os m counts room → IsState p c os m
+state_of p c os m counts room is =
+    let t = table_of p c is.is_problem is.layout in
+    let are = covered_open p c os is.is_problem is.layout is.prefix in
+    let P : List Link → Type 0 = λ links. IsSpelled c (out_of p c os) links in
+    let Q : List Link → Type 0 = λ links. IsAway c (out_of p c os) links in
+    record {
+      is_problem = is.is_problem;
+      layout = is.layout;
+      table_is = t;
+      spelled = subst P (sym is.history) (spelled_all c [] is.before (covered_items p os) t is.built.spelled are);
+      away = subst Q (sym is.history) (away_all c [] is.before (covered_items p os) t is.built.spelled are (λ y low high gone back. both_ways false refl gone));
+      out = out_all c [] [] (covered_items p os) t (out_start c) (covered_new p c os is.is_problem is.layout is.prefix);
+    }
+
+pub among_covered : (p : Problem) (os : List ℕ) (i : ℕ) → among (with_all [] (covered_items p os)) i ≡ is_covered p os i
+among_covered p os i = among_with_all [] (covered_items p os) i ∙ or_false (among (covered_items p os) i) ∙ covered_in p os i
+  where
+    or_false : (b : Bool) → (b || false) ≡ b
+    or_false true = refl
+    or_false false = refl
+
+-- whether a node of an item is out
+pub item_gone : (p : Problem) (c : Columns) (os : List ℕ) (m : List Link) (i : ℕ) → IsState p c os m → i < length p.names → among (out_of p c os) (c.heads + i) ≡ is_covered p os i
+item_gone p c os m i s h =
+    let heads : c.heads ≡ heads_of p = ap (λ (t : Columns). t.heads) s.layout in
+    elim (cases_Bool (is_covered p os i)) [
+      | inl hit ↦ s.out.items_in i (omega (arith, heads, h)) (among_covered p os i ∙ hit) ∙ sym hit
+      | inr free ↦ s.out.items_out i (omega (arith, heads, h)) (among_covered p os i ∙ free) ∙ sym free
+    ]
+
+-- an item is covered where its node is not known from above
+pub covered_test : (p : Problem) (c : Columns) (os : List ℕ) (m : List Link) (i : ℕ) → IsState p c os m → i < length p.names → not (down_of m (up_of m (c.heads + i)) == c.heads + i) ≡ is_covered p os i
+covered_test p c os m i s h =
+    let heads : c.heads ≡ heads_of p = ap (λ (t : Columns). t.heads) s.layout in
+    let gone = item_gone p c os m i s h in
+    let x : ℕ = c.heads + i in
+    let low : c.heads ≤ x = omega arith in
+    let high : x < c.tails = omega (arith, s.table_is.order, heads, h) in
+    elim (cases_Bool (is_covered p os i)) [
+      | inl hit ↦ rw (ne_eqb (down_of m (up_of m x)) x (s.away x low high (gone ∙ hit)), hit) refl
+      | inr free ↦ rw (eq-eqb (down_of m (up_of m x)) x (from_up c (out_of p c os) m x s.spelled low (omega (arith, s.spelled.ends, high)) (gone ∙ free)), free) refl
+    ]
+
+-- links are known by the problem and what is chosen
+pub one_links : (p : Problem) (c d : Columns) (os : List ℕ) (m n : List Link) (counts tallies : List ℕ) (room more : ℕ) → IsLinks p c os m counts room → IsLinks p d os n tallies more → m ≡ n
+one_links p c d os m n counts tallies room more a b =
+    let e : d ≡ c = b.layout ∙ sym a.layout in
+    let P : Columns → Type 0 = λ t. IsLinks p t os n tallies more in
+    let b' = subst P e b in
+    let same : a.before ≡ b'.before = one_spelling c [] a.before b'.before (λ k. refl) a.built.spelled b'.built.spelled (λ k h. a.built.heads_up k h ∙ sym (b'.built.heads_up k h)) (λ k h. a.built.tails_down k h ∙ sym (b'.built.tails_down k h)) in
+    a.history ∙ ap (λ (links : List Link). links_all c [] links (covered_items p os)) same ∙ sym b'.history
+
+-- the same, as the code reads it
+pub covered_read : (p : Problem) (c : Columns) (os : List ℕ) (m : List Link) (counts : List ℕ) (room i : ℕ) (node above : Link) → IsLinks p c os m counts room → i < length p.names → node ≡ get_or m (c.heads + i) node → above ≡ get_or m node.up above → not (above.down == c.heads + i) ≡ is_covered p os i
+covered_read p c os m counts room i node above is h e f =
+    let s = state_of p c os m counts room is in
+    let heads : c.heads ≡ heads_of p = ap (λ (t : Columns). t.heads) is.layout in
+    let x : ℕ = c.heads + i in
+    let inside : x < length m = omega (arith, s.table_is.order, s.table_is.ends, is.linked.0, heads, h) in
+    let none : Link = record { up = 0; down = 0 } in
+    let U : Link → ℕ = λ l. l.up in
+    let D : Link → ℕ = λ l. l.down in
+    let up : node.up ≡ up_of m x = ap U (e ∙ get_or_default m x node none inside) in
+    let up_in : node.up < length m = omega (arith, up, (is.linked.1 x inside).up_in) in
+    let down : above.down ≡ down_of m (up_of m x) = ap D (f ∙ get_or_default m node.up above none up_in) ∙ ap (down_of m) up in
+    ap (λ k. not (k == x)) down ∙ covered_test p c os m i s h

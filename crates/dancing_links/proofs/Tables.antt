@@ -1,0 +1,209 @@
+-- The columns of a problem are a table.
+use Rattle.std.proofs.Common.{◌≡◌, ℕ, zero, suc, ◌+◌, ◌-◌, ◌<◌, ◌≤◌, List, [], ◌∷◌, ◌++◌, length, Bool, true, false, not, ◌==◌, ◌&&◌, ◌||◌, get_or, map, filter, refl, arith, sym, ap, ◌∙◌, inl, inr, ◌⊎◌}
+use Rattle.std.specs.Prelude.{nat_lt}
+use Rattle.std.specs.List.{sum_by, list_any, list_all, All, concat, range_with_len}
+use Rattle.std.proofs.lemmas.Bool.{cases_lt, cases_eq, both_ways, eq-eqb, and_parts, or_left, or_right, not-true, ltb-true}
+use Rattle.std.proofs.lemmas.List.{length-map}
+use Rattle.std.proofs.lemmas.List.FromFn.{length-range_with_len}
+use Rattle.std.proofs.lemmas.List.Sums.{length-filter, count_by-le-length}
+use Rattle.std.proofs.lemmas.List.Elements.{All-get_or, All-from_get_or}
+use Rattle.cover_problem.specs.Numbers.{is_distinct, is_in, are_below}
+use Rattle.cover_problem.specs.Problem.{Problem, IsProblem, items_of, names_item}
+use Rattle.dancing_links.specs.Columns.{Columns, among, option_of, column_of, column_from, begin_of, end_of, IsTable}
+use Rattle.dancing_links.specs.Table.{starts, numbered, heads_of, base_of, tails_of, column_list, option_list, first_list, table}
+use Rattle.dancing_links.proofs.Walk.{column_skip_to}
+use Rattle.dancing_links.proofs.Parts.{options_part}
+use Rattle.dancing_links.proofs.Nodes.{starts_next, starts_low, starts_high, starts_end, IsNodeOf, find_node, item_at_place, option_at_place, length-column_list, length-option_list, length-first_list, first_at, first_past, column_head, column_item, column_node, column_tail, option_before, option_node_list, option_after_list}
+
+-- where an option begins
+abbrev pub start_of : Problem → ℕ → ℕ
+start_of p o = get_or (starts (base_of p) p.options) o 0
+
+-- a node of an option of a problem
+pub record IsNodeAt (p : Problem) (k o j : ℕ) : Type 0 where
+  pub option_in : o < length p.options
+  pub place_in : j < length (items_of p o)
+  pub node : k ≡ start_of p o + j
+  pub own : get_or (option_list p) k 0 ≡ o
+  pub begin : begin_of (table p) k ≡ start_of p o
+  pub end : end_of (table p) k ≡ start_of p o + length (items_of p o)
+  pub low : base_of p ≤ start_of p o
+  pub high : start_of p o + length (items_of p o) ≤ tails_of p
+  pub item : column_of (table p) k ≡ get_or (items_of p o) j 0
+
+pub node_by : (p : Problem) (k o j : ℕ) → o < length p.options → j < length (items_of p o) → k ≡ start_of p o + j → IsNodeAt p k o j
+node_by p k o j ho hj e =
+    let low = starts_low (base_of p) p.options o (omega (arith, ho)) in
+    let next = starts_next (base_of p) p.options o ho in
+    let last = starts_high (base_of p) p.options (o + 1) (omega (arith, ho)) in
+    let k_low : base_of p ≤ k = omega (arith, low, e) in
+    let k_high : k < tails_of p = omega (arith, next, last, e, hj) in
+    let own : get_or (option_list p) k 0 ≡ o =
+        option_node_list p k k_low k_high
+        ∙ ap (λ n. get_or (numbered 0 p.options) (n - base_of p) 0) e
+        ∙ option_at_place 0 (base_of p) p.options o j ho hj ∙ omega arith in
+    record {
+      option_in = ho;
+      place_in = hj;
+      node = e;
+      own = own;
+      begin = ap (λ n. get_or (first_list p) n 0) own ∙ first_at p o (omega (arith, ho));
+      end = ap (λ n. get_or (first_list p) (n + 1) 0) own ∙ first_at p (o + 1) (omega (arith, ho)) ∙ next;
+      low = low;
+      high = omega (arith, next, last);
+      item = column_node p k k_low k_high ∙ ap (λ n. get_or (concat p.options) (n - base_of p) 0) e ∙ item_at_place (base_of p) p.options o j ho hj;
+    }
+
+pub record IsSomeNode (p : Problem) (k : ℕ) : Type 0 where
+  pub option : ℕ
+  pub place : ℕ
+  pub at : IsNodeAt p k option place
+
+pub node_at : (p : Problem) (k : ℕ) → base_of p ≤ k → k < tails_of p → IsSomeNode p k
+node_at p k low high =
+    let n = find_node (base_of p) p.options k low high in
+    record { option = n.option; place = n.place; at = node_by p k n.option n.place n.option_in n.place_in n.node }
+
+-- ---- what an option names
+
+list_all_at_place : (p : ℕ → Bool) (xs : List ℕ) (j : ℕ) → list_all p xs ≡ true → j < length xs → p (get_or xs j 0) ≡ true
+list_all_at_place p [] j h lt = absurd (omega (arith, lt))
+list_all_at_place p (x ∷ xs) zero h lt = (and_parts (p x) (list_all p xs) h).0
+list_all_at_place p (x ∷ xs) (suc j) h lt = list_all_at_place p xs j (and_parts (p x) (list_all p xs) h).1 (omega (arith, lt))
+
+pub item_below : (p : Problem) (o j : ℕ) → IsProblem p → o < length p.options → j < length (items_of p o) → get_or (items_of p o) j 0 < length p.names
+item_below p o j is ho hj =
+    let P : List ℕ → Type 0 = λ items. are_below (length p.names) items ≡ true in
+    let below : are_below (length p.names) (items_of p o) ≡ true = All-get_or P p.options o [] ho is.each_named in
+    ltb-true (get_or (items_of p o) j 0) (length p.names) (list_all_at_place (λ i. nat_lt i (length p.names)) (items_of p o) j below hj)
+
+pub in_by_place : (xs : List ℕ) (j : ℕ) → j < length xs → is_in xs (get_or xs j 0) ≡ true
+in_by_place [] j lt = absurd (omega (arith, lt))
+in_by_place (x ∷ xs) zero lt = or_left (x == x) (is_in xs x) (eq-eqb x x refl)
+in_by_place (x ∷ xs) (suc j) lt = or_right (x == get_or xs j 0) (is_in xs (get_or xs j 0)) (in_by_place xs j (omega (arith, lt)))
+
+pub one_place : (xs : List ℕ) (i j : ℕ) → is_distinct xs ≡ true → i < length xs → j < length xs → get_or xs i 0 ≡ get_or xs j 0 → i ≡ j
+one_place [] i j d hi hj e = absurd (omega (arith, hi))
+one_place (x ∷ xs) zero zero d hi hj e = refl
+one_place (x ∷ xs) zero (suc j) d hi hj e =
+    let new = not-true (is_in xs x) (and_parts (not (is_in xs x)) (is_distinct xs) d).0 in
+    absurd (both_ways (is_in xs x) new (ap (is_in xs) e ∙ in_by_place xs j (omega (arith, hj))))
+one_place (x ∷ xs) (suc i) zero d hi hj e =
+    let new = not-true (is_in xs x) (and_parts (not (is_in xs x)) (is_distinct xs) d).0 in
+    absurd (both_ways (is_in xs x) new (ap (is_in xs) (sym e) ∙ in_by_place xs i (omega (arith, hi))))
+one_place (x ∷ xs) (suc i) (suc j) d hi hj e = ap suc (one_place xs i j (and_parts (not (is_in xs x)) (is_distinct xs) d).1 (omega (arith, hi)) (omega (arith, hj)) e)
+
+pub option_distinct : (p : Problem) (o : ℕ) → IsProblem p → o < length p.options → is_distinct (items_of p o) ≡ true
+option_distinct p o is ho =
+    let P : List ℕ → Type 0 = λ items. is_distinct items ≡ true in
+    All-get_or P p.options o [] ho is.each_distinct
+
+-- ---- the table
+
+column_below : (p : Problem) (k : ℕ) → IsProblem p → k < tails_of p + heads_of p → get_or (column_list p) k 0 < heads_of p
+column_below p k is h = elim (cases_lt k (heads_of p)) [
+  | inl head ↦ omega (arith, column_head p k head, head)
+  | inr later ↦ elim (cases_lt k (base_of p)) [
+    | inl item ↦ omega (arith, column_item p k later item)
+    | inr more ↦ elim (cases_lt k (tails_of p)) [
+      | inl node ↦
+          let at = node_at p k more node in
+          omega (arith, at.at.item, item_below p at.option at.place is at.at.option_in at.at.place_in)
+      | inr tail ↦ omega (arith, column_tail p k tail h, tail, h)
+    ]
+  ]
+]
+
+option_below : (p : Problem) (k : ℕ) → k < tails_of p + heads_of p → get_or (option_list p) k 0 ≤ length p.options
+option_below p k h = elim (cases_lt k (base_of p)) [
+  | inl before ↦ omega (arith, option_before p k before)
+  | inr more ↦ elim (cases_lt k (tails_of p)) [
+    | inl node ↦ let at = node_at p k more node in omega (arith, at.at.own, at.at.option_in)
+    | inr tail ↦ omega (arith, option_after_list p k tail h)
+  ]
+]
+
+first_within : (p : Problem) (o : ℕ) → o < length p.options + 2 → (base_of p ≤ get_or (first_list p) o 0) × (get_or (first_list p) o 0 ≤ tails_of p)
+first_within p o h = elim (cases_lt (length p.options) o) [
+  | inr le ↦ (omega (arith, first_at p o le, starts_low (base_of p) p.options o le), omega (arith, first_at p o le, starts_high (base_of p) p.options o le))
+  | inl past ↦
+      let e : o ≡ length p.options + 1 = omega (arith, past, h) in
+      let at = ap (λ n. get_or (first_list p) n 0) e ∙ first_past p in
+      (omega (arith, at), omega (arith, at))
+]
+
+-- a node of no option belongs to an empty range
+no_option : (p : Problem) (k : ℕ) → get_or (option_list p) k 0 ≡ length p.options → begin_of (table p) k ≤ end_of (table p) k
+no_option p k own =
+    let begin = ap (λ n. get_or (first_list p) n 0) own ∙ first_at p (length p.options) (omega arith) ∙ starts_end (base_of p) p.options in
+    let end = ap (λ n. get_or (first_list p) (n + 1) 0) own ∙ first_past p in
+    omega (arith, begin, end)
+
+-- no column has more nodes than there are options
+few_nodes : (p : Problem) (i : ℕ) → IsProblem p → i < length p.names → length (column_from (table p) [] i (heads_of p)) < 65536
+unfolding column_from
+few_nodes p i is h =
+    let c : Columns = table p in
+    let skip : column_from c [] i (heads_of p) ≡ column_from c [] i (base_of p) =
+        column_skip_to c [] i (length p.names) (heads_of p) (base_of p) refl (λ y low high own. absurd (omega (arith, column_item p y low high, own, h))) in
+    let count : tails_of p - base_of p ≡ sum_by length p.options = omega arith in
+    let all : map (option_of c) (column_from c [] i (heads_of p)) ≡ filter (λ o. true && names_item p o i) (range_with_len 0 (length p.options)) =
+        ap (map (option_of c)) (skip ∙ ap (λ n. filter (λ k. (column_of c k == i) && not (among [] k)) (range_with_len (base_of p) n)) count)
+        ∙ options_part (column_of c) (option_of c) (λ k. not (among [] k)) (λ o. true) (λ o. names_item p o i) i 0 p.options (base_of p)
+        (λ o j ho hj. (node_by p (start_of p o + j) o j ho hj refl).item)
+        (λ o j ho hj. (node_by p (start_of p o + j) o j ho hj refl).own ∙ omega arith)
+        (λ o j ho hj own. refl)
+        (λ o ho. let e : 0 + o ≡ o = omega arith in ap (λ n. names_item p n i) e)
+        (λ o ho. option_distinct p o is ho) in
+    let length_all : length (map (option_of c) (column_from c [] i (heads_of p))) ≡ length (filter (λ o. true && names_item p o i) (range_with_len 0 (length p.options))) = ap length all in
+    omega (arith, length_all, length-map (column_from c [] i (heads_of p)) (option_of c), length-filter (λ o. true && names_item p o i) (range_with_len 0 (length p.options)), count_by-le-length (λ o. true && names_item p o i) (range_with_len 0 (length p.options)), length-range_with_len 0 (length p.options), is.options)
+
+pub table_is : (p : Problem) → IsProblem p → IsTable (table p)
+table_is p is =
+    let size = length-column_list p in
+    record {
+      small = omega (arith, size, is.names, is.occurrences);
+      ends = omega (arith, size);
+      some = omega arith;
+      order = omega (arith, is.some_primary, is.primary);
+      option = length-option_list p ∙ sym size;
+      each_column = All-from_get_or (λ i. i < heads_of p) (column_list p) 0 (λ k h. column_below p k is (omega (arith, h, size)));
+      each_option = All-from_get_or (λ o. o + 1 < length (first_list p)) (option_list p) 0 (λ k h. omega (arith, length-first_list p, option_below p k (omega (arith, h, length-option_list p))));
+      each_first = All-from_get_or (λ k. (heads_of p + heads_of p ≤ k + 1) × (k ≤ tails_of p)) (first_list p) 0 (λ o h. let at = first_within p o (omega (arith, h, length-first_list p)) in (omega (arith, at.0), at.1));
+      ordered = λ k low high. elim (cases_lt k (base_of p)) [
+        | inl before ↦ no_option p k (option_before p k before)
+        | inr more ↦ let at = node_at p k more high in omega (arith, at.at.begin, at.at.end)
+      ];
+      tail_columns = λ k low high. omega (arith, column_tail p k low (omega (arith, high, size)), low);
+      option_columns = λ k low high.
+          let at = node_at p k (omega (arith, low)) high in
+          omega (arith, at.at.item, item_below p at.option at.place is at.at.option_in at.at.place_in);
+      head_columns = λ k h. column_head p k h;
+      item_columns = λ i h. omega (arith, column_item p (heads_of p + i) (omega arith) (omega (arith, h)));
+      within = λ k low high.
+          let at = (node_at p k (omega (arith, low)) high).at in
+          (omega (arith, at.begin, at.node), omega (arith, at.end, at.node, at.place_in), omega (arith, at.begin, at.low), omega (arith, at.end, at.high));
+      same = λ k j low high above below.
+          let at = (node_at p k (omega (arith, low)) high) in
+          let by = node_by p j at.option (j - start_of p at.option) at.at.option_in (omega (arith, at.at.end, at.at.begin, above, below)) (omega (arith, at.at.begin, above)) in
+          (by.begin ∙ sym at.at.begin, by.end ∙ sym at.at.end);
+      each_few = λ i h. few_nodes p i is (omega (arith, h));
+      apart = λ k j low high above below own.
+          let at = (node_at p k (omega (arith, low)) high) in
+          let place : ℕ = j - start_of p at.option in
+          let place_in : place < length (items_of p at.option) = omega (arith, at.at.end, at.at.begin, above, below) in
+          let by = node_by p j at.option place at.at.option_in place_in (omega (arith, at.at.begin, above)) in
+          let e = one_place (items_of p at.option) place at.place (option_distinct p at.option is at.at.option_in) place_in at.at.place_in (sym by.item ∙ own ∙ at.at.item) in
+          omega (arith, by.node, at.at.node, e, at.at.begin);
+    }
+
+abbrev columns_by : ℕ → ℕ → List ℕ → List ℕ → List ℕ → Columns
+columns_by heads tails column option first = record { heads = heads; tails = tails; column = column; option = option; first = first }
+
+pub same_table : (p : Problem) (heads tails : ℕ) (column option first : List ℕ) → heads ≡ heads_of p → tails ≡ tails_of p → column ≡ column_list p → option ≡ option_list p → first ≡ first_list p → columns_by heads tails column option first ≡ table p
+same_table p heads tails column option first a b c d e =
+    ap (λ h. columns_by h tails column option first) a
+    ∙ ap (λ t. columns_by (heads_of p) t column option first) b
+    ∙ ap (λ xs. columns_by (heads_of p) (tails_of p) xs option first) c
+    ∙ ap (λ xs. columns_by (heads_of p) (tails_of p) (column_list p) xs first) d
+    ∙ ap (λ xs. columns_by (heads_of p) (tails_of p) (column_list p) (option_list p) xs) e

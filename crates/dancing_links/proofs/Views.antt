@@ -1,0 +1,168 @@
+-- What the views of the links answer.
+use Rattle.std.proofs.Common.{◌≡◌, ℕ, zero, suc, ◌+◌, ◌-◌, ◌<◌, ◌≤◌, List, [], ◌∷◌, length, Bool, true, false, not, ◌==◌, get_or, map, refl, arith, sym, ap, ◌∙◌, inl, inr, ◌⊎◌, subst, slice_get, Some, None, Option, MatchOption, IfSome}
+use Rattle.std.proofs.lemmas.Bool.{both_ways, cases_Bool, cases_lt, lt-ltb, le-ltb}
+use Rattle.std.proofs.lemmas.List.{length-map, get_or_default}
+use Rattle.std.proofs.lemmas.Grind.{get_or_default_zero}
+use Rattle.cover_problem.specs.Branching.{live_options, IsOpen}
+use Rattle.cover_problem.specs.Onward.{open_items_from}
+use Rattle.cover_problem.specs.Prefix.{is_covered}
+use Rattle.cover_problem.specs.Problem.{Problem, IsProblem}
+use Rattle.cover_problem.proofs.Remaining.{open_items_from_take, open_items_from_skip, open_items_from_end}
+use Rattle.dancing_links.specs.declared.link.Link.{Link}
+use Rattle.dancing_links.specs.Choices.{IsLinks, out_of}
+use Rattle.dancing_links.specs.Columns.{Columns, among, column_of, column_from, up_of, down_of, option_of, walk, options_left, IsTable, IsLinked, IsSpelled}
+use Rattle.dancing_links.specs.Table.{table, heads_of}
+use Rattle.dancing_links.proofs.Walk.{column_skip_to, column_from_take, column_from_end}
+use Rattle.dancing_links.proofs.State.{IsState, state_of, item_gone}
+use Rattle.dancing_links.proofs.Columned.{column_options}
+
+-- an item's column, by options
+pub column_is : (p : Problem) (c : Columns) (os : List ℕ) (m : List Link) (counts : List ℕ) (room i : ℕ) → IsLinks p c os m counts room → i < length p.names → is_covered p os i ≡ false → map (option_of c) (column_from c (out_of p c os) i c.heads) ≡ live_options p os i
+column_is p c os m counts room i is h free =
+    let P : Columns → Type 0 = λ t. IsLinks p t os m counts room in
+    let s = state_of p (table p) os m counts room (subst P is.layout is) in
+    let Q : Columns → Type 0 = λ t. map (option_of t) (column_from t (out_of p t os) i t.heads) ≡ live_options p os i in
+    subst Q (sym is.layout) (column_options p os (out_of p (table p) os) i is.is_problem s.out h free)
+
+-- the count of an item is that of the live options that name it
+pub count_is : (p : Problem) (c : Columns) (os : List ℕ) (m : List Link) (counts : List ℕ) (room i : ℕ) → IsLinks p c os m counts room → i < length p.names → is_covered p os i ≡ false → get_or counts i 0 ≡ length (live_options p os i)
+count_is p c os m counts room i is h free =
+    let heads : c.heads ≡ heads_of p = ap (λ (t : Columns). t.heads) is.layout in
+    is.counted.count i (omega (arith, heads, h)) ∙ sym (length-map (column_from c (out_of p c os) i c.heads) (option_of c)) ∙ ap length (column_is p c os m counts room i is h free)
+
+-- ---- the next uncovered item
+
+open_skip_to : (p : Problem) (os : List ℕ) (n start j : ℕ) → j ≡ start + n → j ≤ p.primary → ((k : ℕ) → start ≤ k → k < j → is_covered p os k ≡ true) → open_items_from p os start ≡ open_items_from p os j
+open_skip_to p os zero start j e high hit = ap (open_items_from p os) (omega (arith, e))
+open_skip_to p os (suc n) start j e high hit =
+    open_items_from_skip p os start (omega (arith, e, high)) (hit start (omega arith) (omega (arith, e)))
+    ∙ open_skip_to p os n (start + 1) j (omega (arith, e)) high (λ k low under. hit k (omega (arith, low)) under)
+
+-- what follows a node of the column of items, from an item on
+pub record IsOnward (p : Problem) (c : Columns) (os : List ℕ) (start d : ℕ) : Type 0 where
+  pub low : c.heads ≤ d
+  pub some : d < c.heads + p.primary → (slice_get (open_items_from p os start) 0 ≡ Some (d - c.heads)) × IsOpen p os (d - c.heads) × (start ≤ d - c.heads)
+  pub none : c.heads + p.primary ≤ d → slice_get (open_items_from p os start) 0 ≡ None
+
+pub onward : (p : Problem) (c : Columns) (os : List ℕ) (m : List Link) (start x : ℕ) → IsState p c os m → x + 1 ≡ c.heads + start → column_of c x + 1 ≡ c.heads → x < c.tails → among (out_of p c os) x ≡ false → IsOnward p c os start (down_of m x)
+onward p c os m start x s at own high here =
+    let heads : c.heads ≡ heads_of p = ap (λ (t : Columns). t.heads) s.layout in
+    let next = s.spelled.down x high here in
+    let d : ℕ = down_of m x in
+    let between : (k : ℕ) → start ≤ k → c.heads + k < d → k < p.primary → is_covered p os k ≡ true =
+        (λ k low under primary.
+            let item : k + 1 < c.heads = omega (arith, heads, primary, s.is_problem.primary) in
+            sym (item_gone p c os m k s (omega (arith, primary, s.is_problem.primary)))
+            ∙ next.nearest (c.heads + k) (omega (arith, at, low)) under (omega (arith, s.table_is.item_columns k item, own))) in
+    record {
+      low = next.low;
+      some = λ under.
+          let j : ℕ = d - c.heads in
+          let e : c.heads + j ≡ d = omega (arith, next.low) in
+          let primary : j < p.primary = omega (arith, under, e) in
+          let free : is_covered p os j ≡ false = sym (item_gone p c os m j s (omega (arith, primary, s.is_problem.primary))) ∙ ap (among (out_of p c os)) e ∙ next.in_down in
+          let past : start ≤ j = omega (arith, next.below, at, e) in
+          let skip = open_skip_to p os (j - start) start j (omega (arith, past)) (omega (arith, primary)) (λ k low less. between k low (omega (arith, less, e)) (omega (arith, less, primary))) in
+          (ap (λ (items : List ℕ). slice_get items 0) (skip ∙ open_items_from_take p os j primary free), record { primary = primary; uncovered = free }, past);
+      none = λ over. elim (cases_lt start p.primary) [
+        | inl less ↦
+            let skip = open_skip_to p os (p.primary - start) start p.primary (omega (arith, less)) (omega arith) (λ k low under. between k low (omega (arith, under, over)) under) in
+            ap (λ (items : List ℕ). slice_get items 0) (skip ∙ open_items_from_end p os p.primary (omega arith))
+        | inr past ↦ ap (λ (items : List ℕ). slice_get items 0) (open_items_from_end p os start past)
+      ];
+    }
+
+-- the first uncovered item
+pub onward_first : (p : Problem) (c : Columns) (os : List ℕ) (m : List Link) (counts : List ℕ) (room : ℕ) → IsLinks p c os m counts room → IsOnward p c os 0 (down_of m (c.heads - 1))
+onward_first p c os m counts room is =
+    let s = state_of p c os m counts room is in
+    let x : ℕ = c.heads - 1 in
+    let lt : x < c.heads = omega (arith, s.table_is.some) in
+    onward p c os m 0 x s (omega (arith, s.table_is.some)) (omega (arith, s.table_is.head_columns x lt, s.table_is.some)) (omega (arith, lt, s.spelled.order)) (s.spelled.heads_in x lt)
+
+-- the uncovered item after an uncovered one
+pub onward_next : (p : Problem) (c : Columns) (os : List ℕ) (m : List Link) (counts : List ℕ) (room i : ℕ) → IsLinks p c os m counts room → i < length p.names → is_covered p os i ≡ false → IsOnward p c os (i + 1) (down_of m (c.heads + i))
+onward_next p c os m counts room i is h free =
+    let s = state_of p c os m counts room is in
+    let heads : c.heads ≡ heads_of p = ap (λ (t : Columns). t.heads) s.layout in
+    onward p c os m (i + 1) (c.heads + i) s (omega arith) (s.table_is.item_columns i (omega (arith, heads, h))) (omega (arith, s.table_is.order, heads, h)) (item_gone p c os m i s h ∙ free)
+
+-- what the code answers of the node below
+pub answer_item : (p : Problem) (c : Columns) (os : List ℕ) (start d primary : ℕ) (r : Option ℕ) → primary ≡ p.primary → IsOnward p c os start d → MatchOption r (c.heads + primary ≤ d) (λ item. (d < c.heads + primary) × (item ≡ d - c.heads)) → r ≡ slice_get (open_items_from p os start) 0
+answer_item p c os start d primary None e o h = sym (o.none (omega (arith, e, h)))
+answer_item p c os start d primary (Some x) e o h = ap Some h.1 ∙ sym (o.some (omega (arith, e, h.0))).0
+
+pub answer_open : (p : Problem) (c : Columns) (os : List ℕ) (start d primary : ℕ) (r : Option ℕ) → primary ≡ p.primary → IsOnward p c os start d → MatchOption r (c.heads + primary ≤ d) (λ item. (d < c.heads + primary) × (item ≡ d - c.heads)) → IfSome r (IsOpen p os)
+answer_open p c os start d primary None e o h = tt
+answer_open p c os start d primary (Some x) e o h = let P : ℕ → Type 0 = λ k. IsOpen p os k in subst P (sym h.1) (o.some (omega (arith, e, h.0))).1
+
+pub item_counted_in : (p : Problem) (c : Columns) (os : List ℕ) (m : List Link) (counts : List ℕ) (room i : ℕ) → IsLinks p c os m counts room → i < length p.names → i < length counts
+item_counted_in p c os m counts room i is h = omega (arith, is.counted.columns, ap (λ (t : Columns). t.heads) is.layout, h)
+
+-- ---- down the column of an item
+
+-- once there are steps enough, more of them change nothing
+walk_enough : (c : Columns) (m : List Link) (n k node : ℕ) → IsTable c → IsLinked c m → c.tails ≤ node + n → c.tails ≤ node + k → walk c m n node ≡ walk c m k node
+walk_enough c m zero zero node t l hn hk = refl
+walk_enough c m zero (suc k) node t l hn hk = rw (le-ltb node c.tails (omega (arith, hn))) refl
+walk_enough c m (suc n) zero node t l hn hk = rw (le-ltb node c.tails (omega (arith, hk))) refl
+walk_enough c m (suc n) (suc k) node t l hn hk = elim (cases_lt node c.tails) [
+  | inr past ↦ rw (le-ltb node c.tails past) refl
+  | inl high ↦
+      let rise = ((l.1 node (omega (arith, l.0, t.ends, high))).rises high).0 in
+      let rest = walk_enough c m n k (down_of m node) t l (omega (arith, hn, rise)) (omega (arith, hk, rise)) in
+      rw (lt-ltb node c.tails high) (ap (λ os. option_of c node ∷ os) rest)
+]
+
+-- the first of what is left, and the others
+pub left_take : (c : Columns) (m : List Link) (node : ℕ) → IsTable c → IsLinked c m → node < c.tails → options_left c m node ≡ option_of c node ∷ options_left c m (down_of m node)
+left_take c m node t l high =
+    let rise = ((l.1 node (omega (arith, l.0, t.ends, high))).rises high).0 in
+    let d : ℕ = down_of m node in
+    let e : c.tails - node ≡ suc (c.tails - (node + 1)) = omega (arith, high) in
+    ap (λ n. walk c m n node) e
+    ∙ rw (lt-ltb node c.tails high) (ap (λ os. option_of c node ∷ os) (walk_enough c m (c.tails - (node + 1)) (c.tails - d) d t l (omega (arith, rise)) (omega arith)))
+
+pub left_none : (c : Columns) (m : List Link) (node : ℕ) → c.tails ≤ node → options_left c m node ≡ []
+left_none c m node past = let e : c.tails - node ≡ 0 = omega (arith, past) in ap (λ n. walk c m n node) e
+
+walk_column : (c : Columns) (out : List ℕ) (m : List Link) (i n node : ℕ) → IsSpelled c out m → c.heads ≤ node → column_of c node ≡ i → among out node ≡ false → c.tails ≤ node + n → walk c m n node ≡ map (option_of c) (column_from c out i node)
+walk_column c out m i zero node s low own here enough = ap (map (option_of c)) (sym (column_from_end c out i node (omega (arith, enough))))
+walk_column c out m i (suc n) node s low own here enough = elim (cases_lt node c.tails) [
+  | inr past ↦ rw (le-ltb node c.tails past) (ap (map (option_of c)) (sym (column_from_end c out i node past)))
+  | inl high ↦
+      let next = s.down node high here in
+      let d : ℕ = down_of m node in
+      let skip = column_skip_to c out i (d - (node + 1)) (node + 1) d (omega (arith, next.below)) (λ y above below same. next.nearest y (omega (arith, above)) below (same ∙ sym own)) in
+      let rest = walk_column c out m i n d s next.low (next.column ∙ own) next.in_down (omega (arith, enough, next.below)) in
+      rw (lt-ltb node c.tails high) (ap (λ os. option_of c node ∷ os) rest ∙ ap (map (option_of c)) (sym (column_from_take c out i node high own here ∙ ap (λ ks. node ∷ ks) skip)))
+]
+
+-- what is left from the head of an uncovered item on
+pub left_all : (p : Problem) (c : Columns) (os : List ℕ) (m : List Link) (counts : List ℕ) (room i : ℕ) → IsLinks p c os m counts room → i < length p.names → is_covered p os i ≡ false → options_left c m (down_of m i) ≡ live_options p os i
+left_all p c os m counts room i is h free =
+    let s = state_of p c os m counts room is in
+    let heads : c.heads ≡ heads_of p = ap (λ (t : Columns). t.heads) is.layout in
+    let head : i < c.heads = omega (arith, heads, h) in
+    let own = s.table_is.head_columns i head in
+    let next = s.spelled.down i (omega (arith, head, s.spelled.order)) (s.spelled.heads_in i head) in
+    let d : ℕ = down_of m i in
+    let skip = column_skip_to c (out_of p c os) i (d - c.heads) c.heads d (omega (arith, next.low)) (λ y above below same. next.nearest y (omega (arith, above, head)) below (same ∙ sym own)) in
+    walk_column c (out_of p c os) m i (c.tails - d) d s.spelled next.low (next.column ∙ own) next.in_down (omega arith)
+    ∙ ap (map (option_of c)) (sym skip) ∙ column_is p c os m counts room i is h free
+
+-- what a step of the iterator takes
+pub left_step : (c : Columns) (m : List Link) (node option : ℕ) (left : List ℕ) → IsTable c → IsLinked c m → node < c.tails → option ≡ get_or c.option node option → options_left c m node ≡ left → left ≡ option ∷ options_left c m (down_of m node)
+left_step c m node option left t l high e f =
+    let inside : node < length c.option = omega (arith, t.option, t.ends, high) in
+    sym f ∙ left_take c m node t l high ∙ ap (λ o. o ∷ options_left c m (down_of m node)) (sym (e ∙ get_or_default_zero c.option node option inside))
+
+-- the same, as the code reads the head
+pub left_read : (p : Problem) (c : Columns) (os : List ℕ) (m : List Link) (counts : List ℕ) (room i : ℕ) (head : Link) → IsLinks p c os m counts room → i < length p.names → is_covered p os i ≡ false → head ≡ get_or m i head → options_left c m head.down ≡ live_options p os i
+left_read p c os m counts room i head is h free e =
+    let heads : c.heads ≡ heads_of p = ap (λ (t : Columns). t.heads) is.layout in
+    let s = state_of p c os m counts room is in
+    let inside : i < length m = omega (arith, s.spelled.count, s.table_is.ends, heads, h) in
+    let D : Link → ℕ = λ l. l.down in
+    let down : head.down ≡ down_of m i = ap D (e ∙ get_or_default m i head (record { up = 0; down = 0 }) inside) in
+    ap (options_left c m) down ∙ left_all p c os m counts room i is h free

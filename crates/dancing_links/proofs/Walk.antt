@@ -1,0 +1,257 @@
+-- Nodes taken out in a row, and the walk down a column.
+use Rattle.std.proofs.Common.{◌≡◌, ℕ, zero, suc, ◌+◌, ◌-◌, ◌<◌, ◌≤◌, List, [], ◌∷◌, ◌++◌, length, Bool, true, false, not, ◌==◌, ◌&&◌, ◌||◌, filter, refl, arith, sym, ap, ◌∙◌, inl, inr, ◌⊎◌, append_assoc, append-nil}
+use Rattle.std.specs.List.{range_with_len, flat_map}
+use Rattle.std.proofs.lemmas.Bool.{eq-eqb, ne_eqb, eqb-true, cases_Bool, cases_eq, cases_lt, cases_order, both_ways, or_cases, or_left, or_right, and_left, and_right, and_from}
+use Rattle.dancing_links.specs.declared.link.Link.{Link}
+use Rattle.dancing_links.specs.Columns.{up_of, down_of, unlinked, relinked, unlinks, relinks, among, outs, Columns, column_of, begin_of, end_of, IsNext, IsSpelled, others_from, others, column_from, hidden_from, covered, IsTable, AreWhole, IsOpen, Covers, Uncovers, fewer, more, with_less, with_more}
+use Rattle.dancing_links.proofs.Law.{between, spelled_unlink, relink_unlink, in_other, out_other}
+use Rattle.dancing_links.proofs.Others.{range_step, others_from_take, others_from_skip, others_from_end}
+
+not_true : (b : Bool) → (b ≡ true → ⊥) → b ≡ false
+not_true b never = elim (cases_Bool b) [ inl t ↦ absurd (never t) | inr f ↦ f ]
+
+-- nodes that can be taken out in turn
+abbrev pub AreIn : Columns → List ℕ → List ℕ → Type 0
+AreIn c out [] = Unit {0}
+AreIn c out (x ∷ xs) = ((c.heads ≤ x) × (x < c.tails) × (among out x ≡ false)) × AreIn c (x ∷ out) xs
+
+pub spelled_unlinks : (c : Columns) (out : List ℕ) (m : List Link) (xs : List ℕ) → IsSpelled c out m → AreIn c out xs → IsSpelled c (outs xs out) (unlinks m xs)
+spelled_unlinks c out m [] s are = s
+spelled_unlinks c out m (x ∷ xs) s are = spelled_unlinks c (x ∷ out) (unlinked m x) xs (spelled_unlink c out m x s are.0.0 are.0.1 are.0.2) are.1
+
+-- nodes that are put back in the reverse order leave all links as they were
+pub relinks_unlinks : (c : Columns) (out : List ℕ) (m : List Link) (xs : List ℕ) → IsSpelled c out m → AreIn c out xs → relinks (unlinks m xs) xs ≡ m
+relinks_unlinks c out m [] s are = refl
+relinks_unlinks c out m (x ∷ xs) s are =
+    let rest = relinks_unlinks c (x ∷ out) (unlinked m x) xs (spelled_unlink c out m x s are.0.0 are.0.1 are.0.2) are.1 in
+    rw rest (relink_unlink m x (between c out m x s are.0.0 are.0.1 are.0.2))
+
+pub unlinks-append : (m : List Link) (xs ys : List ℕ) → unlinks m (xs ++ ys) ≡ unlinks (unlinks m xs) ys
+unlinks-append m [] ys = refl
+unlinks-append m (x ∷ xs) ys = unlinks-append (unlinked m x) xs ys
+
+pub relinks-append : (m : List Link) (xs ys : List ℕ) → relinks m (xs ++ ys) ≡ relinks (relinks m ys) xs
+relinks-append m [] ys = refl
+relinks-append m (x ∷ xs) ys = rw (relinks-append m xs ys) refl
+
+pub outs-append : (xs ys out : List ℕ) → outs (xs ++ ys) out ≡ outs ys (outs xs out)
+outs-append [] ys out = refl
+outs-append (x ∷ xs) ys out = outs-append xs ys (x ∷ out)
+
+pub outs_same : (xs out : List ℕ) (k : ℕ) → among xs k ≡ false → among (outs xs out) k ≡ among out k
+outs_same [] out k h = refl
+outs_same (x ∷ xs) out k h =
+    let other = out_other xs x k h in
+    outs_same xs (x ∷ out) k other.0 ∙ ap (λ (b : Bool). b || among out k) (ne_eqb x k (λ e. other.1 (sym e)))
+
+among_others : (node n start k : ℕ) → among (filter (λ j. not (j == node)) (range_with_len start n)) k ≡ true → (start ≤ k) × (k < start + n) × (k ≡ node → ⊥)
+among_others node zero start k h = absurd (both_ways false refl h)
+among_others node (suc n) start k h =
+    elim (cases_eq start node) [
+      | inl e ↦
+          let h' : among (filter (λ j. not (j == node)) (range_with_len (start + 1) n)) k ≡ true = rw (eq-eqb start node e) at h in
+          let rest = among_others node n (start + 1) k h' in (omega (arith, rest.0), omega (arith, rest.1), rest.2)
+      | inr ne ↦
+          let h' : among (start ∷ filter (λ j. not (j == node)) (range_with_len (start + 1) n)) k ≡ true = rw (ne_eqb start node ne) at h in
+          elim (or_cases (start == k) (among (filter (λ j. not (j == node)) (range_with_len (start + 1) n)) k) h') [
+            | inl t ↦ let e = eqb-true start k t in (omega (arith, e), omega (arith, e), λ f. ne (e ∙ f))
+            | inr t ↦ let rest = among_others node n (start + 1) k t in (omega (arith, rest.0), omega (arith, rest.1), rest.2)
+          ]
+    ]
+
+-- a number that is among the others of a node
+pub others_at : (c : Columns) (node k : ℕ) → begin_of c node ≤ end_of c node → among (others c node) k ≡ true → (begin_of c node ≤ k) × (k < end_of c node) × (k ≡ node → ⊥)
+unfolding others others_from
+others_at c node k order h = let at = among_others node (end_of c node - begin_of c node) (begin_of c node) k h in (at.0, omega (arith, at.1), at.2)
+
+others_in : (c : Columns) (out : List ℕ) (node n start end : ℕ) → end ≡ start + n → c.heads ≤ start → end ≤ c.tails → ((j : ℕ) → start ≤ j → j < end → among out j ≡ false) → AreIn c out (others_from node start end)
+others_in c out node zero start end e low high here = rw (others_from_end node start end (omega (arith, e))) tt
+others_in c out node (suc n) start end e low high here =
+    elim (cases_eq start node) [
+      | inl same ↦ rw (others_from_skip node start end (omega (arith, e)) same) (others_in c out node n (start + 1) end (omega (arith, e)) (omega (arith, low)) high (λ j above below. here j (omega (arith, above)) below))
+      | inr ne ↦ rw (others_from_take node start end (omega (arith, e)) ne) ((low, omega (arith, e, high), here start (omega arith) (omega (arith, e))), others_in c (start ∷ out) node n (start + 1) end (omega (arith, e)) (omega (arith, low)) high (λ j above below. in_other out start j (here j (omega (arith, above)) below) (λ f. omega (arith, f, above))))
+    ]
+
+-- the others of a node can be taken out where its option is in as a whole
+pub others_are_in : (c : Columns) (out : List ℕ) (node : ℕ) → IsTable c → c.heads + c.heads ≤ node + 1 → node < c.tails → ((j : ℕ) → begin_of c node ≤ j → j < end_of c node → among out j ≡ false) → AreIn c out (others c node)
+unfolding others
+others_are_in c out node t low high here =
+    let w = t.within node low high in
+    others_in c out node (end_of c node - begin_of c node) (begin_of c node) (end_of c node) (omega (arith, w.0, w.1)) (omega (arith, w.2, t.order, low)) w.3 here
+
+-- going down a column
+pub column_from_take : (c : Columns) (out : List ℕ) (i k : ℕ) → k < c.tails → column_of c k ≡ i → among out k ≡ false → column_from c out i k ≡ k ∷ column_from c out i (k + 1)
+unfolding column_from
+column_from_take c out i k h own here = let e : c.tails - k ≡ suc (c.tails - (k + 1)) = omega arith in rw (range_step k _ _ e, eq-eqb (column_of c k) i own, here) refl
+
+pub column_from_skip : (c : Columns) (out : List ℕ) (i k : ℕ) → k < c.tails → (column_of c k ≡ i → among out k ≡ true) → column_from c out i k ≡ column_from c out i (k + 1)
+unfolding column_from
+column_from_skip c out i k h gone =
+    let e : c.tails - k ≡ suc (c.tails - (k + 1)) = omega arith in
+    elim (cases_eq (column_of c k) i) [
+      | inl own ↦ rw (range_step k _ _ e, eq-eqb (column_of c k) i own, gone own) refl
+      | inr ne ↦ rw (range_step k _ _ e, ne_eqb (column_of c k) i ne) refl
+    ]
+
+pub column_from_end : (c : Columns) (out : List ℕ) (i k : ℕ) → c.tails ≤ k → column_from c out i k ≡ []
+unfolding column_from
+column_from_end c out i k h = let e : c.tails - k ≡ 0 = omega arith in rw e refl
+
+pub column_skip_to : (c : Columns) (out : List ℕ) (i n k d : ℕ) → d ≡ k + n → ((y : ℕ) → k ≤ y → y < d → column_of c y ≡ i → among out y ≡ true) → column_from c out i k ≡ column_from c out i d
+column_skip_to c out i zero k d e gone = ap (column_from c out i) (omega (arith, e))
+column_skip_to c out i (suc n) k d e gone =
+    elim (cases_lt k c.tails) [
+      | inl h ↦ column_from_skip c out i k h (gone k (omega arith) (omega (arith, e))) ∙ column_skip_to c out i n (k + 1) d (omega (arith, e)) (λ y above below own. gone y (omega (arith, above)) below own)
+      | inr h ↦ column_from_end c out i k h ∙ sym (column_from_end c out i d (omega (arith, h, e)))
+    ]
+
+-- on the way down the column of an item: what was done, and what is left
+pub record IsGoing (c : Columns) (out : List ℕ) (i : ℕ) (old now : List Link) (node : ℕ) (done : List ℕ) : Type 0 where
+  pub links : now ≡ unlinks old done
+  pub are_in : AreIn c out done
+  pub left : done ++ hidden_from c out i node ≡ hidden_from c out i c.heads
+  pub column : column_of c node ≡ i
+  pub here : among (outs done out) node ≡ false
+  pub own : (k : ℕ) → column_of c k ≡ i → among (outs done out) k ≡ among out k
+  pub later : (k : ℕ) → node < c.tails → begin_of c node ≤ k → among (outs done out) k ≡ among out k
+
+are_in-append : (c : Columns) (out xs ys : List ℕ) → AreIn c out xs → AreIn c (outs xs out) ys → AreIn c out (xs ++ ys)
+are_in-append c out [] ys first second = second
+are_in-append c out (x ∷ xs) ys first second = (first.0, are_in-append c (x ∷ out) xs ys first.1 second)
+
+-- a node of an item's column is one of an option
+pub option_node : (c : Columns) (i k : ℕ) → IsTable c → i + 1 < c.heads → c.heads ≤ k → column_of c k ≡ i → c.heads + c.heads ≤ k + 1
+option_node c i k t item low own = elim (cases_lt (k + 1) (c.heads + c.heads)) [
+  | inl less ↦
+      let j : ℕ = k - c.heads in
+      let e : c.heads + j ≡ k = omega arith in
+      let at = t.item_columns j (omega (arith, less)) in
+      let same : column_of c (c.heads + j) ≡ i = ap (column_of c) e ∙ own in
+      absurd (omega (arith, at, same, item))
+  | inr more ↦ more
+]
+
+-- options of two nodes of one column follow each other
+pub option_after : (c : Columns) (a b : ℕ) → IsTable c → c.heads + c.heads ≤ a + 1 → a < b → b < c.tails → column_of c b ≡ column_of c a → end_of c a ≤ begin_of c b
+option_after c a b t low less high own =
+    let wa = t.within a low (omega (arith, less, high)) in
+    let wb = t.within b (omega (arith, low, less)) high in
+    elim (cases_lt b (end_of c a)) [
+      | inl in_a ↦ absurd (omega (arith, less, t.apart a b low (omega (arith, less, high)) (omega (arith, wa.0, less)) in_a own))
+      | inr past ↦ elim (cases_lt (begin_of c b) (end_of c a)) [
+        | inr fine ↦ fine
+        | inl cross ↦ elim (cases_lt (begin_of c b) (begin_of c a)) [
+          | inl before ↦
+              let s = t.same b a (omega (arith, low, less)) high (omega (arith, before, wa.0)) (omega (arith, less, wb.1)) in
+              absurd (omega (arith, s.1, past, wb.1))
+          | inr after ↦
+              let s = t.same a (begin_of c b) low (omega (arith, less, high)) after cross in
+              let r = t.same b (begin_of c b) (omega (arith, low, less)) high (omega arith) (omega (arith, wb.0, wb.1)) in
+              absurd (omega (arith, s.1, r.1, past, wb.1))
+        ]
+      ]
+    ]
+
+pub going_start : (c : Columns) (out : List ℕ) (i : ℕ) (m : List Link) → IsTable c → i + 1 < c.heads → IsSpelled c out m → IsGoing c out i m m (down_of m i) []
+unfolding hidden_from
+going_start c out i m t item s =
+    let next = s.down i (omega (arith, item, s.order)) (s.heads_in i (omega (arith, item))) in
+    let own : column_of c i ≡ i = t.head_columns i (omega (arith, item)) in
+    record {
+      links = refl;
+      are_in = tt;
+      left = ap (flat_map (others c)) (sym (column_skip_to c out i (down_of m i - c.heads) c.heads (down_of m i) (omega (arith, next.low)) (λ y above below same. next.nearest y (omega (arith, above, item)) below (same ∙ sym own))));
+      column = next.column ∙ own;
+      here = next.in_down;
+      own = λ k same. refl;
+      later = λ k high after. refl;
+    }
+
+pub going_step : (c : Columns) (out : List ℕ) (i : ℕ) (old now : List Link) (node : ℕ) (done : List ℕ) → IsTable c → i + 1 < c.heads → IsSpelled c out old → AreWhole c out i → c.heads ≤ node → node < c.tails → IsGoing c out i old now node done → IsGoing c out i old (unlinks now (others c node)) (down_of (unlinks now (others c node)) node) (done ++ others c node)
+unfolding hidden_from
+going_step c out i old now node done t item s whole low high g =
+    let option = option_node c i node t item low g.column in
+    let w = t.within node option high in
+    let order : begin_of c node ≤ end_of c node = omega (arith, w.0, w.1) in
+    let here : among out node ≡ false = sym (g.own node g.column) ∙ g.here in
+    let all_in = others_are_in c (outs done out) node t option high (λ j above below. g.later j high above ∙ whole node j option high g.column here above below) in
+    let both = are_in-append c out done (others c node) g.are_in all_in in
+    let links : unlinks now (others c node) ≡ unlinks old (done ++ others c node) = rw (unlinks-append old done (others c node), g.links) refl in
+    let spelled : IsSpelled c (outs (done ++ others c node) out) (unlinks now (others c node)) = rw links (spelled_unlinks c out old (done ++ others c node) s both) in
+    let keep : (k : ℕ) → (among (others c node) k ≡ true → ⊥) → among (outs (done ++ others c node) out) k ≡ among (outs done out) k =
+    (λ k never. rw (outs-append done (others c node) out) (outs_same (others c node) (outs done out) k (not_true (among (others c node) k) never))) in
+    let own : (k : ℕ) → column_of c k ≡ i → among (outs (done ++ others c node) out) k ≡ among out k =
+    (λ k same. keep k (λ yes. let at = others_at c node k order yes in at.2 (t.apart node k option high at.0 at.1 (same ∙ sym g.column))) ∙ g.own k same) in
+    let node_in : among (outs (done ++ others c node) out) node ≡ false = own node g.column ∙ here in
+    let next = spelled.down node high node_in in
+    let d : ℕ = down_of (unlinks now (others c node)) node in
+    let take = column_from_take c out i node high g.column here in
+    let skip = column_skip_to c out i (d - (node + 1)) (node + 1) d (omega (arith, next.below)) (λ y above below same. sym (own y same) ∙ next.nearest y (omega (arith, above)) below (same ∙ sym g.column)) in
+    let column : column_from c out i node ≡ node ∷ column_from c out i d = take ∙ ap (λ ks. node ∷ ks) skip in
+    record {
+      links = links;
+      are_in = both;
+      left = append_assoc done (others c node) (flat_map (others c) (column_from c out i d)) ∙ ap (λ ks. done ++ flat_map (others c) ks) (sym column) ∙ g.left;
+      column = next.column ∙ g.column;
+      here = next.in_down;
+      own = own;
+      later = λ k inside after.
+          let follow = option_after c node d t option next.below inside next.column in
+          keep k (λ yes. let at = others_at c node k order yes in omega (arith, at.1, follow, after))
+          ∙ g.later k high (omega (arith, follow, after, order));
+    }
+
+pub going_done : (c : Columns) (out : List ℕ) (i : ℕ) (old now : List Link) (node : ℕ) (done : List ℕ) → c.tails ≤ node → IsGoing c out i old now node done → done ≡ hidden_from c out i c.heads
+unfolding hidden_from
+going_done c out i old now node done past g = sym (append-nil done) ∙ ap (λ ks. done ++ flat_map (others c) ks) (sym (column_from_end c out i node past)) ∙ g.left
+
+pub going_end : (c : Columns) (out : List ℕ) (i : ℕ) (old now : List Link) (node : ℕ) (done : List ℕ) → c.tails ≤ node → IsGoing c out i old now node done → now ≡ unlinks old (hidden_from c out i c.heads)
+unfolding hidden_from
+going_end c out i old now node done past g = g.links ∙ ap (unlinks old) (going_done c out i old now node done past g)
+
+-- an item that can be covered, once its node in the column of items is out
+pub whole_item : (c : Columns) (out : List ℕ) (i : ℕ) → IsTable c → IsOpen c out i → AreWhole c ((c.heads + i) ∷ out) i
+whole_item c out i t can = λ k j low high own here above below.
+    let w = t.within k low high in
+    let other = out_other out (c.heads + i) k here in
+    in_other out (c.heads + i) j (can.whole k j low high own other.0 above below) (λ e. omega (arith, e, w.2, above, can.item))
+
+pub item_out : (c : Columns) (out : List ℕ) (i : ℕ) (m : List Link) → IsTable c → IsOpen c out i → IsSpelled c out m → IsSpelled c ((c.heads + i) ∷ out) (unlinked m (c.heads + i))
+item_out c out i m t can s = spelled_unlink c out m (c.heads + i) s (omega arith) (omega (arith, can.item, t.order)) can.here
+
+-- on the way down: what was done, to the links and to the counts
+pub record IsWalk (c : Columns) (out : List ℕ) (i : ℕ) (old now : List Link) (was is : List ℕ) (node : ℕ) : Type 0 where
+  pub done : List ℕ
+  pub going : IsGoing c out i old now node done
+  pub counts : is ≡ fewer c was done
+
+abbrev pub Going : Columns → List Link → ℕ → List Link → List ℕ → List ℕ → ℕ → Type 0
+Going c old i now was is node = (out : List ℕ) → IsSpelled c out old → IsOpen c out i → IsWalk c ((c.heads + i) ∷ out) i (unlinked old (c.heads + i)) now was is node
+
+pub fewer-append : (c : Columns) (counts xs ys : List ℕ) → fewer c counts (xs ++ ys) ≡ fewer c (fewer c counts xs) ys
+fewer-append c counts [] ys = refl
+fewer-append c counts (x ∷ xs) ys = fewer-append c (with_less c counts x) xs ys
+
+pub more-append : (c : Columns) (counts xs ys : List ℕ) → more c counts (xs ++ ys) ≡ more c (more c counts ys) xs
+more-append c counts [] ys = refl
+more-append c counts (x ∷ xs) ys = ap (λ (k : List ℕ). with_more c k x) (more-append c counts xs ys)
+
+pub cover_start : (c : Columns) (old now : List Link) (was : List ℕ) (i : ℕ) → IsTable c → now ≡ unlinked old (c.heads + i) → Going c old i now was was (down_of now i)
+cover_start c old now was i t e = λ out s can. record {
+  done = [];
+  going = rw e (going_start c ((c.heads + i) ∷ out) i (unlinked old (c.heads + i)) t can.item (item_out c out i old t can s));
+  counts = refl;
+}
+
+pub cover_step : (c : Columns) (old now new : List Link) (was is less : List ℕ) (i node : ℕ) → IsTable c → c.heads ≤ node → node < c.tails → new ≡ unlinks now (others c node) → less ≡ fewer c is (others c node) → Going c old i now was is node → Going c old i new was less (down_of new node)
+cover_step c old now new was is less i node t low high e f going = λ out s can.
+    let w = going out s can in
+    record {
+      done = w.done ++ others c node;
+      going = rw e (going_step c ((c.heads + i) ∷ out) i (unlinked old (c.heads + i)) now node w.done t can.item (item_out c out i old t can s) (whole_item c out i t can) low high w.going);
+      counts = f ∙ ap (λ (k : List ℕ). fewer c k (others c node)) w.counts ∙ sym (fewer-append c was w.done (others c node));
+    }
+
+pub cover_end : (c : Columns) (old now : List Link) (was is : List ℕ) (i node : ℕ) → c.tails ≤ node → Going c old i now was is node → Covers c old i now
+unfolding covered
+cover_end c old now was is i node past going = λ out s can. let w = going out s can in going_end c ((c.heads + i) ∷ out) i (unlinked old (c.heads + i)) now node w.done past w.going

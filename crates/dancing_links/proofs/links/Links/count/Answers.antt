@@ -1,0 +1,18 @@
+use Rattle.std.proofs.Common.{◌≡◌, ◌<◌, ◌+◌, length, false, arith, ap, ◌∙◌, vec_capacity}
+use Rattle.std.proofs.lemmas.Grind.{get_or_default_zero}
+use Rattle.cover_problem.specs.Branching.{live_options}
+use Rattle.cover_problem.specs.Prefix.{is_covered}
+use Rattle.dancing_links.specs.Choices.{Choices}
+use Rattle.dancing_links.specs.Columns.{columns_of}
+use Rattle.dancing_links.proofs.Views.{count_is, item_counted_in}
+use Rattle.dancing_links.proofs.links.Links.count.Goals as goal
+
+pub returns : goal.returns
+returns c =
+    let p = c.self.inside.problem.now in
+    let inside : c.args.item < length c.self.inside.problem.now.names = omega (arith, c.requires.item, ap (λ (v : Choices). length v.problem.names) c.self.view_is) in
+    let free : is_covered c.self.inside.problem.now c.self.inside.chosen.items c.args.item ≡ false = ap (λ (v : Choices). is_covered v.problem v.chosen c.args.item) c.self.view_is ∙ c.requires.uncovered in
+    let room = item_counted_in p (columns_of c.self.inside.layout) c.self.inside.chosen.items c.self.inside.links.items c.self.inside.counts.items (vec_capacity c.self.inside.chosen) c.args.item c.self.invariant inside in
+    c.index.ensures ∙ get_or_default_zero c.self.inside.counts.items c.args.item c.index.result.now room
+    ∙ count_is p (columns_of c.self.inside.layout) c.self.inside.chosen.items c.self.inside.links.items c.self.inside.counts.items (vec_capacity c.self.inside.chosen) c.args.item c.self.invariant inside free
+    ∙ ap (λ (v : Choices). length (live_options v.problem v.chosen c.args.item)) c.self.view_is

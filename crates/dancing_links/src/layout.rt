@@ -1,0 +1,155 @@
+//! Which column and which option each node belongs to.
+
+ghost use Rattle.std.specs.Prelude.{◌≡◌, ◌<◌, ◌≤◌, ◌+◌, ◌++◌, length, replicate, slice_index, IfOk};
+ghost use Rattle.std.specs.List.{range_with_len, concat};
+ghost use Rattle.dancing_links.specs.Columns.{columns_of, column_of, IsTable};
+ghost use Rattle.dancing_links.specs.Table.{table, column_list, option_list, first_list, numbered};
+
+use cover_problem::Problem;
+use std::alloc::{AllocError, Global};
+
+/// What never changes: the column and the option of each node, and where each option begins.
+///
+/// The heads of the columns come first: one for each item, and one for the column of items. Then come the nodes of the
+/// items, the nodes of the options in file order, and the tails of the columns.
+#[derive(Drop)]
+pub struct Layout {
+    /// The column of each node: for a node of an option, the item that it stands for.
+    pub items: Vec<u16>,
+    /// The option of each node; the number of options for a node that belongs to none.
+    pub options: Vec<u16>,
+    /// The first node of each option; then, twice, the first tail.
+    pub first: Vec<u32>,
+    /// How many heads there are.
+    pub heads: usize,
+    /// The first tail.
+    pub tails: usize,
+}
+
+/// The layout of a problem; the only error is want of memory.
+pub fn layout_of(alloc: Global, problem: &Problem) -> Result<Layout, AllocError>
+    ensures { IfOk result (λ layout. columns_of layout ≡ table problem.now) }
+{
+    let items = node_items(alloc, problem)?;
+    let options = node_options(alloc, problem)?;
+    let first = first_nodes(alloc, problem)?;
+    let heads = problem.items() + 1;
+    let tails = items.len() - heads;
+    Ok(Layout {
+        items,
+        options,
+        first,
+        heads,
+        tails,
+    })
+}
+
+#[tactic(auto, unfolding(crate::specs::Table::column_list))]
+/// The column of each node.
+fn node_items(alloc: Global, problem: &Problem) -> Result<Vec<u16>, AllocError>
+    ensures { IfOk result (λ list. list.items ≡ column_list problem.now) }
+{
+    let items = problem.items() as u16;
+    let mut list = Vec::new(alloc);
+    push_range(&mut list, items + 1)?;
+    push_copies(&mut list, items, items as usize)?;
+    push_items(&mut list, problem)?;
+    push_range(&mut list, items + 1)?;
+    Ok(list)
+}
+
+#[tactic(auto, unfolding(crate::specs::Table::option_list))]
+/// The option of each node.
+fn node_options(alloc: Global, problem: &Problem) -> Result<Vec<u16>, AllocError>
+    ensures { IfOk result (λ list. list.items ≡ option_list problem.now) }
+{
+    let none = problem.options() as u16;
+    let items = problem.items();
+    let mut list = Vec::new(alloc);
+    push_copies(&mut list, none, items + 1 + items)?;
+    push_options(&mut list, problem)?;
+    push_copies(&mut list, none, items + 1)?;
+    Ok(list)
+}
+
+#[tactic(auto, using(crate::proofs::Laid::range_push))]
+/// Appends the numbers below a bound.
+fn push_range(list: &mut Vec<u16>, bound: u16) -> Result<(), AllocError>
+    ensures { IfOk result (λ _. list.new.items ≡ list.old.items ++ range_with_len 0 bound) }
+{
+    for number in 0..bound {
+        list.push(number)?;
+    }
+    Ok(())
+}
+
+#[tactic(auto, using(crate::proofs::Laid::copies_push))]
+/// Appends so many copies of a number.
+fn push_copies(list: &mut Vec<u16>, number: u16, count: usize) -> Result<(), AllocError>
+    ensures { IfOk result (λ _. list.new.items ≡ list.old.items ++ replicate count number) }
+{
+    for _copy in 0..count {
+        list.push(number)?;
+    }
+    Ok(())
+}
+
+#[tactic(auto, using(crate::proofs::Laid::items_push, crate::proofs::Laid::items_all_pushed))]
+/// Appends the items of each option.
+fn push_items(list: &mut Vec<u16>, problem: &Problem) -> Result<(), AllocError>
+    ensures { IfOk result (λ _. list.new.items ≡ list.old.items ++ concat problem.now.options) }
+{
+    for option in 0..problem.options() as u16 {
+        list.extend_from_slice(problem.option(option))?;
+    }
+    Ok(())
+}
+
+#[tactic(auto, using(crate::proofs::Laid::options_push, crate::proofs::Laid::options_all_pushed))]
+/// Appends, for each item of each option, the number of the option.
+fn push_options(list: &mut Vec<u16>, problem: &Problem) -> Result<(), AllocError>
+    ensures { IfOk result (λ _. list.new.items ≡ list.old.items ++ numbered 0 problem.now.options) }
+{
+    for option in 0..problem.options() as u16 {
+        push_copies(list, option, problem.option(option).len())?;
+    }
+    Ok(())
+}
+
+#[tactic(auto, using(crate::proofs::Laid::first_push, crate::proofs::Laid::first_all_pushed, crate::proofs::Laid::left_next, crate::proofs::Laid::left_none), unfolding(crate::specs::Table::first_list))]
+/// Where each option begins, and where it ends.
+fn first_nodes(alloc: Global, problem: &Problem) -> Result<Vec<u32>, AllocError>
+    ensures { IfOk result (λ list. list.items ≡ first_list problem.now) }
+{
+    let mut list = Vec::new(alloc);
+    let mut node = 2 * problem.items() + 1;
+    for option in 0..problem.options() as u16 {
+        list.push(node as u32)?;
+        node += problem.option(option).len();
+    }
+    list.push(node as u32)?;
+    list.push(node as u32)?;
+    Ok(list)
+}
+
+/// The item of a node of an option.
+pub fn item_at(layout: &Layout, node: usize) -> usize
+    requires node { (layout.now.heads + layout.now.heads ≤ node + 1) × (node < layout.now.tails) }
+    requires table { IsTable (columns_of layout.now) }
+    ensures item { result ≡ column_of (columns_of layout.now) node }
+{
+    layout.items[node] as usize
+}
+
+/// The nodes of an option: the first, and the one after the last.
+pub fn node_range(layout: &Layout, option: u16) -> (usize, usize)
+    requires { option + 1 < length layout.now.first.items }
+    ensures begin { result.0 ≡ slice_index layout.now.first.items option }
+    ensures end { result.1 ≡ slice_index layout.now.first.items (option + 1) }
+{
+    let option = option as usize;
+    (
+        layout.first[option] as usize,
+        layout.first[option + 1] as usize,
+    )
+}

@@ -1,0 +1,42 @@
+//! The links of a node, and the two lines by which it leaves its column and comes back.
+
+ghost use Rattle.std.specs.Prelude.{◌≡◌, ◌<◌, ◌≤◌, length};
+ghost use Rattle.dancing_links.specs.Columns.{unlinked, relinked, columns_of, IsLinked, IsTable};
+
+use crate::layout::Layout;
+
+/// The neighbours of a node in its column, by their numbers.
+#[derive(Clone, Copy)]
+pub struct Link {
+    pub up: u32,
+    pub down: u32,
+}
+
+/// Takes a node out of its column.
+#[tactic(auto, unfolding(crate::specs::Columns::unlinked, crate::specs::Columns::with_up, crate::specs::Columns::with_down))]
+pub fn unlink(layout: &Layout, links: &mut [Link], node: usize)
+    requires node { (layout.now.heads ≤ node) × (node < layout.now.tails) }
+    requires table { IsTable (columns_of layout.now) }
+    requires linked { IsLinked (columns_of layout.now) links.old }
+    ensures linked { IsLinked (columns_of layout.now) links.new }
+    ensures links { links.new ≡ unlinked links.old node }
+{
+    let link = links[node];
+    links[link.up as usize].down = link.down;
+    links[link.down as usize].up = link.up;
+}
+
+/// Puts the node that was taken out last back into its column.
+#[tactic(auto, unfolding(crate::specs::Columns::relinked, crate::specs::Columns::with_up, crate::specs::Columns::with_down))]
+pub fn relink(layout: &Layout, links: &mut [Link], node: usize)
+    requires node { (layout.now.heads ≤ node) × (node < layout.now.tails) }
+    requires table { IsTable (columns_of layout.now) }
+    requires linked { IsLinked (columns_of layout.now) links.old }
+    ensures linked { IsLinked (columns_of layout.now) links.new }
+    ensures links { links.new ≡ relinked links.old node }
+{
+    let link = links[node];
+    links[link.up as usize].down = node as u32;
+    links[link.down as usize].up = node as u32;
+}
+

@@ -1,0 +1,176 @@
+//! The links of a problem in which options are chosen.
+
+ghost use Rattle.std.specs.Prelude.{◌≡◌, ◌+◌, ◌-◌, ◌<◌, ◌≤◌, [], length, IfOk, IfSome, MatchOption, true, false, not, slice_get};
+ghost use Rattle.std.specs.List.{All, list_all};
+ghost use Rattle.cover_problem.specs.Branching.{live_options, IsOpen};
+ghost use Rattle.cover_problem.specs.Onward.{open_items_from};
+ghost use Rattle.dancing_links.specs.Choices.{Choices, with_choice};
+ghost use Rattle.dancing_links.specs.Columns.{down_of};
+ghost use Rattle.cover_problem.specs.Prefix.{is_covered, is_live};
+
+use crate::build::{build_counts, build_links};
+use crate::cover::{cover_all, uncover_all};
+use crate::layout::{Layout, layout_of, node_range};
+use crate::link::Link;
+use crate::options::OptionsOf;
+use cover_problem::Problem;
+use std::alloc::{AllocError, Global};
+use std::marker::Model;
+
+/// The dancing links of a problem, and the options that are chosen in it.
+///
+/// Each choice covers the items of its option; only `build` takes memory.
+#[derive(Drop)]
+pub struct Links<'a> {
+    problem: &'a Problem,
+    layout: Layout,
+    links: Vec<Link>,
+    counts: Vec<u16>,
+    chosen: Vec<u16>,
+}
+
+impl<'a> Model for Links<'a> {
+    ghost use Rattle.std.specs.Prelude.{vec_capacity};
+    ghost use Rattle.dancing_links.specs.Columns.{columns_of};
+    ghost use Rattle.dancing_links.specs.Choices.{Choices, IsLinks};
+
+    ghost Value = { Choices };
+
+    ghost view = { λ s. record { problem = s.problem.now; chosen = s.chosen.items } };
+
+    ghost invariant = { λ s. IsLinks s.problem.now (columns_of s.layout) s.chosen.items s.links.items s.counts.items (vec_capacity s.chosen) };
+}
+
+impl<'a> Links<'a> {
+    /// The links of a problem in which nothing is chosen; the only error is want of memory.
+    pub fn build(alloc: Global, problem: &'a Problem) -> Result<Links<'a>, AllocError>
+        ensures problem { IfOk result (λ links. links.problem ≡ problem.now) }
+        ensures chosen { IfOk result (λ links. links.chosen ≡ []) }
+    {
+        let chosen = Vec::with_capacity(alloc, problem.primary())?;
+        let layout = layout_of(alloc, problem)?;
+        let links = build_links(alloc, &layout)?;
+        let counts = build_counts(alloc, &layout)?;
+        Ok(Links {
+            problem,
+            layout,
+            links,
+            counts,
+            chosen,
+        })
+    }
+
+    /// Chooses a live option: covers its items, in the option's order.
+    pub fn choose(&mut self, option: u16)
+        requires option { option < length self.old.problem.options }
+        requires live { is_live self.old.problem self.old.chosen option ≡ true }
+        ensures { self.new ≡ with_choice self.old option }
+    {
+        let (begin, end) = node_range(&self.layout, option);
+        cover_all(&self.layout, &mut self.links, &mut self.counts, begin, end);
+        self.chosen.push_reserved(option);
+    }
+
+    /// Takes the last choice back, and answers it: all links are as before it.
+    pub fn undo(&mut self) -> u16
+        requires { 0 < length self.old.chosen }
+        ensures { self.old ≡ with_choice self.new result }
+    {
+        let option = self.chosen[self.chosen.len() - 1];
+        let (begin, end) = node_range(&self.layout, option);
+        uncover_all(&self.layout, &mut self.links, &mut self.counts, begin, end);
+        self.chosen.pop();
+        option
+    }
+
+    /// Whether an item stands in a chosen option.
+    pub fn is_covered(&self, item: u16) -> bool
+        requires { item < length self.now.problem.names }
+        ensures { result ≡ is_covered self.now.problem self.now.chosen item }
+    {
+        let node = self.layout.heads + item as usize;
+        let above = self.links[node].up as usize;
+        self.links[above].down as usize != node
+    }
+
+    /// Whether an option has no item in common with a chosen one.
+    pub fn is_live(&self, option: u16) -> bool
+        requires { option < length self.now.problem.options }
+        ensures { result ≡ is_live self.now.problem self.now.chosen option }
+    {
+        let problem = self.problem;
+        self.are_uncovered(problem.option(option))
+    }
+
+    /// How many live options name an uncovered item.
+    pub fn count(&self, item: u16) -> usize
+        requires item { item < length self.now.problem.names }
+        requires uncovered { is_covered self.now.problem self.now.chosen item ≡ false }
+        ensures { result ≡ length (live_options self.now.problem self.now.chosen item) }
+    {
+        self.counts[item as usize] as usize
+    }
+
+    /// The first uncovered primary item; none where all are covered.
+    pub fn first_item(&self) -> Option<u16>
+        ensures first { result ≡ slice_get (open_items_from self.now.problem self.now.chosen 0) 0 }
+        ensures uncovered { IfSome result (IsOpen self.now.problem self.now.chosen) }
+    {
+        item_below(
+            &self.layout,
+            &self.links,
+            self.problem.primary(),
+            self.layout.heads - 1,
+        )
+    }
+
+    /// The next uncovered primary item after an uncovered item; none where no more follows.
+    pub fn next_item(&self, item: u16) -> Option<u16>
+        requires item { item < length self.now.problem.names }
+        requires uncovered { is_covered self.now.problem self.now.chosen item ≡ false }
+        ensures next { result ≡ slice_get (open_items_from self.now.problem self.now.chosen (item + 1)) 0 }
+        ensures uncovered { IfSome result (IsOpen self.now.problem self.now.chosen) }
+        ensures later { IfSome result (λ next. item < next) }
+    {
+        item_below(
+            &self.layout,
+            &self.links,
+            self.problem.primary(),
+            self.layout.heads + item as usize,
+        )
+    }
+
+    /// The live options that name an uncovered item, in file order.
+    pub fn options_of(&self, item: u16) -> OptionsOf<'_>
+        requires item { item < length self.now.problem.names }
+        requires uncovered { is_covered self.now.problem self.now.chosen item ≡ false }
+        ensures { result ≡ live_options self.now.problem self.now.chosen item }
+    {
+        let node = self.links[item as usize].down as usize;
+        OptionsOf::from_node(&self.layout, &self.links, node)
+    }
+
+    /// Whether none of these items is covered.
+    fn are_uncovered(&self, items: &[u16]) -> bool
+        requires { All (λ item. item < length self.now.problem.names) items.now }
+        ensures { result ≡ list_all (λ item. not (is_covered self.now.problem self.now.chosen item)) items.now }
+    {
+        items.iter().all(|item| !self.is_covered(*item))
+    }
+}
+
+/// The item whose node is below a node in the column of items, if it is primary.
+fn item_below(layout: &Layout, links: &[Link], primary: usize, node: usize) -> Option<u16>
+    requires node { node < length links.now }
+    requires below { layout.now.heads ≤ down_of links.now node }
+    requires primary { primary ≤ 1000 }
+    requires heads { layout.now.heads ≤ 1001 }
+    ensures { MatchOption result (layout.now.heads + primary ≤ down_of links.now node) (λ item. (down_of links.now node < layout.now.heads + primary) × (item ≡ down_of links.now node - layout.now.heads)) }
+{
+    let below = links[node].down as usize;
+    if below < layout.heads + primary {
+        Some((below - layout.heads) as u16)
+    } else {
+        None
+    }
+}
