@@ -19,7 +19,8 @@ use Rattle.packet_wire.specs.declared.packet.Packet.{Packet}
 use Rattle.node_core.specs.declared.event.Event.{Event}
 use Rattle.node_core.specs.declared.event.Event.TheVariants.{Post, Deliver}
 use Rattle.node_core.specs.declared.reply.Reply.{Reply}
-use Rattle.node_core.specs.Results.{Leaves, new_child}
+use Rattle.node_core.specs.Results.{Leaves}
+use Rattle.spawn_frame.specs.Splits.{new_child}
 use Rattle.node_core.specs.Arrivals.{Judgement, Enters, Holds, Refuses, judged, Answers}
 use Rattle.root_registry.specs.RegistryStep.{RootAnswers, RootHears}
 use Rattle.node_core.specs.NodeStep.{HearStep}

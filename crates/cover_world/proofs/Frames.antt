@@ -12,7 +12,7 @@ use Rattle.node_core.specs.SiteView.{View, unit_in, unit_gets}
 use Rattle.spawn_frame.specs.Frames.{is_unit, frame}
 use Rattle.spawn_frame.specs.Names.{same_unit, same_name, guest_before}
 use Rattle.spawn_frame.specs.Aborts.{is_open}
-use Rattle.node_core.specs.Results.{new_child}
+use Rattle.spawn_frame.specs.Splits.{new_child}
 use Rattle.node_core.specs.Requests.{is_older}
 use Rattle.node_core.specs.Membership.{drop_if, drop_lost}
 use Rattle.cover_world.proofs.Grows.{get_changed}

@@ -23,7 +23,8 @@ use Rattle.node_core.specs.declared.event.Event.{Event}
 use Rattle.node_core.specs.declared.event.Event.TheVariants.{Take, Post, Finish, Ask, Redo, Deliver, Again, Greet}
 use Rattle.node_core.specs.declared.reply.Reply.{Reply}
 use Rattle.node_core.specs.declared.reply.Reply.TheVariants.{Taken, Ripe, Idle, Moved, Ignored}
-use Rattle.node_core.specs.Results.{Leaves, with_result, return_packets}
+use Rattle.node_core.specs.Results.{Leaves, return_packets}
+use Rattle.spawn_frame.specs.Splits.{with_result}
 use Rattle.node_core.specs.Requests.{give_again, gives_again, return_again, returns_again}
 use Rattle.root_registry.specs.RegistryStep.{to_each, if_done, over_packets, RootAnswers, RootSteal, RootHears, RegistryStep, root_result}
 use Rattle.node_core.specs.Arrivals.{Judgement, Enters, Holds, Refuses, judged, Answers, GiveStep, AcceptStep, RefuseStep, Denies, Gives}

@@ -18,7 +18,8 @@ use Rattle.node_core.specs.declared.event.Event.{Event}
 use Rattle.node_core.specs.declared.event.Event.TheVariants.{Take, Post, Finish, Ask, Redo, Deliver, Again, Greet}
 use Rattle.node_core.specs.declared.reply.Reply.{Reply}
 use Rattle.node_core.specs.declared.reply.Reply.TheVariants.{Taken, Ripe, Idle, Moved, Ignored}
-use Rattle.node_core.specs.Results.{Leaves, with_result}
+use Rattle.node_core.specs.Results.{Leaves}
+use Rattle.spawn_frame.specs.Splits.{with_result}
 use Rattle.node_core.specs.Arrivals.{Judgement, Enters, Holds, Refuses, Answers, GiveStep, AcceptStep, RefuseStep, Denies, Gives}
 use Rattle.root_registry.specs.RegistryStep.{RootAnswers, RootSteal, RootHears, RegistryStep, root_result}
 use Rattle.node_core.specs.NodeStep.{HearStep, EventStep}

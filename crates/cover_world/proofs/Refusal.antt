@@ -20,7 +20,7 @@ use Rattle.spawn_frame.specs.Aborts.{AbortsBelow, IsBelow, child, is_open}
 use Rattle.spawn_frame.specs.Names.{same_unit}
 use Rattle.packet_wire.specs.declared.packet.Body.TheVariants.{Steal, Give, Return, Refuse}
 use Rattle.packet_wire.specs.declared.packet.Packet.{Packet}
-use Rattle.node_core.specs.Results.{new_child}
+use Rattle.spawn_frame.specs.Splits.{new_child}
 use Rattle.node_core.specs.declared.event.Event.TheVariants.{Take, Post, Finish, Ask, Deliver}
 use Rattle.node_core.specs.Arrivals.{Enters, Refuses}
 use Rattle.node_core.specs.declared.reply.Reply.TheVariants.{Moved, Taken}

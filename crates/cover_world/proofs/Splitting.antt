@@ -13,7 +13,8 @@ use Rattle.spawn_frame.specs.Units.{Entry, GuestEntry, guest_in, with_status, in
 use Rattle.node_core.specs.SiteView.{View, unit_in, with_own, with_guests, unit_gets}
 use Rattle.spawn_frame.specs.Names.{same_unit}
 use Rattle.spawn_frame.specs.Aborts.{is_open}
-use Rattle.node_core.specs.Results.{new_child, split_up}
+use Rattle.node_core.specs.Results.{split_up}
+use Rattle.spawn_frame.specs.Splits.{new_child}
 use Rattle.node_core.specs.Requests.{is_older}
 use Rattle.node_core.specs.Membership.{drop_lost}
 use Rattle.cover_world.proofs.Guests.{every_inserted, every_dropped, unit_path}

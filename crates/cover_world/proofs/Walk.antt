@@ -26,7 +26,8 @@ use Rattle.node_core.specs.declared.event.Event.{Event}
 use Rattle.node_core.specs.declared.event.Event.TheVariants.{Take, Post, Finish, Ask, Redo, Deliver, Again, Greet}
 use Rattle.node_core.specs.declared.reply.Reply.{Reply}
 use Rattle.node_core.specs.declared.reply.Reply.TheVariants.{Taken, Ripe, Idle, Moved, Ignored}
-use Rattle.node_core.specs.Results.{Leaves, with_result, split_up}
+use Rattle.node_core.specs.Results.{Leaves, split_up}
+use Rattle.spawn_frame.specs.Splits.{with_result}
 use Rattle.node_core.specs.Membership.{redo_if, redo_lost, drop_lost, is_lost_guest, is_open_entry}
 use Rattle.node_core.specs.Requests.{is_older}
 use Rattle.node_core.specs.Arrivals.{Judgement, Enters, Holds, Refuses, judged, Answers, GiveStep, AcceptStep, RefuseStep, Denies, Gives}

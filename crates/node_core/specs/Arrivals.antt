@@ -4,7 +4,8 @@ use Rattle.cover_problem.specs.Prefix.{is_prefix}
 use Rattle.cover_problem.specs.Problem.{Problem}
 use Rattle.node_core.specs.Requests.{is_older}
 use Rattle.node_core.specs.SiteView.{View, abort_packets, unit_gets, with_guests, with_own}
-use Rattle.node_core.specs.Taking.{Stays, is_finished}
+use Rattle.node_core.specs.Taking.{Stays}
+use Rattle.spawn_frame.specs.Picks.{is_finished}
 use Rattle.node_core.specs.declared.reply.Reply.{Reply}
 use Rattle.node_core.specs.declared.reply.Reply.TheVariants.{Ignored, Moved}
 use Rattle.packet_wire.specs.declared.packet.Body.{Body}

@@ -1,47 +1,39 @@
 -- Searches and frames that come to a result.
-use Rattle.std.specs.Prelude.{◌≡◌, ℕ, ◌≤◌, length, List, [], ◌∷◌, ◌++◌, map, Some}
+use Rattle.std.specs.Prelude.{◌≡◌, ℕ, ◌≤◌, length, List, [], ◌∷◌, ◌++◌, Some}
 use Rattle.brancher.specs.Finding.{Finding}
 use Rattle.cover_problem.specs.Branching.{children}
 use Rattle.cover_problem.specs.Problem.{Problem}
 use Rattle.cover_problem.specs.Search.{Barren, Covers, Outcome, Spent}
-use Rattle.node_core.specs.SiteView.{View, abort_packets, unit_gets, unit_in, with_own}
+use Rattle.node_core.specs.SiteView.{View, abort_packets, unit_gets, unit_in, with_own, with_table}
 use Rattle.packet_wire.specs.declared.packet.Body.TheVariants.{Return}
 use Rattle.packet_wire.specs.declared.packet.Packet.{Packet}
 use Rattle.spawn_frame.specs.Aborts.{AbortsBelow}
 use Rattle.spawn_frame.specs.Frames.{frame, frame_result}
 use Rattle.spawn_frame.specs.Names.{same_unit}
+use Rattle.spawn_frame.specs.Splits.{split_into, with_result}
 use Rattle.spawn_frame.specs.Units.{Entry}
 use Rattle.spawn_frame.specs.declared.child_result.ChildResult.{ChildResult}
 use Rattle.spawn_frame.specs.declared.child_result.ChildResult.TheVariants.{Cover, Empty}
 use Rattle.spawn_frame.specs.declared.site.Site.{Site}
-use Rattle.spawn_frame.specs.declared.status.Status.{Status}
-use Rattle.spawn_frame.specs.declared.status.Status.TheVariants.{Done, Finished, Here, Ready, Split}
+use Rattle.spawn_frame.specs.declared.status.Status.TheVariants.{Here, Split}
 use Rattle.spawn_frame.specs.declared.unit.Job.{Job}
 use Rattle.spawn_frame.specs.declared.unit.Unit.{Unit as WorkUnit}
 use Rattle.spawn_frame.specs.declared.unit.Unit.TheVariants.{Guest, Own}
 use Rattle.cover_problem.specs.Search.{outcome}
 
+-- The finding holds the outcome of its prefix and fuel, of which there is some.
 pub record IsRight (problem : Problem) (finding : Finding) : Type 0 where
   pub fuel : 1 ≤ finding.fuel
   pub outcome : finding.outcome ≡ outcome problem finding.prefix finding.fuel
-
--- the status of a unit that has a result: a guest is not settled until its owner says so
-abbrev pub with_result : WorkUnit → ChildResult → Status
-with_result (Own serial) result = Done result
-with_result (Guest name attempt) result = Finished result
 
 -- a guest's result goes to its owner
 abbrev pub return_packets : Site → WorkUnit → ChildResult → List Packet
 return_packets from (Own serial) result = []
 return_packets from (Guest name attempt) result = record { from = from; to = name.site; body = Return name.serial attempt result } ∷ []
 
-abbrev pub new_child : WorkUnit → List ℕ → Entry
-new_child unit prefix = record { parent = Some unit; prefix = prefix; attempt = 1; status = Ready }
-
 -- the unit split into the children of its prefix
 abbrev pub split_up : Problem → View → WorkUnit → List ℕ → View
-split_up problem old unit prefix =
-    with_own (unit_gets old unit Split) ((unit_gets old unit Split).own ++ map (λ p. new_child unit p) (children problem prefix))
+split_up problem old unit prefix = with_table old (split_into old.table unit (children problem prefix))
 
 abbrev pub Leaves : Problem → View → WorkUnit → List ℕ → Outcome → List Packet → View → Type 0
 Leaves problem old unit prefix (Covers options) out new =

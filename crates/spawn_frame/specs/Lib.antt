@@ -1,4 +1,6 @@
 pub mod Aborts
 pub mod Frames
 pub mod Names
+pub mod Picks
+pub mod Splits
 pub mod Units
