@@ -77,7 +77,6 @@ pub record IsCheckBegun (file answer : List ℕ) (fuel : ℕ) (old new : Option 
   pub answered : IsAnswerOf answer problem given
   pub written : AppendsFront old new (check_text problem given fuel)
 
-
 -- The file's text has a problem, for which the other one has no answer, but this first fault.
 pub record IsRefusedAnswer (file answer : List ℕ) (fault : AnswerFault) : Type 0 where
   pub problem : Problem

@@ -1,0 +1,187 @@
+//! The search against a plain program: `scripts/plain_search.py` gave the visits and the first covers.
+
+ghost use Rattle.std.specs.Prelude.{◌≤◌};
+
+use brancher::{Outcome, Searcher};
+use cover_problem::is_prefix;
+use dlx_reader::read_problem;
+use std::alloc::Global;
+use std::process::Abort;
+use std::test::Fail;
+
+/// Searches the empty prefix with as much fuel as it takes, and with one visit less; no cover is an empty list.
+fn compare<R: Abort>(
+    rt: &R,
+    alloc: Global,
+    text: &str,
+    visits: u64,
+    first: &[u16],
+) -> Result<(), Fail> {
+    let read = read_problem(alloc, text.as_bytes())?;
+    let mut searcher = Searcher::new(alloc, &read.problem)?;
+    if visits > 1 {
+        assert_eq!(rt; searcher.search(&[], visits - 1), Outcome::Spent, "{text}");
+    }
+    let expected = if first.is_empty() {
+        Outcome::Barren
+    } else {
+        Outcome::Cover
+    };
+    assert_eq!(rt; searcher.search(&[], visits.max(1)), expected, "{text}");
+    if expected == Outcome::Cover {
+        assert_eq!(rt; searcher.found(), first, "{text}");
+    }
+    Ok(())
+}
+
+#[test]
+fn searches_agree(rt: HostRuntime) -> Result<(), Fail> {
+    let none: &[u16] = &[];
+    for (text, visits, first) in [
+        (
+            "a b c d e f g\nc e\na d g\nb c f\na d f\nb g\nd e g\n",
+            6,
+            [3, 4, 0].as_slice(),
+        ),
+        ("a b c d e f g\nc e\na d g\nb c f\na d f\nd e g\n", 3, none),
+        ("a b | x\na x\nb x\n", 2, none),
+        ("a b | x\na x\nb x\nb\n", 3, [0, 2].as_slice()),
+        ("a\n", 1, none),
+        ("a | x\nx\na\n", 2, [0].as_slice()),
+        ("a\na\na\n", 2, [0].as_slice()),
+        ("a b\nb\na\n", 3, [1, 0].as_slice()),
+        ("a b c\na b\nb c\nc\na\n", 3, [0, 2].as_slice()),
+        (
+            "a b c d | x y z\nc z b a\nz y c a d\na y b c\na z y d\nb c\nx b y z\nd c\nb d y\nz x d y\n",
+            6,
+            [3, 4].as_slice(),
+        ),
+        (
+            "a b c d e | x\na d\nd x c\nc x b\nb d a x\ne b\nc\nx c b\nx d b\n",
+            4,
+            [4, 0, 5].as_slice(),
+        ),
+        (
+            "a b c d | x y z\ny c d\ny b c z\ny c x b z a\ny c a d x\na c y\ny a b c\nd a c\nx y b z\n",
+            5,
+            [6, 7].as_slice(),
+        ),
+        (
+            "a b c d | x y\nd b y c\nc y b\nb c a\nc a x y\nb c a\nx d y\n",
+            4,
+            [5, 2].as_slice(),
+        ),
+        (
+            "a b c d e | x y\nx y c\ny x b c a\nd y b e\nc a\ne a\nc d b\ny a\nd x a e\ny a\n",
+            4,
+            [2, 3].as_slice(),
+        ),
+        (
+            "a b c d | x y z\nb z d x\nb d c\nz c y\nz d a\nz a y c x\nd c z x\nx a b d y z\n",
+            4,
+            none,
+        ),
+        (
+            "a b c d\nc b\nb\nb d c\nb\nb\nb a\nc b a\nd a b\nb d\n",
+            4,
+            none,
+        ),
+        (
+            "a b c d e\nc\nd e b\na c\nd a e\ne b\nb a\nd b a\nb c d\nb e a\n",
+            7,
+            [2, 1].as_slice(),
+        ),
+        (
+            "a b c d e | x\na x e b\nb x\nd e x b\nb a\na c b\nc a x\na d b\nb\nc e\n",
+            4,
+            [6, 8].as_slice(),
+        ),
+        (
+            "a b c d e | x y z\ny b c a\nd b c\ne\nd\n",
+            4,
+            [0, 3, 2].as_slice(),
+        ),
+        (
+            "a b c d\na\na c\nd\na d\nc b\nb d a\nb\nd b\n",
+            4,
+            [1, 6, 2].as_slice(),
+        ),
+        (
+            "a b c d | x y z\nx b c y a z\nb d c\nx a z\nc b x z\nd c\ny d c x\nb\n",
+            4,
+            [2, 1].as_slice(),
+        ),
+        (
+            "a b c d e\nb\nd c\ne c\nd c e\nd a\n",
+            4,
+            [4, 0, 2].as_slice(),
+        ),
+        (
+            "a b c d e\nd a e\nc e d\na c d\nb e\nb\nd\nb e\n",
+            4,
+            [2, 3].as_slice(),
+        ),
+        (
+            "a b c d e | x y z\nc a\nc\ne\ny c e z b\nz y d x\na x\ny x z a b\nd y\nc d e\n",
+            4,
+            [6, 8].as_slice(),
+        ),
+        (
+            "a b c d e | x y\na y x\nc y x\ne c y d\nc\ne\nx d y\ne d c\ne x d a\nd b\n",
+            5,
+            [8, 0, 3, 4].as_slice(),
+        ),
+        (
+            "a b c d | x y\nx a b d y\nc b a\ny d a c x\nd a b\nc a b\na\nb c\n",
+            4,
+            none,
+        ),
+        (
+            "a b c d | x y\na d c\ny b c\nc b d\nb y c a\nx a c d\n",
+            4,
+            none,
+        ),
+        ("a b c d e\nc d\nb c\ne\nd c a\nb c a\n", 4, none),
+        (
+            "a b c d | x\nd c x a\na\nx a b c\nb d a\nx c d\nd a c\nd b\n",
+            4,
+            none,
+        ),
+        (
+            "a b c d | x\nc a\nb x\nx d\nb c\nd x\na c\nx d c\nc x\n",
+            5,
+            none,
+        ),
+    ] {
+        compare(&rt, rt.alloc(), text, visits, first)?;
+    }
+    Ok(())
+}
+
+#[test]
+fn prefixes_are_searched(rt: HostRuntime) -> Result<(), Fail> {
+    let alloc = rt.alloc();
+    let read = read_problem(
+        alloc,
+        b"a b c d e f g\nc e\na d g\nb c f\na d f\nb g\nd e g\n",
+    )?;
+    let mut searcher = Searcher::new(alloc, &read.problem)?;
+    for (prefix, fuel, outcome, found) in [
+        ([].as_slice(), 6u64, Outcome::Cover, [3, 4, 0].as_slice()),
+        ([].as_slice(), 5, Outcome::Spent, [].as_slice()),
+        (
+            [0, 3, 4].as_slice(),
+            1,
+            Outcome::Cover,
+            [0, 3, 4].as_slice(),
+        ),
+        ([1].as_slice(), 9, Outcome::Barren, [].as_slice()),
+    ] {
+        assert!(rt; is_prefix(&read.problem, prefix));
+        assert_eq!(rt; searcher.search(prefix, fuel.max(1)), outcome);
+        if outcome == Outcome::Cover {
+            assert_eq!(rt; searcher.found(), found);
+        }
+    }
+    Ok(())
+}
