@@ -9,7 +9,7 @@ use Rattle.cover_problem.specs.Problem.{is_name, names_differ}
 use Rattle.dlx_reader.specs.Content.{begins_with_bar}
 use Rattle.dlx_reader.specs.Faults.{item_tests}
 use Rattle.dlx_reader.specs.Items.{name_part, names_in}
-use Rattle.dlx_reader.specs.Lines.{is_word}
+use Rattle.dlx_reader.specs.Content.{is_word}
 use Rattle.dlx_reader.specs.Reading.{◌>>=◌, add_name, item_at, items_from}
 use Rattle.dlx_reader.proofs.Differing.{names_differ-push}
 use Rattle.dlx_reader.proofs.Firsts.{Fails, after_ok}

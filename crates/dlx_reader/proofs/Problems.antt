@@ -7,7 +7,7 @@ use Rattle.cover_problem.specs.Numbers.{is_distinct, are_below, some_below}
 use Rattle.cover_problem.specs.Problem.{IsProblem, problem_by, is_name}
 use Rattle.dlx_reader.specs.Content.{begins_with_bar, is_content}
 use Rattle.dlx_reader.specs.Items.{names_in, primary_in}
-use Rattle.dlx_reader.specs.Lines.{is_word}
+use Rattle.dlx_reader.specs.Content.{is_word}
 use Rattle.dlx_reader.specs.Reading.{items_from, options_from}
 use Rattle.dlx_reader.proofs.ItemLines.{items_read}
 use Rattle.dlx_reader.proofs.Lawful.{is_inner}

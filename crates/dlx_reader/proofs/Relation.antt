@@ -5,7 +5,7 @@ use Rattle.std.proofs.lemmas.Bool.{and_parts}
 use Rattle.cover_problem.specs.Problem.{Problem}
 use Rattle.dlx_reader.specs.Content.{is_content, content_of}
 use Rattle.dlx_reader.specs.Items.{names_in, primary_in, primary_names}
-use Rattle.dlx_reader.specs.Lines.{is_word}
+use Rattle.dlx_reader.specs.Content.{is_word}
 use Rattle.dlx_reader.specs.ProblemOf.{IsProblemIn, IsProblemOf}
 use Rattle.dlx_reader.specs.OptionLines.{names_primary, kept_lines}
 use Rattle.dlx_reader.specs.Reading.{◌>>=◌, Reading, items_from, options_from, reading_of, read_by}

@@ -3,7 +3,8 @@ use Rattle.std.proofs.Common.{◌≡◌, ℕ, ◌+◌, List, [], ◌∷◌, leng
 use Rattle.std.specs.List.{list_all, slice_split, onto_first, enumerate_from}
 use Rattle.std.proofs.lemmas.Bool.{and_parts, and_from, not_from_false, or_from, not-true}
 use Rattle.dlx_reader.specs.Content.{is_content, content_from, content_of}
-use Rattle.dlx_reader.specs.Lines.{is_white, is_word, lines_of, words_of}
+use Rattle.dlx_reader.specs.Lines.{is_white, lines_of, words_of}
+use Rattle.dlx_reader.specs.Content.{is_word}
 use Rattle.dlx_reader.proofs.Lawful.{is_inner}
 
 -- the pieces between the elements that pass p: their elements pass q and not p, so they pass r

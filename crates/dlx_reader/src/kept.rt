@@ -1,7 +1,6 @@
 //! The options that are kept.
 
-ghost use Rattle.std.specs.Prelude.{◌≡◌, ◌<◌, ◌≤◌, ◌+◌, ◌^◌, [], length, IsTrue, All};
-ghost use Rattle.std.specs.List.{sum_by};
+ghost use Rattle.std.specs.Prelude.{◌≡◌, ◌<◌, ◌≤◌, ◌+◌, []};
 ghost use Rattle.cover_problem.specs.Numbers.{some_below};
 ghost use Rattle.dlx_reader.specs.Reading.{Gives, keep_at};
 
@@ -75,7 +74,8 @@ impl Kept {
         options
     }
 
-    /// Keeps an option with these items of a line, or counts it as ignored where none of them is primary.
+    /// Keeps an option with these items of a line, or counts it as ignored where none of them is primary. Beside want of
+    /// memory, the errors are the limits, tested in this order.
     #[tactic(auto, unfolding(crate::specs::Reading::keep_at))]
     pub fn keep(&mut self, primary: usize, items: Vec<u16>, line: usize) -> Result<(), ReadFault>
         requires { self.old.ignored < line }

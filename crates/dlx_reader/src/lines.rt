@@ -1,9 +1,12 @@
-ghost use Rattle.std.specs.Prelude.{◌≡◌, ◌+◌, [], ◌∷◌, drop, length, ◌<◌, ◌≤◌, map, IfOk, IfNone, IfSome};
+//! The lines of a text, and the words of a line.
+
+ghost use Rattle.std.specs.Prelude.{◌≡◌, ◌≤◌, ◌+◌, [], ◌∷◌, drop, length, map, IfOk, IfNone, IfSome};
 ghost use Rattle.dlx_reader.specs.Content.{begins_with_bar, is_content, content_from};
 ghost use Rattle.dlx_reader.specs.Lines.{is_white, lines_of, words_of, texts_of};
 
 use std::alloc::{AllocError, Global};
 
+/// Whether a byte is white space within a line.
 fn is_white(byte: u8) -> bool
     ensures { result ≡ is_white byte }
 {

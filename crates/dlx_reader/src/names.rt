@@ -1,6 +1,6 @@
 //! The names of the items, with an index by which a name's item is found.
 
-ghost use Rattle.std.specs.Prelude.{◌≡◌, ◌<◌, ◌≤◌, ℕ, List, [], ◌∷◌, ◌++◌, length, false, IfSome, OnOk, OnErr};
+ghost use Rattle.std.specs.Prelude.{◌≡◌, ◌<◌, ◌≤◌, [], ◌∷◌, ◌++◌, length, false, IfSome, OnOk, OnErr};
 
 use cover_problem::Name;
 use std::alloc::{AllocError, Global};

@@ -1,22 +1,20 @@
 //! Reading a problem, in the general form of the input of Knuth's program DLX1.
 
-ghost use Rattle.std.specs.Prelude.{◌≡◌, ◌≢◌, [], ◌++◌, ◌∷◌, ◌≤◌, ◌<◌, ◌+◌, ◌^◌, length, true, false, Some, IfOk, IfErr, IsTrue, All, drop};
+ghost use Rattle.std.specs.Prelude.{◌≡◌, ◌≢◌, ◌<◌, ◌≤◌, ◌+◌, ◌^◌, [], ◌∷◌, length, true, false, Some, IfOk, IfErr};
 ghost use Rattle.std.specs.List.{list_any, list_all};
-ghost use Rattle.cover_problem.specs.Numbers.{are_below, some_below};
-ghost use Rattle.cover_problem.specs.Problem.{problem_by};
-ghost use Rattle.dlx_reader.specs.Content.{is_content, content_from, content_of};
+ghost use Rattle.dlx_reader.specs.Content.{is_content, is_word, content_from, content_of};
 ghost use Rattle.dlx_reader.specs.Faults.{first_fault, is_illegal, name_tests};
 ghost use Rattle.dlx_reader.specs.Items.{name_part, primary_in};
-ghost use Rattle.dlx_reader.specs.Lines.{is_word, texts_of};
+ghost use Rattle.dlx_reader.specs.Lines.{texts_of};
 ghost use Rattle.dlx_reader.specs.ProblemOf.{HasNoProblem, IsProblemOf};
+ghost use Rattle.dlx_reader.specs.Reading.{Gives, after, item_at, items_from, option_item_at, option_from, option_at, options_from, reading_of, read_by};
 ghost use Rattle.dlx_reader.specs.declared.fault.ReadFault.TheVariants.{Memory};
-ghost use Rattle.dlx_reader.specs.Reading.{Gives, after, item_at, items_from, option_item_at, option_from, keep_at, option_at, options_from, reading_of, read_by};
 
 use crate::fault::ReadFault;
 use crate::kept::Kept;
 use crate::lines::{Line, begins_with_bar, is_content, item_line, lines_of, words_of};
 use crate::names::Names;
-use cover_problem::{Numbers, Problem};
+use cover_problem::Problem;
 use std::alloc::Global;
 
 /// The greatest number of items.
@@ -25,6 +23,7 @@ const MOST_ITEMS: usize = 1000;
 /// The greatest number of bytes of a name.
 const LONGEST_NAME: usize = 32;
 
+/// Whether a byte stands in it that is in no name.
 fn has_illegal(name: &[u8]) -> bool
     ensures { result ≡ list_any is_illegal name.now }
 {
@@ -86,7 +85,7 @@ fn read_item<'a>(
     Ok(())
 }
 
-/// Reads the words of the item line.
+/// Reads the words of the item line, which has this number.
 #[tactic(auto, unfolding(crate::specs::Reading::items_from))]
 fn read_items<'a>(alloc: Global, words: &[&'a [u8]], line: usize) -> Result<Names<'a>, ReadFault>
     ensures { Gives (λ names. names) result (items_from line [] false (texts_of words.now)) }
@@ -167,7 +166,7 @@ fn read_option_line(
     kept.keep(primary, items, line)
 }
 
-/// Reads the lines after the item line, which has this number.
+/// Reads the lines of options: those that say something, of the lines after so many.
 #[tactic(auto, unfolding(crate::specs::Reading::options_from, crate::specs::Content::content_from))]
 fn read_options(
     alloc: Global,
@@ -190,10 +189,12 @@ fn read_options(
     Ok(kept)
 }
 
-/// A problem, and how many options were ignored since they have no primary item.
+/// What is read in a text.
 #[derive(Drop)]
 pub struct Read {
+    /// The problem of the text.
     pub problem: Problem,
+    /// How many options were ignored, since none of their items is primary.
     pub ignored: usize,
 }
 
