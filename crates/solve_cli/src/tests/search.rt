@@ -158,14 +158,30 @@ fn searches_agree(rt: HostRuntime) -> Result<(), Fail> {
     Ok(())
 }
 
-#[test]
-fn prefixes_are_searched(rt: HostRuntime) -> Result<(), Fail> {
-    let alloc = rt.alloc();
+/// Searches a prefix, and gives back what is found; no cover is an empty list.
+fn search_below<R: Abort>(
+    rt: &R,
+    alloc: Global,
+    prefix: &[u16],
+    fuel: u64,
+) -> Result<(Outcome, Vec<u16>), Fail>
+    requires { 1 ≤ fuel }
+{
     let read = read_problem(
         alloc,
         b"a b c d e f g\nc e\na d g\nb c f\na d f\nb g\nd e g\n",
     )?;
+    assert!(rt; is_prefix(&read.problem, prefix));
     let mut searcher = Searcher::new(alloc, &read.problem)?;
+    let outcome = searcher.search(prefix, fuel);
+    if outcome != Outcome::Cover {
+        return Ok((outcome, Vec::new(alloc)));
+    }
+    Ok((outcome, Vec::from_slice(alloc, searcher.found())?))
+}
+
+#[test]
+fn prefixes_are_searched(rt: HostRuntime) -> Result<(), Fail> {
     for (prefix, fuel, outcome, found) in [
         ([].as_slice(), 6u64, Outcome::Cover, [3, 4, 0].as_slice()),
         ([].as_slice(), 5, Outcome::Spent, [].as_slice()),
@@ -177,11 +193,9 @@ fn prefixes_are_searched(rt: HostRuntime) -> Result<(), Fail> {
         ),
         ([1].as_slice(), 9, Outcome::Barren, [].as_slice()),
     ] {
-        assert!(rt; is_prefix(&read.problem, prefix));
-        assert_eq!(rt; searcher.search(prefix, fuel.max(1)), outcome);
-        if outcome == Outcome::Cover {
-            assert_eq!(rt; searcher.found(), found);
-        }
+        let ended = search_below(&rt, rt.alloc(), prefix, fuel.max(1))?;
+        assert_eq!(rt; ended.0, outcome);
+        assert_eq!(rt; ended.1.as_slice(), found);
     }
     Ok(())
 }

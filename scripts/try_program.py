@@ -1,0 +1,114 @@
+#!/usr/bin/env python3
+"""Runs the built program on the examples, on bad input and on failing outputs, and compares what it tells.
+
+    python3 scripts/try_program.py [PROGRAM]
+
+The program is crates/solve_cli/out/solve_cli where none is named. Each cover of an example is given back to `check`,
+and counted here once more. The last line is 'N passed, M failed'.
+"""
+import os
+import subprocess
+import sys
+import tempfile
+
+TOP = os.path.dirname(os.path.dirname(os.path.abspath(__file__)))
+PROGRAM = sys.argv[1] if len(sys.argv) > 1 else os.path.join(TOP, "crates/solve_cli/out/solve_cli")
+NONE = {"langford-5.dlx", "tetrominoes-4x5.dlx", "mutilated-chessboard.dlx"}
+passed = failed = 0
+
+
+def expect(what, is_so):
+    global passed, failed
+    passed, failed = passed + bool(is_so), failed + (not is_so)
+    if not is_so:
+        print("failed:", what)
+
+
+def run(*words, stdin=None, stdout=subprocess.PIPE):
+    ended = subprocess.run([PROGRAM, *words], input=stdin, stdout=stdout, stderr=subprocess.PIPE, timeout=120)
+    return ended.stdout, ended.stderr, ended.returncode
+
+
+def is_exact(file, answer):
+    """Whether the lines are options of the file in its order, and an exact cover, by counting."""
+    with open(file, "rb") as opened:
+        lines = [line.split() for line in opened.read().split(b"\n")]
+    lines = [words for words in lines if words and not words[0].startswith(b"|")]
+    bar = [place for place, word in enumerate(lines[0]) if word.startswith(b"|")]
+    primary = set(lines[0][: bar[0]] if bar else lines[0])
+    chosen = [line.split() for line in answer.split(b"\n")[1:-1]]
+    places = [place for option in chosen for place, words in enumerate(lines[1:]) if words == option]
+    used = [name for option in chosen for name in option]
+    return len(used) == len(set(used)) and primary <= set(used) and places == sorted(places)
+
+
+def examples(folder):
+    for name in sorted(os.listdir(os.path.join(TOP, "examples"))):
+        if not name.endswith(".dlx"):
+            continue
+        file = os.path.join(TOP, "examples", name)
+        out, errors, status = run("alone", file)
+        ignored = b"ignored 1\n" if name == "ignored.dlx" else b""
+        expect(name + " status", status == (1 if name in NONE else 0) and errors == ignored)
+        expect(name + " answer", out == b"none\n" if name in NONE else is_exact(file, out))
+        answer = os.path.join(folder, name + ".answer")
+        with open(answer, "wb") as opened:
+            opened.write(out)
+        expect(name + " checked", run("check", file, answer) == (b"right\n", ignored, 0))
+        with open(answer, "wb") as opened:
+            opened.write(b"cover 0\n" if name in NONE else b"none\n")
+        out, _, status = run("check", file, answer)
+        expect(name + " wrong answer", out.startswith(b"wrong: ") and status == 1)
+
+
+def bad_input(folder):
+    def file(name, content):
+        path = os.path.join(folder, name)
+        with open(path, "wb") as opened:
+            opened.write(content)
+        return path
+
+    letters = os.path.join(TOP, "examples", "letters.dlx")
+    cover = b"cover 3\nc e\na d f\nb g\n"
+    expect("a missing file", run("alone", os.path.join(folder, "none")) == (b"", b"cannot read\n", 3))
+    expect("a folder", run("alone", folder) == (b"", b"cannot read\n", 3))
+    expect("an empty file", run("alone", file("empty", b"")) == (b"", b"refused: NoItems\n", 3))
+    expect("binary bytes", run("alone", file("binary", bytes(range(256)))) == (b"", b"refused: IllegalByte line 1\n", 3))
+    expect("a pipe", run("alone", "/dev/stdin", stdin=b"a\na\n") == (b"cover 1\na\n", b"", 0))
+    expect("fuel 6", run("alone", letters, "--fuel", "6") == (cover, b"", 0))
+    expect("fuel 5", run("alone", letters, "--fuel", "5") == (b"no answer\n", b"", 4))
+    expect("no answer to check", run("check", letters, os.path.join(folder, "none")) == (b"", b"cannot read\n", 3))
+    none = file("none.answer", b"none\n")
+    expect("none with fuel 5", run("check", letters, none, "--fuel", "5") == (b"no answer\n", b"", 4))
+    head = file("head.answer", b"no cover\n")
+    expect("a bad head", run("check", letters, head) == (b"", b"answer refused: BadHead\n", 3))
+    line = file("line.answer", b"cover 1\ne c\n")
+    expect("no option", run("check", letters, line) == (b"", b"answer refused: UnknownOption line 2\n", 3))
+    with open("/dev/full", "wb") as full:
+        out, errors, status = run("alone", letters, stdout=full)
+    expect("a full disk", errors == b"cannot write\n" and status == 3)
+    reader, writer = os.pipe()
+    os.close(reader)
+    out, errors, status = run("alone", letters, stdout=writer)
+    os.close(writer)
+    expect("a closed pipe", (errors == b"cannot write\n" and status == 3) or status == -13)
+
+
+def command_line():
+    for words, status in [((), 2), (("--help",), 0), (("--version",), 0), (("alone", "--help"), 0), (("alone",), 2),
+                          (("alone", "x", "--fuel", "0"), 2), (("alone", "x", "--fuel", "+1"), 2), (("solve", "x"), 2)]:
+        out, errors, ended = run(*words)
+        expect(f"words {words}", ended == status and (bool(out), bool(errors)) == (status == 0, status == 2))
+
+
+def main():
+    with tempfile.TemporaryDirectory() as folder:
+        examples(folder)
+        bad_input(folder)
+    command_line()
+    print(f"{passed} passed, {failed} failed")
+    return 1 if failed else 0
+
+
+if __name__ == "__main__":
+    sys.exit(main())
