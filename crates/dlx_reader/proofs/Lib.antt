@@ -1,5 +1,4 @@
 pub mod AnswerCounts
-pub mod AnswerExample
 pub mod AnswerFree
 pub mod AnswerGiven
 pub mod AnswerMatched

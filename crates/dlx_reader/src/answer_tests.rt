@@ -1,59 +1,121 @@
-//! Answers through the eyes of the specification: each expected value was worked out by hand.
+//! Answers for small problems, each worked out by hand from the rules of the format.
 
-ghost use Rattle.std.specs.Prelude.{◌≡◌, ◌∷◌, [], map, IfOk};
-
+use crate::AnswerFault::{BadHead, UnknownOption, WrongCount};
 use crate::*;
-use cover_problem::{Answer, Name, Numbers, Problem, in_file_order};
+use cover_problem::{Answer, Numbers, Problem, in_file_order};
 use std::alloc::{AllocError, Global};
 use std::io;
-use std::io::{Read, Write};
+use std::io::Write;
 use std::process::Abort;
 use std::test::Fail;
 
-fn names(alloc: Global, bytes: &[u8]) -> Result<Vec<Name>, AllocError>
-    ensures { IfOk result (λ names. names.items ≡ map (λ byte. byte ∷ []) bytes.now) }
-{
-    let mut names = Vec::new(alloc);
-    for byte in bytes {
-        let name = vec![in alloc; *byte]?;
-        names.push(Name::from_vec(name))?;
+/// Options 4 and 6 are equal, and option 7 has the items of option 3 in another order.
+const FILE: &str = "a b c d e f g\nc e\na d g\nb c f\na d f\nb g\nd e g\nb g\nf d a\n";
+
+static COVERS: [(&str, &[u16]); 11] = [
+    ("cover 3\nc e\na d f\nb g\n", &[0, 3, 4]),
+    ("cover 3\r\nc e\r\na d f\r\nb g\r\n", &[0, 3, 4]),
+    (
+        "\n \n\tcover\u{b}3\n\nc e\n\u{c}\na  d f\n b g \n\n",
+        &[0, 3, 4],
+    ),
+    // The order of the lines, and of a line's names.
+    ("cover 00003\nb g\nc e\na d f", &[4, 0, 3]),
+    ("cover 2\nf d a\na d f\n", &[7, 3]),
+    ("cover 0\n", &[]),
+    ("cover 00000", &[]),
+    // Of equal options the lowest that no earlier line has.
+    ("cover 1\nb g\n", &[4]),
+    ("cover 2\nb g\nb g\n", &[4, 6]),
+    ("cover 3\nb g\nd e g\nb g\n", &[4, 5, 6]),
+    ("cover 2\nc e\nb g\n", &[0, 4]),
+];
+
+static NONES: [&str; 3] = ["none\n", "none", "\n\r\n none\t\n\n"];
+
+static FAULTS: [(&str, AnswerFault); 34] = [
+    // No head, or none where it should stand.
+    ("", BadHead),
+    ("\n \t\r\n", BadHead),
+    ("| note\nnone\n", BadHead),
+    ("c e\ncover 1\n", BadHead),
+    ("None\n", BadHead),
+    ("none none\n", BadHead),
+    ("none 0\n", BadHead),
+    ("cover\nc e\n", BadHead),
+    ("cover1\nc e\n", BadHead),
+    ("cover 1 1\nc e\n", BadHead),
+    // Six digits, a sign, another byte.
+    ("cover 000000\n", BadHead),
+    ("cover 000001\nc e\n", BadHead),
+    ("cover +1\nc e\n", BadHead),
+    ("cover -0\n", BadHead),
+    ("cover 1x\nc e\n", BadHead),
+    ("cover x\nx\n", BadHead),
+    // Lines that aren't blank are counted, whatever they are.
+    ("none\nc e\n", WrongCount),
+    ("cover 3\nc e\n", WrongCount),
+    ("cover 2\nx\n", WrongCount),
+    ("cover 1\nc e\na d f\n", WrongCount),
+    ("cover 1\n| note\nc e\n", WrongCount),
+    ("cover 99999\n", WrongCount),
+    ("cover 0\nc e\n", WrongCount),
+    // No option has these names in this order.
+    ("cover 1\n| note\n", UnknownOption(2)),
+    ("cover 1\ne c\n", UnknownOption(2)),
+    ("cover 1\na d\n", UnknownOption(2)),
+    ("cover 1\na d f g\n", UnknownOption(2)),
+    ("cover 1\nc\0e\n", UnknownOption(2)),
+    ("cover 1\nnone\n", UnknownOption(2)),
+    ("cover 2\nx\ny\n", UnknownOption(2)),
+    ("\ncover 2\n\nc e\n\nx\n", UnknownOption(6)),
+    // Each such option is that of an earlier line.
+    ("cover 3\nb g\nb g\nb g\n", UnknownOption(4)),
+    ("cover 3\nc e\nc e\nb g\n", UnknownOption(3)),
+    ("cover 2\nf d a\nf d a\n", UnknownOption(3)),
+];
+
+fn problem(alloc: Global, text: &str) -> Result<Problem, ReadFault> {
+    Ok(read_problem(alloc, text.as_bytes())?.problem)
+}
+
+#[test]
+fn answers_are_read(rt: HostRuntime) -> Result<(), Fail> {
+    let alloc = rt.alloc();
+    let problem = problem(alloc, FILE)?;
+    for (text, cover) in &COVERS {
+        let read = read_answer(alloc, text.as_bytes(), &problem);
+        assert!(rt;
+            matches!(&read, Ok(Answer::Cover(options)) if options.as_slice() == *cover),
+            "{text:?}"
+        );
     }
-    Ok(names)
-}
-
-fn option(alloc: Global, items: &[u16]) -> Result<Numbers, AllocError>
-    ensures { IfOk result (λ option. option ≡ items.now) }
-{
-    Ok(Numbers::from_vec(items.to_vec(alloc)?))
-}
-
-fn options(alloc: Global, lists: &[&[u16]]) -> Result<Vec<Numbers>, AllocError>
-    ensures { IfOk result (λ options. options.items ≡ map (λ list. list.now) lists.now) }
-{
-    let mut options = Vec::new(alloc);
-    for list in lists {
-        options.push(option(alloc, list)?)?;
+    for text in &NONES {
+        let read = read_answer(alloc, text.as_bytes(), &problem);
+        assert!(rt; matches!(&read, Ok(Answer::NoCover)), "{text:?}");
     }
-    Ok(options)
+    for (text, fault) in &FAULTS {
+        let read = read_answer(alloc, text.as_bytes(), &problem);
+        assert!(rt; matches!(&read, Err(told) if told == fault), "{text:?}");
+    }
+    Ok(())
 }
 
-/// Items a to g, all primary. The options are c e / a d g / b c f / a d f / b g / d e g / b g / f d a.
-fn problem(alloc: Global) -> Result<Problem, AllocError> {
-    let names = names(alloc, b"abcdefg")?;
-    let options = options(
-        alloc,
-        &[
-            &[2, 4],
-            &[0, 3, 6],
-            &[1, 2, 5],
-            &[0, 3, 5],
-            &[1, 6],
-            &[3, 4, 6],
-            &[1, 6],
-            &[5, 3, 0],
-        ],
-    )?;
-    Ok(Problem::from_parts(names, 7, options))
+#[test]
+fn long_answers_are_read(rt: HostRuntime) -> Result<(), Fail> {
+    let alloc = rt.alloc();
+    let mut file = Vec::from_slice(alloc, b"a\n")?;
+    let mut text = Vec::from_slice(alloc, b"cover 1500\n")?;
+    for _ in 0..1500 {
+        file.extend_from_slice(b"a\n")?;
+        text.extend_from_slice(b"a\n")?;
+    }
+    let problem = read_problem(alloc, &file)?.problem;
+    let read = read_answer(alloc, &text, &problem);
+    assert!(rt;
+        matches!(&read, Ok(Answer::Cover(options)) if options.as_slice().iter().copied().eq(0..1500))
+    );
+    Ok(())
 }
 
 /// A writer that takes one byte a call, until a call fails.
@@ -101,7 +163,7 @@ fn written<R: Abort>(
     problem: &Problem,
     calls: u64,
 ) -> Result<(Narrow, bool), AllocError> {
-    let answer = option(alloc, &[0, 3, 4])?;
+    let answer = Numbers::from_vec([0u16, 3, 4].to_vec(alloc)?);
     assert!(rt; in_file_order(problem, answer.as_slice()));
     let mut sink = Narrow {
         bytes: Vec::new(alloc),
@@ -116,7 +178,7 @@ fn written<R: Abort>(
 fn each_write_fails_once(rt: HostRuntime) -> Result<(), Fail> {
     let alloc = rt.alloc();
     let text = b"cover 3\nc e\na d f\nb g\n";
-    let problem = problem(alloc)?;
+    let problem = problem(alloc, FILE)?;
     for calls in 0..23u64 {
         let (sink, is_written) = written(&rt, alloc, &problem, calls)?;
         assert_eq!(rt; is_written, calls == 22);
@@ -144,7 +206,7 @@ impl Write for Full {
 #[derive(Drop)]
 struct Broken;
 
-impl Read for Broken {
+impl io::Read for Broken {
     fn read(&mut self, _buf: &mut [u8]) -> io::Result<usize> {
         Err(io::ErrorKind::Other.into())
     }
@@ -169,111 +231,4 @@ fn failures_are_counted(rt: HostRuntime) {
     assert_eq!(rt; source.fetch(&mut buffer), Ok(1));
     assert_eq!(rt; source.fetch(&mut buffer), Ok(0));
     assert_eq!(rt; source.failures(), 0);
-}
-
-#[test]
-fn covers_are_read(rt: HostRuntime) -> Result<(), Fail> {
-    let alloc = rt.alloc();
-    let problem = problem(alloc)?;
-    for (text, cover) in [
-        (
-            b"cover 3\nc e\na d f\nb g\n".as_slice(),
-            [0, 3, 4].as_slice(),
-        ),
-        (
-            b"cover 3\r\nc e\r\na d f\r\nb g\r\n".as_slice(),
-            [0, 3, 4].as_slice(),
-        ),
-        (
-            b"\n \n\tcover\x0b3\n\nc e\n\x0c\na  d f\n b g \n\n".as_slice(),
-            [0, 3, 4].as_slice(),
-        ),
-        (
-            b"cover 00003\nb g\nc e\na d f".as_slice(),
-            [4, 0, 3].as_slice(),
-        ),
-        (b"cover 0\n".as_slice(), [].as_slice()),
-        (b"cover 00000".as_slice(), [].as_slice()),
-        (b"cover 1\nb g\n".as_slice(), [4].as_slice()),
-        (b"cover 2\nb g\nb g\n".as_slice(), [4, 6].as_slice()),
-        (
-            b"cover 3\nb g\nd e g\nb g\n".as_slice(),
-            [4, 5, 6].as_slice(),
-        ),
-        (b"cover 2\nf d a\na d f\n".as_slice(), [7, 3].as_slice()),
-    ] {
-        let read = read_answer(alloc, text, &problem);
-        assert!(rt; matches!(&read, Ok(Answer::Cover(options)) if options.as_slice() == cover));
-    }
-    for text in [
-        b"none\n".as_slice(),
-        b"none".as_slice(),
-        b"\n\r\n none\t\n\n".as_slice(),
-    ] {
-        let read = read_answer(alloc, text, &problem);
-        assert!(rt; matches!(&read, Ok(Answer::NoCover)));
-    }
-    Ok(())
-}
-
-#[test]
-fn faults_are_told(rt: HostRuntime) -> Result<(), Fail> {
-    let alloc = rt.alloc();
-    let problem = problem(alloc)?;
-    for (text, fault) in [
-        (b"".as_slice(), AnswerFault::BadHead),
-        (b"\n \t\r\n".as_slice(), AnswerFault::BadHead),
-        (b"| note\nnone\n".as_slice(), AnswerFault::BadHead),
-        (b"c e\ncover 1\n".as_slice(), AnswerFault::BadHead),
-        (b"None\n".as_slice(), AnswerFault::BadHead),
-        (b"none none\n".as_slice(), AnswerFault::BadHead),
-        (b"none 0\n".as_slice(), AnswerFault::BadHead),
-        (b"cover\nc e\n".as_slice(), AnswerFault::BadHead),
-        (b"cover1\nc e\n".as_slice(), AnswerFault::BadHead),
-        (b"cover 1 1\nc e\n".as_slice(), AnswerFault::BadHead),
-        (b"cover 000000\n".as_slice(), AnswerFault::BadHead),
-        (b"cover 000001\nc e\n".as_slice(), AnswerFault::BadHead),
-        (b"cover +1\nc e\n".as_slice(), AnswerFault::BadHead),
-        (b"cover -0\n".as_slice(), AnswerFault::BadHead),
-        (b"cover 1x\nc e\n".as_slice(), AnswerFault::BadHead),
-        (b"cover x\nx\n".as_slice(), AnswerFault::BadHead),
-        (b"none\nc e\n".as_slice(), AnswerFault::WrongCount),
-        (b"cover 3\nc e\n".as_slice(), AnswerFault::WrongCount),
-        (b"cover 2\nx\n".as_slice(), AnswerFault::WrongCount),
-        (b"cover 1\nc e\na d f\n".as_slice(), AnswerFault::WrongCount),
-        (
-            b"cover 1\n| note\nc e\n".as_slice(),
-            AnswerFault::WrongCount,
-        ),
-        (b"cover 99999\n".as_slice(), AnswerFault::WrongCount),
-        (b"cover 0\nc e\n".as_slice(), AnswerFault::WrongCount),
-        (
-            b"cover 1\n| note\n".as_slice(),
-            AnswerFault::UnknownOption(2),
-        ),
-        (b"cover 1\ne c\n".as_slice(), AnswerFault::UnknownOption(2)),
-        (b"cover 1\na d\n".as_slice(), AnswerFault::UnknownOption(2)),
-        (
-            b"cover 1\na d f g\n".as_slice(),
-            AnswerFault::UnknownOption(2),
-        ),
-        (b"cover 1\nc\0e\n".as_slice(), AnswerFault::UnknownOption(2)),
-        (b"cover 2\nx\ny\n".as_slice(), AnswerFault::UnknownOption(2)),
-        (
-            b"\ncover 2\n\nc e\n\nx\n".as_slice(),
-            AnswerFault::UnknownOption(6),
-        ),
-        (
-            b"cover 3\nb g\nb g\nb g\n".as_slice(),
-            AnswerFault::UnknownOption(4),
-        ),
-        (
-            b"cover 3\nc e\nc e\nb g\n".as_slice(),
-            AnswerFault::UnknownOption(3),
-        ),
-    ] {
-        let read = read_answer(alloc, text, &problem);
-        assert!(rt; matches!(&read, Err(told) if *told == fault));
-    }
-    Ok(())
 }
