@@ -1,7 +1,6 @@
-use Rattle.std.proofs.Common.{◌≡◌, ℕ, List, ◌<◌, ◌+◌, ◌-◌, length, false, ap, arith, ◌∙◌, sym, vec_capacity, subst, slice_get, IfSome}
+use Rattle.std.proofs.Common.{List, ◌-◌, ap, ◌∙◌, sym, vec_capacity, subst, slice_get, IfSome}
 use Rattle.cover_problem.specs.Branching.{IsOpen}
 use Rattle.cover_problem.specs.Onward.{open_items_from}
-use Rattle.cover_problem.specs.Prefix.{is_covered}
 use Rattle.dancing_links.specs.declared.link.Link.{Link}
 use Rattle.dancing_links.specs.Choices.{Choices}
 use Rattle.dancing_links.specs.Columns.{columns_of, down_of}

@@ -1,4 +1,4 @@
-use Rattle.std.proofs.Common.{◌≡◌, ℕ, List, ◌<◌, ◌+◌, ◌-◌, length, false, ap, arith, ◌∙◌, sym, vec_capacity, subst, slice_get, IfSome}
+use Rattle.std.proofs.Common.{◌≡◌, List, ◌<◌, ◌+◌, length, false, ap, arith, ◌∙◌, sym, vec_capacity, subst, slice_get, IfSome}
 use Rattle.cover_problem.specs.Branching.{IsOpen}
 use Rattle.cover_problem.specs.Onward.{open_items_from}
 use Rattle.cover_problem.specs.Prefix.{is_covered}
