@@ -1,16 +1,16 @@
 -- What the views of the links answer.
 use Rattle.std.proofs.Common.{◌≡◌, ℕ, zero, suc, ◌+◌, ◌-◌, ◌<◌, ◌≤◌, List, [], ◌∷◌, length, ◌==◌, true, false, get_or, map, refl, arith, sym, ap, ◌∙◌, inl, inr, subst, slice_get, Some, None, Option, MatchOption, IfSome}
-use Rattle.std.proofs.lemmas.Bool.{cases_lt, lt-ltb, le-ltb, or_cases, eqb-true, not-true, both_ways}
+use Rattle.std.proofs.lemmas.Bool.{cases_lt, lt-ltb, le-ltb, or_cases, eqb-true, not-true, both_ways, and_parts, cases_Bool}
 use Rattle.std.proofs.lemmas.List.{length-map, get_or_default}
 use Rattle.std.proofs.lemmas.Grind.{get_or_default_zero}
-use Rattle.cover_problem.specs.Branching.{live_options, IsOpen}
+use Rattle.cover_problem.specs.Branching.{live_options, is_choice, IsOpen}
 use Rattle.cover_problem.specs.Numbers.{is_in}
 use Rattle.cover_problem.specs.Onward.{open_items_from, live_options_from}
 use Rattle.cover_problem.specs.Prefix.{is_covered, is_live}
-use Rattle.cover_problem.specs.Problem.{Problem, items_of, names_item}
-use Rattle.cover_problem.proofs.Remaining.{open_items_from_take, open_items_from_skip, open_items_from_end}
+use Rattle.cover_problem.specs.Problem.{Problem, IsProblem, items_of, names_item}
+use Rattle.cover_problem.proofs.Remaining.{open_items_from_take, open_items_from_skip, open_items_from_end, live_options_from_take, live_options_from_skip, live_options_from_end}
 use Rattle.dancing_links.specs.declared.link.Link.{Link}
-use Rattle.dancing_links.specs.Choices.{IsLinks, out_of, covered_items}
+use Rattle.dancing_links.specs.Choices.{IsLinks, IsChild, out_of, covered_items}
 use Rattle.dancing_links.specs.Columns.{Columns, among, column_of, column_from, down_of, option_of, walk, options_left, IsTable, IsLinked, IsSpelled, IsNaming}
 use Rattle.dancing_links.specs.Table.{table, heads_of, base_of, first_list}
 use Rattle.dancing_links.proofs.Walk.{column_skip_to, column_from_take, column_from_end}
@@ -240,3 +240,38 @@ naming_same c i b e begin end node f g at =
     let R : ℕ → Type 0 = λ k. IsNaming c i k end node in
     let S : ℕ → Type 0 = λ k. IsNaming c i b k node in
     subst R f (subst S g at)
+
+-- ---- the first of the options that are left
+
+head_from : (p : Problem) (os : List ℕ) (i n start o : ℕ) → length p.options ≤ start + n → slice_get (live_options_from p os i start) 0 ≡ Some o → IsChild p os i o × (start ≤ o)
+head_from p os i zero start o enough e =
+    let none : None ≡ Some o = sym (ap (λ (is : List ℕ). slice_get is 0) (live_options_from_end p os i start (omega (arith, enough)))) ∙ e in
+    absurd (cc)
+head_from p os i (suc n) start o enough e = elim (cases_lt start (length p.options)) [
+  | inr past ↦
+      let none : None ≡ Some o = sym (ap (λ (is : List ℕ). slice_get is 0) (live_options_from_end p os i start past)) ∙ e in
+      absurd (cc)
+  | inl inside ↦ elim (cases_Bool (is_choice p os i start)) [
+    | inr no_choice ↦
+        let rest = head_from p os i n (start + 1) o (omega (arith, enough)) (sym (ap (λ (is : List ℕ). slice_get is 0) (live_options_from_skip p os i start inside no_choice)) ∙ e) in
+        (rest.0, omega (arith, rest.1))
+    | inl choice ↦
+        let same : Some start ≡ Some o = sym (ap (λ (is : List ℕ). slice_get is 0) (live_options_from_take p os i start inside choice)) ∙ e in
+        let equal : start ≡ o = cc in
+        let parts = and_parts (is_live p os start) (names_item p start i) choice in
+        let P : ℕ → Type 0 = λ k. IsChild p os i k in
+        (subst P equal (record { inside = inside; live = parts.0; named = parts.1 }), omega (arith, equal))
+  ]
+]
+
+pub head_child : (p : Problem) (os : List ℕ) (i start : ℕ) (r : Option ℕ) → r ≡ slice_get (live_options_from p os i start) 0 → IfSome r (IsChild p os i)
+head_child p os i start None e = tt
+head_child p os i start (Some o) e = (head_from p os i (length p.options) start o (omega arith) (sym e)).0
+
+pub head_later : (p : Problem) (os : List ℕ) (i option : ℕ) (r : Option ℕ) → r ≡ slice_get (live_options_from p os i (option + 1)) 0 → IfSome r (λ o. option < o)
+head_later p os i option None e = tt
+head_later p os i option (Some o) e = omega (arith, (head_from p os i (length p.options) (option + 1) o (omega arith) (sym e)).1)
+
+pub open_named : (p : Problem) (os : List ℕ) (r : Option ℕ) → IsProblem p → IfSome r (IsOpen p os) → IfSome r (λ i. i < length p.names)
+open_named p os None is h = tt
+open_named p os (Some i) is h = omega (arith, h.primary, is.primary)

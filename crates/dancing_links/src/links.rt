@@ -2,10 +2,10 @@
 
 ghost use Rattle.std.specs.Prelude.{◌≡◌, ◌+◌, ◌-◌, ◌<◌, ◌≤◌, [], length, IfOk, IfSome, MatchOption, true, false, not, slice_get};
 ghost use Rattle.std.specs.List.{All, list_all};
-ghost use Rattle.cover_problem.specs.Branching.{live_options, is_choice, IsOpen};
+ghost use Rattle.cover_problem.specs.Branching.{live_options, IsOpen};
 ghost use Rattle.cover_problem.specs.Onward.{open_items_from, live_options_from};
 ghost use Rattle.cover_problem.specs.Problem.{IsProblem};
-ghost use Rattle.dancing_links.specs.Choices.{Choices, with_choice};
+ghost use Rattle.dancing_links.specs.Choices.{Choices, with_choice, IsChild};
 ghost use Rattle.dancing_links.specs.Columns.{columns_of, down_of, options_left, IsTable, IsLinked};
 ghost use Rattle.cover_problem.specs.Prefix.{is_covered, is_live, is_prefix};
 
@@ -135,6 +135,7 @@ impl<'a> Links<'a> {
     pub fn first_item(&self) -> Option<u16>
         ensures first { result ≡ slice_get (open_items_from self.now.problem self.now.chosen 0) 0 }
         ensures uncovered { IfSome result (IsOpen self.now.problem self.now.chosen) }
+        ensures item { IfSome result (λ item. item < length self.now.problem.names) }
     {
         item_below(
             &self.layout,
@@ -150,6 +151,7 @@ impl<'a> Links<'a> {
         requires uncovered { is_covered self.now.problem self.now.chosen item ≡ false }
         ensures next { result ≡ slice_get (open_items_from self.now.problem self.now.chosen (item + 1)) 0 }
         ensures uncovered { IfSome result (IsOpen self.now.problem self.now.chosen) }
+        ensures item { IfSome result (λ next. next < length self.now.problem.names) }
         ensures later { IfSome result (λ next. item < next) }
     {
         item_below(
@@ -174,7 +176,8 @@ impl<'a> Links<'a> {
     pub fn first_option(&self, item: u16) -> Option<u16>
         requires item { item < length self.now.problem.names }
         requires uncovered { is_covered self.now.problem self.now.chosen item ≡ false }
-        ensures { result ≡ slice_get (live_options_from self.now.problem self.now.chosen item 0) 0 }
+        ensures first { result ≡ slice_get (live_options_from self.now.problem self.now.chosen item 0) 0 }
+        ensures child { IfSome result (IsChild self.now.problem self.now.chosen item) }
     {
         option_below(&self.layout, &self.links, item as usize)
     }
@@ -183,9 +186,10 @@ impl<'a> Links<'a> {
     pub fn next_option(&self, item: u16, option: u16) -> Option<u16>
         requires item { item < length self.now.problem.names }
         requires uncovered { is_covered self.now.problem self.now.chosen item ≡ false }
-        requires option { option < length self.now.problem.options }
-        requires choice { is_choice self.now.problem self.now.chosen item option ≡ true }
-        ensures { result ≡ slice_get (live_options_from self.now.problem self.now.chosen item (option + 1)) 0 }
+        requires child { IsChild self.now.problem self.now.chosen item option }
+        ensures next { result ≡ slice_get (live_options_from self.now.problem self.now.chosen item (option + 1)) 0 }
+        ensures child { IfSome result (IsChild self.now.problem self.now.chosen item) }
+        ensures later { IfSome result (λ next. option < next) }
     {
         let (begin, end) = node_range(&self.layout, option);
         let node = node_of(&self.layout, item, begin, end);

@@ -6,14 +6,14 @@ use Rattle.dancing_links.specs.declared.link.Link.{Link}
 use Rattle.dancing_links.specs.Choices.{Choices}
 use Rattle.dancing_links.specs.Columns.{columns_of, down_of, options_left}
 use Rattle.dancing_links.proofs.Chosen.{table_of}
-use Rattle.dancing_links.proofs.Views.{left_all}
+use Rattle.dancing_links.proofs.Views.{left_all, head_child}
 use Rattle.dancing_links.proofs.links.Links.first_option.Goals as goal
 
 pub option_below-requires-clause-table : goal.option_below-requires-clause-table
 option_below-requires-clause-table c = table_of c.self.inside.problem.now (columns_of c.self.inside.layout) c.self.invariant.is_problem c.self.invariant.layout
 
-pub returns : goal.returns
-returns c =
+pub returns-clause-first : goal.returns-clause-first
+returns-clause-first c =
     let p = c.self.inside.problem.now in
     let cs = columns_of c.self.inside.layout in
     let os = c.self.inside.chosen.items in
@@ -23,3 +23,6 @@ returns c =
     ∙ ap (λ (m : List Link). slice_get (options_left cs m (down_of m c.args.item)) 0) c.deref.ensures.value
     ∙ ap (λ (left : List ℕ). slice_get left 0) (left_all p cs os c.self.inside.links.items c.self.inside.counts.items (vec_capacity c.self.inside.chosen) c.args.item c.self.invariant inside free ∙ sym (live_options_start p os c.args.item))
     ∙ ap (λ (v : Choices). slice_get (live_options_from v.problem v.chosen c.args.item 0) 0) c.self.view_is
+
+pub returns-clause-child : goal.returns-clause-child
+returns-clause-child c = head_child c.args.self.now.problem c.args.self.now.chosen c.args.item 0 c.option_below.result (returns-clause-first c)
