@@ -1,41 +1,37 @@
-ghost use Rattle.std.specs.Prelude.{◌≡◌, ◌<◌, ◌≤◌, length, Some, true, IfOk, vec_len, vec_capacity};
+ghost use Rattle.std.specs.Prelude.{◌≡◌, ◌<◌, ◌≤◌, [], length, Some, true, IfOk};
 ghost use Rattle.cover_problem.specs.Prefix.{is_prefix, IsBarren, IsCoverOver};
 ghost use Rattle.cover_problem.specs.Search.{outcome};
 
 use crate::outcome::Outcome;
 use crate::visit::{Visit, visit_prefix};
 use cover_problem::Problem;
+use dancing_links::Links;
 use std::alloc::{AllocError, Global};
 use std::marker::Model;
 
-/// A search over one problem, with room for each prefix.
+/// A search over one problem, by dancing links.
 #[derive(Drop)]
 pub struct Searcher<'a> {
-    problem: &'a Problem,
-    chosen: Vec<u16>,
+    links: Links<'a>,
 }
 
 impl<'a> Model for Searcher<'a> {
-    ghost use Rattle.std.specs.Prelude.{◌≤◌, vec_capacity};
     ghost use Rattle.brancher.specs.Searching.{Searching};
 
     ghost Value = { Searching };
 
-    ghost view = { λ s. record { problem = s.problem.now; found = s.chosen.items } };
-
-    ghost invariant = { λ s. 1000 ≤ vec_capacity s.chosen };
+    ghost view = { λ s. record { problem = s.links.problem; found = s.links.chosen } };
 }
-
-const LONGEST: usize = 1000;
 
 impl<'a> Searcher<'a> {
     ghost use Rattle.brancher.specs.Visit.{outcome_told};
 
+    /// A search over the problem; the only error is want of memory.
     pub fn new(alloc: Global, problem: &'a Problem) -> Result<Searcher<'a>, AllocError>
         ensures { IfOk result (λ s. s.problem ≡ problem.now) }
     {
-        let chosen = Vec::with_capacity(alloc, LONGEST)?;
-        Ok(Searcher { problem, chosen })
+        let links = Links::build(alloc, problem)?;
+        Ok(Searcher { links })
     }
 
     /// Searches for the first cover below a prefix, with at most so many visits.
@@ -47,9 +43,9 @@ impl<'a> Searcher<'a> {
         ensures cover { result ≡ Outcome.Cover → IsCoverOver self.old.problem prefix.now self.new.found }
         ensures barren { result ≡ Outcome.Barren → IsBarren self.old.problem prefix.now }
     {
-        let problem = self.problem;
-        start(problem, &mut self.chosen, prefix);
-        match visit_prefix(problem, &mut self.chosen, problem.primary(), fuel) {
+        let depth = self.links.problem().primary();
+        start(&mut self.links, prefix);
+        match visit_prefix(&mut self.links, depth, fuel) {
             Visit::Found => Outcome::Cover,
             Visit::Barren(_) => Outcome::Barren,
             Visit::Spent => Outcome::Spent,
@@ -60,20 +56,28 @@ impl<'a> Searcher<'a> {
     pub fn found(&self) -> &[u16]
         ensures { result.now ≡ self.now.found }
     {
-        &self.chosen
+        self.links.chosen()
     }
 }
 
 /// Puts the prefix in place of what is chosen.
-fn start(problem: &Problem, chosen: &mut Vec<u16>, prefix: &[u16])
-    requires room { 1000 ≤ vec_capacity chosen.old }
-    requires prefix { is_prefix problem.now prefix.now ≡ true }
-    ensures items { chosen.new.items ≡ prefix.now }
-    ensures room { vec_capacity chosen.new ≡ vec_capacity chosen.old }
+fn start(links: &mut Links, prefix: &[u16])
+    requires { is_prefix links.old.problem prefix.now ≡ true }
+    ensures problem { links.new.problem ≡ links.old.problem }
+    ensures chosen { links.new.chosen ≡ prefix.now }
 {
-    let _options = problem.options();
-    chosen.clear();
+    undo_all(links);
     for option in prefix {
-        chosen.push_reserved(*option);
+        links.choose(*option);
+    }
+}
+
+/// Takes all choices back.
+fn undo_all(links: &mut Links)
+    ensures problem { links.new.problem ≡ links.old.problem }
+    ensures chosen { links.new.chosen ≡ [] }
+{
+    while !links.chosen().is_empty() {
+        links.undo();
     }
 }

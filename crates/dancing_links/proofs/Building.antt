@@ -1,12 +1,12 @@
 -- Columns that are built node by node.
-use Rattle.std.proofs.Common.{◌≡◌, ℕ, zero, suc, ◌+◌, ◌-◌, ◌<◌, ◌≤◌, List, [], ◌∷◌, length, Bool, true, false, get_or, set, replicate, refl, arith, sym, ap, ◌∙◌, inl, inr, ◌⊎◌, subst}
-use Rattle.std.specs.List.{range_with_len, All}
+use Rattle.std.proofs.Common.{◌≡◌, ℕ, zero, suc, ◌+◌, ◌<◌, ◌≤◌, List, [], length, get_or, set, replicate, refl, arith, sym, ap, ◌∙◌, inl, inr, subst}
+use Rattle.std.specs.List.{range_with_len}
 use Rattle.std.proofs.lemmas.Bool.{cases_lt, cases_eq}
 use Rattle.std.proofs.lemmas.List.{length-set, get_or-set_same, get_or-set_other, length-replicate}
 use Rattle.std.proofs.lemmas.List.FromFn.{length-range_with_len, get_or-range_with_len}
 use Rattle.std.proofs.lemmas.List.Elements.{All-get_or}
 use Rattle.dancing_links.specs.declared.link.Link.{Link}
-use Rattle.dancing_links.specs.Columns.{up_of, down_of, with_up, with_down, among, Columns, column_of, IsNext, IsSpelled, IsTable, IsLinked, IsBuilt, IsLast, IsBuilding}
+use Rattle.dancing_links.specs.Columns.{up_of, down_of, with_up, with_down, Columns, column_of, IsNext, IsTable, IsLinked, IsBuilt, IsLast, IsBuilding}
 use Rattle.dancing_links.proofs.Law.{up-with_up_same, up-with_up_other, down-with_up, down-with_down_same, down-with_down_other, up-with_down, length-with_up, length-with_down}
 
 alone : Link
@@ -54,7 +54,13 @@ building_step c node above lasts m t low inside is b =
     let last : IsLast c node i above = subst Q (sym is) (b.last i column) in
     let high : above < c.tails = last_high c above node t last.below_is inside last.column in
     let next : IsNext c [] above node = record {
-      below = last.below_is; low = low; high = high; inside = inside; column = sym last.column; in_up = refl; in_down = refl;
+      below = last.below_is;
+      low = low;
+      high = high;
+      inside = inside;
+      column = sym last.column;
+      in_up = refl;
+      in_down = refl;
       nearest = λ y over under own. absurd (last.nearest y over under (own ∙ last.column));
     } in
     let in_m : above < length m = omega (arith, b.count, last.below_is, inside) in
@@ -114,12 +120,12 @@ building_end c lasts m t b = record {
     heads_in = λ x h. refl;
     tails_in = λ x h. refl;
     down = λ x high here. b.down x (omega (arith, t.ends, high)) (λ e.
-    let P : ℕ → Type 0 = λ k. k < c.heads in
-    let column : column_of c x < c.heads = All-get_or P c.column x 0 (omega (arith, t.ends, high)) t.each_column in
-    let last = b.last (column_of c x) column in
-    let tail : ℕ = c.tails + column_of c x in
-    let inside : tail < length c.column = omega (arith, t.ends, column) in
-    last.nearest tail (omega (arith, sym e, high)) inside (omega (arith, t.tail_columns tail (omega arith) inside)));
+        let P : ℕ → Type 0 = λ k. k < c.heads in
+        let column : column_of c x < c.heads = All-get_or P c.column x 0 (omega (arith, t.ends, high)) t.each_column in
+        let last = b.last (column_of c x) column in
+        let tail : ℕ = c.tails + column_of c x in
+        let inside : tail < length c.column = omega (arith, t.ends, column) in
+        last.nearest tail (omega (arith, sym e, high)) inside (omega (arith, t.tail_columns tail (omega arith) inside)));
     up = λ x low inside here. b.up x low inside;
   };
   heads_up = b.heads_up;
@@ -127,18 +133,21 @@ building_end c lasts m t b = record {
 }
 
 pub linked_built : (c : Columns) (m : List Link) → IsTable c → IsBuilt c m → IsLinked c m
-linked_built c m t b = (b.spelled.count, λ k h. record {
-  up_in = elim (cases_lt k c.heads) [
-    | inl head ↦ omega (arith, b.heads_up k head, h)
-    | inr low ↦ let next = b.spelled.up k low (omega (arith, b.spelled.count, h)) refl in omega (arith, next.below, h)
-  ];
-  down_in = elim (cases_lt k c.tails) [
-    | inl high ↦ let next = b.spelled.down k high refl in omega (arith, next.inside, b.spelled.count)
-    | inr tail ↦ omega (arith, b.tails_down k tail, h)
-  ];
-  rises = λ high. let next = b.spelled.down k high refl in (next.below, next.low);
-  falls = λ low. let next = b.spelled.up k low (omega (arith, b.spelled.count, h)) refl in (next.below, next.high);
-})
+linked_built c m t b = (
+  b.spelled.count,
+  λ k h. record {
+    up_in = elim (cases_lt k c.heads) [
+      | inl head ↦ omega (arith, b.heads_up k head, h)
+      | inr low ↦ let next = b.spelled.up k low (omega (arith, b.spelled.count, h)) refl in omega (arith, next.below, h)
+    ];
+    down_in = elim (cases_lt k c.tails) [
+      | inl high ↦ let next = b.spelled.down k high refl in omega (arith, next.inside, b.spelled.count)
+      | inr tail ↦ omega (arith, b.tails_down k tail, h)
+    ];
+    rises = λ high. let next = b.spelled.down k high refl in (next.below, next.low);
+    falls = λ low. let next = b.spelled.up k low (omega (arith, b.spelled.count, h)) refl in (next.below, next.high);
+  },
+)
 
 pub building_step_at : (c : Columns) (node i above : ℕ) (lasts : List ℕ) (m : List Link) → IsTable c → c.heads ≤ node → node < length c.column → i ≡ column_of c node → above ≡ get_or lasts i 0 → IsBuilding c node lasts m → IsBuilding c (node + 1) (set lasts i node) (with_up (with_down m above node) node above)
 building_step_at c node i above lasts m t low inside e is b =

@@ -1,8 +1,8 @@
 -- The nodes of a column that a cover went down by, last first, so that they can be gone back.
-use Rattle.std.proofs.Common.{◌≡◌, ℕ, zero, suc, ◌+◌, ◌-◌, ◌<◌, ◌≤◌, List, [], ◌∷◌, ◌++◌, length, Bool, true, false, refl, arith, sym, ap, ◌∙◌, inl, inr, ◌⊎◌, append_assoc, append-nil}
+use Rattle.std.proofs.Common.{◌≡◌, ℕ, zero, suc, ◌+◌, ◌<◌, ◌≤◌, List, [], ◌∷◌, ◌++◌, false, refl, arith, sym, ap, ◌∙◌, inl, inr, append_assoc, append-nil}
 use Rattle.std.proofs.lemmas.Bool.{cases_lt}
 use Rattle.dancing_links.specs.declared.link.Link.{Link}
-use Rattle.dancing_links.specs.Columns.{up_of, down_of, unlinked, relinked, unlinks, relinks, among, outs, Columns, column_of, begin_of, end_of, IsNext, IsSpelled, others, hidden_from, covered, IsTable, AreWhole, IsOpen, Uncovers, more}
+use Rattle.dancing_links.specs.Columns.{up_of, down_of, unlinked, relinked, unlinks, relinks, among, outs, Columns, column_of, IsSpelled, others, hidden_from, covered, IsTable, AreWhole, IsOpen, Uncovers, more}
 use Rattle.dancing_links.proofs.Law.{between, from_down, relink_unlink}
 use Rattle.dancing_links.proofs.Walk.{AreIn, IsGoing, going_start, going_step, going_end, going_done, option_node, others_are_in, spelled_unlinks, relinks_unlinks, whole_item, item_out, more-append}
 

@@ -1,11 +1,11 @@
 -- Items covered one after the other, and uncovered in the reverse order.
-use Rattle.std.proofs.Common.{◌≡◌, ℕ, zero, suc, ◌+◌, ◌-◌, ◌<◌, ◌≤◌, List, [], ◌∷◌, ◌++◌, length, map, refl, arith, sym, ap, ◌∙◌, subst}
+use Rattle.std.proofs.Common.{◌≡◌, ℕ, zero, suc, ◌+◌, ◌-◌, ◌<◌, ◌≤◌, List, [], ◌∷◌, ◌++◌, map, refl, arith, sym, ap, ◌∙◌, subst}
 use Rattle.std.specs.List.{range_with_len}
 use Rattle.dancing_links.specs.declared.link.Link.{Link}
-use Rattle.dancing_links.specs.Columns.{down_of, unlinked, unlinks, outs, Columns, column_of, IsSpelled, hidden_from, covered, IsTable, IsOpen, Covers, Uncovers, CoversAll, UncoversAll, items_from, outs_all, links_all, AreOpen, IsCounted, CountsCovered, CountsUncovered, CountsCoveredAll, CountsUncoveredAll}
+use Rattle.dancing_links.specs.Columns.{unlinked, unlinks, outs, Columns, column_of, IsSpelled, hidden_from, covered, IsTable, IsOpen, Covers, Uncovers, CoversAll, UncoversAll, items_from, outs_all, links_all, AreOpen, IsCounted, CountsCovered, CountsUncovered, CountsCoveredAll, CountsUncoveredAll}
 use Rattle.dancing_links.proofs.Others.{range_step}
-use Rattle.dancing_links.proofs.Walk.{spelled_unlinks, IsGoing, whole_item, item_out}
-use Rattle.dancing_links.proofs.Chain.{way, going_of, spelled_of, state, top, going_all}
+use Rattle.dancing_links.proofs.Walk.{spelled_unlinks, whole_item, item_out}
+use Rattle.dancing_links.proofs.Chain.{going_all}
 
 -- once an item is covered, the links are spelled without what that took out
 pub spelled_cover : (c : Columns) (out : List ℕ) (m : List Link) (i : ℕ) → IsTable c → IsSpelled c out m → IsOpen c out i → IsSpelled c (outs (covered c out i) out) (unlinks m (covered c out i))

@@ -1,18 +1,16 @@
 -- One more option chosen, and the last one taken back.
-use Rattle.std.proofs.Common.{◌≡◌, ℕ, zero, suc, ◌+◌, ◌-◌, ◌<◌, ◌≤◌, List, [], ◌∷◌, ◌++◌, length, Bool, true, false, not, ◌&&◌, ◌==◌, get_or, take, map, refl, arith, sym, ap, ◌∙◌, subst}
-use Rattle.std.specs.List.{flat_map, range_with_len, All}
+use Rattle.std.proofs.Common.{◌≡◌, ℕ, suc, ◌+◌, ◌-◌, ◌<◌, ◌≤◌, List, [], ◌∷◌, ◌++◌, length, true, false, not, ◌==◌, get_or, take, map, refl, arith, sym, ap, ◌∙◌, subst}
+use Rattle.std.specs.List.{range_with_len}
 use Rattle.std.proofs.lemmas.Bool.{both_ways, and_parts, or_left, or_right, not-true, eq-eqb}
 use Rattle.std.proofs.lemmas.List.{length-append, take-append-le, take_all}
 use Rattle.std.proofs.lemmas.List.Elements.{All-get_or}
-use Rattle.std.proofs.Math.Seq.{get_or-append_seam}
 use Rattle.cover_problem.specs.Numbers.{is_in, is_distinct}
-use Rattle.cover_problem.specs.Prefix.{is_live, are_apart, are_options, is_prefix, is_covered}
+use Rattle.cover_problem.specs.Prefix.{is_live, are_apart, are_options, is_prefix}
 use Rattle.cover_problem.specs.Problem.{Problem, IsProblem, items_of}
 use Rattle.cover_problem.proofs.Prefixes.{prefix_short, prefix_options}
-use Rattle.cover_problem.specs.Branching.{open_items}
 use Rattle.dancing_links.specs.declared.link.Link.{Link}
-use Rattle.dancing_links.specs.Columns.{Columns, among, column_of, IsTable, IsLinked, IsSpelled, IsBuilt, items_from, links_all, AreOpen, CoversAll, UncoversAll, outs, outs_all, covered, IsCounted, CountsCoveredAll, CountsUncoveredAll}
-use Rattle.dancing_links.specs.Table.{starts, base_of, tails_of, heads_of, first_list, table}
+use Rattle.dancing_links.specs.Columns.{Columns, among, column_of, IsTable, IsLinked, IsSpelled, items_from, links_all, AreOpen, CoversAll, UncoversAll, outs, outs_all, covered, IsCounted, CountsCoveredAll, CountsUncoveredAll}
+use Rattle.dancing_links.specs.Table.{base_of, heads_of, table}
 use Rattle.dancing_links.specs.Choices.{IsLinks, covered_items, out_of}
 use Rattle.dancing_links.proofs.Law.{in_other}
 use Rattle.dancing_links.proofs.Present.{AreNew, are_open, out_start}

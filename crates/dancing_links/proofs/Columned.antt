@@ -1,25 +1,24 @@
 -- The column of an uncovered item holds a node of each live option that names it, in file order.
-use Rattle.std.proofs.Common.{◌≡◌, ℕ, zero, suc, ◌+◌, ◌-◌, ◌<◌, ◌≤◌, List, [], ◌∷◌, ◌++◌, length, Bool, true, false, not, ◌==◌, ◌&&◌, ◌||◌, cond, filter, map, get_or, refl, arith, sym, ap, ◌∙◌, inl, inr, ◌⊎◌, subst}
+use Rattle.std.proofs.Common.{◌≡◌, ℕ, zero, suc, get_or, drop, sym, ◌+◌, ◌-◌, ◌<◌, ◌≤◌, List, [], ◌∷◌, length, Bool, false, not, ◌==◌, ◌&&◌, ◌||◌, filter, map, refl, arith, ap, ◌∙◌, inl, inr}
 use Rattle.std.specs.List.{range_with_len, sum_by, list_any, list_all}
-use Rattle.std.proofs.lemmas.Bool.{both_ways, and_parts, cases_Bool, cases_eq, cases_lt, eq-eqb, ne_eqb, eqb-true, not-true, not_from_true, not_from_false}
-use Rattle.std.proofs.lemmas.List.Sums.{sum_by-cons}
-use Rattle.std.proofs.lemmas.List.Elements.{filter-append}
-use Rattle.cover_problem.specs.Branching.{live_options, is_choice}
+use Rattle.std.proofs.lemmas.Bool.{cases_Bool}
+use Rattle.std.proofs.lemmas.List.{get_or-drop, length-drop}
+use Rattle.cover_problem.specs.Branching.{live_options}
 use Rattle.cover_problem.specs.Numbers.{is_in, is_distinct}
+use Rattle.cover_problem.specs.Onward.{live_options_from}
 use Rattle.cover_problem.specs.Prefix.{is_covered, is_live}
 use Rattle.cover_problem.specs.Problem.{Problem, IsProblem, items_of, names_item}
-use Rattle.dancing_links.specs.declared.link.Link.{Link}
-use Rattle.dancing_links.specs.Columns.{Columns, among, option_of, column_of, begin_of, end_of, column_from, items_from, down_of, IsTable, IsSpelled}
-use Rattle.dancing_links.specs.Choices.{covered_items, out_of}
-use Rattle.dancing_links.specs.Table.{starts, heads_of, base_of, tails_of, option_list, table}
+use Rattle.dancing_links.specs.Columns.{Columns, among, option_of, column_of, begin_of, end_of, column_from, items_from}
+use Rattle.dancing_links.specs.Choices.{covered_items}
+use Rattle.dancing_links.specs.Table.{starts, heads_of, base_of, tails_of, table}
 use Rattle.dancing_links.proofs.Walk.{column_skip_to}
-use Rattle.dancing_links.proofs.Nodes.{column_item}
+use Rattle.dancing_links.proofs.Nodes.{column_item, starts_first, starts_end}
 use Rattle.dancing_links.proofs.Parts.{options_part}
 use Rattle.dancing_links.proofs.Present.{IsOut, is_dead, with_all, same_flags}
-use Rattle.dancing_links.proofs.Tables.{start_of, IsNodeAt, node_by, node_at, option_distinct}
+use Rattle.dancing_links.proofs.Tables.{start_of, IsNodeAt, node_by, option_distinct}
 use Rattle.dancing_links.proofs.Prefixed.{live_by_items}
 use Rattle.dancing_links.proofs.Chosen.{range_at}
-use Rattle.dancing_links.proofs.State.{IsState, among_covered}
+use Rattle.dancing_links.proofs.State.{among_covered}
 
 -- ---- the column of an item
 
@@ -39,15 +38,15 @@ any_same s t [] same = refl
 any_same s t (x ∷ xs) same = ap (λ (b : Bool). b || list_any s xs) (same x) ∙ ap (λ (b : Bool). t x || b) (any_same s t xs same)
 
 -- a node's option is dead where it is not live
-node_live : (p : Problem) (os : List ℕ) (k o j : ℕ) → IsNodeAt p k o j → not (is_dead (table p) (with_all [] (covered_items p os)) k) ≡ is_live p os o
+pub node_live : (p : Problem) (os : List ℕ) (k o j : ℕ) → IsNodeAt p k o j → not (is_dead (table p) (with_all [] (covered_items p os)) k) ≡ is_live p os o
 unfolding items_from
 node_live p os k o j at =
     let is : List ℕ = with_all [] (covered_items p os) in
     let range = range_at p o (begin_of (table p) k) (end_of (table p) k) at.option_in at.begin at.end in
     ap not (
-      any_of (column_of (table p)) (among is) (range_with_len (begin_of (table p) k) (end_of (table p) k - begin_of (table p) k))
-      ∙ ap (list_any (among is)) range.items
-      ∙ any_same (among is) (is_covered p os) (items_of p o) (among_covered p os)
+    any_of (column_of (table p)) (among is) (range_with_len (begin_of (table p) k) (end_of (table p) k - begin_of (table p) k))
+    ∙ ap (list_any (among is)) range.items
+    ∙ any_same (among is) (is_covered p os) (items_of p o) (among_covered p os)
     )
     ∙ none_any (is_covered p os) (items_of p o)
     ∙ live_by_items p os o
@@ -58,7 +57,7 @@ unfolding column_from live_options
 column_options p os out i is gone h free =
     let c : Columns = table p in
     let skip : column_from c out i (heads_of p) ≡ column_from c out i (base_of p) =
-        column_skip_to c out i (length p.names) (heads_of p) (base_of p) refl (λ y low high own. absurd (omega (arith, column_item p y low high, own, h))) in
+    column_skip_to c out i (length p.names) (heads_of p) (base_of p) refl (λ y low high own. absurd (omega (arith, column_item p y low high, own, h))) in
     let count : tails_of p - base_of p ≡ sum_by length p.options = omega arith in
     let covering : List ℕ = with_all [] (covered_items p os) in
     ap (map (option_of c)) (skip ∙ ap (λ n. filter (λ k. (column_of c k == i) && not (among out k)) (range_with_len (base_of p) n)) count)
@@ -66,13 +65,55 @@ column_options p os out i is gone h free =
     (λ o j ho hj. (node_by p (start_of p o + j) o j ho hj refl).item)
     (λ o j ho hj. (node_by p (start_of p o + j) o j ho hj refl).own ∙ omega arith)
     (λ o j ho hj own.
-        let k : ℕ = start_of p o + j in
-        let at = node_by p k o j ho hj refl in
-        let low : c.heads + c.heads ≤ k + 1 = omega (arith, at.low) in
-        let high : k < c.tails = omega (arith, at.high, hj) in
-        let new : among covering (column_of c k) ≡ false = ap (among covering) own ∙ among_covered p os i ∙ free in
-        let e : o ≡ 0 + o = omega arith in
-        ap not (same_flags (among out k) (is_dead c covering k) (gone.out_dead k low high new) (gone.dead_out k low high new))
-        ∙ node_live p os k o j at ∙ ap (is_live p os) e)
+    let k : ℕ = start_of p o + j in
+    let at = node_by p k o j ho hj refl in
+    let low : c.heads + c.heads ≤ k + 1 = omega (arith, at.low) in
+    let high : k < c.tails = omega (arith, at.high, hj) in
+    let new : among covering (column_of c k) ≡ false = ap (among covering) own ∙ among_covered p os i ∙ free in
+    let e : o ≡ 0 + o = omega arith in
+    ap not (same_flags (among out k) (is_dead c covering k) (gone.out_dead k low high new) (gone.dead_out k low high new))
+    ∙ node_live p os k o j at ∙ ap (is_live p os) e)
     (λ o ho. let e : 0 + o ≡ o = omega arith in ap (λ n. names_item p n i) e)
     (λ o ho. option_distinct p o is ho)
+
+-- ---- the column of an item from an option on
+
+starts_drop : (s : ℕ) (options : List (List ℕ)) (start o : ℕ) → start + o ≤ length options → get_or (starts (get_or (starts s options) start 0) (drop start options)) o 0 ≡ get_or (starts s options) (start + o) 0
+starts_drop s options zero o h =
+    let e : o ≡ 0 + o = omega arith in
+    ap (λ k. get_or (starts k options) o 0) (starts_first s options) ∙ ap (λ k. get_or (starts s options) k 0) e
+starts_drop s [] (suc start) o h = absurd (omega (arith, h))
+starts_drop s (x ∷ xs) (suc start) o h =
+    let e : suc (start + o) ≡ suc start + o = omega arith in
+    starts_drop (s + length x) xs start o (omega (arith, h)) ∙ ap (λ k. get_or (starts s (x ∷ xs)) k 0) e
+
+-- the options of the nodes of an uncovered item's column, from where an option begins, are the live ones from that one on
+pub column_options_from : (p : Problem) (os out : List ℕ) (i start : ℕ) → IsProblem p → IsOut (table p) (with_all [] (covered_items p os)) out → i < length p.names → is_covered p os i ≡ false → start ≤ length p.options → map (option_of (table p)) (column_from (table p) out i (start_of p start)) ≡ live_options_from p os i start
+unfolding column_from live_options_from
+column_options_from p os out i start is gone h free within =
+    let c : Columns = table p in
+    let covering : List ℕ = with_all [] (covered_items p os) in
+    let options : List (List ℕ) = drop start p.options in
+    let size : length options ≡ length p.options - start = length-drop start p.options in
+    let begin : (o : ℕ) → o ≤ length options → get_or (starts (start_of p start) options) o 0 ≡ start_of p (start + o) = (λ o le. starts_drop (base_of p) p.options start o (omega (arith, size, within, le))) in
+    let items : (o : ℕ) → get_or options o [] ≡ items_of p (start + o) = (λ o. get_or-drop start p.options o []) in
+    let inside : (o : ℕ) → o < length options → start + o < length p.options = (λ o lt. omega (arith, size, lt)) in
+    let last : start + length options ≡ length p.options = omega (arith, size, within) in
+    let total : start_of p start + sum_by length options ≡ tails_of p = sym (starts_end (start_of p start) options) ∙ begin (length options) (omega arith) ∙ ap (start_of p) last ∙ starts_end (base_of p) p.options in
+    let count : tails_of p - start_of p start ≡ sum_by length options = omega (arith, total) in
+    let node : (o j : ℕ) → (lt : o < length options) → j < length (get_or options o []) → IsNodeAt p (get_or (starts (start_of p start) options) o 0 + j) (start + o) j =
+    (λ o j lt in_j. node_by p (get_or (starts (start_of p start) options) o 0 + j) (start + o) j (inside o lt) (omega (arith, in_j, ap length (items o))) (ap (λ k. k + j) (begin o (omega (arith, lt))))) in
+    ap (λ n. map (option_of c) (filter (λ k. (column_of c k == i) && not (among out k)) (range_with_len (start_of p start) n))) count
+    ∙ options_part (column_of c) (option_of c) (λ k. not (among out k)) (is_live p os) (λ o. names_item p o i) i start options (start_of p start)
+    (λ o j lt in_j. (node o j lt in_j).item ∙ ap (λ (xs : List ℕ). get_or xs j 0) (sym (items o)))
+    (λ o j lt in_j. (node o j lt in_j).own)
+    (λ o j lt in_j own.
+    let k : ℕ = get_or (starts (start_of p start) options) o 0 + j in
+    let at = node o j lt in_j in
+    let low : c.heads + c.heads ≤ k + 1 = omega (arith, at.low, at.node) in
+    let high : k < c.tails = omega (arith, at.high, at.place_in, at.node) in
+    let new : among covering (column_of c k) ≡ false = ap (among covering) own ∙ among_covered p os i ∙ free in
+    ap not (same_flags (among out k) (is_dead c covering k) (gone.out_dead k low high new) (gone.dead_out k low high new)) ∙ node_live p os k (start + o) j at)
+    (λ o lt. ap (λ (xs : List ℕ). is_in xs i) (sym (items o)))
+    (λ o lt. ap is_distinct (items o) ∙ option_distinct p (start + o) is (inside o lt))
+    ∙ ap (λ n. filter (λ o. is_live p os o && names_item p o i) (range_with_len start n)) size

@@ -1,13 +1,13 @@
 -- Counts of the nodes of each column that are in.
-use Rattle.std.proofs.Common.{◌≡◌, ℕ, zero, suc, ◌+◌, ◌-◌, ◌%◌, ◌<◌, ◌≤◌, List, [], ◌∷◌, ◌++◌, length, Bool, true, false, not, ◌==◌, ◌&&◌, ◌||◌, get_or, set, replicate, filter, refl, arith, sym, ap, ◌∙◌, inl, inr, ◌⊎◌, subst}
+use Rattle.std.proofs.Common.{◌≡◌, ℕ, zero, suc, ◌+◌, ◌-◌, ◌%◌, ◌<◌, ◌≤◌, List, [], ◌∷◌, length, Bool, true, false, not, ◌==◌, ◌&&◌, get_or, set, replicate, filter, refl, arith, sym, ap, ◌∙◌, inl, inr, subst}
 use Rattle.std.specs.List.{range_with_len}
-use Rattle.std.proofs.lemmas.Bool.{both_ways, and_parts, and_from, cases_Bool, cases_eq, cases_lt, eq-eqb, ne_eqb}
+use Rattle.std.proofs.lemmas.Bool.{cases_Bool, cases_eq, eq-eqb, ne_eqb}
 use Rattle.std.proofs.lemmas.List.{length-set, get_or-set_same, get_or-set_other, length-replicate, get_or-replicate}
 use Rattle.cover_problem.proofs.Among.{filter_fewer}
 use Rattle.dancing_links.specs.declared.link.Link.{Link}
-use Rattle.dancing_links.specs.Columns.{Columns, among, outs, column_of, column_from, hidden_from, covered, unlinked, unlinks, with_less, with_more, fewer, more, IsCounted, IsCounting, IsTable, IsSpelled, IsOpen, CountsCovered, CountsUncovered}
+use Rattle.dancing_links.specs.Columns.{Columns, among, outs, column_of, column_from, hidden_from, covered, unlinked, with_less, with_more, fewer, more, IsCounted, IsCounting, IsTable, CountsCovered, CountsUncovered}
 use Rattle.dancing_links.proofs.Present.{same_filter}
-use Rattle.dancing_links.proofs.Walk.{AreIn, IsWalk, Going, going_done, item_out, whole_item, column_skip_to, column_from_take, column_from_skip, column_from_end}
+use Rattle.dancing_links.proofs.Walk.{AreIn, Going, going_done, item_out, whole_item, column_skip_to, column_from_take, column_from_skip, column_from_end}
 use Rattle.dancing_links.proofs.Chain.{Back, back_all, going_all}
 
 filter_one_less : (p q : ℕ → Bool) (x n s : ℕ) → ((k : ℕ) → (k ≡ x → ⊥) → p k ≡ q k) → p x ≡ true → q x ≡ false → s ≤ x → x < s + n → length (filter p (range_with_len s n)) ≡ suc (length (filter q (range_with_len s n)))
@@ -142,9 +142,9 @@ counting_start c counts node t e f = record {
   count = λ i item.
       let none : get_or counts i 0 ≡ 0 = ap (λ (k : List ℕ). get_or k i 0) e ∙ get_or-replicate (c.heads - 1) i 0 0 (omega (arith, item)) in
       let skip = column_skip_to c [] i (node - c.heads) c.heads node (omega (arith, f, item)) (λ y low high own.
-          let j : ℕ = y - c.heads in
-          let same : c.heads + j ≡ y = omega (arith, low) in
-          absurd (omega (arith, t.item_columns j (omega (arith, f, low, high)), ap (column_of c) same, own, item))) in
+      let j : ℕ = y - c.heads in
+      let same : c.heads + j ≡ y = omega (arith, low) in
+      absurd (omega (arith, t.item_columns j (omega (arith, f, low, high)), ap (column_of c) same, own, item))) in
       omega (arith, none, ap length skip);
 }
 

@@ -1,10 +1,9 @@
 -- Lists that a loop lays down, element by element or option by option.
-use Rattle.std.proofs.Common.{◌≡◌, ℕ, zero, suc, ◌+◌, ◌-◌, ◌*◌, ◌<◌, ◌≤◌, List, [], ◌∷◌, ◌++◌, length, get_or, take, drop, replicate, refl, arith, sym, ap, ◌∙◌, add-one, append_assoc, append-nil, drop-cons}
+use Rattle.std.proofs.Common.{◌≡◌, ℕ, zero, suc, ◌+◌, ◌-◌, ◌<◌, ◌≤◌, List, [], ◌∷◌, ◌++◌, length, get_or, take, drop, replicate, arith, sym, ap, ◌∙◌, add-one, append_assoc, append-nil, drop-cons}
 use Rattle.std.specs.List.{range_with_len, concat, sum_by}
 use Rattle.std.proofs.lemmas.List.{replicate_more, drop_all, take_all}
 use Rattle.std.proofs.lemmas.List.Sums.{sum_by-cons}
-use Rattle.cover_problem.specs.Problem.{Problem}
-use Rattle.dancing_links.specs.Table.{starts, numbered, base_of, tails_of, heads_of, first_list}
+use Rattle.dancing_links.specs.Table.{starts, numbered}
 
 range_more : (start n : ℕ) → range_with_len start n ++ (start + n) ∷ [] ≡ range_with_len start (suc n)
 range_more start zero = ap (λ k. k ∷ []) (omega arith)

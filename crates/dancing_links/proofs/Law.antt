@@ -1,8 +1,8 @@
 -- The law of two lines: a node that is put back right after it was taken out leaves all links as they were.
-use Rattle.std.proofs.Common.{◌≡◌, ℕ, suc, ◌<◌, ◌≤◌, ◌+◌, List, [], ◌∷◌, length, Bool, true, false, ◌==◌, ◌||◌, get_or, set, refl, sym, ap, ◌∙◌, arith, inl, inr, cond, eqb, ◌⊎◌}
-use Rattle.std.proofs.lemmas.List.{same_lists, length-set, get_or-set_same, get_or-set_other, get_or_past}
-use Rattle.std.proofs.lemmas.Bool.{cases_eq, cases_Bool, eq-eqb, ne_eqb, eqb-false, both_ways, or_cases, or_left, or_right, eqb-true, cases_order}
-use Rattle.dancing_links.specs.Columns.{link_at, up_of, down_of, with_up, with_down, unlinked, relinked, unlinks, relinks, among, Columns, column_of, IsNext, IsSpelled}
+use Rattle.std.proofs.Common.{◌≡◌, ℕ, suc, ◌<◌, ◌≤◌, List, [], ◌∷◌, length, true, false, ◌==◌, refl, sym, ap, ◌∙◌, arith, inl, inr}
+use Rattle.std.proofs.lemmas.List.{length-set, get_or-set_same, get_or-set_other}
+use Rattle.std.proofs.lemmas.Bool.{cases_eq, cases_Bool, eq-eqb, ne_eqb, eqb-false, both_ways, or_left, or_right, cases_order}
+use Rattle.dancing_links.specs.Columns.{up_of, down_of, with_up, with_down, unlinked, relinked, among, Columns, IsNext, IsSpelled}
 use Rattle.dancing_links.specs.declared.link.Link.{Link}
 
 none : Link

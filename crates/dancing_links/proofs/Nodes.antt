@@ -1,21 +1,18 @@
 -- The nodes of a problem: which option each belongs to, and at which place of it.
-use Rattle.std.proofs.Common.{◌≡◌, ℕ, zero, suc, ◌+◌, ◌-◌, ◌<◌, ◌≤◌, List, [], ◌∷◌, ◌++◌, length, Bool, true, false, not, ◌==◌, ◌&&◌, ◌||◌, get_or, replicate, refl, arith, sym, ap, ◌∙◌, inl, inr, ◌⊎◌, add-one}
-use Rattle.std.specs.List.{range_with_len, concat, sum_by, list_any, list_all, All}
-use Rattle.std.proofs.lemmas.Bool.{cases_lt, cases_eq, both_ways, eq-eqb, and_parts, or_left, or_right, not-true, ltb-true}
+use Rattle.std.proofs.Common.{◌≡◌, ℕ, zero, suc, ◌+◌, ◌-◌, ◌<◌, ◌≤◌, List, [], ◌∷◌, ◌++◌, length, get_or, replicate, refl, arith, ap, ◌∙◌, inl, inr, add-one}
+use Rattle.std.specs.List.{range_with_len, concat, sum_by}
+use Rattle.std.proofs.lemmas.Bool.{cases_lt}
 use Rattle.std.proofs.lemmas.List.{get_or-append_right, get_or_append_left, length-replicate, get_or-replicate, length-append}
 use Rattle.std.proofs.lemmas.List.Sums.{sum_by-cons}
 use Rattle.std.proofs.lemmas.List.FromFn.{length-range_with_len, get_or-range_with_len}
-use Rattle.std.proofs.lemmas.List.Elements.{All-get_or, All-from_get_or}
-use Rattle.cover_problem.specs.Numbers.{is_distinct, is_in, are_below}
-use Rattle.cover_problem.specs.Problem.{Problem, IsProblem}
-use Rattle.dancing_links.specs.Columns.{Columns, column_of, begin_of, end_of, IsTable}
-use Rattle.dancing_links.specs.Table.{starts, numbered, heads_of, base_of, tails_of, column_list, option_list, first_list, table}
+use Rattle.cover_problem.specs.Problem.{Problem}
+use Rattle.dancing_links.specs.Table.{starts, numbered, heads_of, base_of, tails_of, column_list, option_list, first_list}
 
 pub length-starts : (start : ℕ) (options : List (List ℕ)) → length (starts start options) ≡ length options + 1
 length-starts start [] = refl
 length-starts start (x ∷ xs) = let h = length-starts (start + length x) xs in omega (arith, h)
 
-starts_first : (start : ℕ) (options : List (List ℕ)) → get_or (starts start options) 0 0 ≡ start
+pub starts_first : (start : ℕ) (options : List (List ℕ)) → get_or (starts start options) 0 0 ≡ start
 starts_first start [] = refl
 starts_first start (x ∷ xs) = refl
 
@@ -101,20 +98,28 @@ unfolding column_list
 length-column_list p =
     let n : ℕ = length p.names in
     let h : ℕ = heads_of p in
-    omega (arith,
+    omega (
+      arith,
       length-append (range_with_len 0 h) (replicate n n ++ (concat p.options ++ range_with_len 0 h)),
       length-append (replicate n n) (concat p.options ++ range_with_len 0 h),
       length-append (concat p.options) (range_with_len 0 h),
-      length-range_with_len 0 h, length-replicate n n, length-concat p.options)
+      length-range_with_len 0 h,
+      length-replicate n n,
+      length-concat p.options,
+    )
 
 pub length-option_list : (p : Problem) → length (option_list p) ≡ tails_of p + heads_of p
 unfolding option_list
 length-option_list p =
     let m : ℕ = length p.options in
-    omega (arith,
+    omega (
+      arith,
       length-append (replicate (base_of p) m) (numbered 0 p.options ++ replicate (heads_of p) m),
       length-append (numbered 0 p.options) (replicate (heads_of p) m),
-      length-replicate (base_of p) m, length-replicate (heads_of p) m, length-numbered 0 p.options)
+      length-replicate (base_of p) m,
+      length-replicate (heads_of p) m,
+      length-numbered 0 p.options,
+    )
 
 pub length-first_list : (p : Problem) → length (first_list p) ≡ length p.options + 2
 unfolding first_list

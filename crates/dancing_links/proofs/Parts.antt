@@ -1,5 +1,5 @@
 -- The nodes of one column among those of a list of options.
-use Rattle.std.proofs.Common.{◌≡◌, ℕ, zero, suc, ◌+◌, ◌-◌, ◌<◌, ◌≤◌, List, [], ◌∷◌, ◌++◌, length, Bool, true, false, not, ◌==◌, ◌&&◌, cond, filter, map, get_or, refl, arith, sym, ap, ◌∙◌, inl, inr, ◌⊎◌}
+use Rattle.std.proofs.Common.{◌≡◌, ℕ, zero, suc, ◌+◌, ◌<◌, List, [], ◌∷◌, ◌++◌, length, Bool, true, false, not, ◌==◌, ◌&&◌, cond, filter, map, get_or, refl, arith, sym, ap, ◌∙◌, inl, inr}
 use Rattle.std.specs.List.{range_with_len, sum_by}
 use Rattle.std.proofs.lemmas.Bool.{and_parts, cases_Bool, cases_eq, eq-eqb, ne_eqb, not-true}
 use Rattle.std.proofs.lemmas.List.Sums.{sum_by-cons}
@@ -58,11 +58,11 @@ options_part col opt inside alive named i q (x ∷ xs) s cols opts ins names dis
     let name : named q ≡ is_in x i = ap named (sym at) ∙ names 0 (omega arith) in
     let split : range_with_len s (sum_by length (x ∷ xs)) ≡ range_with_len s (length x) ++ range_with_len (s + length x) (sum_by length xs) = ap (range_with_len s) (sum_by-cons length x xs) ∙ range_split s (length x) (sum_by length xs) in
     let both : map opt (filter test (range_with_len s (sum_by length (x ∷ xs)))) ≡ cond (is_in x i && alive q) (q ∷ []) [] ++ filter (λ o. alive o && named o) (range_with_len (q + 1) (length xs)) =
-        ap (λ ks. map opt (filter test ks)) split
-        ∙ ap (map opt) (filter-append test (range_with_len s (length x)) (range_with_len (s + length x) (sum_by length xs)))
-        ∙ map_append opt (filter test (range_with_len s (length x))) (filter test (range_with_len (s + length x) (sum_by length xs)))
-        ∙ ap (λ ks. ks ++ map opt (filter test (range_with_len (s + length x) (sum_by length xs)))) first
-        ∙ ap (λ ks. cond (is_in x i && alive q) (q ∷ []) [] ++ ks) rest in
+    ap (λ ks. map opt (filter test ks)) split
+    ∙ ap (map opt) (filter-append test (range_with_len s (length x)) (range_with_len (s + length x) (sum_by length xs)))
+    ∙ map_append opt (filter test (range_with_len s (length x))) (filter test (range_with_len (s + length x) (sum_by length xs)))
+    ∙ ap (λ ks. ks ++ map opt (filter test (range_with_len (s + length x) (sum_by length xs)))) first
+    ∙ ap (λ ks. cond (is_in x i && alive q) (q ∷ []) [] ++ ks) rest in
     both ∙ elim (cases_Bool (is_in x i)) [
       | inl t ↦ elim (cases_Bool (alive q)) [
         | inl u ↦ rw (name, t, u) refl

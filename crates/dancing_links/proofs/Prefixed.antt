@@ -1,19 +1,17 @@
 -- What the options of a prefix cover.
-use Rattle.std.proofs.Common.{◌≡◌, ℕ, zero, suc, ◌+◌, ◌<◌, ◌≤◌, List, [], ◌∷◌, ◌++◌, length, Bool, true, false, not, ◌==◌, ◌&&◌, ◌||◌, get_or, refl, arith, sym, ap, ◌∙◌, inl, inr, ◌⊎◌, append-nil, subst}
+use Rattle.std.proofs.Common.{◌≡◌, ℕ, ◌<◌, List, [], ◌∷◌, ◌++◌, length, Bool, true, false, not, ◌==◌, ◌||◌, refl, sym, ap, ◌∙◌, append-nil}
 use Rattle.std.specs.Prelude.{nat_lt}
-use Rattle.std.specs.List.{flat_map, list_any, list_all, All}
-use Rattle.std.proofs.lemmas.Bool.{both_ways, and_parts, and_from, or_cases, or_left, or_right, not-true, not_from_false, false_from_ne_true, cases_Bool, eqb-true, eq-eqb, ltb-true}
+use Rattle.std.specs.List.{list_all}
+use Rattle.std.proofs.lemmas.Bool.{both_ways, and_parts, and_from, or_left, or_right, not-true, not_from_false, false_from_ne_true, eq-eqb, ltb-true}
 use Rattle.std.proofs.lemmas.List.Concat.{flat_map-append}
 use Rattle.std.proofs.lemmas.List.Elements.{All-get_or}
 use Rattle.std.proofs.lemmas.List.Folds.{list_all-append}
-use Rattle.cover_problem.specs.Branching.{is_choice}
 use Rattle.cover_problem.specs.Numbers.{is_in, is_distinct, some_below, are_below}
-use Rattle.cover_problem.specs.Prefix.{clash, is_live, are_apart, are_options, is_prefix, is_covered, AreOptions}
+use Rattle.cover_problem.specs.Prefix.{clash, is_live, are_apart, are_options, is_prefix, is_covered}
 use Rattle.cover_problem.specs.Problem.{Problem, IsProblem, items_of, names_item}
 use Rattle.cover_problem.proofs.Among.{all_at, all_by, any_at, some_with}
-use Rattle.cover_problem.proofs.Clashes.{clash_by, clash_item, clash_both}
-use Rattle.cover_problem.proofs.Named.{option_named}
-use Rattle.cover_problem.proofs.Prefixes.{prefix_more, prefix_options}
+use Rattle.cover_problem.proofs.Clashes.{clash_by, clash_item}
+use Rattle.cover_problem.proofs.Prefixes.{prefix_more}
 use Rattle.dancing_links.specs.Choices.{covered_items}
 use Rattle.dancing_links.proofs.Present.{among-append, same_flags}
 use Rattle.dancing_links.proofs.Tables.{option_distinct}
@@ -91,7 +89,7 @@ live_by_items p os o =
     let free : Bool = list_all (λ i. not (is_covered p os i)) (items_of p o) in
     same_flags free (is_live p os o)
     (λ none. all_by (λ q. not (clash p q o)) os (λ q chosen. not_from_false (clash p q o) (false_from_ne_true (clash p q o) (λ meets.
-        let item = clash_item p q o meets in
-        let uncovered = not-true (is_covered p os item.item) (all_at (λ i. not (is_covered p os i)) (items_of p o) item.item none item.second) in
-        both_ways (is_covered p os item.item) uncovered (any_at (λ r. names_item p r item.item) os q chosen item.first)))))
+    let item = clash_item p q o meets in
+    let uncovered = not-true (is_covered p os item.item) (all_at (λ i. not (is_covered p os i)) (items_of p o) item.item none item.second) in
+    both_ways (is_covered p os item.item) uncovered (any_at (λ r. names_item p r item.item) os q chosen item.first)))))
     (λ live. all_by (λ i. not (is_covered p os i)) (items_of p o) (λ i named. not_from_false (is_covered p os i) (live_uncovered p os o i live named)))

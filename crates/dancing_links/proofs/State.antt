@@ -1,12 +1,12 @@
 -- What the links tell of the nodes, once items are covered.
-use Rattle.std.proofs.Common.{◌≡◌, ℕ, zero, suc, ◌+◌, ◌-◌, ◌<◌, ◌≤◌, List, [], ◌∷◌, ◌++◌, length, Bool, true, false, not, ◌==◌, ◌||◌, get_or, refl, arith, sym, ap, ◌∙◌, inl, inr, ◌⊎◌, subst}
-use Rattle.std.proofs.lemmas.Bool.{both_ways, or_cases, or_left, or_right, cases_Bool, cases_eq, cases_lt, eq-eqb, ne_eqb, eqb-true}
+use Rattle.std.proofs.Common.{◌≡◌, ℕ, ◌+◌, ◌<◌, ◌≤◌, List, [], ◌∷◌, length, Bool, true, false, not, ◌==◌, ◌||◌, get_or, refl, arith, sym, ap, ◌∙◌, inl, inr, subst}
+use Rattle.std.proofs.lemmas.Bool.{both_ways, or_cases, cases_Bool, cases_eq, eq-eqb, ne_eqb, eqb-true}
 use Rattle.std.proofs.lemmas.List.{get_or_default}
 use Rattle.cover_problem.specs.Prefix.{is_covered}
 use Rattle.cover_problem.specs.Problem.{Problem, IsProblem}
 use Rattle.dancing_links.specs.declared.link.Link.{Link}
 use Rattle.dancing_links.specs.Choices.{IsLinks, covered_items, out_of}
-use Rattle.dancing_links.specs.Columns.{Columns, among, outs, unlinked, unlinks, up_of, down_of, covered, IsTable, IsSpelled, IsBuilt, IsOpen, AreOpen, outs_all, links_all}
+use Rattle.dancing_links.specs.Columns.{Columns, among, outs, unlinked, unlinks, up_of, down_of, covered, IsTable, IsSpelled, IsOpen, AreOpen, outs_all, links_all}
 use Rattle.dancing_links.specs.Table.{table, heads_of}
 use Rattle.dancing_links.proofs.Law.{between, from_up, up-unlinked_other, down-unlinked_at, down-unlinked_other, spelled_unlink}
 use Rattle.dancing_links.proofs.Walk.{AreIn, item_out, whole_item}

@@ -1,8 +1,8 @@
 -- The columns of a problem are a table.
-use Rattle.std.proofs.Common.{◌≡◌, ℕ, zero, suc, ◌+◌, ◌-◌, ◌<◌, ◌≤◌, List, [], ◌∷◌, ◌++◌, length, Bool, true, false, not, ◌==◌, ◌&&◌, ◌||◌, get_or, map, filter, refl, arith, sym, ap, ◌∙◌, inl, inr, ◌⊎◌}
+use Rattle.std.proofs.Common.{◌≡◌, ℕ, zero, suc, ◌+◌, ◌-◌, ◌<◌, ◌≤◌, List, [], ◌∷◌, length, Bool, true, not, ◌==◌, ◌&&◌, get_or, map, filter, refl, arith, sym, ap, ◌∙◌, inl, inr}
 use Rattle.std.specs.Prelude.{nat_lt}
-use Rattle.std.specs.List.{sum_by, list_any, list_all, All, concat, range_with_len}
-use Rattle.std.proofs.lemmas.Bool.{cases_lt, cases_eq, both_ways, eq-eqb, and_parts, or_left, or_right, not-true, ltb-true}
+use Rattle.std.specs.List.{sum_by, list_all, concat, range_with_len}
+use Rattle.std.proofs.lemmas.Bool.{cases_lt, both_ways, eq-eqb, and_parts, or_left, or_right, not-true, ltb-true}
 use Rattle.std.proofs.lemmas.List.{length-map}
 use Rattle.std.proofs.lemmas.List.FromFn.{length-range_with_len}
 use Rattle.std.proofs.lemmas.List.Sums.{length-filter, count_by-le-length}
@@ -13,7 +13,7 @@ use Rattle.dancing_links.specs.Columns.{Columns, among, option_of, column_of, co
 use Rattle.dancing_links.specs.Table.{starts, numbered, heads_of, base_of, tails_of, column_list, option_list, first_list, table}
 use Rattle.dancing_links.proofs.Walk.{column_skip_to}
 use Rattle.dancing_links.proofs.Parts.{options_part}
-use Rattle.dancing_links.proofs.Nodes.{starts_next, starts_low, starts_high, starts_end, IsNodeOf, find_node, item_at_place, option_at_place, length-column_list, length-option_list, length-first_list, first_at, first_past, column_head, column_item, column_node, column_tail, option_before, option_node_list, option_after_list}
+use Rattle.dancing_links.proofs.Nodes.{starts_next, starts_low, starts_high, starts_end, find_node, item_at_place, option_at_place, length-column_list, length-option_list, length-first_list, first_at, first_past, column_head, column_item, column_node, column_tail, option_before, option_node_list, option_after_list}
 
 -- where an option begins
 abbrev pub start_of : Problem → ℕ → ℕ
@@ -39,9 +39,9 @@ node_by p k o j ho hj e =
     let k_low : base_of p ≤ k = omega (arith, low, e) in
     let k_high : k < tails_of p = omega (arith, next, last, e, hj) in
     let own : get_or (option_list p) k 0 ≡ o =
-        option_node_list p k k_low k_high
-        ∙ ap (λ n. get_or (numbered 0 p.options) (n - base_of p) 0) e
-        ∙ option_at_place 0 (base_of p) p.options o j ho hj ∙ omega arith in
+    option_node_list p k k_low k_high
+    ∙ ap (λ n. get_or (numbered 0 p.options) (n - base_of p) 0) e
+    ∙ option_at_place 0 (base_of p) p.options o j ho hj ∙ omega arith in
     record {
       option_in = ho;
       place_in = hj;
@@ -145,16 +145,16 @@ unfolding column_from
 few_nodes p i is h =
     let c : Columns = table p in
     let skip : column_from c [] i (heads_of p) ≡ column_from c [] i (base_of p) =
-        column_skip_to c [] i (length p.names) (heads_of p) (base_of p) refl (λ y low high own. absurd (omega (arith, column_item p y low high, own, h))) in
+    column_skip_to c [] i (length p.names) (heads_of p) (base_of p) refl (λ y low high own. absurd (omega (arith, column_item p y low high, own, h))) in
     let count : tails_of p - base_of p ≡ sum_by length p.options = omega arith in
     let all : map (option_of c) (column_from c [] i (heads_of p)) ≡ filter (λ o. true && names_item p o i) (range_with_len 0 (length p.options)) =
-        ap (map (option_of c)) (skip ∙ ap (λ n. filter (λ k. (column_of c k == i) && not (among [] k)) (range_with_len (base_of p) n)) count)
-        ∙ options_part (column_of c) (option_of c) (λ k. not (among [] k)) (λ o. true) (λ o. names_item p o i) i 0 p.options (base_of p)
-        (λ o j ho hj. (node_by p (start_of p o + j) o j ho hj refl).item)
-        (λ o j ho hj. (node_by p (start_of p o + j) o j ho hj refl).own ∙ omega arith)
-        (λ o j ho hj own. refl)
-        (λ o ho. let e : 0 + o ≡ o = omega arith in ap (λ n. names_item p n i) e)
-        (λ o ho. option_distinct p o is ho) in
+    ap (map (option_of c)) (skip ∙ ap (λ n. filter (λ k. (column_of c k == i) && not (among [] k)) (range_with_len (base_of p) n)) count)
+    ∙ options_part (column_of c) (option_of c) (λ k. not (among [] k)) (λ o. true) (λ o. names_item p o i) i 0 p.options (base_of p)
+    (λ o j ho hj. (node_by p (start_of p o + j) o j ho hj refl).item)
+    (λ o j ho hj. (node_by p (start_of p o + j) o j ho hj refl).own ∙ omega arith)
+    (λ o j ho hj own. refl)
+    (λ o ho. let e : 0 + o ≡ o = omega arith in ap (λ n. names_item p n i) e)
+    (λ o ho. option_distinct p o is ho) in
     let length_all : length (map (option_of c) (column_from c [] i (heads_of p))) ≡ length (filter (λ o. true && names_item p o i) (range_with_len 0 (length p.options))) = ap length all in
     omega (arith, length_all, length-map (column_from c [] i (heads_of p)) (option_of c), length-filter (λ o. true && names_item p o i) (range_with_len 0 (length p.options)), count_by-le-length (λ o. true && names_item p o i) (range_with_len 0 (length p.options)), length-range_with_len 0 (length p.options), is.options)
 

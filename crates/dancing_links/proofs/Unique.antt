@@ -1,9 +1,9 @@
 -- The links are known by what is out: there is one way to spell columns from which nothing is out.
-use Rattle.std.proofs.Common.{◌≡◌, ℕ, ◌+◌, ◌<◌, ◌≤◌, List, length, true, false, refl, arith, sym, ap, ◌∙◌, inl, inr, ◌⊎◌, get_or}
+use Rattle.std.proofs.Common.{◌≡◌, ℕ, ◌<◌, ◌≤◌, List, length, false, arith, sym, ap, ◌∙◌, inl, inr}
 use Rattle.std.proofs.lemmas.List.{get_or_past}
 use Rattle.std.proofs.lemmas.Bool.{cases_lt, cases_order, both_ways}
 use Rattle.dancing_links.specs.declared.link.Link.{Link}
-use Rattle.dancing_links.specs.Columns.{up_of, down_of, among, Columns, column_of, IsNext, IsSpelled}
+use Rattle.dancing_links.specs.Columns.{up_of, down_of, among, Columns, IsNext, IsSpelled}
 use Rattle.dancing_links.proofs.Law.{same_links}
 
 one_next : (c : Columns) (out : List ℕ) (x d e : ℕ) → IsNext c out x d → IsNext c out x e → d ≡ e

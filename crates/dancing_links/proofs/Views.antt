@@ -1,20 +1,24 @@
 -- What the views of the links answer.
-use Rattle.std.proofs.Common.{◌≡◌, ℕ, zero, suc, ◌+◌, ◌-◌, ◌<◌, ◌≤◌, List, [], ◌∷◌, length, Bool, true, false, not, ◌==◌, get_or, map, refl, arith, sym, ap, ◌∙◌, inl, inr, ◌⊎◌, subst, slice_get, Some, None, Option, MatchOption, IfSome}
-use Rattle.std.proofs.lemmas.Bool.{both_ways, cases_Bool, cases_lt, lt-ltb, le-ltb}
+use Rattle.std.proofs.Common.{◌≡◌, ℕ, zero, suc, ◌+◌, ◌-◌, ◌<◌, ◌≤◌, List, [], ◌∷◌, length, ◌==◌, true, false, get_or, map, refl, arith, sym, ap, ◌∙◌, inl, inr, subst, slice_get, Some, None, Option, MatchOption, IfSome}
+use Rattle.std.proofs.lemmas.Bool.{cases_lt, lt-ltb, le-ltb, or_cases, eqb-true, not-true, both_ways, and_parts, cases_Bool}
 use Rattle.std.proofs.lemmas.List.{length-map, get_or_default}
 use Rattle.std.proofs.lemmas.Grind.{get_or_default_zero}
-use Rattle.cover_problem.specs.Branching.{live_options, IsOpen}
-use Rattle.cover_problem.specs.Onward.{open_items_from}
-use Rattle.cover_problem.specs.Prefix.{is_covered}
-use Rattle.cover_problem.specs.Problem.{Problem, IsProblem}
-use Rattle.cover_problem.proofs.Remaining.{open_items_from_take, open_items_from_skip, open_items_from_end}
+use Rattle.cover_problem.specs.Branching.{live_options, is_choice, IsOpen}
+use Rattle.cover_problem.specs.Numbers.{is_in}
+use Rattle.cover_problem.specs.Onward.{open_items_from, live_options_from}
+use Rattle.cover_problem.specs.Prefix.{is_covered, is_live}
+use Rattle.cover_problem.specs.Problem.{Problem, IsProblem, items_of, names_item}
+use Rattle.cover_problem.proofs.Remaining.{open_items_from_take, open_items_from_skip, open_items_from_end, live_options_from_take, live_options_from_skip, live_options_from_end}
 use Rattle.dancing_links.specs.declared.link.Link.{Link}
-use Rattle.dancing_links.specs.Choices.{IsLinks, out_of}
-use Rattle.dancing_links.specs.Columns.{Columns, among, column_of, column_from, up_of, down_of, option_of, walk, options_left, IsTable, IsLinked, IsSpelled}
-use Rattle.dancing_links.specs.Table.{table, heads_of}
+use Rattle.dancing_links.specs.Choices.{IsLinks, IsChild, out_of, covered_items}
+use Rattle.dancing_links.specs.Columns.{Columns, among, column_of, column_from, down_of, option_of, walk, options_left, IsTable, IsLinked, IsSpelled, IsNaming}
+use Rattle.dancing_links.specs.Table.{table, heads_of, base_of, first_list}
 use Rattle.dancing_links.proofs.Walk.{column_skip_to, column_from_take, column_from_end}
-use Rattle.dancing_links.proofs.State.{IsState, state_of, item_gone}
-use Rattle.dancing_links.proofs.Columned.{column_options}
+use Rattle.dancing_links.proofs.Nodes.{starts_next, first_at}
+use Rattle.dancing_links.proofs.Tables.{start_of, node_by}
+use Rattle.dancing_links.proofs.Present.{is_dead, with_all, never_true}
+use Rattle.dancing_links.proofs.State.{IsState, state_of, item_gone, among_covered}
+use Rattle.dancing_links.proofs.Columned.{column_options, column_options_from, node_live}
 
 -- an item's column, by options
 pub column_is : (p : Problem) (c : Columns) (os : List ℕ) (m : List Link) (counts : List ℕ) (room i : ℕ) → IsLinks p c os m counts room → i < length p.names → is_covered p os i ≡ false → map (option_of c) (column_from c (out_of p c os) i c.heads) ≡ live_options p os i
@@ -50,10 +54,10 @@ onward p c os m start x s at own high here =
     let next = s.spelled.down x high here in
     let d : ℕ = down_of m x in
     let between : (k : ℕ) → start ≤ k → c.heads + k < d → k < p.primary → is_covered p os k ≡ true =
-        (λ k low under primary.
-            let item : k + 1 < c.heads = omega (arith, heads, primary, s.is_problem.primary) in
-            sym (item_gone p c os m k s (omega (arith, primary, s.is_problem.primary)))
-            ∙ next.nearest (c.heads + k) (omega (arith, at, low)) under (omega (arith, s.table_is.item_columns k item, own))) in
+    (λ k low under primary.
+    let item : k + 1 < c.heads = omega (arith, heads, primary, s.is_problem.primary) in
+    sym (item_gone p c os m k s (omega (arith, primary, s.is_problem.primary)))
+    ∙ next.nearest (c.heads + k) (omega (arith, at, low)) under (omega (arith, s.table_is.item_columns k item, own))) in
     record {
       low = next.low;
       some = λ under.
@@ -166,3 +170,108 @@ left_read p c os m counts room i head is h free e =
     let D : Link → ℕ = λ l. l.down in
     let down : head.down ≡ down_of m i = ap D (e ∙ get_or_default m i head (record { up = 0; down = 0 }) inside) in
     ap (options_left c m) down ∙ left_all p c os m counts room i is h free
+
+-- ---- the next option of an item
+
+-- where a number stands in a list
+place_of : (xs : List ℕ) (x : ℕ) → is_in xs x ≡ true → (j : ℕ) × (j < length xs) × (get_or xs j 0 ≡ x)
+place_of [] x h = absurd (both_ways false refl h)
+place_of (y ∷ ys) x h = elim (or_cases (y == x) (is_in ys x) h) [
+  | inl e ↦ (0, omega arith, eqb-true y x e)
+  | inr r ↦ let rest = place_of ys x r in (suc rest.0, omega (arith, rest.1), rest.2)
+]
+
+next_at : (p : Problem) (os : List ℕ) (m : List Link) (i o node : ℕ) → IsState p (table p) os m → i < length p.names → is_covered p os i ≡ false → o < length p.options → is_live p os o ≡ true → names_item p o i ≡ true → IsNaming (table p) i (start_of p o) (start_of p o + length (items_of p o)) node → options_left (table p) m (down_of m node) ≡ live_options_from p os i (o + 1)
+next_at p os m i o node s h free inside live named at =
+    let c : Columns = table p in
+    let out : List ℕ = out_of p c os in
+    let covering : List ℕ = with_all [] (covered_items p os) in
+    let end : ℕ = start_of p o + length (items_of p o) in
+    let there = place_of (items_of p o) i named in
+    let before : node < end = elim (cases_lt node end) [
+      | inl lt ↦ lt
+      | inr past ↦
+          let by = node_by p (start_of p o + there.0) o there.0 inside there.1 refl in
+          absurd (at.absent (omega (arith, past, at.high)) (start_of p o + there.0) (omega arith) (omega (arith, there.1)) (by.item ∙ there.2))
+    ] in
+    let own : column_of c node ≡ i = at.found before in
+    let j : ℕ = node - start_of p o in
+    let by = node_by p node o j inside (omega (arith, at.low, before)) (omega (arith, at.low)) in
+    let low : c.heads + c.heads ≤ node + 1 = omega (arith, by.low, by.node) in
+    let high : node < c.tails = omega (arith, by.high, before) in
+    let new : among covering (column_of c node) ≡ false = ap (among covering) own ∙ among_covered p os i ∙ free in
+    let alive : is_dead c covering node ≡ false = not-true (is_dead c covering node) (node_live p os node o j by ∙ live) in
+    let here : among out node ≡ false = never_true (among out node) (λ gone. both_ways (is_dead c covering node) alive (s.out.out_dead node low high new gone)) in
+    let next = s.spelled.down node high here in
+    let d : ℕ = down_of m node in
+    let follow : start_of p (o + 1) ≡ end = starts_next (base_of p) p.options o inside in
+    let skip = column_skip_to c out i (d - (node + 1)) (node + 1) d (omega (arith, next.below)) (λ y above below same. next.nearest y (omega (arith, above)) below (same ∙ sym own)) in
+    let skip_rest = column_skip_to c out i (start_of p (o + 1) - (node + 1)) (node + 1) (start_of p (o + 1)) (omega (arith, follow, before)) (λ y above below same.
+    absurd (omega (arith, above, s.table_is.apart node y low high (omega (arith, by.begin, at.low, above)) (omega (arith, by.end, follow, below)) (same ∙ sym own)))) in
+    walk_column c out m i (c.tails - d) d s.spelled next.low (next.column ∙ own) next.in_down (omega arith)
+    ∙ ap (map (option_of c)) (sym skip ∙ skip_rest)
+    ∙ column_options_from p os out i (o + 1) s.is_problem s.out h free (omega (arith, inside))
+
+-- the options after an option in the column of an uncovered item
+pub left_after : (p : Problem) (c : Columns) (os : List ℕ) (m : List Link) (counts : List ℕ) (room i o node : ℕ) → IsLinks p c os m counts room → i < length p.names → is_covered p os i ≡ false → o < length p.options → is_live p os o ≡ true → names_item p o i ≡ true → IsNaming c i (get_or c.first o 0) (get_or c.first (o + 1) 0) node → options_left c m (down_of m node) ≡ live_options_from p os i (o + 1)
+left_after p c os m counts room i o node is h free inside live named at =
+    let P : Columns → Type 0 = λ t. IsLinks p t os m counts room in
+    let s = state_of p (table p) os m counts room (subst P is.layout is) in
+    let Q : Columns → Type 0 = λ t. IsNaming t i (get_or t.first o 0) (get_or t.first (o + 1) 0) node in
+    let at_table = subst Q is.layout at in
+    let begin : get_or (first_list p) o 0 ≡ start_of p o = first_at p o (omega (arith, inside)) in
+    let end : get_or (first_list p) (o + 1) 0 ≡ start_of p o + length (items_of p o) = first_at p (o + 1) (omega (arith, inside)) ∙ starts_next (base_of p) p.options o inside in
+    let R : ℕ → Type 0 = λ b. IsNaming (table p) i b (get_or (first_list p) (o + 1) 0) node in
+    let S : ℕ → Type 0 = λ e. IsNaming (table p) i (start_of p o) e node in
+    let T : Columns → Type 0 = λ t. options_left t m (down_of m node) ≡ live_options_from p os i (o + 1) in
+    subst T (sym is.layout) (next_at p os m i o node s h free inside live named (subst S end (subst R begin at_table)))
+
+-- the first of what is left below a node
+pub answer_below : (c : Columns) (m : List Link) (below option : ℕ) → IsTable c → IsLinked c m → below < c.tails → option ≡ get_or c.option below option → Some option ≡ slice_get (options_left c m below) 0
+answer_below c m below option t l high e =
+    let inside : below < length c.option = omega (arith, t.option, t.ends, high) in
+    ap Some (e ∙ get_or_default_zero c.option below option inside) ∙ ap (λ (os : List ℕ). slice_get os 0) (sym (left_take c m below t l high))
+
+pub answer_past : (c : Columns) (m : List Link) (below : ℕ) → c.tails ≤ below → None ≡ slice_get (options_left c m below) 0
+answer_past c m below past = ap (λ (os : List ℕ). slice_get os 0) (sym (left_none c m below past))
+
+pub naming_same : (c : Columns) (i b e begin end node : ℕ) → b ≡ begin → e ≡ end → IsNaming c i b e node → IsNaming c i begin end node
+naming_same c i b e begin end node f g at =
+    let R : ℕ → Type 0 = λ k. IsNaming c i k end node in
+    let S : ℕ → Type 0 = λ k. IsNaming c i b k node in
+    subst R f (subst S g at)
+
+-- ---- the first of the options that are left
+
+head_from : (p : Problem) (os : List ℕ) (i n start o : ℕ) → length p.options ≤ start + n → slice_get (live_options_from p os i start) 0 ≡ Some o → IsChild p os i o × (start ≤ o)
+head_from p os i zero start o enough e =
+    let none : None ≡ Some o = sym (ap (λ (is : List ℕ). slice_get is 0) (live_options_from_end p os i start (omega (arith, enough)))) ∙ e in
+    absurd (cc)
+head_from p os i (suc n) start o enough e = elim (cases_lt start (length p.options)) [
+  | inr past ↦
+      let none : None ≡ Some o = sym (ap (λ (is : List ℕ). slice_get is 0) (live_options_from_end p os i start past)) ∙ e in
+      absurd (cc)
+  | inl inside ↦ elim (cases_Bool (is_choice p os i start)) [
+    | inr no_choice ↦
+        let rest = head_from p os i n (start + 1) o (omega (arith, enough)) (sym (ap (λ (is : List ℕ). slice_get is 0) (live_options_from_skip p os i start inside no_choice)) ∙ e) in
+        (rest.0, omega (arith, rest.1))
+    | inl choice ↦
+        let same : Some start ≡ Some o = sym (ap (λ (is : List ℕ). slice_get is 0) (live_options_from_take p os i start inside choice)) ∙ e in
+        let equal : start ≡ o = cc in
+        let parts = and_parts (is_live p os start) (names_item p start i) choice in
+        let P : ℕ → Type 0 = λ k. IsChild p os i k in
+        (subst P equal (record { inside = inside; live = parts.0; named = parts.1 }), omega (arith, equal))
+  ]
+]
+
+pub head_child : (p : Problem) (os : List ℕ) (i start : ℕ) (r : Option ℕ) → r ≡ slice_get (live_options_from p os i start) 0 → IfSome r (IsChild p os i)
+head_child p os i start None e = tt
+head_child p os i start (Some o) e = (head_from p os i (length p.options) start o (omega arith) (sym e)).0
+
+pub head_later : (p : Problem) (os : List ℕ) (i option : ℕ) (r : Option ℕ) → r ≡ slice_get (live_options_from p os i (option + 1)) 0 → IfSome r (λ o. option < o)
+head_later p os i option None e = tt
+head_later p os i option (Some o) e = omega (arith, (head_from p os i (length p.options) (option + 1) o (omega arith) (sym e)).1)
+
+pub open_named : (p : Problem) (os : List ℕ) (r : Option ℕ) → IsProblem p → IfSome r (IsOpen p os) → IfSome r (λ i. i < length p.names)
+open_named p os None is h = tt
+open_named p os (Some i) is h = omega (arith, h.primary, is.primary)

@@ -1,9 +1,9 @@
 -- Nodes taken out in a row, and the walk down a column.
-use Rattle.std.proofs.Common.{◌≡◌, ℕ, zero, suc, ◌+◌, ◌-◌, ◌<◌, ◌≤◌, List, [], ◌∷◌, ◌++◌, length, Bool, true, false, not, ◌==◌, ◌&&◌, ◌||◌, filter, refl, arith, sym, ap, ◌∙◌, inl, inr, ◌⊎◌, append_assoc, append-nil}
+use Rattle.std.proofs.Common.{◌≡◌, ℕ, zero, suc, ◌+◌, ◌-◌, ◌<◌, ◌≤◌, List, [], ◌∷◌, ◌++◌, Bool, true, false, not, ◌==◌, ◌||◌, filter, refl, arith, sym, ap, ◌∙◌, inl, inr, append_assoc, append-nil}
 use Rattle.std.specs.List.{range_with_len, flat_map}
-use Rattle.std.proofs.lemmas.Bool.{eq-eqb, ne_eqb, eqb-true, cases_Bool, cases_eq, cases_lt, cases_order, both_ways, or_cases, or_left, or_right, and_left, and_right, and_from}
+use Rattle.std.proofs.lemmas.Bool.{eq-eqb, ne_eqb, eqb-true, cases_Bool, cases_eq, cases_lt, both_ways, or_cases}
 use Rattle.dancing_links.specs.declared.link.Link.{Link}
-use Rattle.dancing_links.specs.Columns.{up_of, down_of, unlinked, relinked, unlinks, relinks, among, outs, Columns, column_of, begin_of, end_of, IsNext, IsSpelled, others_from, others, column_from, hidden_from, covered, IsTable, AreWhole, IsOpen, Covers, Uncovers, fewer, more, with_less, with_more}
+use Rattle.dancing_links.specs.Columns.{down_of, unlinked, unlinks, relinks, among, outs, Columns, column_of, begin_of, end_of, IsSpelled, others_from, others, column_from, hidden_from, covered, IsTable, AreWhole, IsOpen, Covers, fewer, more, with_less, with_more}
 use Rattle.dancing_links.proofs.Law.{between, spelled_unlink, relink_unlink, in_other, out_other}
 use Rattle.dancing_links.proofs.Others.{range_step, others_from_take, others_from_skip, others_from_end}
 

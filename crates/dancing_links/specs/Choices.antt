@@ -1,8 +1,8 @@
 -- What links are seen as, and what is true of them.
-use Rattle.std.specs.Prelude.{◌≡◌, ℕ, ◌<◌, ◌≤◌, List, [], ◌∷◌, ◌++◌, true}
+use Rattle.std.specs.Prelude.{◌≡◌, ℕ, ◌<◌, ◌≤◌, List, [], ◌∷◌, ◌++◌, length, true}
 use Rattle.std.specs.List.{flat_map}
-use Rattle.cover_problem.specs.Prefix.{is_prefix}
-use Rattle.cover_problem.specs.Problem.{Problem, IsProblem, items_of}
+use Rattle.cover_problem.specs.Prefix.{is_live, is_prefix}
+use Rattle.cover_problem.specs.Problem.{Problem, IsProblem, items_of, names_item}
 use Rattle.dancing_links.specs.declared.link.Link.{Link}
 use Rattle.dancing_links.specs.Columns.{Columns, IsLinked, IsBuilt, IsCounted, links_all, outs_all}
 use Rattle.dancing_links.specs.Table.{table}
@@ -35,3 +35,9 @@ pub record IsLinks (problem : Problem) (c : Columns) (chosen : List ℕ) (links 
   pub built : IsBuilt c before
   pub history : links ≡ links_all c [] before (covered_items problem chosen)
   pub counted : IsCounted c (out_of problem c chosen) counts
+
+-- a live option that names the item
+pub record IsChild (problem : Problem) (chosen : List ℕ) (item option : ℕ) : Type 0 where
+  pub inside : option < length problem.options
+  pub live : is_live problem chosen option ≡ true
+  pub named : names_item problem option item ≡ true

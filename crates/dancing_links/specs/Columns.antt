@@ -1,5 +1,5 @@
 -- Columns of nodes that are linked both ways: taking a node out of its column, and putting it back.
-use Rattle.std.specs.Prelude.{map, ◌≡◌, ℕ, zero, suc, nat_lt, if◌then◌else◌, ◌<◌, ◌≤◌, ◌+◌, ◌-◌, ◌%◌, List, [], ◌∷◌, ◌++◌, length, slice_index_or, slice_set, Bool, true, false, not, ◌==◌, ◌&&◌, ◌||◌, filter}
+use Rattle.std.specs.Prelude.{map, ◌≡◌, ℕ, zero, suc, nat_lt, if◌then◌else◌, ◌<◌, ◌≤◌, ◌+◌, ◌-◌, ◌%◌, List, [], ◌∷◌, ◌++◌, length, slice_index_or, slice_set, Bool, true, false, not, ◌==◌, ◌&&◌, filter}
 use Rattle.std.specs.List.{list_any, range_with_len}
 use Rattle.std.specs.List.{All, flat_map}
 use Rattle.dancing_links.specs.declared.link.Link.{Link}
@@ -265,3 +265,10 @@ walk c m (suc steps) node = if nat_lt node c.tails then option_of c node ∷ wal
 -- the options of the nodes down a column from one on, to its tail
 abbrev pub options_left : Columns → List Link → ℕ → List ℕ
 options_left c m node = walk c m (c.tails - node) node
+
+-- the first node of a range that stands in the column of an item, or the end of the range where none does
+pub record IsNaming (c : Columns) (i begin end node : ℕ) : Type 0 where
+  pub low : begin ≤ node
+  pub high : node ≤ end
+  pub found : node < end → column_of c node ≡ i
+  pub absent : node ≡ end → (k : ℕ) → begin ≤ k → k < end → column_of c k ≡ i → ⊥

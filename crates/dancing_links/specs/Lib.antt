@@ -1,3 +1,4 @@
 pub mod Choices
 pub mod Columns
+pub mod Examples
 pub mod Table

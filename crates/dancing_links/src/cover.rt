@@ -54,7 +54,14 @@ fn hide(layout: &Layout, links: &mut [Link], counts: &mut [u16], node: usize)
 
 /// Puts the nodes of a range back, but for one.
 #[tactic(auto, using(crate::proofs::Others::others_from_take, crate::proofs::Others::others_from_skip, crate::proofs::Others::others_from_end))]
-fn relink_others(layout: &Layout, links: &mut [Link], counts: &mut [u16], node: usize, begin: usize, end: usize)
+fn relink_others(
+    layout: &Layout,
+    links: &mut [Link],
+    counts: &mut [u16],
+    node: usize,
+    begin: usize,
+    end: usize,
+)
     requires range { (layout.now.heads + layout.now.heads ≤ begin + 1) × (begin ≤ end) × (end ≤ layout.now.tails) }
     requires table { IsTable (columns_of layout.now) }
     requires linked { IsLinked (columns_of layout.now) links.old }
@@ -140,7 +147,13 @@ pub fn cover_all(layout: &Layout, links: &mut [Link], counts: &mut [u16], begin:
 }
 
 /// Uncovers the items of a range of nodes that were covered last, in the reverse order.
-pub fn uncover_all(layout: &Layout, links: &mut [Link], counts: &mut [u16], begin: usize, end: usize)
+pub fn uncover_all(
+    layout: &Layout,
+    links: &mut [Link],
+    counts: &mut [u16],
+    begin: usize,
+    end: usize,
+)
     requires range { (layout.now.heads + layout.now.heads ≤ begin + 1) × (begin ≤ end) × (end ≤ layout.now.tails) }
     requires table { IsTable (columns_of layout.now) }
     requires linked { IsLinked (columns_of layout.now) links.old }

@@ -2,7 +2,7 @@
 
 ghost use Rattle.std.specs.Prelude.{◌≡◌, ◌<◌, ◌≤◌, ◌+◌, ◌++◌, length, replicate, slice_index, IfOk};
 ghost use Rattle.std.specs.List.{range_with_len, concat};
-ghost use Rattle.dancing_links.specs.Columns.{columns_of, column_of, IsTable};
+ghost use Rattle.dancing_links.specs.Columns.{columns_of, column_of, IsTable, IsNaming};
 ghost use Rattle.dancing_links.specs.Table.{table, column_list, option_list, first_list, numbered};
 
 use cover_problem::Problem;
@@ -152,4 +152,18 @@ pub fn node_range(layout: &Layout, option: u16) -> (usize, usize)
         layout.first[option] as usize,
         layout.first[option + 1] as usize,
     )
+}
+
+/// The first node of a range that stands for an item, or the end of the range.
+pub fn node_of(layout: &Layout, item: u16, begin: usize, end: usize) -> usize
+    requires range { (layout.now.heads + layout.now.heads ≤ begin + 1) × (begin ≤ end) × (end ≤ layout.now.tails) }
+    requires table { IsTable (columns_of layout.now) }
+    ensures { IsNaming (columns_of layout.now) item begin end result }
+{
+    for node in begin..end {
+        if item_at(layout, node) == item as usize {
+            return node;
+        }
+    }
+    end
 }

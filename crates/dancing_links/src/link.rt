@@ -39,4 +39,3 @@ pub fn relink(layout: &Layout, links: &mut [Link], node: usize)
     links[link.up as usize].down = node as u32;
     links[link.down as usize].up = node as u32;
 }
-

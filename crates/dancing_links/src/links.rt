@@ -3,19 +3,23 @@
 ghost use Rattle.std.specs.Prelude.{◌≡◌, ◌+◌, ◌-◌, ◌<◌, ◌≤◌, [], length, IfOk, IfSome, MatchOption, true, false, not, slice_get};
 ghost use Rattle.std.specs.List.{All, list_all};
 ghost use Rattle.cover_problem.specs.Branching.{live_options, IsOpen};
-ghost use Rattle.cover_problem.specs.Onward.{open_items_from};
-ghost use Rattle.dancing_links.specs.Choices.{Choices, with_choice};
-ghost use Rattle.dancing_links.specs.Columns.{down_of};
-ghost use Rattle.cover_problem.specs.Prefix.{is_covered, is_live};
+ghost use Rattle.cover_problem.specs.Onward.{open_items_from, live_options_from};
+ghost use Rattle.cover_problem.specs.Problem.{IsProblem};
+ghost use Rattle.dancing_links.specs.Choices.{Choices, with_choice, IsChild};
+ghost use Rattle.dancing_links.specs.Columns.{columns_of, down_of, options_left, IsTable, IsLinked};
+ghost use Rattle.cover_problem.specs.Prefix.{is_covered, is_live, is_prefix};
 
 use crate::build::{build_counts, build_links};
 use crate::cover::{cover_all, uncover_all};
-use crate::layout::{Layout, layout_of, node_range};
+use crate::layout::{Layout, layout_of, node_of, node_range};
 use crate::link::Link;
 use crate::options::OptionsOf;
 use cover_problem::Problem;
 use std::alloc::{AllocError, Global};
 use std::marker::Model;
+
+#[cfg(test)]
+mod tests;
 
 /// The dancing links of a problem, and the options that are chosen in it.
 ///
@@ -58,6 +62,22 @@ impl<'a> Links<'a> {
             counts,
             chosen,
         })
+    }
+
+    /// The problem.
+    pub fn problem(&self) -> &'a Problem
+        ensures problem { result.now ≡ self.now.problem }
+        ensures lawful { IsProblem self.now.problem }
+    {
+        self.problem
+    }
+
+    /// The chosen options, in the order of the choices.
+    pub fn chosen(&self) -> &[u16]
+        ensures chosen { result.now ≡ self.now.chosen }
+        ensures prefix { is_prefix self.now.problem self.now.chosen ≡ true }
+    {
+        &self.chosen
     }
 
     /// Chooses a live option: covers its items, in the option's order.
@@ -115,6 +135,7 @@ impl<'a> Links<'a> {
     pub fn first_item(&self) -> Option<u16>
         ensures first { result ≡ slice_get (open_items_from self.now.problem self.now.chosen 0) 0 }
         ensures uncovered { IfSome result (IsOpen self.now.problem self.now.chosen) }
+        ensures item { IfSome result (λ item. item < length self.now.problem.names) }
     {
         item_below(
             &self.layout,
@@ -130,6 +151,7 @@ impl<'a> Links<'a> {
         requires uncovered { is_covered self.now.problem self.now.chosen item ≡ false }
         ensures next { result ≡ slice_get (open_items_from self.now.problem self.now.chosen (item + 1)) 0 }
         ensures uncovered { IfSome result (IsOpen self.now.problem self.now.chosen) }
+        ensures item { IfSome result (λ next. next < length self.now.problem.names) }
         ensures later { IfSome result (λ next. item < next) }
     {
         item_below(
@@ -148,6 +170,30 @@ impl<'a> Links<'a> {
     {
         let node = self.links[item as usize].down as usize;
         OptionsOf::from_node(&self.layout, &self.links, node)
+    }
+
+    /// The first live option that names an uncovered item.
+    pub fn first_option(&self, item: u16) -> Option<u16>
+        requires item { item < length self.now.problem.names }
+        requires uncovered { is_covered self.now.problem self.now.chosen item ≡ false }
+        ensures first { result ≡ slice_get (live_options_from self.now.problem self.now.chosen item 0) 0 }
+        ensures child { IfSome result (IsChild self.now.problem self.now.chosen item) }
+    {
+        option_below(&self.layout, &self.links, item as usize)
+    }
+
+    /// The next live option that names an uncovered item, after one that does.
+    pub fn next_option(&self, item: u16, option: u16) -> Option<u16>
+        requires item { item < length self.now.problem.names }
+        requires uncovered { is_covered self.now.problem self.now.chosen item ≡ false }
+        requires child { IsChild self.now.problem self.now.chosen item option }
+        ensures next { result ≡ slice_get (live_options_from self.now.problem self.now.chosen item (option + 1)) 0 }
+        ensures child { IfSome result (IsChild self.now.problem self.now.chosen item) }
+        ensures later { IfSome result (λ next. option < next) }
+    {
+        let (begin, end) = node_range(&self.layout, option);
+        let node = node_of(&self.layout, item, begin, end);
+        option_below(&self.layout, &self.links, node)
     }
 
     /// Whether none of these items is covered.
@@ -170,6 +216,21 @@ fn item_below(layout: &Layout, links: &[Link], primary: usize, node: usize) -> O
     let below = links[node].down as usize;
     if below < layout.heads + primary {
         Some((below - layout.heads) as u16)
+    } else {
+        None
+    }
+}
+
+/// The option of the node below a node in its column; none at the tail.
+fn option_below(layout: &Layout, links: &[Link], node: usize) -> Option<u16>
+    requires node { node < length links.now }
+    requires table { IsTable (columns_of layout.now) }
+    requires linked { IsLinked (columns_of layout.now) links.now }
+    ensures { result ≡ slice_get (options_left (columns_of layout.now) links.now (down_of links.now node)) 0 }
+{
+    let below = links[node].down as usize;
+    if below < layout.tails {
+        Some(layout.options[below])
     } else {
         None
     }

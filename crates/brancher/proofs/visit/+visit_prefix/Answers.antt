@@ -1,106 +1,102 @@
-use Rattle.std.proofs.Common.{◌≡◌, ◌<◌, ◌-◌, ◌++◌, ◌∷◌, [], Some, None, length, refl, arith, sym, ◌∙◌, ap, true, false, vec_len, length-append}
-use Rattle.std.proofs.lemmas.List.{take_at}
-use Rattle.cover_problem.specs.Branching.{branch_item, is_choice}
-use Rattle.cover_problem.proofs.Steps.{within_zero, within_none, within_some, some_visits, left_end, left_barren, left_found, left_spent}
-use Rattle.cover_problem.proofs.Remaining.{live_options_start, live_options_from_skip}
-use Rattle.cover_problem.proofs.Prefixes.{prefix_more, open_fewer}
+use Rattle.std.proofs.Common.{◌≡◌, ◌<◌, ◌≤◌, ◌+◌, ◌-◌, Some, None, length, refl, arith, sym, ◌∙◌, ap, subst, IfSome, slice_get}
+use Rattle.cover_problem.specs.Branching.{branch_item, open_items}
+use Rattle.cover_problem.specs.Onward.{live_options_from}
+use Rattle.cover_problem.specs.Search.{first_within, visits_within}
+use Rattle.cover_problem.proofs.Steps.{within_zero, within_none, some_visits}
+use Rattle.dancing_links.specs.Choices.{Choices, with_choice, IsChild}
+use Rattle.brancher.specs.Branch.{branch_told}
+use Rattle.brancher.proofs.Visits.{so_far_start, so_far_found, so_far_spent, so_far_barren, so_far_end, options_fewer, child_deeper, next_child, choice_back, same_choices}
 use Rattle.brancher.proofs.visit.+visit_prefix.Goals as goal
-use Rattle.brancher.proofs.visit.+visit_prefix.Goals.{then-is_choice+in-Barren, else-is_choice}
 
 pub returns-then-fuel-eq0-clause-visit : goal.returns-then-fuel-eq0-clause-visit
-returns-then-fuel-eq0-clause-visit t c = omega (arith, some_visits c.args.problem.now c.args.depth c.args.chosen.now.items, c.if-fuel-eq0.true)
+returns-then-fuel-eq0-clause-visit t c = omega (arith, some_visits c.args.links.now.problem c.args.depth c.args.links.now.chosen, c.if-fuel-eq0.true)
 
 pub returns-then-depth-eq0-clause-visit : goal.returns-then-depth-eq0-clause-visit
-returns-then-depth-eq0-clause-visit t c = let came = within_zero c.args.problem.now c.args.depth c.args.chosen.now.items c.if-depth-eq0.true in (omega (arith, came.visits, c.if-fuel-eq0.false), came.found)
+returns-then-depth-eq0-clause-visit t c =
+    let came = within_zero c.args.links.now.problem c.args.depth c.args.links.now.chosen c.if-depth-eq0.true in
+    (omega (arith, came.visits, c.if-fuel-eq0.false), came.found)
 
-pub returns-in_default-clause-visit : goal.returns-in_default-clause-visit
-returns-in_default-clause-visit t c = let e : branch_item c.args.problem.now c.args.chosen.now.items ≡ None = grind arith in
-    let came = within_none c.args.problem.now c.args.depth c.args.chosen.now.items e in (omega (arith, came.visits, c.if-fuel-eq0.false), came.found)
+pub returns-in_default-item-clause-visit : goal.returns-in_default-item-clause-visit
+returns-in_default-item-clause-visit t c =
+    let e : branch_item c.args.links.now.problem c.args.links.now.chosen ≡ None = sym c.branch-item.ensures.item ∙ ap branch_told c.in_default-item.is in
+    let came = within_none c.args.links.now.problem c.args.depth c.args.links.now.chosen e in
+    (omega (arith, came.visits, c.if-fuel-eq0.false), came.found)
 
-pub loop-option-init : goal.loop-option-init
-loop-option-init t c =
-    let e : branch_item c.args.problem.now c.args.chosen.now.items ≡ Some c.in-Some.item = cc in
-    let came = within_some c.args.problem.now c.args.depth c.args.chosen.now.items c.in-Some.item (omega arith) e in
-    let start = live_options_start c.args.problem.now c.args.chosen.now.items c.in-Some.item in
-    record { kept = refl; room = refl; found = rw start (sym came.found); visits = rw start (omega (arith, came.visits)) }
+pub loop-next-init : goal.loop-next-init
+loop-next-init t c =
+    let p = c.args.links.now.problem in
+    let xs = c.args.links.now.chosen in
+    let e : branch_item c.args.links.now.problem c.args.links.now.chosen ≡ Some c.in_Item-item.item = sym c.in_Item-item.ensures.item in
+    let far = so_far_start p c.args.depth xs c.in_Item-item.item c.args.fuel c.first_option-next.result c.if-depth-eq0.false c.if-fuel-eq0.false e c.first_option-next.ensures.first in
+    record { kept = refl; child = c.first_option-next.ensures.child; found = far.found; visits = far.visits }
 
 pub visit_prefix-requires : goal.visit_prefix-requires
 visit_prefix-requires t c =
-    let p = c.args.problem.now in
-    let xs = c.args.chosen.now.items in
-    let i = c.in-Some.item in
-    let o = c.loop-option.option in
-    let within : o < length p.options = omega arith in
-    let e : branch_item p xs ≡ Some i = cc in
-    let choice : is_choice p xs i o ≡ true = cc in
-    let pushed : c.push_reserved.new.self.items ≡ xs ++ o ∷ [] = cc in
-    let fewer = open_fewer p xs i o e choice in
-    let same : length c.loop-option.chosen.items ≡ length xs = ap length c.loop-option.invariant.kept in
-    (omega arith, (rw pushed (prefix_more p xs i o c.requires.prefix within choice), (rw pushed (omega arith), rw pushed (omega (arith, fewer, same, c.loop-option.chosen.ok.0, c.args.chosen.now.ok.0, c.push_reserved.ensures.len, c.push_reserved.ensures.capacity, c.loop-option.invariant.room, c.requires.room)))))
+    let p = c.args.links.now.problem in
+    let xs = c.args.links.now.chosen in
+    let i = c.in_Item-item.item in
+    let o = c.in-Some.option in
+    let e : branch_item c.args.links.now.problem c.args.links.now.chosen ≡ Some c.in_Item-item.item = sym c.in_Item-item.ensures.item in
+    let child = next_child p xs i o c.loop-next.next c.in-Some.is c.loop-next.invariant.child in
+    let same : c.choose.new.self ≡ with_choice c.args.links.now c.in-Some.option = c.choose.ensures ∙ ap (λ (v : Choices). with_choice v c.in-Some.option) c.loop-next.invariant.kept in
+    let P : Choices → Type 0 = λ v. length (open_items v.problem v.chosen) ≤ c.args.depth - 1 in
+    (omega arith, subst P (sym same) (child_deeper p xs i o c.args.depth e child c.requires))
 
 pub returns-in-Found-clause-visit : goal.returns-in-Found-clause-visit
 returns-in-Found-clause-visit t c =
-    let p = c.args.problem.now in
-    let xs = c.args.chosen.now.items in
-    let i = c.in-Some.item in
-    let o = c.loop-option.option in
-    let within : o < length p.options = omega arith in
-    let e : branch_item p xs ≡ Some i = cc in
-    let choice : is_choice p xs i o ≡ true = cc in
-    let pushed : c.push_reserved.new.self.items ≡ xs ++ o ∷ [] = cc in
-    let below = rw pushed at c.in-Found.ensures.visit in
-    let left = left_found p (c.args.depth - 1) xs i o c.visit_prefix.new.chosen.items within choice below.1 in
-    (omega (arith, left.visits, c.loop-option.invariant.visits, below.0), sym c.loop-option.invariant.found ∙ left.found)
+    let p = c.args.links.now.problem in
+    let xs = c.args.links.now.chosen in
+    let i = c.in_Item-item.item in
+    let o = c.in-Some.option in
+    let child = next_child p xs i o c.loop-next.next c.in-Some.is c.loop-next.invariant.child in
+    let same : c.choose.new.self ≡ with_choice c.args.links.now c.in-Some.option = c.choose.ensures ∙ ap (λ (v : Choices). with_choice v c.in-Some.option) c.loop-next.invariant.kept in
+    let V : Choices → Type 0 = λ v. (visits_within v.problem (c.args.depth - 1) v.chosen ≤ c.loop-next.left) × (first_within v.problem (c.args.depth - 1) v.chosen ≡ Some c.visit_prefix.new.links.chosen) in
+    let below = subst V same c.in-Found.ensures.visit in
+    so_far_found p c.args.depth xs c.visit_prefix.new.links.chosen i o c.args.fuel c.loop-next.left c.loop-next.next c.in-Some.is child below.0 below.1 (record { found = c.loop-next.invariant.found; visits = c.loop-next.invariant.visits })
 
 pub returns-in-Spent-clause-visit : goal.returns-in-Spent-clause-visit
 returns-in-Spent-clause-visit t c =
-    let p = c.args.problem.now in
-    let xs = c.args.chosen.now.items in
-    let i = c.in-Some.item in
-    let o = c.loop-option.option in
-    let within : o < length p.options = omega arith in
-    let e : branch_item p xs ≡ Some i = cc in
-    let choice : is_choice p xs i o ≡ true = cc in
-    let pushed : c.push_reserved.new.self.items ≡ xs ++ o ∷ [] = cc in
-    let below = rw pushed at c.in-Spent.ensures.visit in
-    let left = left_spent p (c.args.depth - 1) xs i o within choice in
-    omega (arith, left, c.loop-option.invariant.visits, below)
+    let p = c.args.links.now.problem in
+    let xs = c.args.links.now.chosen in
+    let i = c.in_Item-item.item in
+    let o = c.in-Some.option in
+    let child = next_child p xs i o c.loop-next.next c.in-Some.is c.loop-next.invariant.child in
+    let same : c.choose.new.self ≡ with_choice c.args.links.now c.in-Some.option = c.choose.ensures ∙ ap (λ (v : Choices). with_choice v c.in-Some.option) c.loop-next.invariant.kept in
+    let V : Choices → Type 0 = λ v. c.loop-next.left < visits_within v.problem (c.args.depth - 1) v.chosen in
+    let below = subst V same c.in-Spent.ensures.visit in
+    so_far_spent p c.args.depth xs i o c.args.fuel c.loop-next.left c.loop-next.next c.in-Some.is child below (record { found = c.loop-next.invariant.found; visits = c.loop-next.invariant.visits })
 
-pub loop-option-preserved : goal.loop-option-preserved
-loop-option-preserved t c =
-    let p = c.args.problem.now in
-    let xs = c.args.chosen.now.items in
-    let i = c.in-Some.item in
-    let o = c.loop-option.option in
-    let within : o < length p.options = omega arith in
-    elim c.if-is_choice.branch [
-      | then-is_choice+in-Barren w ↦
-          let choice : is_choice p xs i o ≡ true = cc in
-          let pushed : w.push_reserved.new.self.items ≡ xs ++ o ∷ [] = cc in
-          let below = rw pushed at w.in-Barren.ensures.visit in
-          let left = left_barren p (c.args.depth - 1) xs i o within choice below.1 in
-          let back : w.visit_prefix.new.chosen.items ≡ xs ++ o ∷ [] = below.2 in
-          let lens = simp length-append at (ap length back) in
-          let count : length xs ≡ vec_len w.visit_prefix.new.chosen - 1 = omega (arith, w.visit_prefix.new.chosen.ok.0, lens) in
-          record { kept = rw (w.chosen-is, w.pop.ensures.rest, back) (take_at xs (o ∷ []) _ count); room = rw w.chosen-is (w.pop.ensures.capacity ∙ w.in-Barren.ensures.room ∙ w.push_reserved.ensures.capacity ∙ c.loop-option.invariant.room); found = sym left.found ∙ c.loop-option.invariant.found; visits = omega (arith, left.visits, c.loop-option.invariant.visits, below.0, w.left-is) }
-      | else-is_choice w ↦
-          let choice : is_choice p xs i o ≡ false = cc in
-          let skip = live_options_from_skip p xs i o within choice in
-          record { kept = rw w.chosen-is c.loop-option.invariant.kept; room = rw w.chosen-is c.loop-option.invariant.room; found = rw (← skip) c.loop-option.invariant.found; visits = rw (← skip, w.left-is) c.loop-option.invariant.visits }
-    ]
+pub loop-next-preserved : goal.loop-next-preserved
+loop-next-preserved t c =
+    let p = c.args.links.now.problem in
+    let xs = c.args.links.now.chosen in
+    let i = c.in_Item-item.item in
+    let o = c.in-Some.option in
+    let child = next_child p xs i o c.loop-next.next c.in-Some.is c.loop-next.invariant.child in
+    let same : c.choose.new.self ≡ with_choice c.args.links.now c.in-Some.option = c.choose.ensures ∙ ap (λ (v : Choices). with_choice v c.in-Some.option) c.loop-next.invariant.kept in
+    let V : Choices → Type 0 = λ v. (visits_within v.problem (c.args.depth - 1) v.chosen + c.in-Barren.rest ≡ c.loop-next.left) × (first_within v.problem (c.args.depth - 1) v.chosen ≡ None) × (c.visit_prefix.new.links.chosen ≡ v.chosen) in
+    let below = subst V same c.in-Barren.ensures.visit in
+    let was : c.visit_prefix.new.links ≡ with_choice c.args.links.now c.in-Some.option =
+    same_choices c.visit_prefix.new.links (with_choice c.args.links.now c.in-Some.option) (c.in-Barren.ensures.problem ∙ ap (λ (v : Choices). v.problem) same) below.2 in
+    let kept : c.undo.new.self ≡ c.args.links.now = choice_back c.undo.new.self c.args.links.now c.undo.result c.in-Some.option (sym c.undo.ensures ∙ was) in
+    let N : Choices → Type 0 = λ v. c.next_option-next.result ≡ slice_get (live_options_from v.problem v.chosen c.in_Item-item.item (c.in-Some.option + 1)) 0 in
+    let later = subst N kept c.next_option-next.ensures.next in
+    let C : Choices → Type 0 = λ v. IfSome c.next_option-next.result (IsChild v.problem v.chosen c.in_Item-item.item) in
+    let far = so_far_barren p c.args.depth xs i o c.args.fuel c.loop-next.left c.in-Barren.rest c.loop-next.next c.next_option-next.result c.in-Some.is child below.0 below.1 later (record { found = c.loop-next.invariant.found; visits = c.loop-next.invariant.visits }) in
+    record { kept = kept; child = subst C kept c.next_option-next.ensures.child; found = far.found; visits = far.visits }
+
+pub loop-next-smaller : goal.loop-next-smaller
+loop-next-smaller t c =
+    let p = c.args.links.now.problem in
+    let xs = c.args.links.now.chosen in
+    let i = c.in_Item-item.item in
+    let o = c.in-Some.option in
+    let child = next_child p xs i o c.loop-next.next c.in-Some.is c.loop-next.invariant.child in
+    let step = loop-next-preserved t c in
+    let N : Choices → Type 0 = λ v. c.next_option-next.result ≡ slice_get (live_options_from v.problem v.chosen c.in_Item-item.item (c.in-Some.option + 1)) 0 in
+    options_fewer p xs i o c.loop-next.next c.next_option-next.result c.in-Some.is child (subst N step.kept c.next_option-next.ensures.next)
 
 pub returns-clause-visit : goal.returns-clause-visit
 returns-clause-visit t c =
-    let left = left_end c.args.problem.now (c.args.depth - 1) c.args.chosen.now.items c.in-Some.item c.loop-option.option (omega arith) in
-    (omega (arith, left.visits, c.loop-option.invariant.visits), sym c.loop-option.invariant.found ∙ left.found, c.loop-option.invariant.kept)
-
-pub push_reserved-requires : goal.push_reserved-requires
-push_reserved-requires t c =
-    let p = c.args.problem.now in
-    let xs = c.args.chosen.now.items in
-    let i = c.in-Some.item in
-    let o = c.loop-option.option in
-    let e : branch_item p xs ≡ Some i = cc in
-    let choice : is_choice p xs i o ≡ true = cc in
-    let same : length c.loop-option.chosen.items ≡ length xs = ap length c.loop-option.invariant.kept in
-    omega (arith, open_fewer p xs i o e choice, same, c.loop-option.chosen.ok.0, c.args.chosen.now.ok.0, c.loop-option.invariant.room, c.requires.room)
+    let far = so_far_end c.args.links.now.problem c.args.depth c.args.links.now.chosen c.in_Item-item.item c.args.fuel c.loop-next.left c.loop-next.next c.in_default.is (record { found = c.loop-next.invariant.found; visits = c.loop-next.invariant.visits }) in
+    (far.0, far.1, ap (λ (v : Choices). v.chosen) c.loop-next.invariant.kept)

@@ -1,4 +1,4 @@
-use Rattle.std.proofs.Common.{◌≡◌, ◌-◌, ◌*◌, ℕ, arith, ◌∙◌, vec_len, refl}
+use Rattle.std.proofs.Common.{◌-◌, ◌*◌, arith, ◌∙◌, vec_len, refl}
 use Rattle.dancing_links.specs.Columns.{columns_of}
 use Rattle.dancing_links.proofs.Counts.{counting_start, counting_end}
 use Rattle.dancing_links.proofs.Laid.{resized}

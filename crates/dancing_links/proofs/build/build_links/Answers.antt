@@ -1,4 +1,4 @@
-use Rattle.std.proofs.Common.{◌≡◌, ℕ, length, arith, ap, ◌∙◌, sym, vec_len}
+use Rattle.std.proofs.Common.{length, arith, ◌∙◌, vec_len}
 use Rattle.dancing_links.specs.Columns.{columns_of}
 use Rattle.dancing_links.proofs.Building.{building_start, building_all}
 use Rattle.dancing_links.proofs.Laid.{resized}

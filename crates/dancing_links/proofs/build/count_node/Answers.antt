@@ -1,4 +1,4 @@
-use Rattle.std.proofs.Common.{◌≡◌, arith}
+use Rattle.std.proofs.Common.{arith}
 use Rattle.dancing_links.specs.Columns.{columns_of}
 use Rattle.dancing_links.proofs.Counts.{counting_step, counting_fits}
 use Rattle.dancing_links.proofs.build.count_node.Goals as goal

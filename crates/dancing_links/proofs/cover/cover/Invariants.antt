@@ -1,4 +1,4 @@
-use Rattle.std.proofs.Common.{◌≡◌, ◌-◌, ◌≤◌}
+use Rattle.std.proofs.Common.{◌-◌, ◌≤◌}
 use Rattle.dancing_links.specs.Columns.{IsLinked, columns_of}
 use Rattle.dancing_links.proofs.Walk.{Going}
 use Rattle.dancing_links.proofs.cover.cover.Given as goal

@@ -1,4 +1,3 @@
-use Rattle.std.proofs.Common.{◌≡◌, ◌≤◌}
 use Rattle.dancing_links.specs.Columns.{IsLinked, columns_of, items_from}
 use Rattle.dancing_links.proofs.Choose.{On}
 use Rattle.dancing_links.proofs.cover.cover_all.Given as goal

@@ -1,4 +1,4 @@
-use Rattle.std.proofs.Common.{◌≡◌, ◌<◌, ◌≤◌, ◌+◌, length, arith}
+use Rattle.std.proofs.Common.{◌≤◌, ◌+◌, arith}
 use Rattle.dancing_links.specs.Columns.{columns_of}
 use Rattle.dancing_links.proofs.Chain.{uncover_start, uncover_step, uncover_end}
 use Rattle.dancing_links.proofs.Counts.{uncover_counts}

@@ -1,6 +1,6 @@
-use Rattle.std.proofs.Common.{◌≡◌, ◌<◌, ◌≤◌, ◌+◌, ◌-◌, ◌++◌, ◌∷◌, [], List, ℕ, arith, ap, sym, ◌∙◌, subst}
+use Rattle.std.proofs.Common.{◌≡◌, ◌≤◌, ◌+◌, ◌-◌, ◌++◌, ◌∷◌, [], ℕ, arith, ap, sym, ◌∙◌}
 use Rattle.dancing_links.specs.Columns.{columns_of, column_of, items_from}
-use Rattle.dancing_links.proofs.Choose.{Off, off_start, off_step, off_end, off_counted, items_last, items_end}
+use Rattle.dancing_links.proofs.Choose.{off_step, off_end, off_counted, items_last, items_end}
 use Rattle.dancing_links.proofs.cover.uncover_all.Goals as goal
 
 pub loop-node-preserved : goal.loop-node-preserved

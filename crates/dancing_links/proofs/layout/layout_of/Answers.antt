@@ -1,5 +1,4 @@
-use Rattle.std.proofs.Common.{◌≡◌, ◌+◌, ◌-◌, length, arith, ap, ◌∙◌}
-use Rattle.dancing_links.specs.Table.{heads_of, tails_of}
+use Rattle.std.proofs.Common.{◌+◌, ◌-◌, length, arith, ap, ◌∙◌}
 use Rattle.dancing_links.proofs.Nodes.{length-column_list}
 use Rattle.dancing_links.proofs.Tables.{same_table}
 use Rattle.dancing_links.proofs.layout.layout_of.Goals as goal

@@ -1,4 +1,4 @@
-use Rattle.std.proofs.Common.{◌≡◌, ℕ, ◌<◌, length, true, arith, ap, refl, ◌∙◌, sym, [], ◌∷◌, ◌++◌, vec_capacity}
+use Rattle.std.proofs.Common.{◌≡◌, ◌<◌, length, true, arith, ap, refl, ◌∙◌, [], ◌∷◌, ◌++◌, vec_capacity}
 use Rattle.cover_problem.specs.Prefix.{is_live}
 use Rattle.dancing_links.specs.Choices.{Choices}
 use Rattle.dancing_links.specs.Columns.{columns_of}

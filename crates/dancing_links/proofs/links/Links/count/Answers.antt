@@ -1,4 +1,4 @@
-use Rattle.std.proofs.Common.{◌≡◌, ◌<◌, ◌+◌, length, false, arith, ap, ◌∙◌, vec_capacity}
+use Rattle.std.proofs.Common.{◌≡◌, ◌<◌, length, false, arith, ap, ◌∙◌, vec_capacity}
 use Rattle.std.proofs.lemmas.Grind.{get_or_default_zero}
 use Rattle.cover_problem.specs.Branching.{live_options}
 use Rattle.cover_problem.specs.Prefix.{is_covered}

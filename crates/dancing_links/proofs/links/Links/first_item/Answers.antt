@@ -1,11 +1,11 @@
-use Rattle.std.proofs.Common.{◌≡◌, ℕ, List, ◌<◌, ◌+◌, ◌-◌, length, false, ap, arith, ◌∙◌, sym, vec_capacity, subst, slice_get, IfSome}
+use Rattle.std.proofs.Common.{List, ◌-◌, ap, ◌∙◌, sym, vec_capacity, subst, slice_get, IfSome}
 use Rattle.cover_problem.specs.Branching.{IsOpen}
 use Rattle.cover_problem.specs.Onward.{open_items_from}
-use Rattle.cover_problem.specs.Prefix.{is_covered}
+use Rattle.cover_problem.specs.Problem.{IsProblem}
 use Rattle.dancing_links.specs.declared.link.Link.{Link}
 use Rattle.dancing_links.specs.Choices.{Choices}
 use Rattle.dancing_links.specs.Columns.{columns_of, down_of}
-use Rattle.dancing_links.proofs.Views.{IsOnward, onward_first, answer_item, answer_open}
+use Rattle.dancing_links.proofs.Views.{IsOnward, onward_first, answer_item, answer_open, open_named}
 use Rattle.dancing_links.proofs.links.Links.first_item.Goals as goal
 
 pub returns-clause-first : goal.returns-clause-first
@@ -28,3 +28,6 @@ returns-clause-uncovered c =
     let found = answer_open p cs os 0 (down_of c.deref.result.now (c.self.inside.layout.heads - 1)) c.primary.result c.item_below.result c.primary.ensures.count on c.item_below.ensures in
     let Q : Choices → Type 0 = λ v. IfSome c.item_below.result (IsOpen v.problem v.chosen) in
     subst Q c.self.view_is found
+
+pub returns-clause-item : goal.returns-clause-item
+returns-clause-item c = open_named c.args.self.now.problem c.args.self.now.chosen c.item_below.result (subst (λ (v : Choices). IsProblem v.problem) c.self.view_is c.self.invariant.is_problem) (returns-clause-uncovered c)

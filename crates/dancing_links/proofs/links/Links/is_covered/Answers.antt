@@ -1,4 +1,4 @@
-use Rattle.std.proofs.Common.{◌≡◌, ◌<◌, length, arith, ap, ◌∙◌, vec_capacity}
+use Rattle.std.proofs.Common.{◌<◌, length, arith, ap, ◌∙◌, vec_capacity}
 use Rattle.cover_problem.specs.Prefix.{is_covered}
 use Rattle.dancing_links.specs.Choices.{Choices}
 use Rattle.dancing_links.specs.Columns.{columns_of}

@@ -1,4 +1,4 @@
-use Rattle.std.proofs.Common.{◌≡◌, List, ℕ, ◌∷◌, length, arith, ap, rules}
+use Rattle.std.proofs.Common.{◌≡◌, ◌∷◌, length, ap, rules}
 use Rattle.dancing_links.specs.Columns.{columns_of, down_of, options_left}
 use Rattle.dancing_links.proofs.Views.{left_step}
 use Rattle.dancing_links.proofs.options.OptionsOfIterator.next.Goals as goal
@@ -9,6 +9,6 @@ returns-clause-steps c = left_step (columns_of c.self.inside.layout.now) c.self.
 pub returns-clause-goes : goal.returns-clause-goes
 returns-clause-goes c =
     let step : c.args.self.now ≡ c.index-option.result.now ∷ options_left (columns_of c.self.inside.layout.now) c.self.inside.links.now (down_of c.self.inside.links.now c.self.inside.node) =
-        left_step (columns_of c.self.inside.layout.now) c.self.inside.links.now c.self.inside.node c.index-option.result.now c.args.self.now c.self.invariant.0 c.self.invariant.1 c.if-self.false c.index-option.ensures c.self.view_is in
+    left_step (columns_of c.self.inside.layout.now) c.self.inside.links.now c.self.inside.node c.index-option.result.now c.args.self.now c.self.invariant.0 c.self.invariant.1 c.if-self.false c.index-option.ensures c.self.view_is in
     let shorter = ap length step in
     search (rules, shorter)
