@@ -3,4 +3,5 @@
 mod alone;
 mod check;
 mod command_line;
+mod plain;
 mod search;

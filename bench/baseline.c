@@ -1,0 +1,125 @@
+/* A baseline for the benchmark: classic dancing links in C, after TAOCP 7.2.2.1, with Knuth's recursion unrolled into calls.
+ *
+ *     baseline FILE      prints whether there is a cover, the visits, and the seconds of the search alone
+ *
+ * It reads the same files as the program, but trusts them: no refusal is made here. Options without a primary item are
+ * ignored, a tie goes to the item named first, and an option's line is tried in file order.
+ */
+#include <stdio.h>
+#include <stdlib.h>
+#include <string.h>
+#include <time.h>
+
+typedef struct { int left, right; } Item;          /* the uncovered primary items, in a ring with head 0 */
+typedef struct { int up, down, item; } Node;       /* a node below an item; a spacer has item <= 0 */
+
+static Item items[1002];
+static Node nodes[230000];
+static int counts[1002];
+static char *names[1002];
+static int item_count, primary_count, last_node, option_count;
+static unsigned long long visits;
+
+static void hide(int node) {
+    for (int other = node + 1; other != node;) {
+        int item = nodes[other].item, up = nodes[other].up, down = nodes[other].down;
+        if (item <= 0) { other = up; continue; }
+        nodes[up].down = down, nodes[down].up = up;
+        counts[item]--;
+        other++;
+    }
+}
+
+static void unhide(int node) {
+    for (int other = node - 1; other != node;) {
+        int item = nodes[other].item, up = nodes[other].up, down = nodes[other].down;
+        if (item <= 0) { other = down; continue; }
+        nodes[up].down = other, nodes[down].up = other;
+        counts[item]++;
+        other--;
+    }
+}
+
+static void cover(int item) {
+    for (int node = nodes[item].down; node != item; node = nodes[node].down) hide(node);
+    int left = items[item].left, right = items[item].right;
+    items[left].right = right, items[right].left = left;
+}
+
+static void uncover(int item) {
+    int left = items[item].left, right = items[item].right;
+    items[left].right = item, items[right].left = item;
+    for (int node = nodes[item].up; node != item; node = nodes[node].up) unhide(node);
+}
+
+static int search(void) {
+    visits++;
+    if (items[0].right == 0) return 1;
+    int best = 0, least = 1 << 30;
+    for (int item = items[0].right; item != 0; item = items[item].right)
+        if (counts[item] < least) { least = counts[item], best = item; if (least == 0) return 0; }
+    cover(best);
+    for (int node = nodes[best].down; node != best; node = nodes[node].down) {
+        for (int other = node + 1; other != node;) {
+            int item = nodes[other].item;
+            if (item <= 0) other = nodes[other].up; else cover(item), other++;
+        }
+        if (search()) return 1;
+        for (int other = node - 1; other != node;) {
+            int item = nodes[other].item;
+            if (item <= 0) other = nodes[other].down; else uncover(item), other--;
+        }
+    }
+    uncover(best);
+    return 0;
+}
+
+static int item_named(const char *word) {
+    for (int item = 1; item <= item_count; item++) if (strcmp(names[item], word) == 0) return item;
+    fprintf(stderr, "no item %s\n", word), exit(3);
+}
+
+static void read_items(char *line) {
+    primary_count = -1;
+    for (char *word = strtok(line, " \t\r\n"); word; word = strtok(NULL, " \t\r\n")) {
+        if (word[0] == '|') { primary_count = item_count; word++; if (!word[0]) continue; }
+        names[++item_count] = strdup(word);
+    }
+    if (primary_count < 0) primary_count = item_count;
+    for (int item = 0; item <= item_count; item++) nodes[item] = (Node){item, item, item}, items[item] = (Item){item, item};
+    for (int item = 1; item <= primary_count; item++) items[item].left = item - 1, items[item - 1].right = item;
+    items[primary_count].right = 0, items[0].left = primary_count;
+    last_node = item_count + 1, nodes[last_node].item = 0;
+}
+
+static void read_option(char *line) {
+    int first = last_node + 1, node = last_node, is_kept = 0, chosen[1000], count = 0;
+    for (char *word = strtok(line, " \t\r\n"); word; word = strtok(NULL, " \t\r\n")) {
+        chosen[count] = item_named(word);
+        is_kept |= chosen[count++] <= primary_count;
+    }
+    if (!is_kept) return;
+    for (int place = 0; place < count; place++) {
+        int item = chosen[place], up = nodes[item].up;
+        nodes[++node] = (Node){up, item, item};
+        nodes[up].down = node, nodes[item].up = node, counts[item]++;
+    }
+    nodes[last_node].down = node;                  /* a spacer leads down to the end of its option */
+    last_node = node + 1, option_count++;
+    nodes[last_node] = (Node){first, 0, -option_count};
+}
+
+int main(int count, char **words) {
+    static char line[70000];
+    FILE *file = count == 2 ? fopen(words[1], "r") : NULL;
+    if (!file) return fprintf(stderr, "baseline FILE\n"), 3;
+    while (fgets(line, sizeof line, file)) {
+        char *text = line + strspn(line, " \t\r\n");
+        if (!*text || *text == '|') continue;
+        if (item_count == 0) read_items(text); else read_option(text);
+    }
+    clock_t start = clock();
+    int found = search();
+    printf("%s %llu %.4f\n", found ? "cover" : "none", visits, (double)(clock() - start) / CLOCKS_PER_SEC);
+    return 0;
+}

@@ -1,0 +1,61 @@
+#!/usr/bin/env python3
+"""Times the program beside the baseline: `python3 bench/run.py [FILE..]`, all instances where none is named.
+
+Each instance is searched by both, by turns, three times each; the least user time of the whole process counts, reading
+included. Both have to come to the same outcome. It prints a table, and the geometric mean of the ratios over the
+instances with more than 100,000 visits. It wants gcc, and the program built by `rt run` in crates/solve_cli.
+"""
+import glob
+import math
+import os
+import resource
+import subprocess
+import sys
+import tempfile
+
+HERE = os.path.dirname(os.path.abspath(__file__))
+PROGRAM = os.path.join(HERE, "..", "crates", "solve_cli", "out", "solve_cli")
+
+
+def timed(words):
+    before = resource.getrusage(resource.RUSAGE_CHILDREN).ru_utime
+    ended = subprocess.run(words, capture_output=True, text=True)
+    return ended.stdout, resource.getrusage(resource.RUSAGE_CHILDREN).ru_utime - before
+
+
+def compare(baseline, file):
+    best = [math.inf, math.inf]
+    for _ in range(3):
+        theirs, seconds = timed([baseline, file])
+        best[0] = min(best[0], seconds)
+        ours, seconds = timed([PROGRAM, "alone", file])
+        best[1] = min(best[1], seconds)
+    outcome, visits, _ = theirs.split()
+    if not ours.startswith(outcome):
+        sys.exit(f"{file}: the outcomes differ")
+    return outcome, int(visits), best
+
+
+def main():
+    with tempfile.TemporaryDirectory() as folder:
+        baseline = os.path.join(folder, "baseline")
+        subprocess.run(["gcc", "-O3", "-march=native", "-o", baseline, os.path.join(HERE, "baseline.c")], check=True)
+        subprocess.run([sys.executable, os.path.join(HERE, "instances.py"), folder], check=True)
+        files = sys.argv[1:] or sorted(glob.glob(os.path.join(folder, "*.dlx")))
+        ratios = []
+        print("| Instance | Outcome | Visits | Baseline, s | Ours, s | Ratio |")
+        print("|---|---|---|---|---|---|")
+        for file in files:
+            outcome, visits, (theirs, ours) = compare(baseline, file)
+            name = os.path.basename(file)[: -len(".dlx")]
+            ratio = ours / theirs if theirs > 0.01 else math.nan
+            if visits > 100000:
+                ratios.append(ratio)
+            print(f"| {name} | {outcome} | {visits:,} | {theirs:.3f} | {ours:.3f} | {ratio:.2f} |")
+        if ratios:
+            mean = math.exp(sum(map(math.log, ratios)) / len(ratios))
+            print(f"\nGeometric mean over {len(ratios)} instances of more than 100,000 visits: {mean:.2f}")
+
+
+if __name__ == "__main__":
+    main()

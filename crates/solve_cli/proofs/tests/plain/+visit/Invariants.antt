@@ -1,0 +1,4 @@
+use Rattle.solve_cli.proofs.tests.plain.+visit.Given as goal
+
+abbrev pub decreases-visit : goal.decreases-visit
+decreases-visit l = l.depth

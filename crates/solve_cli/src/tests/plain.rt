@@ -1,0 +1,171 @@
+//! The search by dancing links against a plain one, which filters all options at each visit, over random problems.
+
+ghost use Rattle.std.specs.Prelude.{◌≤◌};
+
+use brancher::{Outcome, Searcher};
+use cover_problem::Problem;
+use dlx_reader::read_problem;
+use std::alloc::{AllocError, Global};
+use std::process::Abort;
+use std::test::Fail;
+
+/// The items of each option.
+fn options_of(alloc: Global, problem: &Problem) -> Result<Vec<&[u16]>, AllocError> {
+    let mut options = Vec::new(alloc);
+    for option in 0..problem.options() as u16 {
+        options.push(problem.option(option))?;
+    }
+    Ok(options)
+}
+
+fn is_covered(options: &[&[u16]], chosen: &[u16], item: u16) -> bool {
+    for option in chosen {
+        if let Some(items) = options.get(usize::from(*option)) {
+            if items.contains(&item) {
+                return true;
+            }
+        }
+    }
+    false
+}
+
+fn is_live(options: &[&[u16]], chosen: &[u16], items: &[u16]) -> bool {
+    for item in items {
+        if is_covered(options, chosen, *item) {
+            return false;
+        }
+    }
+    true
+}
+
+/// The live options that name an item.
+fn choices(
+    alloc: Global,
+    options: &[&[u16]],
+    chosen: &[u16],
+    item: u16,
+) -> Result<Vec<u16>, AllocError> {
+    let mut live = Vec::new(alloc);
+    let mut number = 0u16;
+    for items in options {
+        if items.contains(&item) && is_live(options, chosen, items) {
+            live.push(number)?;
+        }
+        number = number.wrapping_add(1);
+    }
+    Ok(live)
+}
+
+/// The live options of the branch item; none where every primary item is covered.
+fn fewest(
+    alloc: Global,
+    options: &[&[u16]],
+    primary: u16,
+    chosen: &[u16],
+) -> Result<Option<Vec<u16>>, AllocError> {
+    let mut best: Option<Vec<u16>> = None;
+    for item in 0..primary {
+        if !is_covered(options, chosen, item) {
+            let live = choices(alloc, options, chosen, item)?;
+            let least = best.as_ref().map_or(usize::MAX, |former| former.len());
+            if live.len() < least {
+                best = Some(live);
+            }
+        }
+    }
+    Ok(best)
+}
+
+/// Whether there is a cover below the chosen options, which then are the first, and how many visits it took.
+fn visit(
+    alloc: Global,
+    options: &[&[u16]],
+    primary: u16,
+    chosen: &mut Vec<u16>,
+    depth: u16,
+) -> Result<(bool, u64), AllocError> {
+    let Some(live) = fewest(alloc, options, primary, chosen)? else {
+        return Ok((true, 1));
+    };
+    let mut visits = 1u64;
+    if depth == 0 {
+        return Ok((false, visits));
+    }
+    for option in live {
+        chosen.push(option)?;
+        let below = visit(alloc, options, primary, chosen, depth - 1)?;
+        visits = visits.saturating_add(below.1);
+        if below.0 {
+            return Ok((true, visits));
+        }
+        chosen.pop();
+    }
+    Ok((false, visits))
+}
+
+/// The next of a row of numbers without a pattern (Marsaglia's xorshift).
+fn next(state: &mut u64) -> u64 {
+    *state ^= *state << 13;
+    *state ^= *state >> 7;
+    *state ^= *state << 17;
+    *state
+}
+
+/// A problem of up to ten primary and three secondary items, and up to 39 options.
+fn random_text(alloc: Global, state: &mut u64) -> Result<String, AllocError> {
+    let names = "abcdefghij|xyz";
+    let mut text = String::new(alloc);
+    let skipped = next(state) % 4;
+    for name in names.chars() {
+        let wanted = if name == 'a' || name == '|' { 0 } else { skipped };
+        if next(state) % 4 >= wanted || name == 'b' {
+            text.push(name)?;
+            text.push(' ')?;
+        }
+    }
+    let items = text.clone()?;
+    for _ in 0..next(state) % 40 {
+        text.push('\n')?;
+        for name in items.chars() {
+            if name != '|' && name != ' ' && next(state) % 4 == 0 {
+                text.push(name)?;
+                text.push(' ')?;
+            }
+        }
+    }
+    Ok(text)
+}
+
+/// Searches one problem both ways: outcome, found list and the visits at the edge.
+fn compare<R: Abort>(rt: &R, alloc: Global, text: &str) -> Result<(), Fail> {
+    let read = read_problem(alloc, text.as_bytes())?;
+    let options = options_of(alloc, &read.problem)?;
+    let primary = read.problem.primary() as u16;
+    let mut first = Vec::new(alloc);
+    let (has_cover, visits) = visit(alloc, &options, primary, &mut first, primary)?;
+    let mut searcher = Searcher::new(alloc, &read.problem)?;
+    if visits > 1 {
+        assert_eq!(rt; searcher.search(&[], visits - 1), Outcome::Spent, "{text}");
+    }
+    let outcome = searcher.search(&[], visits.max(1));
+    let expected = if has_cover {
+        Outcome::Cover
+    } else {
+        Outcome::Barren
+    };
+    assert_eq!(rt; outcome, expected, "{text}");
+    if has_cover {
+        assert_eq!(rt; searcher.found(), first.as_slice(), "{text}");
+    }
+    Ok(())
+}
+
+#[test]
+fn links_search_as_the_plain_program(rt: HostRuntime) -> Result<(), Fail> {
+    let mut state = 88172645463325252u64;
+    for _ in 0..600 {
+        let text = random_text(rt.alloc(), &mut state)?;
+        compare(&rt, rt.alloc(), text.as_str())?;
+    }
+    Ok(())
+}
