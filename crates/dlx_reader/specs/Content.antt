@@ -3,6 +3,7 @@ use Rattle.std.specs.Prelude.{ℕ, List, [], ◌∷◌, map, filter, slice_index
 use Rattle.std.specs.List.{enumerate_from, list_all}
 use Rattle.dlx_reader.specs.Lines.{is_white, lines_of, words_of}
 
+-- whether a word begins with `|`
 abbrev pub begins_with_bar : List ℕ → Bool
 begins_with_bar word = slice_index word 0 == 124
 

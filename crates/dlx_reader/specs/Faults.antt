@@ -48,7 +48,7 @@ option_tests line names before word =
 abbrev pub item_line_tests : ℕ × List (List ℕ) → List (Bool × ReadFault)
 item_line_tests line = flat_map (λ place. item_tests line.0 (names_in place.0) (list_any begins_with_bar place.0) place.1) (placed line.1)
 
--- the tests of the limits, at the end of a line up to which these lines are kept
+-- the tests of the limits, at the end of a line up to which these lines are kept; a line that is ignored adds none
 abbrev pub limit_tests : ℕ → List (List (List ℕ)) → List (Bool × ReadFault)
 limit_tests line kept = (nat_lt 20000 (length kept), faults.TooManyOptions line) ∷ (nat_lt 200000 (sum_by length kept), faults.TooManyNodes line) ∷ []
 

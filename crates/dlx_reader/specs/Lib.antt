@@ -6,6 +6,7 @@ pub mod Content
 pub mod Devices
 pub mod Faults
 pub mod Items
+pub mod Kept
 pub mod Lines
 pub mod Names
 pub mod OptionLines

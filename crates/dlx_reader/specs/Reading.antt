@@ -1,8 +1,6 @@
 -- Reading a problem word by word, with the first fault: what the code does, as a function on lists.
-use Rattle.dlx_reader.specs.Lines.{texts_of}
-use Rattle.std.specs.Prelude.{◌≡◌, ℕ, ◌+◌, List, [], ◌∷◌, ◌++◌, length, map, Option, Some, None, Result, Ok, Err, nat_lt, ◌||◌, ◌==◌, Bool, false, if◌then◌else◌}
+use Rattle.std.specs.Prelude.{◌≡◌, ℕ, ◌+◌, List, [], ◌∷◌, ◌++◌, length, Option, Some, None, Result, Ok, Err, nat_lt, ◌||◌, ◌==◌, Bool, false, if◌then◌else◌}
 use Rattle.std.specs.List.{sum_by}
-use Rattle.std.specs.Borrow.{Bor}
 use Rattle.cover_problem.specs.Numbers.{is_in, some_below}
 use Rattle.cover_problem.specs.Problem.{Problem}
 use Rattle.dlx_reader.specs.Content.{begins_with_bar}
@@ -59,11 +57,6 @@ option_from line names items [] = Ok items
 option_from line names items (word ∷ words) = do
   more ← option_item_at line names items word
   option_from line names more words
-
--- the options kept so far, and how many were ignored
-pub record KeptOptions : Type 0 where
-  pub options : List (List ℕ)
-  pub ignored : ℕ
 
 -- the options, and how many were ignored, after an option with these items
 unfoldable pub keep_at : ℕ → ℕ → List (List ℕ) → ℕ → List ℕ → Result (List (List ℕ) × ℕ) ReadFault

@@ -31,15 +31,13 @@ pub struct Kept {
 }
 
 impl Model for Kept {
-    ghost use Rattle.std.specs.Prelude.{◌≡◌, ◌≤◌, length};
-    ghost use Rattle.std.specs.List.{sum_by};
-    ghost use Rattle.dlx_reader.specs.Reading.{KeptOptions};
+    ghost use Rattle.dlx_reader.specs.Kept.{KeptOptions, KeepsLimits};
 
     ghost Value = { KeptOptions };
 
     ghost view = { λ k. record { options = k.options.items; ignored = k.ignored } };
 
-    ghost invariant = { λ k. (k.nodes ≡ sum_by length k.options.items) × (k.nodes ≤ 200000) × (length k.options.items ≤ 20000) };
+    ghost invariant = { λ k. KeepsLimits k.options.items k.nodes };
 }
 
 impl Kept {
