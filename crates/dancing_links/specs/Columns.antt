@@ -9,7 +9,8 @@ use Rattle.dancing_links.specs.Linking.{up_of, down_of}
 abbrev pub among : List ℕ → ℕ → Bool
 among xs x = list_any (λ y. y == x) xs
 
--- where columns begin and end: the heads come first and the tails last; a column holds its head, then nodes by rising numbers, then its tail
+-- How many heads there are, the first tail, the column and the option of each node, and the first node of each option. The heads come first and
+-- the tails last: a column holds its head, then nodes by rising numbers, then its tail. The last column is that of the items, with a node for each.
 pub record Columns : Type 0 where
   pub heads : ℕ
   pub tails : ℕ
@@ -17,13 +18,15 @@ pub record Columns : Type 0 where
   pub option : List ℕ
   pub first : List ℕ
 
+-- the columns that a layout lays out
 abbrev pub columns_of : Layout → Columns
 columns_of l = record { heads = l.heads; tails = l.tails; column = l.items.items; option = l.options.items; first = l.first.items }
 
+-- the column of a node
 abbrev pub column_of : Columns → ℕ → ℕ
 column_of c k = slice_index_or c.column k 0
 
--- a node that is in, and the next node of its column that is in
+-- Two nodes of one column that are in, with none between them that is in.
 pub record IsNext (c : Columns) (out : List ℕ) (x d : ℕ) : Type 0 where
   pub below : x < d
   pub low : c.heads ≤ d
@@ -34,7 +37,7 @@ pub record IsNext (c : Columns) (out : List ℕ) (x d : ℕ) : Type 0 where
   pub in_down : among out d ≡ false
   pub nearest : (y : ℕ) → x < y → y < d → column_of c y ≡ column_of c x → among out y ≡ true
 
--- the links are those of columns from which the nodes of a list are out
+-- The links of each node that is in lead to its neighbours that are in, where the nodes of a list are out; the heads and tails are always in.
 pub record IsSpelled (c : Columns) (out : List ℕ) (m : List Link) : Type 0 where
   pub count : length m ≡ length c.column
   pub order : c.heads ≤ c.tails
@@ -62,10 +65,11 @@ pub record IsLinkedAt (heads tails count k up down : ℕ) : Type 0 where
   pub rises : k < tails → (k < down) × (heads ≤ down)
   pub falls : heads ≤ k → (up < k) × (up < tails)
 
+-- each link does so
 abbrev pub IsLinked : Columns → List Link → Type 0
 IsLinked c m = (length m ≡ length c.column) × ((k : ℕ) → k < length m → IsLinkedAt c.heads c.tails (length m) k (up_of m k) (down_of m k))
 
--- what is true of a table
+-- What is true of a table: each node belongs to a column, and those of an option stand in a row, in columns of different items.
 pub record IsTable (c : Columns) : Type 0 where
   pub small : length c.column < 4294967296
   pub ends : c.tails + c.heads ≤ length c.column

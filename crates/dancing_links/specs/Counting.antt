@@ -12,11 +12,12 @@ with_less c counts x = slice_set counts (column_of c x) ((slice_index_or counts 
 unfoldable pub with_more : Columns → List ℕ → ℕ → List ℕ
 with_more c counts x = slice_set counts (column_of c x) ((slice_index_or counts (column_of c x) 0 + 1) % 65536)
 
--- nodes that leave one after the other, and come back in the reverse order
+-- nodes that leave, one after the other
 abbrev pub fewer : Columns → List ℕ → List ℕ → List ℕ
 fewer c counts [] = counts
 fewer c counts (x ∷ xs) = fewer c (with_less c counts x) xs
 
+-- nodes that come back, the last one first
 abbrev pub more : Columns → List ℕ → List ℕ → List ℕ
 more c counts [] = counts
 more c counts (x ∷ xs) = with_more c (more c counts xs) x
@@ -35,6 +36,7 @@ abbrev pub CountsUncovered : Columns → List Link → ℕ → List ℕ → List
 CountsUncovered c links i old new = (out : List ℕ) (before : List Link) → IsSpelled c out before → IsOpen c out i → links ≡ unlinks before (covered c out i)
     → IsCounted c (outs (covered c out i) out) old → IsCounted c out new
 
+-- the same for items that are covered one after the other, and uncovered in the reverse order
 abbrev pub CountsCoveredAll : Columns → List Link → List ℕ → List ℕ → List ℕ → Type 0
 CountsCoveredAll c links is old new = (out : List ℕ) → IsSpelled c out links → AreOpen c out is → IsCounted c out old → IsCounted c (outs_all c out is) new
 

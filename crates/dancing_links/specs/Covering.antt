@@ -21,7 +21,7 @@ hidden_from c out i start = flat_map (others c) (column_from c out i start)
 unfoldable pub covered : Columns → List ℕ → ℕ → List ℕ
 covered c out i = (c.heads + i) ∷ hidden_from c ((c.heads + i) ∷ out) i c.heads
 
--- all of them out
+-- what is out once the nodes of a list are taken out as well
 abbrev pub outs : List ℕ → List ℕ → List ℕ
 outs [] out = out
 outs (x ∷ xs) out = outs xs (x ∷ out)
@@ -48,11 +48,12 @@ Uncovers c old i new = (out : List ℕ) (before : List Link) → IsSpelled c out
 unfoldable pub items_from : Columns → ℕ → ℕ → List ℕ
 items_from c begin end = map (column_of c) (range_with_len begin (end - begin))
 
--- what is out, and the links, once items are covered one after the other
+-- what is out, once items are covered one after the other
 abbrev pub outs_all : Columns → List ℕ → List ℕ → List ℕ
 outs_all c out [] = out
 outs_all c out (i ∷ is) = outs_all c (outs (covered c out i) out) is
 
+-- the links, once items are covered one after the other
 abbrev pub links_all : Columns → List ℕ → List Link → List ℕ → List Link
 links_all c out m [] = m
 links_all c out m (i ∷ is) = links_all c (outs (covered c out i) out) (unlinks m (covered c out i)) is
@@ -62,8 +63,10 @@ abbrev pub AreOpen : Columns → List ℕ → List ℕ → Type 0
 AreOpen c out [] = Unit {0}
 AreOpen c out (i ∷ is) = IsOpen c out i × AreOpen c (outs (covered c out i) out) is
 
+-- covering items one after the other takes out just what the history says, whatever was out
 abbrev pub CoversAll : Columns → List Link → List ℕ → List Link → Type 0
 CoversAll c old is new = (out : List ℕ) → IsSpelled c out old → AreOpen c out is → new ≡ links_all c out old is
 
+-- uncovering them in the reverse order is the inverse
 abbrev pub UncoversAll : Columns → List Link → List ℕ → List Link → Type 0
 UncoversAll c old is new = (out : List ℕ) (before : List Link) → IsSpelled c out before → AreOpen c out is → old ≡ links_all c out before is → new ≡ before

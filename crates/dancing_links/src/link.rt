@@ -6,7 +6,7 @@ ghost use Rattle.dancing_links.specs.Linking.{unlinked, relinked};
 
 use crate::layout::Layout;
 
-/// The neighbours of a node in its column, by their numbers.
+/// The neighbours of a node in its column, by their numbers. A node that is out keeps those that it had.
 #[derive(Clone, Copy)]
 pub struct Link {
     pub up: u32,

@@ -1,6 +1,4 @@
 use Rattle.std.proofs.Common.{◌≡◌, ◌<◌, ◌+◌, List, ℕ, length, true, false, ap, arith, ◌∙◌, vec_capacity, slice_get}
-use Rattle.std.proofs.lemmas.Bool.{and_parts}
-use Rattle.cover_problem.specs.Branching.{is_choice}
 use Rattle.cover_problem.specs.Onward.{live_options_from}
 use Rattle.cover_problem.specs.Prefix.{is_covered, is_live}
 use Rattle.cover_problem.specs.Problem.{names_item}
