@@ -6,7 +6,9 @@ use Rattle.std.proofs.lemmas.List.{length-set, get_or-set_same, get_or-set_other
 use Rattle.std.proofs.lemmas.List.FromFn.{length-range_with_len, get_or-range_with_len}
 use Rattle.std.proofs.lemmas.List.Elements.{All-get_or}
 use Rattle.dancing_links.specs.declared.link.Link.{Link}
-use Rattle.dancing_links.specs.Columns.{up_of, down_of, with_up, with_down, Columns, column_of, IsNext, IsTable, IsLinked, IsBuilt, IsLast, IsBuilding}
+use Rattle.dancing_links.specs.Building.{IsBuilt, IsLast, IsBuilding}
+use Rattle.dancing_links.specs.Columns.{Columns, column_of, IsNext, IsTable, IsLinked}
+use Rattle.dancing_links.specs.Linking.{up_of, down_of, with_up, with_down}
 use Rattle.dancing_links.proofs.Law.{up-with_up_same, up-with_up_other, down-with_up, down-with_down_same, down-with_down_other, up-with_down, length-with_up, length-with_down}
 
 alone : Link

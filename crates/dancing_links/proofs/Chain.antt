@@ -2,7 +2,10 @@
 use Rattle.std.proofs.Common.{◌≡◌, ℕ, zero, suc, ◌+◌, ◌<◌, ◌≤◌, List, [], ◌∷◌, ◌++◌, false, refl, arith, sym, ap, ◌∙◌, inl, inr, append_assoc, append-nil}
 use Rattle.std.proofs.lemmas.Bool.{cases_lt}
 use Rattle.dancing_links.specs.declared.link.Link.{Link}
-use Rattle.dancing_links.specs.Columns.{up_of, down_of, unlinked, relinked, unlinks, relinks, among, outs, Columns, column_of, IsSpelled, others, hidden_from, covered, IsTable, AreWhole, IsOpen, Uncovers, more}
+use Rattle.dancing_links.specs.Columns.{among, Columns, column_of, IsSpelled, IsTable}
+use Rattle.dancing_links.specs.Counting.{more}
+use Rattle.dancing_links.specs.Covering.{outs, others, hidden_from, covered, AreWhole, IsOpen, Uncovers}
+use Rattle.dancing_links.specs.Linking.{up_of, down_of, unlinked, relinked, unlinks, relinks}
 use Rattle.dancing_links.proofs.Law.{between, from_down, relink_unlink}
 use Rattle.dancing_links.proofs.Walk.{AreIn, IsGoing, going_start, going_step, going_end, going_done, option_node, others_are_in, spelled_unlinks, relinks_unlinks, whole_item, item_out, more-append}
 

@@ -2,7 +2,10 @@
 use Rattle.std.proofs.Common.{◌≡◌, ℕ, zero, suc, ◌+◌, ◌-◌, ◌<◌, ◌≤◌, List, [], ◌∷◌, ◌++◌, map, refl, arith, sym, ap, ◌∙◌, subst}
 use Rattle.std.specs.List.{range_with_len}
 use Rattle.dancing_links.specs.declared.link.Link.{Link}
-use Rattle.dancing_links.specs.Columns.{unlinked, unlinks, outs, Columns, column_of, IsSpelled, hidden_from, covered, IsTable, IsOpen, Covers, Uncovers, CoversAll, UncoversAll, items_from, outs_all, links_all, AreOpen, IsCounted, CountsCovered, CountsUncovered, CountsCoveredAll, CountsUncoveredAll}
+use Rattle.dancing_links.specs.Columns.{Columns, column_of, IsSpelled, IsTable}
+use Rattle.dancing_links.specs.Counting.{IsCounted, CountsCovered, CountsUncovered, CountsCoveredAll, CountsUncoveredAll}
+use Rattle.dancing_links.specs.Covering.{outs, hidden_from, covered, IsOpen, Covers, Uncovers, CoversAll, UncoversAll, items_from, outs_all, links_all, AreOpen}
+use Rattle.dancing_links.specs.Linking.{unlinked, unlinks}
 use Rattle.dancing_links.proofs.Others.{range_step}
 use Rattle.dancing_links.proofs.Walk.{spelled_unlinks, whole_item, item_out}
 use Rattle.dancing_links.proofs.Chain.{going_all}

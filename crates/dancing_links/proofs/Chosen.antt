@@ -9,7 +9,9 @@ use Rattle.cover_problem.specs.Prefix.{is_live, are_apart, are_options, is_prefi
 use Rattle.cover_problem.specs.Problem.{Problem, IsProblem, items_of}
 use Rattle.cover_problem.proofs.Prefixes.{prefix_short, prefix_options}
 use Rattle.dancing_links.specs.declared.link.Link.{Link}
-use Rattle.dancing_links.specs.Columns.{Columns, among, column_of, IsTable, IsLinked, IsSpelled, items_from, links_all, AreOpen, CoversAll, UncoversAll, outs, outs_all, covered, IsCounted, CountsCoveredAll, CountsUncoveredAll}
+use Rattle.dancing_links.specs.Columns.{Columns, among, column_of, IsTable, IsLinked, IsSpelled}
+use Rattle.dancing_links.specs.Counting.{IsCounted, CountsCoveredAll, CountsUncoveredAll}
+use Rattle.dancing_links.specs.Covering.{items_from, links_all, AreOpen, CoversAll, UncoversAll, outs, outs_all, covered}
 use Rattle.dancing_links.specs.Table.{base_of, heads_of, table}
 use Rattle.dancing_links.specs.Choices.{IsLinks, covered_items, out_of}
 use Rattle.dancing_links.proofs.Law.{in_other}

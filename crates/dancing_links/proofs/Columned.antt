@@ -8,7 +8,8 @@ use Rattle.cover_problem.specs.Numbers.{is_in, is_distinct}
 use Rattle.cover_problem.specs.Onward.{live_options_from}
 use Rattle.cover_problem.specs.Prefix.{is_covered, is_live}
 use Rattle.cover_problem.specs.Problem.{Problem, IsProblem, items_of, names_item}
-use Rattle.dancing_links.specs.Columns.{Columns, among, option_of, column_of, begin_of, end_of, column_from, items_from}
+use Rattle.dancing_links.specs.Columns.{Columns, among, option_of, column_of, begin_of, end_of, column_from}
+use Rattle.dancing_links.specs.Covering.{items_from}
 use Rattle.dancing_links.specs.Choices.{covered_items}
 use Rattle.dancing_links.specs.Table.{starts, heads_of, base_of, tails_of, table}
 use Rattle.dancing_links.proofs.Walk.{column_skip_to}

@@ -5,7 +5,10 @@ use Rattle.std.proofs.lemmas.Bool.{cases_Bool, cases_eq, eq-eqb, ne_eqb}
 use Rattle.std.proofs.lemmas.List.{length-set, get_or-set_same, get_or-set_other, length-replicate, get_or-replicate}
 use Rattle.cover_problem.proofs.Among.{filter_fewer}
 use Rattle.dancing_links.specs.declared.link.Link.{Link}
-use Rattle.dancing_links.specs.Columns.{Columns, among, outs, column_of, column_from, hidden_from, covered, unlinked, with_less, with_more, fewer, more, IsCounted, IsCounting, IsTable, CountsCovered, CountsUncovered}
+use Rattle.dancing_links.specs.Columns.{Columns, among, column_of, column_from, IsTable}
+use Rattle.dancing_links.specs.Counting.{with_less, with_more, fewer, more, IsCounted, IsCounting, CountsCovered, CountsUncovered}
+use Rattle.dancing_links.specs.Covering.{outs, hidden_from, covered}
+use Rattle.dancing_links.specs.Linking.{unlinked}
 use Rattle.dancing_links.proofs.Present.{same_filter}
 use Rattle.dancing_links.proofs.Walk.{AreIn, Going, going_done, item_out, whole_item, column_skip_to, column_from_take, column_from_skip, column_from_end}
 use Rattle.dancing_links.proofs.Chain.{Back, back_all, going_all}

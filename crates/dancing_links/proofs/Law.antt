@@ -2,7 +2,8 @@
 use Rattle.std.proofs.Common.{◌≡◌, ℕ, suc, ◌<◌, ◌≤◌, List, [], ◌∷◌, length, true, false, ◌==◌, refl, sym, ap, ◌∙◌, arith, inl, inr}
 use Rattle.std.proofs.lemmas.List.{length-set, get_or-set_same, get_or-set_other}
 use Rattle.std.proofs.lemmas.Bool.{cases_eq, cases_Bool, eq-eqb, ne_eqb, eqb-false, both_ways, or_left, or_right, cases_order}
-use Rattle.dancing_links.specs.Columns.{up_of, down_of, with_up, with_down, unlinked, relinked, among, Columns, IsNext, IsSpelled}
+use Rattle.dancing_links.specs.Columns.{among, Columns, IsNext, IsSpelled}
+use Rattle.dancing_links.specs.Linking.{up_of, down_of, with_up, with_down, unlinked, relinked}
 use Rattle.dancing_links.specs.declared.link.Link.{Link}
 
 none : Link

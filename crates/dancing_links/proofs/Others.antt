@@ -2,7 +2,8 @@
 use Rattle.std.proofs.Common.{◌≡◌, ℕ, suc, ◌+◌, ◌-◌, ◌<◌, ◌≤◌, [], ◌∷◌, refl, arith}
 use Rattle.std.specs.List.{range_with_len}
 use Rattle.std.proofs.lemmas.Bool.{eq-eqb, ne_eqb}
-use Rattle.dancing_links.specs.Columns.{others_from, begin_of, end_of, Columns, IsTable}
+use Rattle.dancing_links.specs.Columns.{begin_of, end_of, Columns, IsTable}
+use Rattle.dancing_links.specs.Covering.{others_from}
 
 pub range_step : (a n k : ℕ) → n ≡ suc k → range_with_len a n ≡ a ∷ range_with_len (a + 1) k
 range_step a n k e = rw e refl

@@ -2,7 +2,8 @@
 use Rattle.std.proofs.Common.{◌≡◌, ℕ, zero, suc, ◌+◌, ◌-◌, ◌<◌, ◌≤◌, List, [], ◌∷◌, ◌++◌, Bool, true, false, not, ◌==◌, ◌&&◌, ◌||◌, filter, refl, arith, sym, ap, ◌∙◌, inl, inr, ◌⊎◌}
 use Rattle.std.specs.List.{range_with_len, list_any, flat_map}
 use Rattle.std.proofs.lemmas.Bool.{eq-eqb, ne_eqb, eqb-true, cases_Bool, cases_eq, both_ways, or_cases, or_left, or_right, and_parts, not-true}
-use Rattle.dancing_links.specs.Columns.{among, outs, Columns, column_of, begin_of, end_of, others_from, others, column_from, hidden_from, covered, IsTable, IsOpen, AreOpen, outs_all}
+use Rattle.dancing_links.specs.Columns.{among, Columns, column_of, begin_of, end_of, column_from, IsTable}
+use Rattle.dancing_links.specs.Covering.{outs, others_from, others, hidden_from, covered, IsOpen, AreOpen, outs_all}
 use Rattle.dancing_links.proofs.Law.{in_other, out_other}
 use Rattle.dancing_links.proofs.Walk.{others_at, option_node}
 

@@ -6,7 +6,9 @@ use Rattle.cover_problem.specs.Prefix.{is_covered}
 use Rattle.cover_problem.specs.Problem.{Problem, IsProblem}
 use Rattle.dancing_links.specs.declared.link.Link.{Link}
 use Rattle.dancing_links.specs.Choices.{IsLinks, covered_items, out_of}
-use Rattle.dancing_links.specs.Columns.{Columns, among, outs, unlinked, unlinks, up_of, down_of, covered, IsTable, IsSpelled, IsOpen, AreOpen, outs_all, links_all}
+use Rattle.dancing_links.specs.Columns.{Columns, among, IsTable, IsSpelled}
+use Rattle.dancing_links.specs.Covering.{outs, covered, IsOpen, AreOpen, outs_all, links_all}
+use Rattle.dancing_links.specs.Linking.{unlinked, unlinks, up_of, down_of}
 use Rattle.dancing_links.specs.Table.{table, heads_of}
 use Rattle.dancing_links.proofs.Law.{between, from_up, up-unlinked_other, down-unlinked_at, down-unlinked_other, spelled_unlink}
 use Rattle.dancing_links.proofs.Walk.{AreIn, item_out, whole_item}

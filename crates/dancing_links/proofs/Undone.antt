@@ -1,7 +1,9 @@
 -- Choosing one more option, and taking it back.
 use Rattle.std.proofs.Common.{◌≡◌, ℕ, List, [], ◌∷◌, ◌++◌, refl, sym, ap, ◌∙◌}
 use Rattle.dancing_links.specs.declared.link.Link.{Link}
-use Rattle.dancing_links.specs.Columns.{outs, unlinks, Columns, IsSpelled, IsTable, covered, outs_all, links_all, AreOpen, CoversAll, UncoversAll}
+use Rattle.dancing_links.specs.Columns.{Columns, IsSpelled, IsTable}
+use Rattle.dancing_links.specs.Covering.{outs, covered, outs_all, links_all, AreOpen, CoversAll, UncoversAll}
+use Rattle.dancing_links.specs.Linking.{unlinks}
 use Rattle.dancing_links.proofs.Choose.{spelled_cover}
 
 pub spelled_all : (c : Columns) (out : List ℕ) (m : List Link) (is : List ℕ) → IsTable c → IsSpelled c out m → AreOpen c out is → IsSpelled c (outs_all c out is) (links_all c out m is)

@@ -3,7 +3,8 @@ use Rattle.std.proofs.Common.{◌≡◌, ℕ, ◌<◌, ◌≤◌, List, length, 
 use Rattle.std.proofs.lemmas.List.{get_or_past}
 use Rattle.std.proofs.lemmas.Bool.{cases_lt, cases_order, both_ways}
 use Rattle.dancing_links.specs.declared.link.Link.{Link}
-use Rattle.dancing_links.specs.Columns.{up_of, down_of, among, Columns, IsNext, IsSpelled}
+use Rattle.dancing_links.specs.Columns.{among, Columns, IsNext, IsSpelled}
+use Rattle.dancing_links.specs.Linking.{up_of, down_of}
 use Rattle.dancing_links.proofs.Law.{same_links}
 
 one_next : (c : Columns) (out : List ℕ) (x d e : ℕ) → IsNext c out x d → IsNext c out x e → d ≡ e

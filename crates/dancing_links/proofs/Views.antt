@@ -11,7 +11,9 @@ use Rattle.cover_problem.specs.Problem.{Problem, IsProblem, items_of, names_item
 use Rattle.cover_problem.proofs.Remaining.{open_items_from_take, open_items_from_skip, open_items_from_end, live_options_from_take, live_options_from_skip, live_options_from_end}
 use Rattle.dancing_links.specs.declared.link.Link.{Link}
 use Rattle.dancing_links.specs.Choices.{IsLinks, IsChild, out_of, covered_items}
-use Rattle.dancing_links.specs.Columns.{Columns, among, column_of, column_from, down_of, option_of, walk, options_left, IsTable, IsLinked, IsSpelled, IsNaming}
+use Rattle.dancing_links.specs.Columns.{Columns, among, column_of, column_from, option_of, IsTable, IsLinked, IsSpelled}
+use Rattle.dancing_links.specs.Linking.{down_of}
+use Rattle.dancing_links.specs.Walking.{walk, options_left, IsNaming}
 use Rattle.dancing_links.specs.Table.{table, heads_of, base_of, first_list}
 use Rattle.dancing_links.proofs.Walk.{column_skip_to, column_from_take, column_from_end}
 use Rattle.dancing_links.proofs.Nodes.{starts_next, first_at}

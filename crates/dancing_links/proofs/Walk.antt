@@ -3,7 +3,10 @@ use Rattle.std.proofs.Common.{◌≡◌, ℕ, zero, suc, ◌+◌, ◌-◌, ◌<�
 use Rattle.std.specs.List.{range_with_len, flat_map}
 use Rattle.std.proofs.lemmas.Bool.{eq-eqb, ne_eqb, eqb-true, cases_Bool, cases_eq, cases_lt, both_ways, or_cases}
 use Rattle.dancing_links.specs.declared.link.Link.{Link}
-use Rattle.dancing_links.specs.Columns.{down_of, unlinked, unlinks, relinks, among, outs, Columns, column_of, begin_of, end_of, IsSpelled, others_from, others, column_from, hidden_from, covered, IsTable, AreWhole, IsOpen, Covers, fewer, more, with_less, with_more}
+use Rattle.dancing_links.specs.Columns.{among, Columns, column_of, begin_of, end_of, IsSpelled, column_from, IsTable}
+use Rattle.dancing_links.specs.Counting.{fewer, more, with_less, with_more}
+use Rattle.dancing_links.specs.Covering.{outs, others_from, others, hidden_from, covered, AreWhole, IsOpen, Covers}
+use Rattle.dancing_links.specs.Linking.{down_of, unlinked, unlinks, relinks}
 use Rattle.dancing_links.proofs.Law.{between, spelled_unlink, relink_unlink, in_other, out_other}
 use Rattle.dancing_links.proofs.Others.{range_step, others_from_take, others_from_skip, others_from_end}
 

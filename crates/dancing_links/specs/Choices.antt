@@ -4,7 +4,10 @@ use Rattle.std.specs.List.{flat_map}
 use Rattle.cover_problem.specs.Prefix.{is_live, is_prefix}
 use Rattle.cover_problem.specs.Problem.{Problem, IsProblem, items_of, names_item}
 use Rattle.dancing_links.specs.declared.link.Link.{Link}
-use Rattle.dancing_links.specs.Columns.{Columns, IsLinked, IsBuilt, IsCounted, links_all, outs_all}
+use Rattle.dancing_links.specs.Building.{IsBuilt}
+use Rattle.dancing_links.specs.Columns.{Columns, IsLinked}
+use Rattle.dancing_links.specs.Counting.{IsCounted}
+use Rattle.dancing_links.specs.Covering.{links_all, outs_all}
 use Rattle.dancing_links.specs.Table.{table}
 
 -- a problem, and the options chosen in it, in the order of the choices

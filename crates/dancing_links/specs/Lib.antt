@@ -1,4 +1,9 @@
+pub mod Building
 pub mod Choices
 pub mod Columns
+pub mod Counting
+pub mod Covering
 pub mod Examples
+pub mod Linking
 pub mod Table
+pub mod Walking

@@ -2,7 +2,9 @@
 
 ghost use Rattle.std.specs.Prelude.{◌≡◌, ◌<◌, ◌≤◌, ◌+◌, [], length, IfOk};
 ghost use Rattle.std.specs.List.{range_with_len};
-ghost use Rattle.dancing_links.specs.Columns.{columns_of, IsTable, IsBuilt, IsBuilding, IsCounted, IsCounting};
+ghost use Rattle.dancing_links.specs.Building.{IsBuilt, IsBuilding};
+ghost use Rattle.dancing_links.specs.Columns.{columns_of, IsTable};
+ghost use Rattle.dancing_links.specs.Counting.{IsCounted, IsCounting};
 
 use crate::layout::{Layout, item_at};
 use crate::link::Link;

@@ -1,13 +1,16 @@
 //! Covering of items: they leave the column of items, and the options that name them leave the other columns.
 
 ghost use Rattle.std.specs.Prelude.{◌≡◌, ◌<◌, ◌≤◌, ◌+◌, length};
-ghost use Rattle.dancing_links.specs.Columns.{unlinks, relinks, others, others_from, columns_of, IsLinked, IsTable, Covers, Uncovers, CoversAll, UncoversAll, items_from, column_of, up_of, down_of, fewer, more, with_less, with_more, CountsCovered, CountsUncovered, CountsCoveredAll, CountsUncoveredAll};
+ghost use Rattle.dancing_links.specs.Columns.{columns_of, IsLinked, IsTable, column_of};
+ghost use Rattle.dancing_links.specs.Counting.{fewer, more, with_less, with_more, CountsCovered, CountsUncovered, CountsCoveredAll, CountsUncoveredAll};
+ghost use Rattle.dancing_links.specs.Covering.{others, others_from, Covers, Uncovers, CoversAll, UncoversAll, items_from};
+ghost use Rattle.dancing_links.specs.Linking.{unlinks, relinks, up_of, down_of};
 
 use crate::layout::{Layout, item_at};
 use crate::link::{Link, relink, unlink};
 
 /// Counts a node of an option no more: its item has one live option less.
-#[tactic(auto, unfolding(crate::specs::Columns::with_less))]
+#[tactic(auto, unfolding(crate::specs::Counting::with_less))]
 fn count_less(layout: &Layout, counts: &mut [u16], node: usize)
     requires node { (layout.now.heads + layout.now.heads ≤ node + 1) × (node < layout.now.tails) }
     requires table { IsTable (columns_of layout.now) }
@@ -19,7 +22,7 @@ fn count_less(layout: &Layout, counts: &mut [u16], node: usize)
 }
 
 /// Counts a node of an option again.
-#[tactic(auto, unfolding(crate::specs::Columns::with_more))]
+#[tactic(auto, unfolding(crate::specs::Counting::with_more))]
 fn count_more(layout: &Layout, counts: &mut [u16], node: usize)
     requires node { (layout.now.heads + layout.now.heads ≤ node + 1) × (node < layout.now.tails) }
     requires table { IsTable (columns_of layout.now) }
@@ -31,7 +34,7 @@ fn count_more(layout: &Layout, counts: &mut [u16], node: usize)
 }
 
 /// Takes the other nodes of a node's option out of their columns.
-#[tactic(auto, unfolding(crate::specs::Columns::others), using(crate::proofs::Others::others_from_take, crate::proofs::Others::others_from_skip, crate::proofs::Others::others_from_end))]
+#[tactic(auto, unfolding(crate::specs::Covering::others), using(crate::proofs::Others::others_from_take, crate::proofs::Others::others_from_skip, crate::proofs::Others::others_from_end))]
 fn hide(layout: &Layout, links: &mut [Link], counts: &mut [u16], node: usize)
     requires node { (layout.now.heads ≤ node) × (node < layout.now.tails) }
     requires table { IsTable (columns_of layout.now) }
@@ -79,7 +82,7 @@ fn relink_others(
 }
 
 /// Puts the other nodes of a node's option back.
-#[tactic(auto, unfolding(crate::specs::Columns::others), using(crate::proofs::Others::begin_first))]
+#[tactic(auto, unfolding(crate::specs::Covering::others), using(crate::proofs::Others::begin_first))]
 fn unhide(layout: &Layout, links: &mut [Link], counts: &mut [u16], node: usize)
     requires node { (layout.now.heads ≤ node) × (node < layout.now.tails) }
     requires table { IsTable (columns_of layout.now) }

@@ -2,7 +2,8 @@
 
 ghost use Rattle.std.specs.Prelude.{◌≡◌, ◌<◌, ◌≤◌, ◌+◌, ◌++◌, length, replicate, slice_index, IfOk};
 ghost use Rattle.std.specs.List.{range_with_len, concat};
-ghost use Rattle.dancing_links.specs.Columns.{columns_of, column_of, IsTable, IsNaming};
+ghost use Rattle.dancing_links.specs.Columns.{columns_of, column_of, IsTable};
+ghost use Rattle.dancing_links.specs.Walking.{IsNaming};
 ghost use Rattle.dancing_links.specs.Table.{table, column_list, option_list, first_list, numbered};
 
 use cover_problem::Problem;

@@ -1,4 +1,9 @@
-//! Dancing links: columns of nodes from which options are taken out and put back.
+//! Dancing links (TAOCP 7.2.2.1): the options of an exact cover problem as columns of nodes that are linked both ways.
+//!
+//! Each item has a column with a node for each option that names it, between a head and a tail; the items themselves
+//! stand in one more column. To choose an option is to cover its items: their nodes leave the column of items, and the
+//! options that name them leave the columns of their other items. A node that left still knows its neighbours, so
+//! choices are taken back link by link, in the reverse order, and all links are as before.
 #![tactic(auto)]
 
 mod build;

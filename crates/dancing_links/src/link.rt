@@ -1,11 +1,12 @@
 //! The links of a node, and the two lines by which it leaves its column and comes back.
 
 ghost use Rattle.std.specs.Prelude.{◌≡◌, ◌<◌, ◌≤◌, length};
-ghost use Rattle.dancing_links.specs.Columns.{unlinked, relinked, columns_of, IsLinked, IsTable};
+ghost use Rattle.dancing_links.specs.Columns.{columns_of, IsLinked, IsTable};
+ghost use Rattle.dancing_links.specs.Linking.{unlinked, relinked};
 
 use crate::layout::Layout;
 
-/// The neighbours of a node in its column, by their numbers.
+/// The neighbours of a node in its column, by their numbers. A node that is out keeps those that it had.
 #[derive(Clone, Copy)]
 pub struct Link {
     pub up: u32,
@@ -13,7 +14,7 @@ pub struct Link {
 }
 
 /// Takes a node out of its column.
-#[tactic(auto, unfolding(crate::specs::Columns::unlinked, crate::specs::Columns::with_up, crate::specs::Columns::with_down))]
+#[tactic(auto, unfolding(crate::specs::Linking::unlinked, crate::specs::Linking::with_up, crate::specs::Linking::with_down))]
 pub fn unlink(layout: &Layout, links: &mut [Link], node: usize)
     requires node { (layout.now.heads ≤ node) × (node < layout.now.tails) }
     requires table { IsTable (columns_of layout.now) }
@@ -27,7 +28,7 @@ pub fn unlink(layout: &Layout, links: &mut [Link], node: usize)
 }
 
 /// Puts the node that was taken out last back into its column.
-#[tactic(auto, unfolding(crate::specs::Columns::relinked, crate::specs::Columns::with_up, crate::specs::Columns::with_down))]
+#[tactic(auto, unfolding(crate::specs::Linking::relinked, crate::specs::Linking::with_up, crate::specs::Linking::with_down))]
 pub fn relink(layout: &Layout, links: &mut [Link], node: usize)
     requires node { (layout.now.heads ≤ node) × (node < layout.now.tails) }
     requires table { IsTable (columns_of layout.now) }

@@ -6,7 +6,9 @@ ghost use Rattle.cover_problem.specs.Branching.{live_options, IsOpen};
 ghost use Rattle.cover_problem.specs.Onward.{open_items_from, live_options_from};
 ghost use Rattle.cover_problem.specs.Problem.{IsProblem};
 ghost use Rattle.dancing_links.specs.Choices.{Choices, with_choice, IsChild};
-ghost use Rattle.dancing_links.specs.Columns.{columns_of, down_of, options_left, IsTable, IsLinked};
+ghost use Rattle.dancing_links.specs.Columns.{columns_of, IsTable, IsLinked};
+ghost use Rattle.dancing_links.specs.Linking.{down_of};
+ghost use Rattle.dancing_links.specs.Walking.{options_left};
 ghost use Rattle.cover_problem.specs.Prefix.{is_covered, is_live, is_prefix};
 
 use crate::build::{build_counts, build_links};

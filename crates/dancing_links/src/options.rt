@@ -18,7 +18,8 @@ pub struct OptionsOf<'a> {
 
 impl<'a> Model for OptionsOf<'a> {
     ghost use Rattle.std.specs.Prelude.{List, ℕ};
-    ghost use Rattle.dancing_links.specs.Columns.{columns_of, options_left, IsTable, IsLinked};
+    ghost use Rattle.dancing_links.specs.Columns.{columns_of, IsTable, IsLinked};
+    ghost use Rattle.dancing_links.specs.Walking.{options_left};
 
     ghost Value = { List ℕ };
 
@@ -46,7 +47,8 @@ impl<'a> Iterator for OptionsOf<'a> {
 
 impl<'a> OptionsOf<'a> {
     ghost use Rattle.std.specs.Prelude.{◌≡◌};
-    ghost use Rattle.dancing_links.specs.Columns.{columns_of, options_left, IsTable, IsLinked};
+    ghost use Rattle.dancing_links.specs.Columns.{columns_of, IsTable, IsLinked};
+    ghost use Rattle.dancing_links.specs.Walking.{options_left};
 
     /// The options of the nodes down a column from one on.
     pub fn from_node(layout: &'a Layout, links: &'a [Link], node: usize) -> OptionsOf<'a>

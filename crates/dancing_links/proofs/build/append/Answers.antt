@@ -1,6 +1,7 @@
 use Rattle.std.proofs.Common.{ℕ, get_or, ◌∙◌, refl}
 use Rattle.std.proofs.lemmas.Grind.{get_or_default_zero}
-use Rattle.dancing_links.specs.Columns.{columns_of, with_up, with_down}
+use Rattle.dancing_links.specs.Columns.{columns_of}
+use Rattle.dancing_links.specs.Linking.{with_up, with_down}
 use Rattle.dancing_links.proofs.Building.{building_step_at}
 use Rattle.dancing_links.proofs.build.append.Goals as goal
 

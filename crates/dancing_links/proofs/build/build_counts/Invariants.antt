@@ -1,4 +1,5 @@
-use Rattle.dancing_links.specs.Columns.{columns_of, IsCounting}
+use Rattle.dancing_links.specs.Columns.{columns_of}
+use Rattle.dancing_links.specs.Counting.{IsCounting}
 use Rattle.dancing_links.proofs.build.build_counts.Given as goal
 
 abbrev pub invariant-loop-node : goal.invariant-loop-node

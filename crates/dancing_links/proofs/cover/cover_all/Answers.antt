@@ -1,5 +1,6 @@
 use Rattle.std.proofs.Common.{◌≡◌, ◌+◌, ◌∷◌, List, ℕ, arith, ap, sym, ◌∙◌, subst}
-use Rattle.dancing_links.specs.Columns.{columns_of, column_of, items_from}
+use Rattle.dancing_links.specs.Columns.{columns_of, column_of}
+use Rattle.dancing_links.specs.Covering.{items_from}
 use Rattle.dancing_links.proofs.Choose.{On, on_step, on_end, on_counts, items_step, items_end}
 use Rattle.dancing_links.proofs.cover.cover_all.Goals as goal
 

@@ -1,4 +1,5 @@
-use Rattle.dancing_links.specs.Columns.{IsLinked, columns_of, items_from}
+use Rattle.dancing_links.specs.Columns.{IsLinked, columns_of}
+use Rattle.dancing_links.specs.Covering.{items_from}
 use Rattle.dancing_links.proofs.Choose.{On}
 use Rattle.dancing_links.proofs.cover.cover_all.Given as goal
 

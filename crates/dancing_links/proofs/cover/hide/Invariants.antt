@@ -1,5 +1,8 @@
 use Rattle.std.proofs.Common.{◌≡◌}
-use Rattle.dancing_links.specs.Columns.{IsLinked, columns_of, unlinks, fewer, others_from}
+use Rattle.dancing_links.specs.Columns.{IsLinked, columns_of}
+use Rattle.dancing_links.specs.Counting.{fewer}
+use Rattle.dancing_links.specs.Covering.{others_from}
+use Rattle.dancing_links.specs.Linking.{unlinks}
 use Rattle.dancing_links.proofs.cover.hide.Given as goal
 
 abbrev pub invariant-loop-other : goal.invariant-loop-other

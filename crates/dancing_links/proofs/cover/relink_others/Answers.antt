@@ -1,5 +1,8 @@
 use Rattle.std.proofs.Common.{◌≡◌, ap, ◌∙◌, arith}
-use Rattle.dancing_links.specs.Columns.{columns_of, relinks, more, others_from}
+use Rattle.dancing_links.specs.Columns.{columns_of}
+use Rattle.dancing_links.specs.Counting.{more}
+use Rattle.dancing_links.specs.Covering.{others_from}
+use Rattle.dancing_links.specs.Linking.{relinks}
 use Rattle.dancing_links.proofs.cover.relink_others.Goals as goal
 
 pub returns-clause-links : goal.returns-clause-links

@@ -1,5 +1,8 @@
 use Rattle.std.proofs.Common.{◌≡◌, ◌≤◌}
-use Rattle.dancing_links.specs.Columns.{IsLinked, columns_of, relinks, more, others_from}
+use Rattle.dancing_links.specs.Columns.{IsLinked, columns_of}
+use Rattle.dancing_links.specs.Counting.{more}
+use Rattle.dancing_links.specs.Covering.{others_from}
+use Rattle.dancing_links.specs.Linking.{relinks}
 use Rattle.dancing_links.proofs.cover.relink_others.Given as goal
 
 abbrev pub invariant-loop-other : goal.invariant-loop-other

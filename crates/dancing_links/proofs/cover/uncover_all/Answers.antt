@@ -1,5 +1,6 @@
 use Rattle.std.proofs.Common.{◌≡◌, ◌≤◌, ◌+◌, ◌-◌, ◌++◌, ◌∷◌, [], ℕ, arith, ap, sym, ◌∙◌}
-use Rattle.dancing_links.specs.Columns.{columns_of, column_of, items_from}
+use Rattle.dancing_links.specs.Columns.{columns_of, column_of}
+use Rattle.dancing_links.specs.Covering.{items_from}
 use Rattle.dancing_links.proofs.Choose.{off_step, off_end, off_counted, items_last, items_end}
 use Rattle.dancing_links.proofs.cover.uncover_all.Goals as goal
 

@@ -1,5 +1,6 @@
 use Rattle.std.proofs.Common.{◌≤◌}
-use Rattle.dancing_links.specs.Columns.{IsLinked, columns_of, items_from}
+use Rattle.dancing_links.specs.Columns.{IsLinked, columns_of}
+use Rattle.dancing_links.specs.Covering.{items_from}
 use Rattle.dancing_links.proofs.Choose.{Off}
 use Rattle.dancing_links.proofs.cover.uncover_all.Given as goal
 

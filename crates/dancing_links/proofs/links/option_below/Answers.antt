@@ -1,4 +1,5 @@
-use Rattle.dancing_links.specs.Columns.{columns_of, down_of}
+use Rattle.dancing_links.specs.Columns.{columns_of}
+use Rattle.dancing_links.specs.Linking.{down_of}
 use Rattle.dancing_links.proofs.Views.{answer_below}
 use Rattle.dancing_links.proofs.links.option_below.Goals as goal
 

@@ -4,7 +4,8 @@ use Rattle.cover_problem.specs.Onward.{open_items_from}
 use Rattle.cover_problem.specs.Problem.{IsProblem}
 use Rattle.dancing_links.specs.declared.link.Link.{Link}
 use Rattle.dancing_links.specs.Choices.{Choices}
-use Rattle.dancing_links.specs.Columns.{columns_of, down_of}
+use Rattle.dancing_links.specs.Columns.{columns_of}
+use Rattle.dancing_links.specs.Linking.{down_of}
 use Rattle.dancing_links.proofs.Views.{IsOnward, onward_first, answer_item, answer_open, open_named}
 use Rattle.dancing_links.proofs.links.Links.first_item.Goals as goal
 

@@ -4,7 +4,9 @@ use Rattle.cover_problem.specs.Prefix.{is_covered}
 use Rattle.cover_problem.proofs.Remaining.{live_options_start}
 use Rattle.dancing_links.specs.declared.link.Link.{Link}
 use Rattle.dancing_links.specs.Choices.{Choices}
-use Rattle.dancing_links.specs.Columns.{columns_of, down_of, options_left}
+use Rattle.dancing_links.specs.Columns.{columns_of}
+use Rattle.dancing_links.specs.Linking.{down_of}
+use Rattle.dancing_links.specs.Walking.{options_left}
 use Rattle.dancing_links.proofs.Chosen.{table_of}
 use Rattle.dancing_links.proofs.Views.{left_all, head_child}
 use Rattle.dancing_links.proofs.links.Links.first_option.Goals as goal

@@ -5,7 +5,8 @@ use Rattle.cover_problem.specs.Prefix.{is_covered}
 use Rattle.cover_problem.specs.Problem.{IsProblem}
 use Rattle.dancing_links.specs.declared.link.Link.{Link}
 use Rattle.dancing_links.specs.Choices.{Choices}
-use Rattle.dancing_links.specs.Columns.{columns_of, down_of}
+use Rattle.dancing_links.specs.Columns.{columns_of}
+use Rattle.dancing_links.specs.Linking.{down_of}
 use Rattle.dancing_links.proofs.Views.{IsOnward, onward_next, answer_item, answer_open, open_named}
 use Rattle.dancing_links.proofs.links.Links.next_item.Goals as goal
 

@@ -1,12 +1,12 @@
 use Rattle.std.proofs.Common.{◌≡◌, ◌<◌, ◌+◌, List, ℕ, length, true, false, ap, arith, ◌∙◌, vec_capacity, slice_get}
-use Rattle.std.proofs.lemmas.Bool.{and_parts}
-use Rattle.cover_problem.specs.Branching.{is_choice}
 use Rattle.cover_problem.specs.Onward.{live_options_from}
 use Rattle.cover_problem.specs.Prefix.{is_covered, is_live}
 use Rattle.cover_problem.specs.Problem.{names_item}
 use Rattle.dancing_links.specs.declared.link.Link.{Link}
 use Rattle.dancing_links.specs.Choices.{Choices}
-use Rattle.dancing_links.specs.Columns.{columns_of, down_of, options_left}
+use Rattle.dancing_links.specs.Columns.{columns_of}
+use Rattle.dancing_links.specs.Linking.{down_of}
+use Rattle.dancing_links.specs.Walking.{options_left}
 use Rattle.dancing_links.proofs.Chosen.{table_of, first_room, range_of}
 use Rattle.dancing_links.proofs.Views.{left_after, naming_same, head_child, head_later}
 use Rattle.dancing_links.proofs.links.Links.next_option.Goals as goal

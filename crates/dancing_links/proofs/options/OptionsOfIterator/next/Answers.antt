@@ -1,5 +1,7 @@
 use Rattle.std.proofs.Common.{◌≡◌, ◌∷◌, length, ap, rules}
-use Rattle.dancing_links.specs.Columns.{columns_of, down_of, options_left}
+use Rattle.dancing_links.specs.Columns.{columns_of}
+use Rattle.dancing_links.specs.Linking.{down_of}
+use Rattle.dancing_links.specs.Walking.{options_left}
 use Rattle.dancing_links.proofs.Views.{left_step}
 use Rattle.dancing_links.proofs.options.OptionsOfIterator.next.Goals as goal
 
