@@ -1,5 +1,6 @@
 -- The loop of a visit over the children of a prefix.
-use Rattle.std.proofs.Common.{◌≡◌, ℕ, zero, suc, ◌+◌, ◌-◌, ◌<◌, ◌≤◌, List, [], ◌∷◌, ◌++◌, length, true, not, Option, Some, None, get_or, take, refl, arith, sym, ap, ◌∙◌, slice_get, IfSome, subst, option_map, inl, inr}
+use Rattle.std.proofs.Common.{◌≡◌, ℕ, zero, suc, ◌+◌, ◌-◌, ◌<◌, ◌≤◌, List, [], ◌∷◌, ◌++◌, length, true, not, Option, Some, None, get_or, take, nat_lt, false, refl, arith, sym, ap, ◌∙◌, slice_get, IfSome, subst, option_map, inl, inr}
+use Rattle.std.proofs.lemmas.Bool.Decides.{nat_tests}
 use Rattle.std.proofs.lemmas.Bool.{and_from, and_parts, not-true, not_from_false, cases_cond}
 use Rattle.std.proofs.lemmas.List.{same_from_push}
 use Rattle.cover_problem.specs.Branching.{IsOpen, branch_item, fewest_of, fewer_of, is_choice, live_options, open_items}
@@ -33,6 +34,22 @@ pub fewest_step : (p : Problem) (os : List ℕ) (best : Option ℕ) (b i : ℕ) 
 fewest_step p os best b i next later e is f g h =
     ap (λ o. fewest_of p os o (items_left p os later)) f
     ∙ ap (fewest_of p os (fewer_of p os best i)) (items_next p os (i + 1) later g)
+    ∙ sym (ap (fewest_of p os best) (items_taken p os i next e is)) ∙ h
+
+no_less : (a b : ℕ) → b ≡ 0 → nat_lt a b ≡ false
+no_less a b e = grind (arith, nat_tests)
+
+-- where an item has no live option, it stays the one with fewest
+none_fewer : (p : Problem) (os : List ℕ) (best : ℕ) (is : List ℕ) → length (live_options p os best) ≡ 0 → fewest_of p os (Some best) is ≡ Some best
+none_fewer p os best [] none = refl
+none_fewer p os best (i ∷ is) none =
+    let other = no_less (length (live_options p os i)) (length (live_options p os best)) none in
+    rw other (none_fewer p os best is none)
+
+pub fewest_found : (p : Problem) (os : List ℕ) (best : Option ℕ) (b i : ℕ) (next : Option ℕ) → next ≡ Some i → IsOpen p os i → Some b ≡ fewer_of p os best i → length (live_options p os b) ≡ 0 → fewest_of p os best (items_left p os next) ≡ branch_item p os → Some b ≡ branch_item p os
+fewest_found p os best b i next e is f none h =
+    sym (none_fewer p os b (open_items_from p os (i + 1)) none)
+    ∙ ap (λ o. fewest_of p os o (open_items_from p os (i + 1))) f
     ∙ sym (ap (fewest_of p os best) (items_taken p os i next e is)) ∙ h
 
 pub items_fewer : (p : Problem) (os : List ℕ) (i : ℕ) (next later : Option ℕ) → next ≡ Some i → IsOpen p os i → later ≡ slice_get (open_items_from p os (i + 1)) 0 → length (items_left p os later) < length (items_left p os next)

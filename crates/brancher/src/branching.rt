@@ -33,7 +33,12 @@ pub fn branch(links: &Links) -> Branch
     let mut best: Option<(u16, usize)> = None;
     let mut next = links.first_item();
     while let Some(item) = next {
-        best = Some(fewer_of(links, best, item));
+        let fewer = fewer_of(links, best, item);
+        // No other item can have fewer.
+        if fewer.1 == 0 {
+            return Branch::Item(fewer.0);
+        }
+        best = Some(fewer);
         next = links.next_item(item);
     }
     match best {
