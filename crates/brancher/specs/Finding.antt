@@ -6,3 +6,6 @@ pub record Finding : Type 0 where
   pub prefix : List ℕ
   pub fuel : ℕ
   pub outcome : search.Outcome
+
+abbrev pub finding_by : List ℕ → ℕ → search.Outcome → Finding
+finding_by prefix fuel outcome = record { prefix = prefix; fuel = fuel; outcome = outcome }

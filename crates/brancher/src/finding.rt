@@ -24,6 +24,21 @@ impl Model for Finding {
 }
 
 impl Finding {
+    ghost use Rattle.brancher.specs.Finding.{finding_by};
+    ghost use Rattle.brancher.specs.Visit.{outcome_told};
+
+    /// What the search of a prefix with so much fuel came to, with the cover that was found, if any.
+    pub fn from_parts(prefix: Vec<u16>, fuel: u64, outcome: Outcome, cover: Vec<u16>) -> Finding
+        ensures { result ≡ finding_by prefix.items fuel (outcome_told outcome cover.items) }
+    {
+        Finding {
+            prefix: Numbers::from_vec(prefix),
+            fuel,
+            outcome,
+            cover: Numbers::from_vec(cover),
+        }
+    }
+
     /// The prefix that was searched.
     pub fn prefix(&self) -> &[u16]
         ensures { result.now ≡ self.now.prefix }

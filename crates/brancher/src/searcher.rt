@@ -1,7 +1,8 @@
-ghost use Rattle.std.specs.Prelude.{◌≡◌, ◌<◌, ◌≤◌, [], length, Some, true, IfOk};
+ghost use Rattle.std.specs.Prelude.{◌≡◌, ◌<◌, ◌≤◌, [], length, Some, true, IfOk, IfErr};
 ghost use Rattle.cover_problem.specs.Prefix.{is_prefix, IsBarren, IsCoverOver};
 ghost use Rattle.cover_problem.specs.Search.{outcome};
 
+use crate::finding::Finding;
 use crate::outcome::Outcome;
 use crate::visit::{Visit, visit_prefix};
 use cover_problem::Problem;
@@ -13,6 +14,7 @@ use std::marker::Model;
 #[derive(Drop)]
 pub struct Searcher<'a> {
     links: Links<'a>,
+    alloc: Global,
 }
 
 impl<'a> Model for Searcher<'a> {
@@ -24,6 +26,7 @@ impl<'a> Model for Searcher<'a> {
 }
 
 impl<'a> Searcher<'a> {
+    ghost use Rattle.brancher.specs.Finding.{finding_by};
     ghost use Rattle.brancher.specs.Visit.{outcome_told};
 
     /// A search over the problem; the only error is want of memory.
@@ -31,7 +34,7 @@ impl<'a> Searcher<'a> {
         ensures { IfOk result (λ s. s.problem ≡ problem.now) }
     {
         let links = Links::build(alloc, problem)?;
-        Ok(Searcher { links })
+        Ok(Searcher { links, alloc })
     }
 
     /// Searches for the first cover below a prefix, with at most so many visits.
@@ -52,12 +55,40 @@ impl<'a> Searcher<'a> {
         }
     }
 
+    /// Searches as `search` does, and copies out what it came to. At want of memory the prefix comes back.
+    pub fn find(&mut self, prefix: Vec<u16>, fuel: u64) -> Result<Finding, Vec<u16>>
+        requires prefix { is_prefix self.old.problem prefix.items ≡ true }
+        requires fuel { 1 ≤ fuel }
+        ensures problem { self.new.problem ≡ self.old.problem }
+        ensures finding { IfOk result (λ finding. finding ≡ finding_by prefix.items fuel (outcome self.old.problem prefix.items fuel)) }
+        ensures back { IfErr result (λ list. list.items ≡ prefix.items) }
+    {
+        let outcome = self.search(&prefix, fuel);
+        let cover = match outcome {
+            Outcome::Cover => copied(self.alloc, self.found()),
+            Outcome::Barren | Outcome::Spent => Ok(Vec::new(self.alloc)),
+        };
+        match cover {
+            Ok(cover) => Ok(Finding::from_parts(prefix, fuel, outcome, cover)),
+            Err(_) => Err(prefix),
+        }
+    }
+
     /// The cover that the last search found.
     pub fn found(&self) -> &[u16]
         ensures { result.now ≡ self.now.found }
     {
         self.links.chosen()
     }
+}
+
+/// A list of the same numbers; the only error is want of memory.
+fn copied(alloc: Global, numbers: &[u16]) -> Result<Vec<u16>, AllocError>
+    ensures { IfOk result (λ list. list.items ≡ numbers.now) }
+{
+    let mut list = Vec::new(alloc);
+    list.extend_from_slice(numbers)?;
+    Ok(list)
 }
 
 /// Puts the prefix in place of what is chosen.
