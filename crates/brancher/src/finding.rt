@@ -1,4 +1,5 @@
-ghost use Rattle.std.specs.Prelude.{◌≡◌, IfOk};
+ghost use Rattle.std.specs.Prelude.{◌≡◌, ℕ, List, IfOk};
+ghost use Rattle.cover_problem.specs.Search.{Covers};
 
 use crate::outcome::Outcome;
 use cover_problem::Numbers;
@@ -28,7 +29,12 @@ impl Finding {
     ghost use Rattle.brancher.specs.Visit.{outcome_told};
 
     /// What the search of a prefix with so much fuel came to, with the cover that was found, if any.
-    pub fn from_parts(prefix: Vec<u16>, fuel: u64, outcome: Outcome, cover: Vec<u16>) -> Finding
+    pub(crate) fn from_parts(
+        prefix: Vec<u16>,
+        fuel: u64,
+        outcome: Outcome,
+        cover: Vec<u16>,
+    ) -> Finding
         ensures { result ≡ finding_by prefix.items fuel (outcome_told outcome cover.items) }
     {
         Finding {
@@ -51,6 +57,20 @@ impl Finding {
         ensures { result ≡ self.now.fuel }
     {
         self.fuel
+    }
+
+    /// How the search ended.
+    pub fn outcome(&self) -> Outcome
+        ensures { (cover : List ℕ) × (outcome_told result cover ≡ self.now.outcome) }
+    {
+        self.outcome
+    }
+
+    /// The cover that was found; of a search that found none, nothing is said of it.
+    pub fn cover(&self) -> &[u16]
+        ensures { (options : List ℕ) → self.now.outcome ≡ Covers options → result.now ≡ options }
+    {
+        self.cover.as_slice()
     }
 
     /// An equal finding; the only error is want of memory.

@@ -1,9 +1,8 @@
 -- The options of an answer that was read are options of the problem, each once.
-use Rattle.std.proofs.Common.{◌≡◌, ℕ, zero, suc, ◌+◌, ◌<◌, ◌≤◌, List, [], ◌∷◌, length, take, get_or, Bool, true, false, not, ◌==◌, ◌&&◌, ◌||◌, nat_lt, refl, sym, ap, ◌∙◌, arith, inl, inr}
+use Rattle.std.proofs.Common.{◌≡◌, ℕ, suc, ◌<◌, List, [], ◌∷◌, length, take, get_or, true, false, not, ◌==◌, nat_lt, refl, sym, ap, arith, inl, inr}
 use Rattle.std.proofs.lemmas.Bool.{and_from, both_ways, cases_Bool, eqb-true, eq-eqb, lt-ltb, or_cases, or_left, or_right}
 use Rattle.std.specs.List.{list_all}
 use Rattle.cover_problem.specs.Numbers.{is_in, is_distinct}
-use Rattle.cover_problem.specs.Prefix.{are_options}
 use Rattle.cover_problem.specs.Problem.{Problem}
 use Rattle.cover_problem.specs.declared.answer.Answer.{Answer}
 use Rattle.cover_problem.specs.declared.answer.Answer.TheVariants.{Cover, NoCover}

@@ -117,7 +117,11 @@ fn random_text(alloc: Global, state: &mut u64) -> Result<String, AllocError> {
     let mut text = String::new(alloc);
     let skipped = next(state) % 4;
     for name in names.chars() {
-        let wanted = if name == 'a' || name == '|' { 0 } else { skipped };
+        let wanted = if name == 'a' || name == '|' {
+            0
+        } else {
+            skipped
+        };
         if next(state) % 4 >= wanted || name == 'b' {
             text.push(name)?;
             text.push(' ')?;

@@ -2,8 +2,9 @@
 
 ghost use Rattle.std.specs.Prelude.{◌≤◌};
 
-use brancher::{Outcome, Searcher};
+use brancher::{Branch, Outcome, Searcher, branch, children};
 use cover_problem::is_prefix;
+use dancing_links::Links;
 use dlx_reader::read_problem;
 use std::alloc::Global;
 use std::process::Abort;
@@ -158,6 +159,8 @@ fn searches_agree(rt: HostRuntime) -> Result<(), Fail> {
     Ok(())
 }
 
+const LETTERS: &[u8] = b"a b c d e f g\nc e\na d g\nb c f\na d f\nb g\nd e g\n";
+
 /// Searches a prefix, and gives back what is found; no cover is an empty list.
 fn search_below<R: Abort>(
     rt: &R,
@@ -197,5 +200,38 @@ fn prefixes_are_searched(rt: HostRuntime) -> Result<(), Fail> {
         assert_eq!(rt; ended.0, outcome);
         assert_eq!(rt; ended.1.as_slice(), found);
     }
+    Ok(())
+}
+
+#[test]
+fn links_branch(rt: HostRuntime) -> Result<(), Fail> {
+    let alloc = rt.alloc();
+    let read = read_problem(alloc, LETTERS)?;
+    let mut links = Links::build(alloc, &read.problem)?;
+    assert!(rt; read.problem.options() == 6);
+    assert!(rt; links.is_live(3));
+    links.choose(3);
+    let Branch::Item(item) = branch(&links) else {
+        return Err("an uncovered item")?;
+    };
+    assert_eq!(rt; item, 1);
+    let mut list = vec![in alloc; 9u16]?;
+    children(&links, item, &mut list)?;
+    assert_eq!(rt; list.as_slice(), [9, 4].as_slice());
+    assert_eq!(rt; links.undo(), 3);
+    Ok(())
+}
+
+#[test]
+fn findings_are_copied_out(rt: HostRuntime) -> Result<(), Fail> {
+    let alloc = rt.alloc();
+    let read = read_problem(alloc, LETTERS)?;
+    let mut searcher = Searcher::new(alloc, &read.problem)?;
+    let found = searcher.find(Vec::new(alloc), 6).map_err(|_| "memory")?;
+    assert!(rt; found.prefix().is_empty() && found.fuel() == 6);
+    assert_eq!(rt; found.outcome(), Outcome::Cover);
+    assert_eq!(rt; found.cover(), [3, 4, 0].as_slice());
+    let spent = searcher.find(Vec::new(alloc), 5).map_err(|_| "memory")?;
+    assert_eq!(rt; spent.copy()?.outcome(), Outcome::Spent);
     Ok(())
 }

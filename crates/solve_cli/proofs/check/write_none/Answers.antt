@@ -1,4 +1,3 @@
-use Rattle.std.proofs.Common.{◌≡◌, []}
 use Rattle.solve_cli.proofs.check.write_none.Goals as goal
 
 pub returns-in-Cover-clause-bytes : goal.returns-in-Cover-clause-bytes

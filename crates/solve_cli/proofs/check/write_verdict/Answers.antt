@@ -1,4 +1,3 @@
-use Rattle.std.proofs.Common.{◌≡◌}
 use Rattle.solve_cli.proofs.check.write_verdict.Goals as goal
 
 pub returns-in-CoveredTwice-clause-bytes : goal.returns-in-CoveredTwice-clause-bytes
