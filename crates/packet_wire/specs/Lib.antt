@@ -1,1 +1,3 @@
-
+pub mod Kinds
+pub mod Spelling
+pub mod WellFormed
