@@ -1,13 +1,17 @@
 //! Packets between sites, and their bytes.
 #![tactic(auto)]
 
+mod fault;
 mod incarnations;
 mod kind;
 mod packet;
+mod reading;
 mod well_formed;
 mod writing;
 
+pub use fault::WireFault;
 pub use incarnations::Incarnations;
 pub use packet::{Body, Packet};
+pub use reading::read_packet;
 pub use well_formed::is_well_formed;
 pub use writing::write_packet;
