@@ -1,1 +1,5 @@
+pub mod Bodies
+pub mod Fields
+pub mod Forms
 pub mod Loop
+pub mod Whole

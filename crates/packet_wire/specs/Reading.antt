@@ -49,9 +49,10 @@ fields_at width test (suc count) bytes = do
   others ← fields_at width test count first.1
   Ok (first.0 ∷ others.0, others.1)
 
-abbrev pub known_kind : Option Kind → List ℕ → Read Kind
-known_kind None rest = Err faults.Kind
-known_kind (Some kind) rest = Ok (kind, rest)
+-- what a number stands for, if anything
+abbrev pub known : {A : Type 0} → WireFault → Option A → List ℕ → Read A
+known fault None rest = Err fault
+known fault (Some x) rest = Ok (x, rest)
 
 -- the magic 43 4e, the version 1, and the kind
 unfoldable pub start_at : List ℕ → Read Kind
@@ -59,7 +60,7 @@ start_at bytes = do
   magic ← field_at 2 (λ n. n == 17230) faults.Magic bytes
   version ← field_at 1 (λ n. n == 1) faults.Version magic.1
   number ← number_at 1 version.1
-  known_kind (kind_numbered number.0) number.1
+  known faults.Kind (kind_numbered number.0) number.1
 
 -- a node, and its incarnation
 unfoldable pub site_at : List ℕ → Read Site
@@ -107,14 +108,10 @@ cause_numbered n =
     else if n == 3 then Some Unknown
     else None
 
-abbrev pub known_cause : Option Cause → List ℕ → Read Cause
-known_cause None rest = Err faults.Field
-known_cause (Some cause) rest = Ok (cause, rest)
-
 unfoldable pub cause_at : List ℕ → Read Cause
 cause_at bytes = do
   number ← number_at 1 bytes
-  known_cause (cause_numbered number.0) number.1
+  known faults.Field (cause_numbered number.0) number.1
 
 -- the body of each kind
 unfoldable pub body_at : Kind → List ℕ → Read Body

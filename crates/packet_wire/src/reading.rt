@@ -1,8 +1,9 @@
 //! Reading packets from bytes.
 
-ghost use Rattle.std.specs.Prelude.{◌≡◌};
+ghost use Rattle.std.specs.Prelude.{◌≡◌, true, IfOk, Ok};
+ghost use Rattle.packet_wire.specs.Spelling.{spelling};
 ghost use Rattle.packet_wire.specs.Reading.{Gives, body_at, cause_at, child_at, field_at, fields_at, header_at, incarnations_at, number_at, options_at, packet_at, reading, result_at, site_at, start_at};
-ghost use Rattle.packet_wire.specs.WellFormed.{is_counted, is_option};
+ghost use Rattle.packet_wire.specs.WellFormed.{is_counted, is_option, is_well_formed};
 ghost use Rattle.packet_wire.specs.declared.fault.WireFault.TheVariants.{Field};
 
 use crate::fault::WireFault;
@@ -300,7 +301,13 @@ fn whole_packet(alloc: Global, bytes: &[u8]) -> Result<Packet, WireFault>
 /// list, is a field. That the two sites go with the kind is tested behind the header, as a field of no bytes. Memory is
 /// taken for the list alone.
 pub fn read_packet(alloc: Global, bytes: &[u8]) -> Result<Packet, WireFault>
-    // Which packet or fault it is, field by field.
+    // What is read is well-formed, and spelled so.
+    ensures found { IfOk result (λ packet. (is_well_formed packet ≡ true) × (bytes.now ≡ spelling packet)) }
+
+    // What is spelled so is read, unless memory runs out.
+    ensures only { (p : Packet) → is_well_formed p ≡ true → bytes.now ≡ spelling p → Gives (λ packet. packet) result (Ok p) }
+
+    // Which fault it is, field by field.
     ensures exact { Gives (λ packet. packet) result (reading bytes.now) }
 {
     whole_packet(alloc, bytes)
