@@ -111,7 +111,7 @@ is_found bytes (Ok p) fits given = reading_takes bytes p fits given
 is_found bytes (Err e) fits given = tt
 
 -- a packet that is spelled so, from its spelling and what stands behind it
-pub front_is : (p q : Packet) (rest more : List ℕ) → is_well_formed p ≡ true → is_well_formed q ≡ true → spelling p ++ rest ≡ spelling q ++ more → (p ≡ q) × (rest ≡ more)
+front_is : (p q : Packet) (rest more : List ℕ) → is_well_formed p ≡ true → is_well_formed q ≡ true → spelling p ++ rest ≡ spelling q ++ more → (p ≡ q) × (rest ≡ more)
 front_is p q rest more p-ok q-ok same =
     let left : packet_at (spelling p ++ rest) ≡ Ok (p, rest) = packet_again p rest p-ok in
     let right : packet_at (spelling q ++ more) ≡ Ok (q, more) = packet_again q more q-ok in
@@ -119,3 +119,9 @@ front_is p q rest more p-ok q-ok same =
     let second : Packet × List ℕ = (q, more) in
     let is : first ≡ second = ok_is first second (sym left ∙ ap packet_at same ∙ right) in
     (ap (λ (x : Packet × List ℕ). x.0) is, ap (λ (x : Packet × List ℕ). x.1) is)
+
+pub begins_no_other : (p q : Packet) (rest : List ℕ) → is_well_formed p ≡ true → is_well_formed q ≡ true → spelling q ≡ spelling p ++ rest → (p ≡ q) × (rest ≡ [])
+begins_no_other p q rest p-ok q-ok same = front_is p q rest [] p-ok q-ok (sym same ∙ sym (append-nil (spelling q)))
+
+pub one_packet : (p q : Packet) → is_well_formed p ≡ true → is_well_formed q ≡ true → spelling p ≡ spelling q → p ≡ q
+one_packet p q p-ok q-ok same = (front_is p q [] [] p-ok q-ok (ap (λ (bytes : List ℕ). bytes ++ []) same)).0
