@@ -1,1 +1,4 @@
-
+pub mod Kinds
+pub mod Reading
+pub mod Spelling
+pub mod WellFormed

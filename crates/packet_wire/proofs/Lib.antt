@@ -1,0 +1,6 @@
+pub mod Bodies
+pub mod Fields
+pub mod Forms
+pub mod Lengths
+pub mod Loop
+pub mod Whole

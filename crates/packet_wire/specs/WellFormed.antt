@@ -1,0 +1,72 @@
+-- Which packets have a spelling: what each field of them allows.
+use Rattle.std.specs.Prelude.{ℕ, ◌^◌, Bool, true, not, ◌&&◌, ◌||◌, ◌==◌, nat_lt, List, length}
+use Rattle.std.specs.List.{list_all}
+use Rattle.spawn_frame.specs.declared.child_result.ChildResult.{ChildResult}
+use Rattle.spawn_frame.specs.declared.child_result.ChildResult.TheVariants.{Cover, Empty}
+use Rattle.spawn_frame.specs.declared.site.Site.{Site}
+use Rattle.packet_wire.specs.Kinds.{is_routed, kind_of}
+use Rattle.packet_wire.specs.declared.packet.Body.{Body}
+use Rattle.packet_wire.specs.declared.packet.Body.TheVariants as bodies
+use Rattle.packet_wire.specs.declared.packet.Packet.{Packet}
+
+-- a node, or 0 for the registry
+abbrev pub is_node : ℕ → Bool
+is_node n = nat_lt n 17
+
+-- a serial number: it has four bytes
+abbrev pub is_serial : ℕ → Bool
+is_serial n = nat_lt n 4294967296
+
+-- an incarnation, or an attempt: four bytes, and at least 1
+abbrev pub is_counted : ℕ → Bool
+is_counted n = nat_lt 0 n && nat_lt n 4294967296
+
+-- an incarnation of the node; the registry has but one
+abbrev pub is_incarnation_of : ℕ → ℕ → Bool
+is_incarnation_of node n = is_counted n && (not (node == 0) || n == 1)
+
+abbrev pub is_site : Site → Bool
+is_site s = is_node s.node && is_incarnation_of s.node s.incarnation
+
+-- the number of an option
+abbrev pub is_option : ℕ → Bool
+is_option n = nat_lt n 20000
+
+-- a count of options, where there are at least so many
+abbrev pub is_option_count : ℕ → ℕ → Bool
+is_option_count least n = not (nat_lt n least) && nat_lt n 1001
+
+abbrev pub are_options : ℕ → List ℕ → Bool
+are_options least options = is_option_count least (length options) && list_all is_option options
+
+-- a count of incarnations: there are at most 16 nodes, and at least 1
+abbrev pub is_node_count : ℕ → Bool
+is_node_count n = nat_lt 0 n && nat_lt n 17
+
+abbrev pub are_incarnations : List ℕ → Bool
+are_incarnations incarnations = is_node_count (length incarnations) && list_all is_counted incarnations
+
+-- a child at an attempt
+abbrev pub is_child : ℕ → ℕ → Bool
+is_child serial attempt = is_serial serial && is_counted attempt
+
+-- an exact cover has an option, where there is an item to cover
+abbrev pub is_result : ChildResult → Bool
+is_result Empty = true
+is_result (Cover options) = are_options 1 options
+
+abbrev pub is_body : Body → Bool
+is_body bodies.Hello = true
+is_body (bodies.Members incarnations) = are_incarnations incarnations
+is_body bodies.Steal = true
+is_body (bodies.Give serial attempt prefix) = is_child serial attempt && are_options 0 prefix
+is_body bodies.NoWork = true
+is_body (bodies.Return serial attempt result) = is_child serial attempt && is_result result
+is_body (bodies.Accept serial attempt result) = is_child serial attempt && is_result result
+is_body (bodies.Refuse serial attempt cause) = is_child serial attempt
+is_body (bodies.Abort serial attempt) = is_child serial attempt
+is_body bodies.Over = true
+
+-- whether the packet has a spelling
+abbrev pub is_well_formed : Packet → Bool
+is_well_formed p = is_site p.from && (is_site p.to && (is_routed (kind_of p.body) p.from p.to && is_body p.body))

@@ -1,0 +1,91 @@
+ghost use Rattle.std.specs.Prelude.{◌≡◌};
+ghost use Rattle.packet_wire.specs.Kinds.{is_routed, kind_number, kind_numbered, kind_of};
+
+use crate::packet::Body;
+use spawn_frame::Site;
+
+/// What sort of thing a packet says.
+#[derive(Clone, Copy, Debug, PartialEq, Eq)]
+pub(crate) enum Kind {
+    Hello,
+    Members,
+    Steal,
+    Give,
+    NoWork,
+    Return,
+    Accept,
+    Refuse,
+    Abort,
+    Over,
+}
+
+impl Kind {
+    /// The kind of a body.
+    pub(crate) fn of(body: &Body) -> Kind
+        ensures { result ≡ kind_of body.now }
+    {
+        match body {
+            Body::Hello => Kind::Hello,
+            Body::Members(_) => Kind::Members,
+            Body::Steal => Kind::Steal,
+            Body::Give(..) => Kind::Give,
+            Body::NoWork => Kind::NoWork,
+            Body::Return(..) => Kind::Return,
+            Body::Accept(..) => Kind::Accept,
+            Body::Refuse(..) => Kind::Refuse,
+            Body::Abort(..) => Kind::Abort,
+            Body::Over => Kind::Over,
+        }
+    }
+
+    /// The number that stands for the kind.
+    pub(crate) fn number(self) -> u8
+        ensures { result ≡ kind_number self }
+    {
+        match self {
+            Kind::Hello => 1,
+            Kind::Members => 2,
+            Kind::Steal => 3,
+            Kind::Give => 4,
+            Kind::NoWork => 5,
+            Kind::Return => 6,
+            Kind::Accept => 7,
+            Kind::Refuse => 8,
+            Kind::Abort => 9,
+            Kind::Over => 10,
+        }
+    }
+
+    /// The kind that a number stands for, if any.
+    pub(crate) fn numbered(number: u8) -> Option<Kind>
+        ensures { result ≡ kind_numbered number }
+    {
+        match number {
+            1 => Some(Kind::Hello),
+            2 => Some(Kind::Members),
+            3 => Some(Kind::Steal),
+            4 => Some(Kind::Give),
+            5 => Some(Kind::NoWork),
+            6 => Some(Kind::Return),
+            7 => Some(Kind::Accept),
+            8 => Some(Kind::Refuse),
+            9 => Some(Kind::Abort),
+            10 => Some(Kind::Over),
+            _ => None,
+        }
+    }
+
+    /// Whether a packet of this kind goes from the one site to the other: they are two, and each is a node or the
+    /// registry as the kind has it.
+    pub(crate) fn is_routed(self, from: Site, to: Site) -> bool
+        ensures { result ≡ is_routed self from to }
+    {
+        from.node != to.node
+            && match self {
+                Kind::Hello => to.node == 0,
+                Kind::Members | Kind::Over => from.node == 0,
+                Kind::Steal | Kind::Return => from.node != 0,
+                _ => to.node != 0,
+            }
+    }
+}

@@ -1,0 +1,198 @@
+//! Writing packets as bytes.
+
+ghost use Rattle.std.specs.Prelude.{◌≡◌, ◌<◌, ◌++◌, length, true, OnOk, OnErr, IfOk};
+ghost use Rattle.packet_wire.specs.Spelling.{body_text, cause_number, child_text, header_text, incarnations_text, number, numbers, options_text, result_text, site_text, spelling, start_text};
+ghost use Rattle.packet_wire.specs.Kinds.{kind_of};
+ghost use Rattle.packet_wire.specs.WellFormed.{is_body, is_result, is_well_formed};
+
+use crate::kind::Kind;
+use crate::packet::{Body, Packet};
+use byteorder::{BigEndian, ByteOrder};
+use spawn_frame::{Attempt, Cause, ChildResult, Site};
+use std::alloc::{AllocError, Global};
+
+/// The number with which each packet begins.
+pub(crate) const MAGIC: u16 = 0x434e;
+
+/// The version of each packet.
+pub(crate) const VERSION: u8 = 1;
+
+/// Writes a number of one byte.
+#[tactic(auto, unfolding(crate::specs::Spelling::number))]
+fn write_u8(out: &mut Vec<u8>, value: u8) -> Result<(), AllocError>
+    ensures { OnOk result (out.new.items ≡ out.old.items ++ number 1 value) }
+{
+    out.push(value)?;
+    Ok(())
+}
+
+/// Writes a number of two bytes.
+#[tactic(auto, unfolding(crate::specs::Spelling::number))]
+fn write_u16(out: &mut Vec<u8>, value: u16) -> Result<(), AllocError>
+    ensures { OnOk result (out.new.items ≡ out.old.items ++ number 2 value) }
+{
+    let mut cells = [0; 2];
+    BigEndian::write_u16(&mut cells, value);
+    out.extend_from_slice(&cells)
+}
+
+/// Writes a number of four bytes.
+#[tactic(auto, unfolding(crate::specs::Spelling::number))]
+fn write_u32(out: &mut Vec<u8>, value: u32) -> Result<(), AllocError>
+    ensures { OnOk result (out.new.items ≡ out.old.items ++ number 4 value) }
+{
+    let mut cells = [0; 4];
+    BigEndian::write_u32(&mut cells, value);
+    out.extend_from_slice(&cells)
+}
+
+/// Writes what each packet begins with, and the kind.
+fn write_start(out: &mut Vec<u8>, kind: Kind) -> Result<(), AllocError>
+    ensures { OnOk result (out.new.items ≡ out.old.items ++ start_text kind) }
+{
+    write_u16(out, MAGIC)?;
+    write_u8(out, VERSION)?;
+    write_u8(out, kind.number())
+}
+
+/// Writes the node and its incarnation.
+fn write_site(out: &mut Vec<u8>, site: Site) -> Result<(), AllocError>
+    ensures { OnOk result (out.new.items ≡ out.old.items ++ site_text site) }
+{
+    write_u8(out, site.node)?;
+    write_u32(out, site.incarnation)
+}
+
+/// Writes the header.
+fn write_header(out: &mut Vec<u8>, kind: Kind, from: Site, to: Site) -> Result<(), AllocError>
+    ensures { OnOk result (out.new.items ≡ out.old.items ++ header_text kind from to) }
+{
+    write_start(out, kind)?;
+    write_site(out, from)?;
+    write_site(out, to)
+}
+
+/// Writes numbers of two bytes.
+fn write_options(out: &mut Vec<u8>, options: &[u16]) -> Result<(), AllocError>
+    ensures { OnOk result (out.new.items ≡ out.old.items ++ numbers 2 options.now) }
+{
+    for option in options {
+        write_u16(out, *option)?;
+    }
+    Ok(())
+}
+
+/// Writes a list of options, with its count.
+fn write_option_list(out: &mut Vec<u8>, options: &[u16]) -> Result<(), AllocError>
+    requires { length options.now < 65536 }
+    ensures { OnOk result (out.new.items ≡ out.old.items ++ options_text options.now) }
+{
+    write_u16(out, options.len() as u16)?;
+    write_options(out, options)
+}
+
+/// Writes numbers of four bytes.
+fn write_incarnations(out: &mut Vec<u8>, incarnations: &[u32]) -> Result<(), AllocError>
+    ensures { OnOk result (out.new.items ≡ out.old.items ++ numbers 4 incarnations.now) }
+{
+    for incarnation in incarnations {
+        write_u32(out, *incarnation)?;
+    }
+    Ok(())
+}
+
+/// Writes the incarnations of the nodes, with their count.
+fn write_members(out: &mut Vec<u8>, incarnations: &[u32]) -> Result<(), AllocError>
+    requires { length incarnations.now < 256 }
+    ensures { OnOk result (out.new.items ≡ out.old.items ++ incarnations_text incarnations.now) }
+{
+    write_u8(out, incarnations.len() as u8)?;
+    write_incarnations(out, incarnations)
+}
+
+/// Writes the name of a child, and the attempt.
+fn write_child(out: &mut Vec<u8>, serial: u32, attempt: Attempt) -> Result<(), AllocError>
+    ensures { OnOk result (out.new.items ≡ out.old.items ++ child_text serial attempt) }
+{
+    write_u32(out, serial)?;
+    write_u32(out, attempt)
+}
+
+/// Writes a result.
+fn write_result(out: &mut Vec<u8>, told: &ChildResult) -> Result<(), AllocError>
+    requires { is_result told.now ≡ true }
+    ensures { OnOk result (out.new.items ≡ out.old.items ++ result_text told.now) }
+{
+    match told {
+        ChildResult::Empty => write_u8(out, 0),
+        ChildResult::Cover(options) => {
+            write_u8(out, 1)?;
+            write_option_list(out, options.as_slice())
+        }
+    }
+}
+
+/// Writes why a result is refused.
+fn write_cause(out: &mut Vec<u8>, cause: Cause) -> Result<(), AllocError>
+    ensures { OnOk result (out.new.items ≡ out.old.items ++ number 1 (cause_number cause)) }
+{
+    let value = match cause {
+        Cause::Aborted => 1,
+        Cause::Superseded => 2,
+        Cause::Unknown => 3,
+    };
+    write_u8(out, value)
+}
+
+/// Writes the body.
+fn write_body(out: &mut Vec<u8>, body: &Body) -> Result<(), AllocError>
+    requires { is_body body.now ≡ true }
+    ensures { OnOk result (out.new.items ≡ out.old.items ++ body_text body.now) }
+{
+    match body {
+        Body::Hello | Body::Steal | Body::NoWork | Body::Over => Ok(()),
+        Body::Members(incarnations) => write_members(out, incarnations.as_slice()),
+        Body::Give(serial, attempt, prefix) => {
+            write_child(out, *serial, *attempt)?;
+            write_option_list(out, prefix.as_slice())
+        }
+        Body::Return(serial, attempt, told) | Body::Accept(serial, attempt, told) => {
+            write_child(out, *serial, *attempt)?;
+            write_result(out, told)
+        }
+        Body::Refuse(serial, attempt, cause) => {
+            write_child(out, *serial, *attempt)?;
+            write_cause(out, *cause)
+        }
+        Body::Abort(serial, attempt) => write_child(out, *serial, *attempt),
+    }
+}
+
+/// The bytes of the packet.
+fn spelling_of(alloc: Global, packet: &Packet) -> Result<Vec<u8>, AllocError>
+    requires { is_well_formed packet.now ≡ true }
+    ensures { IfOk result (λ text. text.items ≡ spelling packet.now) }
+{
+    let mut text = Vec::new(alloc);
+    write_header(&mut text, Kind::of(&packet.body), packet.from, packet.to)?;
+    write_body(&mut text, &packet.body)?;
+    Ok(text)
+}
+
+/// Appends the bytes of a well-formed packet, of which there are at most 2,025.
+///
+/// A header of 14 bytes has the magic `43 4e`, the version 1, the kind from 1 to 10 in the order of [`Body`], and of the
+/// sender and the receiver each the node in one byte and the incarnation in four. The body follows: of `Members` the count
+/// in one byte and the incarnations in four each; of those that name a child its serial number and the attempt in four
+/// bytes each, and then the prefix, the result, or the cause from 1 to 3. A list of options has its count and each number
+/// in two bytes; a result is the byte 0 for none, or 1 and the list of the cover. The highest byte of a number is first.
+///
+/// The only error is want of memory. The list is then as it was.
+pub fn write_packet(alloc: Global, packet: &Packet, out: &mut Vec<u8>) -> Result<(), AllocError>
+    requires { is_well_formed packet.now ≡ true }
+    ensures written { OnOk result (out.new.items ≡ out.old.items ++ spelling packet.now) }
+    ensures kept { OnErr result (out.new.items ≡ out.old.items) }
+{
+    let text = spelling_of(alloc, packet)?;
+    out.extend_from_slice(&text)
+}
