@@ -2,5 +2,7 @@
 #![tactic(auto)]
 
 mod laws;
+mod runs;
 
-pub use laws::{runs_that_publish, safe_over_every_run};
+pub use laws::safe_over_every_run;
+pub use runs::{late_result, overtaken_result, repeated_result, thief_begins_anew};
