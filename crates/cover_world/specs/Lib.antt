@@ -1,6 +1,7 @@
 pub mod Coverage
 pub mod Overtaken
 pub mod Plays
+pub mod Refusals
 pub mod Repeated
 pub mod Safety
 pub mod Stolen
