@@ -53,34 +53,67 @@ counted = record { in_range = in_range; primary = primary; others = others }
         simp e0 (omega arith)
 
 abbrev pub s1 : Stage two_ways
-s1 = acts (opening two_ways) 1 (Ask 0) Moved _ _ _ refl tt (refl, (refl, record { another = omega arith; exists = omega arith; after = refl; sends = refl }))
+s1 =
+    acts (opening two_ways) 1 (Ask 0) Moved _ _ _ refl tt
+    (refl, (refl, record { another = omega arith; exists = omega arith; after = refl; sends = refl }))
 
 abbrev pub s2 : Stage two_ways
-s2 = acts s1 0 (Deliver p0) Moved _ _ _ refl (0, refl) (refl, omega arith, (refl, inr (record { serial = 0; entry = root; not_older = refl; is = refl; ready = refl; after = refl; sends = refl })))
+s2 =
+    acts s1 0 (Deliver p0) Moved _ _ _ refl (0, refl)
+    (refl, omega arith, (refl, inr (record { serial = 0; entry = root; not_older = refl; is = refl; ready = refl; after = refl; sends = refl })))
 
 abbrev pub s3 : Stage two_ways
-s3 = acts s2 0 (Redo 0) Moved _ _ _ refl tt (refl, record { entry = _; thief = _; is = refl; out_there = refl; not_last = omega arith; after = refl; sends = refl })
+s3 =
+    acts s2 0 (Redo 0) Moved _ _ _ refl tt
+    (refl, record { entry = _; thief = _; is = refl; out_there = refl; not_last = omega arith; after = refl; sends = refl })
 
 abbrev pub s4 : Stage two_ways
-s4 = acts s3 2 (Ask 0) Moved _ _ _ refl tt (refl, (refl, record { another = omega arith; exists = omega arith; after = refl; sends = refl }))
+s4 =
+    acts s3 2 (Ask 0) Moved _ _ _ refl tt
+    (refl, (refl, record { another = omega arith; exists = omega arith; after = refl; sends = refl }))
 
 abbrev pub s5 : Stage two_ways
-s5 = acts s4 0 (Deliver p2) Moved _ _ _ refl (2, refl) (refl, omega arith, (refl, inr (record { serial = 0; entry = _; not_older = refl; is = refl; ready = refl; after = refl; sends = refl })))
+s5 =
+    acts s4 0 (Deliver p2) Moved _ _ _ refl (2, refl)
+    (refl, omega arith, (refl, inr (record { serial = 0; entry = _; not_older = refl; is = refl; ready = refl; after = refl; sends = refl })))
 
 abbrev pub s6 : Stage two_ways
-s6 = acts s5 1 (Deliver p1) Moved _ _ _ refl (1, refl) (refl, (refl, omega arith, record { not_older = refl; is_new = refl; lawful = refl; after = refl; sends = refl }))
+s6 =
+    acts s5 1 (Deliver p1) Moved _ _ _ refl (1, refl)
+    (refl, (refl, omega arith, record { not_older = refl; is_new = refl; lawful = refl; after = refl; sends = refl }))
 
 abbrev pub s7 : Stage two_ways
-s7 = acts s6 2 (Deliver p3) Moved _ _ _ refl (3, refl) (refl, (refl, omega arith, record { not_older = refl; is_new = refl; lawful = refl; after = refl; sends = refl }))
+s7 =
+    acts s6 2 (Deliver p3) Moved _ _ _ refl (3, refl)
+    (refl, (refl, omega arith, record { not_older = refl; is_new = refl; lawful = refl; after = refl; sends = refl }))
 
 abbrev pub s8 : Stage two_ways
-s8 = acts s7 1 Take (Taken (record { unit = root_guest 1; attempt = 1 }) []) _ _ _ refl tt (refl, record { none_ripe = refl; first = refl; entry = _; is = refl; ready = refl; attempt = refl; prefix_is = refl; after = refl; sends = refl })
+s8 =
+    acts s7 1 Take (Taken (record { unit = root_guest 1; attempt = 1 }) []) _ _ _ refl tt
+    (refl, record { none_ripe = refl; first = refl; entry = _; is = refl; ready = refl; attempt = refl; prefix_is = refl; after = refl; sends = refl })
 
 abbrev pub s9 : Stage two_ways
-s9 = acts s8 1 (Post (record { unit = root_guest 1; attempt = 1 }) (record { prefix = []; fuel = 2; outcome = Covers (0 ∷ []) })) Moved _ _ _ refl tt (refl, (refl, record { entry = _; is = refl; here = refl; attempt = refl; prefix = refl; right = record { fuel = omega arith; outcome = first_found }; leaves = (refl, refl) }))
+s9 =
+    acts s8 1 (Post (record { unit = root_guest 1; attempt = 1 }) (record { prefix = []; fuel = 2; outcome = Covers (0 ∷ []) })) Moved _ _ _ refl tt (
+      refl,
+      (
+        refl,
+        record {
+          entry = _;
+          is = refl;
+          here = refl;
+          attempt = refl;
+          prefix = refl;
+          right = record { fuel = omega arith; outcome = first_found };
+          leaves = (refl, refl);
+        },
+      ),
+    )
 
 abbrev pub s10 : Stage two_ways
-s10 = acts s9 2 Take (Taken (record { unit = root_guest 2; attempt = 2 }) []) _ _ _ refl tt (refl, record { none_ripe = refl; first = refl; entry = _; is = refl; ready = refl; attempt = refl; prefix_is = refl; after = refl; sends = refl })
+s10 =
+    acts s9 2 Take (Taken (record { unit = root_guest 2; attempt = 2 }) []) _ _ _ refl tt
+    (refl, record { none_ripe = refl; first = refl; entry = _; is = refl; ready = refl; attempt = refl; prefix_is = refl; after = refl; sends = refl })
 
 -- what the second node holds then
 abbrev pub s10_view : View
@@ -90,13 +123,45 @@ abbrev pub split_root : List (List ℕ) → View
 split_root prefixes = with_table s10_view (split_into s10_view.table (root_guest 2) prefixes)
 
 abbrev pub s11 : Stage two_ways
-s11 = acts s10 2 (Post (record { unit = root_guest 2; attempt = 2 }) (record { prefix = []; fuel = 1; outcome = Spent })) Moved _ _ (split_root ((0 ∷ []) ∷ (1 ∷ []) ∷ [])) refl tt (refl, (refl, record { entry = _; is = refl; here = refl; attempt = refl; prefix = refl; right = record { fuel = omega arith; outcome = root_spent }; leaves = (ap split_root two_children, omega arith, refl) }))
+s11 =
+    acts s10 2 (Post (record { unit = root_guest 2; attempt = 2 }) (record { prefix = []; fuel = 1; outcome = Spent })) Moved _ _ (split_root ((0 ∷ []) ∷ (1 ∷ []) ∷ [])) refl tt (
+      refl,
+      (
+        refl,
+        record {
+          entry = _;
+          is = refl;
+          here = refl;
+          attempt = refl;
+          prefix = refl;
+          right = record { fuel = omega arith; outcome = root_spent };
+          leaves = (ap split_root two_children, omega arith, refl);
+        },
+      ),
+    )
 
 abbrev pub s12 : Stage two_ways
-s12 = acts s11 2 Take (Taken (record { unit = Own 1; attempt = 1 }) (1 ∷ [])) _ _ _ refl tt (refl, record { none_ripe = refl; first = refl; entry = _; is = refl; ready = refl; attempt = refl; prefix_is = refl; after = refl; sends = refl })
+s12 =
+    acts s11 2 Take (Taken (record { unit = Own 1; attempt = 1 }) (1 ∷ [])) _ _ _ refl tt
+    (refl, record { none_ripe = refl; first = refl; entry = _; is = refl; ready = refl; attempt = refl; prefix_is = refl; after = refl; sends = refl })
 
 abbrev pub s13 : Stage two_ways
-s13 = acts s12 2 (Post (record { unit = Own 1; attempt = 1 }) (record { prefix = 1 ∷ []; fuel = 1; outcome = Covers (1 ∷ []) })) Moved _ _ _ refl tt (refl, (refl, record { entry = _; is = refl; here = refl; attempt = refl; prefix = refl; right = record { fuel = omega arith; outcome = second_found }; leaves = (refl, refl) }))
+s13 =
+    acts s12 2 (Post (record { unit = Own 1; attempt = 1 }) (record { prefix = 1 ∷ []; fuel = 1; outcome = Covers (1 ∷ []) })) Moved _ _ _ refl tt (
+      refl,
+      (
+        refl,
+        record {
+          entry = _;
+          is = refl;
+          here = refl;
+          attempt = refl;
+          prefix = refl;
+          right = record { fuel = omega arith; outcome = second_found };
+          leaves = (refl, refl);
+        },
+      ),
+    )
 
 -- the two children when the frame is finished
 abbrev pub first_child : Entry
@@ -106,16 +171,41 @@ abbrev pub second_child : Entry
 second_child = record { parent = Some (root_guest 2); prefix = 1 ∷ []; attempt = 1; status = Done (Cover (1 ∷ [])) }
 
 abbrev pub s14 : Stage two_ways
-s14 = acts s13 2 (Finish (root_guest 2)) Moved _ _ _ refl tt (refl, (refl, record { entry = _; is = refl; split = refl; result = Cover (1 ∷ []); settled = refl; own = with_status Aborted first_child ∷ second_child ∷ []; aborts = aborts_first (root_guest 2) first_child second_child refl refl refl refl; after = refl; sends = refl }))
+s14 =
+    acts s13 2 (Finish (root_guest 2)) Moved _ _ _ refl tt (
+      refl,
+      (
+        refl,
+        record {
+          entry = _;
+          is = refl;
+          split = refl;
+          result = Cover (1 ∷ []);
+          settled = refl;
+          own = with_status Aborted first_child ∷ second_child ∷ [];
+          aborts = aborts_first (root_guest 2) first_child second_child refl refl refl refl;
+          after = refl;
+          sends = refl;
+        },
+      ),
+    )
 
 abbrev pub s15 : Stage two_ways
-s15 = acts s14 0 (Deliver p5) Moved _ _ _ refl (5, refl) (refl, omega arith, (refl, (Enters, refl, ((refl, counted), refl, refl))))
+s15 =
+    acts s14 0 (Deliver p5) Moved _ _ _ refl (5, refl)
+    (refl, omega arith, (refl, (Enters, refl, ((refl, counted), refl, refl))))
 
 abbrev pub s16 : Stage two_ways
-s16 = acts s15 0 (Deliver p4) Moved _ _ _ refl (4, refl) (refl, omega arith, (refl, (Holds (Cover (1 ∷ [])), refl, (refl, refl))))
+s16 =
+    acts s15 0 (Deliver p4) Moved _ _ _ refl (4, refl)
+    (refl, omega arith, (refl, (Holds (Cover (1 ∷ [])), refl, (refl, refl))))
 
 abbrev pub s17 : Stage two_ways
-s17 = acts s16 1 (Deliver p9) Moved _ _ _ refl (9, refl) (refl, (refl, omega arith, record { entry = _; is = refl; finished = refl; after = refl; sends = refl }))
+s17 =
+    acts s16 1 (Deliver p9) Moved _ _ _ refl (9, refl)
+    (refl, (refl, omega arith, record { entry = _; is = refl; finished = refl; after = refl; sends = refl }))
 
 abbrev pub s18 : Stage two_ways
-s18 = acts s17 2 (Deliver p6) Moved _ _ _ refl (6, refl) (refl, (refl, omega arith, record { entry = _; is = refl; finished = refl; after = refl; sends = refl }))
+s18 =
+    acts s17 2 (Deliver p6) Moved _ _ _ refl (6, refl)
+    (refl, (refl, omega arith, record { entry = _; is = refl; finished = refl; after = refl; sends = refl }))

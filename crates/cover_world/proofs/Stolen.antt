@@ -73,16 +73,24 @@ counted = record { in_range = in_range; primary = primary; others = others }
         simp (e0, e1, e2, e3, e4, e5, e6) (omega arith)
 
 abbrev pub s1 : Stage small
-s1 = acts (opening small) 1 (Ask 0) Moved _ _ _ refl tt (refl, (refl, record { another = omega arith; exists = omega arith; after = refl; sends = refl }))
+s1 =
+    acts (opening small) 1 (Ask 0) Moved _ _ _ refl tt
+    (refl, (refl, record { another = omega arith; exists = omega arith; after = refl; sends = refl }))
 
 abbrev pub s2 : Stage small
-s2 = acts s1 0 (Deliver p0) Moved _ _ _ refl (0, refl) (refl, omega arith, (refl, inr (record { serial = 0; entry = root; not_older = refl; is = refl; ready = refl; after = refl; sends = refl })))
+s2 =
+    acts s1 0 (Deliver p0) Moved _ _ _ refl (0, refl)
+    (refl, omega arith, (refl, inr (record { serial = 0; entry = root; not_older = refl; is = refl; ready = refl; after = refl; sends = refl })))
 
 abbrev pub s3 : Stage small
-s3 = acts s2 1 (Deliver p1) Moved _ _ _ refl (1, refl) (refl, (refl, omega arith, record { not_older = refl; is_new = refl; lawful = refl; after = refl; sends = refl }))
+s3 =
+    acts s2 1 (Deliver p1) Moved _ _ _ refl (1, refl)
+    (refl, (refl, omega arith, record { not_older = refl; is_new = refl; lawful = refl; after = refl; sends = refl }))
 
 abbrev pub s4 : Stage small
-s4 = acts s3 1 Take (Taken (record { unit = root_guest 1; attempt = 1 }) []) _ _ _ refl tt (refl, record { none_ripe = refl; first = refl; entry = _; is = refl; ready = refl; attempt = refl; prefix_is = refl; after = refl; sends = refl })
+s4 =
+    acts s3 1 Take (Taken (record { unit = root_guest 1; attempt = 1 }) []) _ _ _ refl tt
+    (refl, record { none_ripe = refl; first = refl; entry = _; is = refl; ready = refl; attempt = refl; prefix_is = refl; after = refl; sends = refl })
 
 -- what the first node holds then
 abbrev pub s4_view : View
@@ -92,22 +100,60 @@ abbrev pub split_root : List (List ℕ) → View
 split_root prefixes = with_table s4_view (split_into s4_view.table (root_guest 1) prefixes)
 
 abbrev pub s5 : Stage small
-s5 = acts s4 1 (Post (record { unit = root_guest 1; attempt = 1 }) (record { prefix = []; fuel = 1; outcome = Spent })) Moved _ _ (split_root ((1 ∷ []) ∷ (3 ∷ []) ∷ [])) refl tt (refl, (refl, record { entry = _; is = refl; here = refl; attempt = refl; prefix = refl; right = record { fuel = omega arith; outcome = root_spent }; leaves = (ap split_root small_children, omega arith, refl) }))
+s5 =
+    acts s4 1 (Post (record { unit = root_guest 1; attempt = 1 }) (record { prefix = []; fuel = 1; outcome = Spent })) Moved _ _ (split_root ((1 ∷ []) ∷ (3 ∷ []) ∷ [])) refl tt (
+      refl,
+      (
+        refl,
+        record {
+          entry = _;
+          is = refl;
+          here = refl;
+          attempt = refl;
+          prefix = refl;
+          right = record { fuel = omega arith; outcome = root_spent };
+          leaves = (ap split_root small_children, omega arith, refl);
+        },
+      ),
+    )
 
 abbrev pub s6 : Stage small
-s6 = acts s5 2 (Ask 1) Moved _ _ _ refl tt (refl, (refl, record { another = omega arith; exists = omega arith; after = refl; sends = refl }))
+s6 =
+    acts s5 2 (Ask 1) Moved _ _ _ refl tt
+    (refl, (refl, record { another = omega arith; exists = omega arith; after = refl; sends = refl }))
 
 abbrev pub s7 : Stage small
-s7 = acts s6 1 (Deliver p2) Moved _ _ _ refl (2, refl) (refl, (refl, omega arith, (refl, inr (record { serial = 0; entry = _; not_older = refl; is = refl; ready = refl; after = refl; sends = refl }))))
+s7 =
+    acts s6 1 (Deliver p2) Moved _ _ _ refl (2, refl)
+    (refl, (refl, omega arith, (refl, inr (record { serial = 0; entry = _; not_older = refl; is = refl; ready = refl; after = refl; sends = refl }))))
 
 abbrev pub s8 : Stage small
-s8 = acts s7 2 (Deliver p3) Moved _ _ _ refl (3, refl) (refl, (refl, omega arith, record { not_older = refl; is_new = refl; lawful = refl; after = refl; sends = refl }))
+s8 =
+    acts s7 2 (Deliver p3) Moved _ _ _ refl (3, refl)
+    (refl, (refl, omega arith, record { not_older = refl; is_new = refl; lawful = refl; after = refl; sends = refl }))
 
 abbrev pub s9 : Stage small
-s9 = acts s8 2 Take (Taken (record { unit = stolen; attempt = 1 }) (1 ∷ [])) _ _ _ refl tt (refl, record { none_ripe = refl; first = refl; entry = _; is = refl; ready = refl; attempt = refl; prefix_is = refl; after = refl; sends = refl })
+s9 =
+    acts s8 2 Take (Taken (record { unit = stolen; attempt = 1 }) (1 ∷ [])) _ _ _ refl tt
+    (refl, record { none_ripe = refl; first = refl; entry = _; is = refl; ready = refl; attempt = refl; prefix_is = refl; after = refl; sends = refl })
 
 abbrev pub s10 : Stage small
-s10 = acts s9 2 (Post (record { unit = stolen; attempt = 1 }) (record { prefix = 1 ∷ []; fuel = 2; outcome = Barren })) Moved _ _ _ refl tt (refl, (refl, record { entry = _; is = refl; here = refl; attempt = refl; prefix = refl; right = record { fuel = omega arith; outcome = first_barren }; leaves = (refl, refl) }))
+s10 =
+    acts s9 2 (Post (record { unit = stolen; attempt = 1 }) (record { prefix = 1 ∷ []; fuel = 2; outcome = Barren })) Moved _ _ _ refl tt (
+      refl,
+      (
+        refl,
+        record {
+          entry = _;
+          is = refl;
+          here = refl;
+          attempt = refl;
+          prefix = refl;
+          right = record { fuel = omega arith; outcome = first_barren };
+          leaves = (refl, refl);
+        },
+      ),
+    )
 
 -- the two children: the first is out
 abbrev pub first_child : Entry
@@ -117,22 +163,62 @@ abbrev pub second_child : Entry
 second_child = record { parent = Some (root_guest 1); prefix = 3 ∷ []; attempt = 1; status = Ready }
 
 abbrev pub late11 : Stage small
-late11 = acts s10 1 Take (Taken (record { unit = Own 1; attempt = 1 }) (3 ∷ [])) _ _ _ refl tt (refl, record { none_ripe = refl; first = refl; entry = _; is = refl; ready = refl; attempt = refl; prefix_is = refl; after = refl; sends = refl })
+late11 =
+    acts s10 1 Take (Taken (record { unit = Own 1; attempt = 1 }) (3 ∷ [])) _ _ _ refl tt
+    (refl, record { none_ripe = refl; first = refl; entry = _; is = refl; ready = refl; attempt = refl; prefix_is = refl; after = refl; sends = refl })
 
 abbrev pub late12 : Stage small
-late12 = acts late11 1 (Post (record { unit = Own 1; attempt = 1 }) (record { prefix = 3 ∷ []; fuel = 3; outcome = Covers cover })) Moved _ _ _ refl tt (refl, (refl, record { entry = _; is = refl; here = refl; attempt = refl; prefix = refl; right = record { fuel = omega arith; outcome = second_covers }; leaves = (refl, refl) }))
+late12 =
+    acts late11 1 (Post (record { unit = Own 1; attempt = 1 }) (record { prefix = 3 ∷ []; fuel = 3; outcome = Covers cover })) Moved _ _ _ refl tt (
+      refl,
+      (
+        refl,
+        record {
+          entry = _;
+          is = refl;
+          here = refl;
+          attempt = refl;
+          prefix = refl;
+          right = record { fuel = omega arith; outcome = second_covers };
+          leaves = (refl, refl);
+        },
+      ),
+    )
 
 abbrev pub late13 : Stage small
-late13 = acts late12 1 (Finish (root_guest 1)) Moved _ _ _ refl tt (refl, (refl, record { entry = _; is = refl; split = refl; result = Cover cover; settled = refl; own = with_status Aborted first_child ∷ with_status (Done (Cover cover)) second_child ∷ []; aborts = aborts_first (root_guest 1) first_child (with_status (Done (Cover cover)) second_child) refl refl refl refl; after = refl; sends = refl }))
+late13 =
+    acts late12 1 (Finish (root_guest 1)) Moved _ _ _ refl tt (
+      refl,
+      (
+        refl,
+        record {
+          entry = _;
+          is = refl;
+          split = refl;
+          result = Cover cover;
+          settled = refl;
+          own = with_status Aborted first_child ∷ with_status (Done (Cover cover)) second_child ∷ [];
+          aborts = aborts_first (root_guest 1) first_child (with_status (Done (Cover cover)) second_child) refl refl refl refl;
+          after = refl;
+          sends = refl;
+        },
+      ),
+    )
 
 abbrev pub late14 : Stage small
-late14 = acts late13 1 (Deliver p4) Moved _ _ _ refl (4, refl) (refl, (refl, omega arith, (refl, (Refuses causes.Aborted, refl, (refl, refl)))))
+late14 =
+    acts late13 1 (Deliver p4) Moved _ _ _ refl (4, refl)
+    (refl, (refl, omega arith, (refl, (Refuses causes.Aborted, refl, (refl, refl)))))
 
 abbrev pub late15 : Stage small
-late15 = acts late14 2 (Deliver late7) Moved _ _ _ refl (7, refl) (refl, (refl, omega arith, record { entry = _; is = refl; open_still = refl; own = []; aborts = aborts_nothing _; after = refl; sends = refl }))
+late15 =
+    acts late14 2 (Deliver late7) Moved _ _ _ refl (7, refl)
+    (refl, (refl, omega arith, record { entry = _; is = refl; open_still = refl; own = []; aborts = aborts_nothing _; after = refl; sends = refl }))
 
 abbrev pub late16 : Stage small
-late16 = acts late15 0 (Deliver late6) Moved _ _ _ refl (6, refl) (refl, omega arith, (refl, (Enters, refl, ((refl, counted), refl, refl))))
+late16 =
+    acts late15 0 (Deliver late6) Moved _ _ _ refl (6, refl)
+    (refl, omega arith, (refl, (Enters, refl, ((refl, counted), refl, refl))))
 
 -- the second node begins anew
 abbrev pub anew11 : Stage small
@@ -154,7 +240,9 @@ abbrev pub anew12 : Stage small
 anew12 = acts anew11 2 Greet Moved _ _ _ refl tt (refl, (refl, refl, refl))
 
 abbrev pub anew13 : Stage small
-anew13 = acts anew12 0 (Deliver anew5) Moved _ _ _ refl (5, refl) (refl, omega arith, (refl, record { known = _; known_is = refl; redoable = root_redoable (is_earlier_run 2 (1 ∷ 1 ∷ 2 ∷ [])); after = refl; sends = refl }))
+anew13 =
+    acts anew12 0 (Deliver anew5) Moved _ _ _ refl (5, refl)
+    (refl, omega arith, (refl, record { known = _; known_is = refl; redoable = root_redoable (is_earlier_run 2 (1 ∷ 1 ∷ 2 ∷ [])); after = refl; sends = refl }))
 
 -- what the first node holds when it hears of the restart
 abbrev pub anew13_view : View
@@ -169,10 +257,31 @@ pub learns : (old new : View) → slice_index old.known 2 ≡ 1 → slice_index 
 learns old new one two e = omega (arith, one, two, ap (λ v. slice_index v.known 2) e)
 
 abbrev pub anew14 : Stage small
-anew14 = acts anew13 1 (Deliver anew6) Moved _ _ _ refl (6, refl) (refl, (refl, omega arith, (record { known = _; known_is = refl; redoable = two_redoable (is_older (1 ∷ 1 ∷ 2 ∷ [])); own = redone first_child ∷ second_child ∷ []; aborts = none_lost; after = refl; sends = refl }, (λ stays. learns _ _ refl refl (stays.0)))))
+anew14 =
+    acts anew13 1 (Deliver anew6) Moved _ _ _ refl (6, refl) (
+      refl,
+      (
+        refl,
+        omega arith,
+        (
+          record {
+            known = _;
+            known_is = refl;
+            redoable = two_redoable (is_older (1 ∷ 1 ∷ 2 ∷ []));
+            own = redone first_child ∷ second_child ∷ [];
+            aborts = none_lost;
+            after = refl;
+            sends = refl;
+          },
+          (λ stays. learns _ _ refl refl (stays.0)),
+        ),
+      ),
+    )
 
 abbrev pub anew15 : Stage small
-anew15 = acts anew14 1 (Deliver p4) Moved _ _ _ refl (4, refl) (refl, (refl, omega arith, (refl, (Refuses causes.Superseded, refl, (refl, refl)))))
+anew15 =
+    acts anew14 1 (Deliver p4) Moved _ _ _ refl (4, refl)
+    (refl, (refl, omega arith, (refl, (Refuses causes.Superseded, refl, (refl, refl)))))
 
 -- the second run of the second node takes no packet that was for the first
 pub refused : (packet : Packet) → packet.to ≡ site2 → IsRefused small anew15.end (Acts 2 (Deliver packet))

@@ -46,6 +46,7 @@ p6 = record { from = site0; to = site2; body = Accept 0 2 (Cover (1 ∷ [])) }
 abbrev pub p7 : Packet
 p7 = record { from = site0; to = site1; body = Over }
 
+-- for both nodes
 abbrev pub p8 : Packet
 p8 = record { from = site0; to = site2; body = Over }
 
@@ -53,9 +54,11 @@ p8 = record { from = site0; to = site2; body = Over }
 abbrev pub p9 : Packet
 p9 = record { from = site0; to = site1; body = Accept 0 1 (Cover (1 ∷ [])) }
 
+-- all packets, in the order of sending
 abbrev pub packets : List Packet
 packets = p0 ∷ p1 ∷ p2 ∷ p3 ∷ p4 ∷ p5 ∷ p6 ∷ p7 ∷ p8 ∷ p9 ∷ []
 
+-- the events
 abbrev pub events : List WorldEvent
 events =
     Acts 1 (Ask 0)

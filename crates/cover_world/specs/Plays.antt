@@ -27,6 +27,7 @@ pub record Plays (problem : Problem) (start : World) (events : List WorldEvent) 
 abbrev pub IsRefused : Problem → World → WorldEvent → Type 0
 IsRefused problem world event = (new : World) → WorldStep problem world event new → ⊥
 
+-- what a site has of a unit, where there is the site
 abbrev pub entry_at : Option View → WorkUnit → Option Entry
 entry_at None unit = None
 entry_at (Some view) unit = unit_in view unit

@@ -28,12 +28,15 @@ p3 = record { from = site0; to = site1; body = Accept 0 1 Empty }
 abbrev pub p4 : Packet
 p4 = record { from = site0; to = site1; body = Over }
 
+-- the same to the second node
 abbrev pub p5 : Packet
 p5 = record { from = site0; to = site2; body = Over }
 
+-- all packets, in the order of sending
 abbrev pub packets : List Packet
 packets = p0 ∷ p1 ∷ p2 ∷ p3 ∷ p4 ∷ p5 ∷ p3 ∷ []
 
+-- the events
 abbrev pub events : List WorldEvent
 events =
     Acts 1 (Ask 0)

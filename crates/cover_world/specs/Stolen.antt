@@ -42,9 +42,11 @@ p3 = record { from = site1; to = site2; body = Give 0 1 (1 ∷ []) }
 abbrev pub p4 : Packet
 p4 = record { from = site2; to = site1; body = Return 0 1 Empty }
 
+-- the packets until then, in the order of sending
 abbrev pub packets : List Packet
 packets = p0 ∷ p1 ∷ p2 ∷ p3 ∷ p4 ∷ []
 
+-- the events until then
 abbrev pub events : List WorldEvent
 events =
     Acts 1 (Ask 0)
@@ -77,15 +79,19 @@ late7 = record { from = site1; to = site2; body = Refuse 0 1 causes.Aborted }
 abbrev pub late8 : Packet
 late8 = record { from = site0; to = site1; body = Accept 0 1 (Cover cover) }
 
+-- the search is over
 abbrev pub late9 : Packet
 late9 = record { from = site0; to = site1; body = Over }
 
+-- for both nodes
 abbrev pub late10 : Packet
 late10 = record { from = site0; to = site2; body = Over }
 
+-- all packets, in the order of sending
 abbrev pub late_packets : List Packet
 late_packets = packets ++ late5 ∷ late6 ∷ late7 ∷ late8 ∷ late9 ∷ late10 ∷ []
 
+-- the events
 abbrev pub late_events : List WorldEvent
 late_events =
     events
@@ -111,6 +117,7 @@ anew5 = record { from = site2_again; to = site0; body = Hello }
 abbrev pub anew6 : Packet
 anew6 = record { from = site0; to = site1; body = Members (1 ∷ 2 ∷ []) }
 
+-- the second node hears the same
 abbrev pub anew7 : Packet
 anew7 = record { from = site0; to = site2_again; body = Members (1 ∷ 2 ∷ []) }
 
@@ -118,9 +125,11 @@ anew7 = record { from = site0; to = site2_again; body = Members (1 ∷ 2 ∷ [])
 abbrev pub anew8 : Packet
 anew8 = record { from = site1; to = site2; body = Refuse 0 1 causes.Superseded }
 
+-- all packets, in the order of sending
 abbrev pub anew_packets : List Packet
 anew_packets = packets ++ anew5 ∷ anew6 ∷ anew7 ∷ anew8 ∷ []
 
+-- the events
 abbrev pub anew_events : List WorldEvent
 anew_events =
     events
