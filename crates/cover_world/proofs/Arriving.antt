@@ -1,6 +1,8 @@
 -- Packets that are refused.
-use Rattle.std.proofs.Common.{◌≡◌, ℕ, ◌<◌, Bool, true, false, ◌==◌, ◌&&◌, if◌then◌else◌, List, [], ◌∷◌, Some, None, is_some, slice_get, nat_lt, refl, sym, ap, subst, ◌∙◌, ⊎_elim, arith, true≢false}
+use Rattle.std.proofs.Common.{◌≡◌, ◌≢◌, ℕ, ◌<◌, ◌≤◌, Bool, true, false, ◌==◌, ◌&&◌, if◌then◌else◌, List, Some, None, is_some, slice_get, nat_lt, refl, sym, ap, subst, ◌∙◌, ⊎_elim, arith, true≢false}
 use Rattle.std.proofs.lemmas.Bool.{le-ltb, ne_eqb}
+use Rattle.cover_world.proofs.Guests.{site_path}
+use Rattle.cover_world.specs.Refusals.{Refused}
 use Rattle.cover_problem.specs.Prefix.{is_prefix}
 use Rattle.cover_problem.specs.Problem.{Problem}
 use Rattle.node_core.specs.Arrivals.{Answers, Enters, GiveStep, Refuses, if_out, judged, judged_by}
@@ -10,7 +12,7 @@ use Rattle.node_core.specs.SiteView.{View}
 use Rattle.node_core.specs.declared.event.Event.TheVariants.{Deliver}
 use Rattle.node_core.specs.declared.reply.Reply.{Reply}
 use Rattle.node_core.specs.declared.reply.Reply.TheVariants.{Idle, Ignored, Moved, Ripe, Taken}
-use Rattle.packet_wire.specs.declared.packet.Body.TheVariants.{Refuse, Return}
+use Rattle.packet_wire.specs.declared.packet.Body.TheVariants.{Return}
 use Rattle.packet_wire.specs.declared.packet.Packet.{Packet}
 use Rattle.root_registry.specs.RegistryStep.{IsAcceptable, RegistryStep, RootAnswers, RootHears}
 use Rattle.spawn_frame.specs.Aborts.{is_open}
@@ -60,14 +62,28 @@ below_is_superseded entry from attempt below opened =
     ∙ ap (λ b. judged_by entry.status from b) other
     ∙ open_superseded entry.status from opened
 
-pub return_superseded : (problem : Problem) (old new : View) (packet : Packet) (serial attempt : ℕ) (returned : ChildResult) (entry : Entry) (reply : Reply) (out : List Packet)
-    → packet.body ≡ Return serial attempt returned → slice_get old.own serial ≡ Some entry → attempt < entry.attempt → is_open entry.status ≡ true
-    → NodeStep problem old (Deliver packet) reply out new
-    → (reply ≡ Moved) × (new ≡ old) × (out ≡ record { from = old.site; to = packet.from; body = Refuse serial attempt causes.Superseded } ∷ [])
-return_superseded problem old new packet serial attempt returned entry reply out body is below opened step =
-    let heard : HearStep problem old packet.from (Return serial attempt returned) reply out new = subst (λ b. HearStep problem old packet.from b reply out new) body (step.1.2) in
-    let judgement : heard.1.0 ≡ Refuses causes.Superseded = sym (heard.1.1) ∙ ap (λ e. judged e packet.from attempt) is ∙ below_is_superseded entry packet.from attempt below opened in
-    let answers : Answers old packet.from serial attempt returned (Refuses causes.Superseded) out new = subst (λ j. Answers old packet.from serial attempt returned j out new) judgement (heard.1.2) in
+-- a result of another site than the thief is superseded, at whatever attempt
+pub stranger_is_superseded : (entry : Entry) (thief from : Site) (attempt : ℕ) → attempt ≤ entry.attempt → entry.status ≡ Out thief → thief ≢ from
+    → judged (Some entry) from attempt ≡ Refuses causes.Superseded
+stranger_is_superseded entry thief from attempt within out other =
+    let not_above : nat_lt entry.attempt attempt ≡ false = le-ltb entry.attempt attempt within in
+    ap (λ b. if b then Refuses causes.Unknown else judged_by entry.status from (entry.attempt == attempt)) not_above
+    ∙ ap (λ s. judged_by s from (entry.attempt == attempt)) out
+    ∙ go (same_site thief from) refl
+  where
+    go : (b : Bool) → same_site thief from ≡ b → if_out (b && (entry.attempt == attempt)) ≡ Refuses causes.Superseded
+    go true same = absurd (other (site_path thief from same))
+    go false differ = refl
+
+pub refused_so : (problem : Problem) (old new : View) (packet : Packet) (serial attempt : ℕ) (returned : ChildResult) (entry : Entry) (reply : Reply) (out : List Packet)
+    → packet.body ≡ Return serial attempt returned → slice_get old.own serial ≡ Some entry → judged (Some entry) packet.from attempt ≡ Refuses causes.Superseded
+    → NodeStep problem old (Deliver packet) reply out new → Refused old packet.from serial attempt causes.Superseded reply out new
+refused_so problem old new packet serial attempt returned entry reply out body is judgement step =
+    let heard : HearStep problem old packet.from (Return serial attempt returned) reply out new =
+    subst (λ b. HearStep problem old packet.from b reply out new) body (step.1.2) in
+    let refuses : heard.1.0 ≡ Refuses causes.Superseded = sym (heard.1.1) ∙ ap (λ e. judged e packet.from attempt) is ∙ judgement in
+    let answers : Answers old packet.from serial attempt returned (Refuses causes.Superseded) out new =
+    subst (λ j. Answers old packet.from serial attempt returned j out new) refuses (heard.1.2) in
     (heard.0, answers.0, answers.1)
 
 pub cover_refused : (problem : Problem) (old : View) (packet : Packet) (serial attempt : ℕ) (returned : ChildResult) (reply : Reply) (out : List Packet) (new : View)

@@ -1,12 +1,12 @@
 //! Events that a site refuses have no step: each function is a law, and does nothing.
 
-ghost use Rattle.std.specs.Prelude.{◌≡◌, ◌≢◌, ℕ, ◌<◌, true, false, List, [], ◌∷◌, ◌++◌, length, map, Some, None, slice_get};
+ghost use Rattle.std.specs.Prelude.{◌≡◌, ◌≢◌, ℕ, ◌<◌, ◌≤◌, true, false, List, [], ◌∷◌, ◌++◌, length, map, Some, None, slice_get};
 ghost use Rattle.brancher.specs.Finding.{Finding};
 ghost use Rattle.cover_problem.specs.Branching.{children};
 ghost use Rattle.cover_problem.specs.Prefix.{is_prefix};
 ghost use Rattle.cover_problem.specs.Problem.{Problem};
 ghost use Rattle.cover_problem.specs.Search.{Spent};
-ghost use Rattle.cover_world.specs.Refusals.{IsAwaited, IsOut, NodeRefuses, RegistryRefuses};
+ghost use Rattle.cover_world.specs.Refusals.{IsAwaited, IsOut, NodeRefuses, Refused, RegistryRefuses};
 ghost use Rattle.node_core.specs.Arrivals.{Enters, judged};
 ghost use Rattle.node_core.specs.NodeStep.{NodeStep};
 ghost use Rattle.node_core.specs.Requests.{is_older, last_attempt};
@@ -15,8 +15,7 @@ ghost use Rattle.node_core.specs.SiteView.{View, unit_in};
 ghost use Rattle.node_core.specs.declared.event.Event.{Event};
 ghost use Rattle.node_core.specs.declared.event.Event.TheVariants.{Ask, Deliver, Finish, Greet, Post, Redo, Take};
 ghost use Rattle.node_core.specs.declared.reply.Reply.{Reply};
-ghost use Rattle.node_core.specs.declared.reply.Reply.TheVariants.{Moved};
-ghost use Rattle.packet_wire.specs.declared.packet.Body.TheVariants.{Give, Refuse, Return};
+ghost use Rattle.packet_wire.specs.declared.packet.Body.TheVariants.{Give, Return};
 ghost use Rattle.packet_wire.specs.declared.packet.Packet.{Packet};
 ghost use Rattle.root_registry.specs.RegistryStep.{IsAcceptable};
 ghost use Rattle.spawn_frame.specs.Aborts.{is_open};
@@ -25,7 +24,7 @@ ghost use Rattle.spawn_frame.specs.Units.{Entry, guest_in};
 ghost use Rattle.spawn_frame.specs.declared.cause.Cause.TheVariants as causes;
 ghost use Rattle.spawn_frame.specs.declared.child_result.ChildResult.{ChildResult};
 ghost use Rattle.spawn_frame.specs.declared.site.Site.{Site};
-ghost use Rattle.spawn_frame.specs.declared.status.Status.TheVariants.{Split};
+ghost use Rattle.spawn_frame.specs.declared.status.Status.TheVariants.{Out, Split};
 ghost use Rattle.spawn_frame.specs.declared.unit.Job.{Job};
 ghost use Rattle.spawn_frame.specs.declared.unit.Unit.{Unit as WorkUnit};
 
@@ -92,14 +91,19 @@ pub fn no_prefix_given()
         NodeRefuses problem view (Deliver (record { from = from; to = to; body = Give serial attempt prefix })) }
 {}
 
-/// A result at an attempt that the owner has superseded enters nothing: it is refused, and nothing changes.
+/// A result at an attempt that the owner has superseded enters nothing, nor does one of a site that isn't the thief: it is
+/// refused, and nothing changes.
 pub fn superseded_return()
-    ensures { (problem : Problem) (old new : View) (packet : Packet) (serial attempt : ℕ) (returned : ChildResult)
+    ensures earlier { (problem : Problem) (old new : View) (packet : Packet) (serial attempt : ℕ) (returned : ChildResult)
         (entry : Entry) (reply : Reply) (out : List Packet) →
         packet.body ≡ Return serial attempt returned → slice_get old.own serial ≡ Some entry → attempt < entry.attempt →
         is_open entry.status ≡ true → NodeStep problem old (Deliver packet) reply out new →
-        (reply ≡ Moved) × (new ≡ old)
-        × (out ≡ record { from = old.site; to = packet.from; body = Refuse serial attempt causes.Superseded } ∷ []) }
+        Refused old packet.from serial attempt causes.Superseded reply out new }
+    ensures stranger { (problem : Problem) (old new : View) (packet : Packet) (serial attempt : ℕ) (returned : ChildResult)
+        (entry : Entry) (thief : Site) (reply : Reply) (out : List Packet) →
+        packet.body ≡ Return serial attempt returned → slice_get old.own serial ≡ Some entry → attempt ≤ entry.attempt →
+        entry.status ≡ Out thief → thief ≢ packet.from → NodeStep problem old (Deliver packet) reply out new →
+        Refused old packet.from serial attempt causes.Superseded reply out new }
 {}
 
 /// A cover that doesn't count right never enters at the registry.
