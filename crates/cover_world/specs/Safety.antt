@@ -24,6 +24,7 @@ pub record HasChild (world : World) (name : ChildName) (entry : Entry) : Type 0 
   pub site : view.site ≡ name.site
   pub child : slice_get view.own name.serial ≡ Some entry
 
+-- some site of this world has a guest of that name
 pub record HasGuest (world : World) (name : ChildName) (entry : Entry) : Type 0 where
   pub node : ℕ
   pub attempt : ℕ
@@ -31,17 +32,19 @@ pub record HasGuest (world : World) (name : ChildName) (entry : Entry) : Type 0 
   pub is : slice_get world.sites node ≡ Some view
   pub guest : guest_in view.guests name attempt ≡ Some entry
 
--- the owner has the child done with this result, or a thief has settled on it
+-- the owner has the child done with this result
 pub record OwnerAccepts (world : World) (name : ChildName) (result : ChildResult) : Type 0 where
   pub entry : Entry
   pub has : HasChild world name entry
   pub done : entry.status ≡ Done result
 
+-- a thief has settled on this result
 pub record ThiefAccepts (world : World) (name : ChildName) (result : ChildResult) : Type 0 where
   pub entry : Entry
   pub has : HasGuest world name entry
   pub settled : entry.status ≡ Settled result
 
+-- owner or thief has accepted the result
 abbrev pub Accepts : ChildName → ChildResult → World → Type 0
 Accepts name result world = OwnerAccepts world name result ⊎ ThiefAccepts world name result
 
@@ -49,6 +52,7 @@ Accepts name result world = OwnerAccepts world name result ⊎ ThiefAccepts worl
 abbrev pub OneResult : {problem : Problem} {start end : World} → Run problem start end → Type 0
 OneResult run = (name : ChildName) (r s : ChildResult) → SomeTime (Accepts name r) run → SomeTime (Accepts name s) run → r ≡ s
 
+-- the attempt that a Return names
 abbrev pub attempt_of : Body → ℕ → ℕ
 attempt_of (Return serial attempt result) own = attempt
 attempt_of _ own = own
@@ -59,6 +63,7 @@ attempt_in (Post job finding) own = job.attempt
 attempt_in (Deliver packet) own = attempt_of packet.body own
 attempt_in _ own = own
 
+-- the same of an event of the world
 abbrev pub attempt_at : WorldEvent → ℕ → ℕ
 attempt_at (Acts node event) own = attempt_in event own
 attempt_at (Restarts node incarnation limit) own = own
@@ -78,10 +83,12 @@ NoneLate now old event new =
     (name : ChildName) (entry : Entry) (attempt : ℕ) → HasChild now name entry → ResultEnters old event new name attempt
     → (entry.status ≢ Aborted) × (entry.attempt ≤ attempt)
 
+-- the result with the options of its cover ascending
 abbrev pub in_file_order : Problem → ChildResult → ChildResult
 in_file_order problem (Cover options) = Cover (in_order problem options)
 in_file_order problem Empty = Empty
 
+-- what the registry has published
 abbrev pub published_by : Problem → Option View → Option ChildResult
 published_by problem None = None
 published_by problem (Some registry) = option_map (in_file_order problem) (root_result registry)
@@ -90,6 +97,7 @@ published_by problem (Some registry) = option_map (in_file_order problem) (root_
 abbrev pub published : Problem → World → Option ChildResult
 published problem world = published_by problem (slice_get world.sites 0)
 
+-- A run, and a run that goes on from its end: one result for each name, none late, covers right, none only where there is none, and published for good.
 pub record Safe {problem : Problem} {start now end : World} (e : Run problem start now) (f : Run problem now end) : Type 0 where
   pub one_result : OneResult (after e f)
   pub none_late : EachStep (NoneLate now) f

@@ -12,10 +12,12 @@ use Rattle.root_registry.specs.RegistryStep.{RegistryStep}
 use Rattle.spawn_frame.specs.Units.{Entry}
 use Rattle.spawn_frame.specs.declared.status.Status.TheVariants.{Ready}
 
+-- the sites in their present runs, and the network as the packets ever sent
 pub record World : Type 0 where
   pub sites : List View  -- by node, the registry first
   pub sent : List Packet  -- every packet that was ever sent
 
+-- a node that begins: nothing in its table, and the first run known of every node
 abbrev pub opening_node : ℕ → ℕ → ℕ → ℕ → View
 opening_node nodes node incarnation limit = record {
   table = record { site = record { node = node; incarnation = incarnation }; limit = limit; own = []; guests = [] };
@@ -24,9 +26,11 @@ opening_node nodes node incarnation limit = record {
   over = false;
 }
 
+-- the root: the empty prefix, at its first attempt
 abbrev pub root : Entry
 root = record { parent = None; prefix = []; attempt = 1; status = Ready }
 
+-- the registry that begins, with the root alone
 abbrev pub opening_registry : ℕ → View
 opening_registry nodes = record {
   table = record { site = record { node = 0; incarnation = 1 }; limit = 1; own = root ∷ []; guests = [] };
@@ -44,10 +48,12 @@ opening_nodes nodes node (limit ∷ limits) = opening_node nodes node 1 limit �
 abbrev pub opening_world : ℕ → List ℕ → World
 opening_world nodes limits = record { sites = opening_registry nodes ∷ opening_nodes nodes 1 limits; sent = [] }
 
+-- a site has an event, or a node begins anew in this run with this limit on names
 pub data WorldEvent : Type 0 where
   Acts : (node : ℕ) → (event : Event) → WorldEvent
   Restarts : (node incarnation limit : ℕ) → WorldEvent
 
+-- a step of the registry at node 0, else of a node
 abbrev pub SiteStep : ℕ → Problem → View → Event → Reply → List Packet → View → Type 0
 SiteStep zero problem old event reply out new = RegistryStep problem old event reply out new
 SiteStep (suc node) problem old event reply out new = NodeStep problem old event reply out new
@@ -57,6 +63,7 @@ abbrev pub WasSent : List Packet → Event → Type 0
 WasSent sent (Deliver packet) = (k : ℕ) × (slice_get sent k ≡ Some packet)
 WasSent sent _ = ⊤
 
+-- One site of the world takes a step, and its packets are added to those sent.
 pub record SiteActs (problem : Problem) (old : World) (node : ℕ) (event : Event) (new : World) : Type 0 where
   pub before : View
   pub reply : Reply
@@ -75,6 +82,7 @@ pub record SiteRestarts (old : World) (node incarnation limit : ℕ) (new : Worl
   pub greater : before.site.incarnation < incarnation
   pub world : new ≡ record { sites = slice_set old.sites node (opening_node before.nodes node incarnation limit); sent = old.sent }
 
+-- one step of a world
 abbrev pub WorldStep : Problem → World → WorldEvent → World → Type 0
 WorldStep problem old (Acts node event) new = SiteActs problem old node event new
 WorldStep problem old (Restarts node incarnation limit) new = SiteRestarts old node incarnation limit new

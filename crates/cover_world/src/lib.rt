@@ -2,5 +2,13 @@
 #![tactic(auto)]
 
 mod laws;
+mod refusals;
+mod runs;
 
-pub use laws::{runs_that_publish, safe_over_every_run};
+pub use laws::safe_over_every_run;
+pub use refusals::{
+    finding_without_fuel, names_spent, no_prefix_given, no_such_victim, node_that_is_over,
+    packet_for_another_site, redo_of_no_use, registry_does_no_work, stale_job, superseded_return,
+    unsettled_frame, wrong_cover,
+};
+pub use runs::{late_result, overtaken_result, repeated_result, thief_begins_anew};

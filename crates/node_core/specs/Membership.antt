@@ -1,4 +1,4 @@
--- What a site learns of the others.
+-- What a site learns of the others, and what it does again then (Cilk-NOW).
 use Rattle.std.specs.Prelude.{◌≡◌, ℕ, suc, ◌<◌, max, Bool, true, false, ◌&&◌, if◌then◌else◌, List, [], ◌∷◌, map, drop, Option, Some, None, slice_get, slice_index, ◌==◌}
 use Rattle.node_core.specs.Requests.{is_older, last_attempt}
 use Rattle.node_core.specs.SiteView.{View, abort_packets}
@@ -17,6 +17,7 @@ learnt self node [] new = []
 learnt self node (k ∷ ks) [] = k ∷ ks
 learnt self node (k ∷ ks) (m ∷ ms) = (if node == self then k else max k m) ∷ learnt self (suc node) ks ms
 
+-- redone where it is out to a lost site
 abbrev pub redo_if : (Site → Bool) → Entry → Status → Entry
 redo_if lost entry (Out thief) = if lost thief then redone entry else entry
 redo_if lost entry _ = entry
@@ -25,9 +26,13 @@ redo_if lost entry _ = entry
 abbrev pub redo_lost : (Site → Bool) → List Entry → List Entry
 redo_lost lost own = map (λ c. redo_if lost c c.status) own
 
+-- no child that is to be redone stands at its last attempt
 abbrev pub IsRedoable : (Site → Bool) → List Entry → Type 0
-IsRedoable lost own = (k : ℕ) (entry : Entry) (thief : Site) → slice_get own k ≡ Some entry → entry.status ≡ Out thief → lost thief ≡ true → entry.attempt < last_attempt
+IsRedoable lost own =
+    (k : ℕ) (entry : Entry) (thief : Site)
+    → slice_get own k ≡ Some entry → entry.status ≡ Out thief → lost thief ≡ true → entry.attempt < last_attempt
 
+-- the guest, dropped or as it was
 abbrev pub drop_if : Bool → GuestEntry → GuestEntry
 drop_if true g = record { name = g.name; entry = with_status Dropped g.entry }
 drop_if false g = g
@@ -36,14 +41,17 @@ drop_if false g = g
 abbrev pub drop_lost : List ℕ → List GuestEntry → List GuestEntry
 drop_lost known guests = map (λ g. drop_if (is_older known g.name.site && is_open g.entry.status) g) guests
 
+-- there, and not finished for good
 abbrev pub is_open_entry : Option Entry → Bool
 is_open_entry None = false
 is_open_entry (Some entry) = is_open entry.status
 
+-- an open guest of an owner that has begun anew
 abbrev pub is_lost_guest : List ℕ → List GuestEntry → WorkUnit → Bool
 is_lost_guest known guests (Own serial) = false
 is_lost_guest known guests (Guest name attempt) = is_older known name.site && is_open_entry (guest_in guests name attempt)
 
+-- Members is learnt; then children out to earlier runs are redone, then guests of earlier runs dropped with all below (redo of Cilk-NOW).
 pub record MembersStep (old : View) (incarnations : List ℕ) (out : List Packet) (new : View) : Type 0 where
   pub known : List ℕ
   pub known_is : known ≡ slice_index old.known 0 ∷ learnt old.site.node 1 (drop 1 old.known) incarnations

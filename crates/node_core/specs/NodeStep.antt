@@ -22,10 +22,12 @@ Tells old out new Moved = Stays old out new → ⊥
 Tells old out new Ignored = Stays old out new
 Tells old out new _ = ⊥
 
+-- the view of a node that takes part no more
 abbrev pub over_now : View → View
 over_now view =
     record { table = view.table; nodes = view.nodes; known = view.known; over = true }
 
+-- a packet of this body arrives from a site
 abbrev pub HearStep : Problem → View → Site → Body → Reply → List Packet → View → Type 0
 HearStep problem old from Hello reply out new = ⊥
 HearStep problem old from (Members incarnations) reply out new = MembersStep old incarnations out new × Tells old out new reply
@@ -38,6 +40,7 @@ HearStep problem old from (Refuse serial attempt cause) reply out new = RefuseSt
 HearStep problem old from (Abort serial attempt) reply out new = RefuseStep old (record { site = from; serial = serial }) attempt reply out new
 HearStep problem old from Over reply out new = (reply ≡ Moved) × (new ≡ over_now old) × (out ≡ [])
 
+-- one event of a node that is not over
 abbrev pub EventStep : Problem → View → Event → Reply → List Packet → View → Type 0
 EventStep problem old Take reply out new = TakeStep old reply out new
 EventStep problem old (Post job finding) reply out new = (reply ≡ Moved) × PostStep problem old job finding out new

@@ -1,4 +1,4 @@
--- What a site does unasked: it asks for work, gives a child out anew, and says again what may be lost.
+-- What a site does of itself: it asks for work, gives a child out anew, and says again what may be lost.
 use Rattle.std.specs.Prelude.{◌≡◌, ◌≢◌, ℕ, suc, ◌<◌, ◌≤◌, Bool, List, [], ◌∷◌, ◌++◌, Some, slice_get, slice_index, nat_lt}
 use Rattle.node_core.specs.Results.{return_packets}
 use Rattle.node_core.specs.SiteView.{View, with_own}
@@ -12,9 +12,11 @@ use Rattle.spawn_frame.specs.declared.status.Status.{Status}
 use Rattle.spawn_frame.specs.declared.status.Status.TheVariants.{Finished, Out}
 use Rattle.spawn_frame.specs.declared.unit.Unit.TheVariants.{Guest}
 
+-- the site of the registry
 abbrev pub registry : Site
 registry = record { node = 0; incarnation = 1 }
 
+-- a node in the run that is known of it
 abbrev pub known_site : View → ℕ → Site
 known_site view node = record { node = node; incarnation = slice_index view.known node }
 
@@ -22,15 +24,18 @@ known_site view node = record { node = node; incarnation = slice_index view.know
 abbrev pub is_older : List ℕ → Site → Bool
 is_older known site = nat_lt site.incarnation (slice_index known site.node)
 
+-- A Steal goes to another node that there is (Cilk-NOW).
 pub record AskStep (old : View) (victim : ℕ) (out : List Packet) (new : View) : Type 0 where
   pub another : victim ≢ old.site.node
   pub exists : victim ≤ old.nodes
   pub after : new ≡ old
   pub sends : out ≡ record { from = old.site; to = known_site old victim; body = Steal } ∷ []
 
+-- the greatest number that a packet can tell
 abbrev pub last_attempt : ℕ
 last_attempt = 4294967295
 
+-- A child that is out is ready again at the next attempt (redo of Cilk-NOW).
 pub record RedoStep (old : View) (serial : ℕ) (out : List Packet) (new : View) : Type 0 where
   pub entry : Entry
   pub thief : Site
@@ -40,18 +45,22 @@ pub record RedoStep (old : View) (serial : ℕ) (out : List Packet) (new : View)
   pub after : new ≡ with_own old (change_at redone old.own serial)
   pub sends : out ≡ []
 
+-- the Give of a child that is out
 abbrev pub give_again : Site → ℕ → Entry → Status → List Packet
 give_again from serial entry (Out thief) = record { from = from; to = thief; body = Give serial entry.attempt entry.prefix } ∷ []
 give_again from serial entry _ = []
 
+-- a Give for each child that is out, by serial
 abbrev pub gives_again : Site → ℕ → List Entry → List Packet
 gives_again from serial [] = []
 gives_again from serial (c ∷ cs) = give_again from serial c c.status ++ gives_again from (suc serial) cs
 
+-- the Return of a finished guest
 abbrev pub return_again : Site → GuestEntry → Status → List Packet
 return_again from g (Finished result) = return_packets from (Guest g.name g.entry.attempt) result
 return_again from g _ = []
 
+-- a Return for each finished guest, in order
 abbrev pub returns_again : Site → List GuestEntry → List Packet
 returns_again from [] = []
 returns_again from (g ∷ gs) = return_again from g g.entry.status ++ returns_again from gs

@@ -35,12 +35,14 @@ return_packets from (Guest name attempt) result = record { from = from; to = nam
 abbrev pub split_up : Problem → View → WorkUnit → List ℕ → View
 split_up problem old unit prefix = with_table old (split_into old.table unit (children problem prefix))
 
+-- what a search of a unit leaves: its result, or the unit split where the fuel was spent
 abbrev pub Leaves : Problem → View → WorkUnit → List ℕ → Outcome → List Packet → View → Type 0
 Leaves problem old unit prefix (Covers options) out new =
     (new ≡ unit_gets old unit (with_result unit (Cover options))) × (out ≡ return_packets old.site unit (Cover options))
 Leaves problem old unit prefix Barren out new = (new ≡ unit_gets old unit (with_result unit Empty)) × (out ≡ return_packets old.site unit Empty)
 Leaves problem old unit prefix Spent out new = (new ≡ split_up problem old unit prefix) × (length new.own ≤ old.limit) × (out ≡ [])
 
+-- A worker has searched a job: the unit is here at that attempt, with the prefix of the finding, which is right.
 pub record PostStep (problem : Problem) (old : View) (job : Job) (finding : Finding) (out : List Packet) (new : View) : Type 0 where
   pub entry : Entry
   pub is : unit_in old job.unit ≡ Some entry
@@ -50,6 +52,7 @@ pub record PostStep (problem : Problem) (old : View) (job : Job) (finding : Find
   pub right : IsRight problem finding
   pub leaves : Leaves problem old job.unit finding.prefix finding.outcome out new
 
+-- A settled frame gets its result, and all open units below it are aborted (inlet and abort of the Cilk 5.4 manual).
 pub record FinishStep (old : View) (unit : WorkUnit) (out : List Packet) (new : View) : Type 0 where
   pub entry : Entry
   pub is : unit_in old unit ≡ Some entry

@@ -16,23 +16,30 @@ pub record View : Type 0 where
   pub known : List ℕ  -- the known incarnation of each node
   pub over : Bool
 
+-- what a site has of a unit
 abbrev pub unit_in : View → WorkUnit → Option Entry
 unit_in view unit = unit_of view.table unit
 
+-- the view with another table
 abbrev pub with_table : View → Table → View
 with_table view table = record { table = table; nodes = view.nodes; known = view.known; over = view.over }
 
+-- the view with other own children
 abbrev pub with_own : View → List Entry → View
 with_own view own = with_table view (table_own view.table own)
 
+-- the view with other guests
 abbrev pub with_guests : View → List GuestEntry → View
 with_guests view guests = with_table view (table_guests view.table guests)
 
+-- the view in which the unit has this status
 abbrev pub unit_gets : View → WorkUnit → Status → View
 unit_gets view unit status = with_table view (table_gets view.table unit status)
 
+-- the packet to the thief of a child that is wanted no more
 abbrev pub abort_packet : Site → Reached → Packet
 abort_packet from r = record { from = from; to = r.thief; body = Abort r.serial r.attempt }
 
+-- a packet to the thief of each child that was out and is aborted, by serial
 abbrev pub abort_packets : Site → ℕ → List Entry → List Entry → List Packet
 abort_packets from serial old new = map (λ r. abort_packet from r) (reached serial old new)

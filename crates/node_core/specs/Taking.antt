@@ -8,12 +8,12 @@ use Rattle.spawn_frame.specs.Picks.{ready_unit, ripe_unit}
 use Rattle.spawn_frame.specs.Units.{Entry}
 use Rattle.spawn_frame.specs.declared.status.Status.TheVariants.{Here, Ready}
 use Rattle.spawn_frame.specs.declared.unit.Job.{Job}
-use Rattle.spawn_frame.specs.declared.unit.Unit.{Unit as WorkUnit}
 
 -- nothing changes, and nothing is sent
 abbrev pub Stays : View → List Packet → View → Type 0
 Stays old out new = (new ≡ old) × (out ≡ [])
 
+-- No frame is settled, and the first ready unit is taken up.
 pub record TakesUp (old : View) (job : Job) (prefix : List ℕ) (out : List Packet) (new : View) : Type 0 where
   pub none_ripe : ripe_unit old.table ≡ None
   pub first : ready_unit old.table ≡ Some job.unit
@@ -25,6 +25,7 @@ pub record TakesUp (old : View) (job : Job) (prefix : List ℕ) (out : List Pack
   pub after : new ≡ unit_gets old job.unit Here
   pub sends : out ≡ []
 
+-- a settled frame is told, else a ready unit is taken up, else there is no work
 abbrev pub TakeStep : View → Reply → List Packet → View → Type 0
 TakeStep old (Ripe unit) out new = (ripe_unit old.table ≡ Some unit) × Stays old out new
 TakeStep old (Taken job prefix) out new = TakesUp old job prefix out new

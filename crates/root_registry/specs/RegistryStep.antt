@@ -1,4 +1,4 @@
--- One event of the registry.
+-- One event of the registry, which has the root and knows who takes part (the clearinghouse of Cilk-NOW).
 use Rattle.std.specs.Prelude.{◌≡◌, ◌⊎◌, ℕ, zero, suc, ◌≤◌, max, Bool, true, ◌&&◌, List, [], ◌∷◌, ◌++◌, drop, Option, Some, None, slice_get, ◌==◌, ⊤}
 use Rattle.cover_problem.specs.ExactCover.{IsExactCover}
 use Rattle.cover_problem.specs.Numbers.{is_distinct, is_in}
@@ -40,6 +40,7 @@ raised [] node incarnation = []
 raised (k ∷ ks) zero incarnation = max k incarnation ∷ ks
 raised (k ∷ ks) (suc node) incarnation = k ∷ raised ks node incarnation
 
+-- A node greets: the greater incarnation is kept, a root that is out to an earlier run of it is redone, and all nodes are told.
 pub record HelloStep (old : View) (from : Site) (out : List Packet) (new : View) : Type 0 where
   pub known : List ℕ
   pub known_is : known ≡ raised old.known from.node from.incarnation
@@ -52,10 +53,12 @@ pub record HelloStep (old : View) (from : Site) (out : List Packet) (new : View)
   }
   pub sends : out ≡ to_each old.site (Members (drop 1 known)) 1 (drop 1 known)
 
+-- the result of a child that is done
 abbrev pub status_result : Status → Option ChildResult
 status_result (Done result) = Some result
 status_result _ = None
 
+-- the result of a child that is there and done
 abbrev pub entry_result : Option Entry → Option ChildResult
 entry_result None = None
 entry_result (Some entry) = status_result entry.status
@@ -64,9 +67,11 @@ entry_result (Some entry) = status_result entry.status
 abbrev pub root_result : View → Option ChildResult
 root_result view = entry_result (slice_get view.own 0)
 
+-- Over to each node
 abbrev pub over_packets : View → List Packet
 over_packets view = to_each view.site Over 1 (known_nodes view)
 
+-- packets that are put out once the root is done
 abbrev pub if_done : Option ChildResult → List Packet → List Packet
 if_done None packets = []
 if_done (Some result) packets = packets
@@ -76,16 +81,19 @@ abbrev pub IsAcceptable : Problem → ChildResult → Type 0
 IsAcceptable problem (Cover options) = (is_distinct options ≡ true) × IsExactCover problem (is_in options)
 IsAcceptable problem Empty = ⊤
 
+-- as at a node; where the result enters, a cover has to count right, and all nodes are told that it is over
 abbrev pub RootAnswers : Problem → View → Site → ℕ → ℕ → ChildResult → Judgement → List Packet → View → Type 0
 RootAnswers problem old from serial attempt result Enters out new =
     IsAcceptable problem result × (new ≡ with_own old (change_at (with_status (Done result)) old.own serial))
     × (out ≡ answer_packet old from (Accept serial attempt result) ++ over_packets old)
 RootAnswers problem old from serial attempt result judgement out new = Answers old from serial attempt result judgement out new
 
+-- a Steal gets Over once the root is done, else it is as at a node
 abbrev pub RootSteal : Option ChildResult → View → Site → List Packet → View → Type 0
 RootSteal (Some result) old from out new = (new ≡ old) × (out ≡ answer_packet old from Over)
 RootSteal None old from out new = Denies old from out new ⊎ Gives old from out new
 
+-- a packet of this body arrives from a site
 abbrev pub RootHears : Problem → View → Site → Body → Reply → List Packet → View → Type 0
 RootHears problem old from Hello reply out new = (reply ≡ Moved) × HelloStep old from out new
 RootHears problem old from Steal reply out new = (reply ≡ Moved) × RootSteal (root_result old) old from out new

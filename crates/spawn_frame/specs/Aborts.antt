@@ -7,6 +7,7 @@ use Rattle.spawn_frame.specs.declared.status.Status.TheVariants.{Aborted, Finish
 use Rattle.spawn_frame.specs.declared.unit.Unit.{Unit as WorkUnit}
 use Rattle.spawn_frame.specs.declared.unit.Unit.TheVariants.{Own}
 
+-- not finished for good
 abbrev pub is_open : Status → Bool
 is_open Ready = true
 is_open Here = true
@@ -17,8 +18,10 @@ is_open _ = false
 
 -- the own child of this serial is a child of one of the units, or of an own child below one of them
 pub data IsBelow (top : WorkUnit → Bool) (own : List Entry) : ℕ → Type 0 where
-  child : {serial : ℕ} {entry : Entry} {unit : WorkUnit} → slice_get own serial ≡ Some entry → entry.parent ≡ Some unit → top unit ≡ true → IsBelow top own serial
-  deeper : {serial parent : ℕ} {entry : Entry} → slice_get own serial ≡ Some entry → entry.parent ≡ Some (Own parent) → IsBelow top own parent → IsBelow top own serial
+  child : {serial : ℕ} {entry : Entry} {unit : WorkUnit}
+      → slice_get own serial ≡ Some entry → entry.parent ≡ Some unit → top unit ≡ true → IsBelow top own serial
+  deeper : {serial parent : ℕ} {entry : Entry}
+      → slice_get own serial ≡ Some entry → entry.parent ≡ Some (Own parent) → IsBelow top own parent → IsBelow top own serial
 
 -- Each open unit below the units becomes Aborted, and each other one stays as it was.
 pub record AbortsBelow (top : WorkUnit → Bool) (old new : List Entry) : Type 0 where
@@ -33,6 +36,7 @@ pub record Reached : Type 0 where
   pub attempt : ℕ
   pub thief : Site
 
+-- a child that was out before and is aborted after
 abbrev pub reached_one : ℕ → ℕ → Status → Status → List Reached
 reached_one serial attempt (Out thief) Aborted = record { serial = serial; attempt = attempt; thief = thief } ∷ []
 reached_one serial attempt _ _ = []

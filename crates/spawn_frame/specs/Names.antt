@@ -1,4 +1,4 @@
--- Names of sites, children and units, compared and ordered.
+-- Names of sites, children and units, compared and ordered. A site is a node in one of its runs (Cilk-NOW).
 use Rattle.std.specs.Prelude.{ℕ, Bool, false, ◌&&◌, ◌||◌, nat_lt, ◌==◌}
 use Rattle.spawn_frame.specs.declared.site.ChildName.{ChildName}
 use Rattle.spawn_frame.specs.declared.site.Site.{Site}
@@ -9,9 +9,11 @@ use Rattle.spawn_frame.specs.declared.unit.Unit.TheVariants.{Guest, Own}
 abbrev pub same_site : Site → Site → Bool
 same_site s t = s.node == t.node && s.incarnation == t.incarnation
 
+-- the same site and serial
 abbrev pub same_name : ChildName → ChildName → Bool
 same_name m n = same_site m.site n.site && m.serial == n.serial
 
+-- both own children of one serial, or guests of one name at one attempt
 abbrev pub same_unit : WorkUnit → WorkUnit → Bool
 same_unit (Own k) (Own j) = k == j
 same_unit (Guest m a) (Guest n b) = same_name m n && a == b

@@ -1,4 +1,5 @@
--- Which unit is taken up next, and which frame is finished next: the own child of greatest serial, else the least guest.
+-- Which unit is taken up next, and which frame is finished next: the own child of greatest serial, else the least guest
+-- (as a Cilk worker takes what it spawned last).
 use Rattle.std.specs.Prelude.{ℕ, suc, Bool, true, false, ◌&&◌, if◌then◌else◌, List, [], ◌∷◌, Option, Some, None, is_some}
 use Rattle.spawn_frame.specs.Frames.{frame, frame_result}
 use Rattle.spawn_frame.specs.Units.{Entry, GuestEntry, Table}
@@ -27,14 +28,17 @@ first_guest test (g ∷ gs) =
 abbrev pub pick : (WorkUnit → Entry → Bool) → Table → Option WorkUnit
 pick test table = either_unit (last_own test 0 table.own) (first_guest test table.guests)
 
+-- it waits for a worker
 abbrev pub is_ready : Status → Bool
 is_ready Ready = true
 is_ready _ = false
 
+-- it is a frame
 abbrev pub is_split : Status → Bool
 is_split Split = true
 is_split _ = false
 
+-- it is a guest with a result that its owner has not judged
 abbrev pub is_finished : Status → Bool
 is_finished (Finished result) = true
 is_finished _ = false

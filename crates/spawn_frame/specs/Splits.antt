@@ -1,5 +1,5 @@
 -- Units that have a result, and units that are split into children.
-use Rattle.std.specs.Prelude.{ℕ, List, [], ◌∷◌, ◌++◌, map, Some}
+use Rattle.std.specs.Prelude.{ℕ, List, ◌++◌, map, Some}
 use Rattle.spawn_frame.specs.Units.{Entry, Table, table_own, table_gets}
 use Rattle.spawn_frame.specs.declared.child_result.ChildResult.{ChildResult}
 use Rattle.spawn_frame.specs.declared.status.Status.{Status}

@@ -15,6 +15,7 @@ pub record Entry : Type 0 where
   pub attempt : ℕ
   pub status : Status
 
+-- a guest, by the name of the child that it is
 pub record GuestEntry : Type 0 where
   pub name : ChildName
   pub entry : Entry
@@ -26,17 +27,21 @@ pub record Table : Type 0 where
   pub own : List Entry  -- its own children, by serial
   pub guests : List GuestEntry  -- ascending by name and attempt
 
+-- the guest of this name at this attempt
 abbrev pub is_guest : ChildName → ℕ → GuestEntry → Bool
 is_guest name attempt g = same_name g.name name && g.entry.attempt == attempt
 
+-- the guest of this name and attempt, where it is there
 abbrev pub guest_in : List GuestEntry → ChildName → ℕ → Option Entry
 guest_in [] name attempt = None
 guest_in (g ∷ gs) name attempt = if is_guest name attempt g then Some g.entry else guest_in gs name attempt
 
+-- what a table has of a unit
 abbrev pub unit_of : Table → WorkUnit → Option Entry
 unit_of table (Own serial) = slice_get table.own serial
 unit_of table (Guest name attempt) = guest_in table.guests name attempt
 
+-- the same unit, with another status
 abbrev pub with_status : Status → Entry → Entry
 with_status status entry = record { parent = entry.parent; prefix = entry.prefix; attempt = entry.attempt; status = status }
 
@@ -50,19 +55,23 @@ change_at f [] k = []
 change_at f (c ∷ cs) zero = f c ∷ cs
 change_at f (c ∷ cs) (suc k) = c ∷ change_at f cs k
 
+-- the list with this guest changed
 abbrev pub change_guest : (Entry → Entry) → List GuestEntry → ChildName → ℕ → List GuestEntry
 change_guest f [] name attempt = []
 change_guest f (g ∷ gs) name attempt =
     if is_guest name attempt g then record { name = g.name; entry = f g.entry } ∷ gs else g ∷ change_guest f gs name attempt
 
+-- the list with a new guest at its place in the order
 abbrev pub insert_guest : GuestEntry → List GuestEntry → List GuestEntry
 insert_guest new [] = new ∷ []
 insert_guest new (g ∷ gs) =
     if guest_before new.name new.entry.attempt g.name g.entry.attempt then new ∷ g ∷ gs else g ∷ insert_guest new gs
 
+-- the table with other own children
 abbrev pub table_own : Table → List Entry → Table
 table_own table own = record { site = table.site; limit = table.limit; own = own; guests = table.guests }
 
+-- the table with other guests
 abbrev pub table_guests : Table → List GuestEntry → Table
 table_guests table guests = record { site = table.site; limit = table.limit; own = table.own; guests = guests }
 

@@ -12,6 +12,8 @@ pub enum Unit {
 /// A unit that was taken up, at the attempt at which it was.
 #[derive(Clone, Copy, Debug, PartialEq, Eq)]
 pub struct Job {
+    /// What was taken up.
     pub unit: Unit,
+    /// Its attempt then, from 1.
     pub attempt: Attempt,
 }

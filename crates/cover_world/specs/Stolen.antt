@@ -1,0 +1,141 @@
+-- A run in which the first node splits the root and the second node steals a child of it, and then two ends of that run.
+use Rattle.std.specs.Prelude.{ℕ, List, [], ◌∷◌, ◌++◌}
+use Rattle.cover_problem.specs.Search.{Barren, Covers, Spent}
+use Rattle.cover_world.specs.Plays.{root_guest, site0, site1, site2}
+use Rattle.cover_world.specs.Worlds.{Acts, Restarts, WorldEvent}
+use Rattle.node_core.specs.declared.event.Event.TheVariants.{Ask, Deliver, Finish, Greet, Post, Take}
+use Rattle.packet_wire.specs.declared.packet.Body.TheVariants.{Abort, Accept, Give, Hello, Members, Over, Refuse, Return, Steal}
+use Rattle.packet_wire.specs.declared.packet.Packet.{Packet}
+use Rattle.spawn_frame.specs.declared.cause.Cause.TheVariants as causes
+use Rattle.spawn_frame.specs.declared.child_result.ChildResult.TheVariants.{Cover, Empty}
+use Rattle.spawn_frame.specs.declared.site.Site.{Site}
+use Rattle.spawn_frame.specs.declared.unit.Unit.{Unit as WorkUnit}
+use Rattle.spawn_frame.specs.declared.unit.Unit.TheVariants.{Guest, Own}
+
+-- the first node's first child, as the second node's guest
+abbrev pub stolen : WorkUnit
+stolen = Guest (record { site = site1; serial = 0 }) 1
+
+-- options 3, 4 and 0: the one exact cover
+abbrev pub cover : List ℕ
+cover = 3 ∷ 4 ∷ 0 ∷ []
+
+-- ---- until the second node returns
+
+-- the first node asks for work
+abbrev pub p0 : Packet
+p0 = record { from = site1; to = site0; body = Steal }
+
+-- it gets the root
+abbrev pub p1 : Packet
+p1 = record { from = site0; to = site1; body = Give 0 1 [] }
+
+-- the second node asks the first
+abbrev pub p2 : Packet
+p2 = record { from = site2; to = site1; body = Steal }
+
+-- it gets the first child, whose prefix is option 1
+abbrev pub p3 : Packet
+p3 = record { from = site1; to = site2; body = Give 0 1 (1 ∷ []) }
+
+-- below which there is no cover
+abbrev pub p4 : Packet
+p4 = record { from = site2; to = site1; body = Return 0 1 Empty }
+
+-- the packets until then, in the order of sending
+abbrev pub packets : List Packet
+packets = p0 ∷ p1 ∷ p2 ∷ p3 ∷ p4 ∷ []
+
+-- the events until then
+abbrev pub events : List WorldEvent
+events =
+    Acts 1 (Ask 0)
+    ∷ Acts 0 (Deliver p0)
+    ∷ Acts 1 (Deliver p1)
+    ∷ Acts 1 Take
+    ∷ Acts 1 (Post (record { unit = root_guest 1; attempt = 1 }) (record { prefix = []; fuel = 1; outcome = Spent }))
+    ∷ Acts 2 (Ask 1)
+    ∷ Acts 1 (Deliver p2)
+    ∷ Acts 2 (Deliver p3)
+    ∷ Acts 2 Take
+    ∷ Acts 2 (Post (record { unit = stolen; attempt = 1 }) (record { prefix = 1 ∷ []; fuel = 2; outcome = Barren }))
+    ∷ []
+
+-- ---- one end: the first node finishes before the stolen child's result comes
+
+-- the thief is told that its guest is wanted no more
+abbrev pub late5 : Packet
+late5 = record { from = site1; to = site2; body = Abort 0 1 }
+
+-- the frame's cover
+abbrev pub late6 : Packet
+late6 = record { from = site1; to = site0; body = Return 0 1 (Cover cover) }
+
+-- the late result is refused
+abbrev pub late7 : Packet
+late7 = record { from = site1; to = site2; body = Refuse 0 1 causes.Aborted }
+
+-- the cover is accepted
+abbrev pub late8 : Packet
+late8 = record { from = site0; to = site1; body = Accept 0 1 (Cover cover) }
+
+-- the search is over
+abbrev pub late9 : Packet
+late9 = record { from = site0; to = site1; body = Over }
+
+-- for both nodes
+abbrev pub late10 : Packet
+late10 = record { from = site0; to = site2; body = Over }
+
+-- all packets, in the order of sending
+abbrev pub late_packets : List Packet
+late_packets = packets ++ late5 ∷ late6 ∷ late7 ∷ late8 ∷ late9 ∷ late10 ∷ []
+
+-- the events
+abbrev pub late_events : List WorldEvent
+late_events =
+    events
+    ++ Acts 1 Take
+    ∷ Acts 1 (Post (record { unit = Own 1; attempt = 1 }) (record { prefix = 3 ∷ []; fuel = 3; outcome = Covers cover }))
+    ∷ Acts 1 (Finish (root_guest 1))
+    ∷ Acts 1 (Deliver p4)
+    ∷ Acts 2 (Deliver late7)
+    ∷ Acts 0 (Deliver late6)
+    ∷ []
+
+-- ---- another end: the thief begins anew before its result comes
+
+-- the second node in its second run
+abbrev pub site2_again : Site
+site2_again = record { node = 2; incarnation = 2 }
+
+-- which greets the registry
+abbrev pub anew5 : Packet
+anew5 = record { from = site2_again; to = site0; body = Hello }
+
+-- the registry tells both nodes
+abbrev pub anew6 : Packet
+anew6 = record { from = site0; to = site1; body = Members (1 ∷ 2 ∷ []) }
+
+-- the second node hears the same
+abbrev pub anew7 : Packet
+anew7 = record { from = site0; to = site2_again; body = Members (1 ∷ 2 ∷ []) }
+
+-- the result of the earlier run comes after that
+abbrev pub anew8 : Packet
+anew8 = record { from = site1; to = site2; body = Refuse 0 1 causes.Superseded }
+
+-- all packets, in the order of sending
+abbrev pub anew_packets : List Packet
+anew_packets = packets ++ anew5 ∷ anew6 ∷ anew7 ∷ anew8 ∷ []
+
+-- the events
+abbrev pub anew_events : List WorldEvent
+anew_events =
+    events
+    ++ Restarts 2 2 9
+    ∷ Acts 2 Greet
+    ∷ Acts 0 (Deliver anew5)
+    ∷ Acts 1 (Deliver anew6)
+    ∷ Acts 1 (Deliver p4)
+    ∷ []

@@ -1,0 +1,50 @@
+//! Four runs of two nodes, event by event with their packets: each function is a law, and does nothing.
+
+ghost use Rattle.std.specs.Prelude.{◌≡◌, ◌∷◌, [], Some};
+ghost use Rattle.cover_problem.specs.Examples.{bare, small};
+ghost use Rattle.cover_world.specs.Overtaken as overtaken;
+ghost use Rattle.cover_world.specs.Overtaken.{two_ways};
+ghost use Rattle.cover_world.specs.Plays.{IsRefused, Plays, entry_in, limits, root_guest, status_in};
+ghost use Rattle.cover_world.specs.Repeated as repeated;
+ghost use Rattle.cover_world.specs.Safety.{published};
+ghost use Rattle.cover_world.specs.Stolen as stolen;
+ghost use Rattle.cover_world.specs.Worlds.{Acts, opening_world};
+ghost use Rattle.node_core.specs.declared.event.Event.TheVariants.{Deliver};
+ghost use Rattle.spawn_frame.specs.declared.child_result.ChildResult.TheVariants.{Cover, Empty};
+ghost use Rattle.spawn_frame.specs.declared.status.Status.TheVariants.{Aborted, Done, Dropped, Ready, Settled};
+ghost use Rattle.spawn_frame.specs.declared.unit.Unit.TheVariants.{Own};
+
+/// One item and no option. A node searches the root and returns that there is none; the packet comes twice. The first
+/// time none is published; the second time the registry sends an equal packet of acceptance and changes nothing.
+pub fn repeated_result()
+    ensures run { Plays bare (opening_world 2 limits) repeated.events repeated.packets (λ end.
+        (published bare end ≡ Some Empty) × (status_in end 1 (root_guest 1) ≡ Some (Settled Empty))) }
+{}
+
+/// One item with two options. The root is given out twice, the thieves find different covers, and the second thief's
+/// comes first. It is published, and both thieves settle on it.
+pub fn overtaken_result()
+    ensures run { Plays two_ways (opening_world 2 limits) overtaken.events overtaken.packets (λ end.
+        (published two_ways end ≡ Some (Cover (1 ∷ [])))
+        × (status_in end 1 (root_guest 1) ≡ Some (Settled (Cover (1 ∷ []))))
+        × (status_in end 2 (root_guest 2) ≡ Some (Settled (Cover (1 ∷ []))))
+        × (status_in end 2 (Own 0) ≡ Some Aborted)) }
+{}
+
+/// Seven items with one exact cover. A frame finishes with it while another child is out; that child's late result is
+/// refused, the child stays aborted, and the thief drops its guest.
+pub fn late_result()
+    ensures run { Plays small (opening_world 2 limits) stolen.late_events stolen.late_packets (λ end.
+        (published small end ≡ Some (Cover (0 ∷ 3 ∷ 4 ∷ [])))
+        × (status_in end 1 (Own 0) ≡ Some Aborted)
+        × (status_in end 2 stolen.stolen ≡ Some Dropped)) }
+{}
+
+/// The thief of a child begins anew. Its owner learns of that and redoes the child; the result of the thief's earlier run
+/// is refused then, and the packets to that run find nobody.
+pub fn thief_begins_anew()
+    ensures run { Plays small (opening_world 2 limits) stolen.anew_events stolen.anew_packets (λ end.
+        (entry_in end 1 (Own 0) ≡ Some (record { parent = Some (root_guest 1); prefix = 1 ∷ []; attempt = 2; status = Ready }))
+        × IsRefused small end (Acts 2 (Deliver stolen.p3))
+        × IsRefused small end (Acts 2 (Deliver stolen.anew8))) }
+{}
