@@ -81,4 +81,38 @@ impl Problem {
     {
         self.options[option as usize].as_slice()
     }
+
+    /// An equal problem; the only error is want of memory.
+    pub fn copy(&self) -> Result<Problem, AllocError>
+        ensures { IfOk result (λ copied. copied ≡ self.now) }
+    {
+        let alloc = *self.names.allocator();
+        let names = copied_names(alloc, &self.names)?;
+        let options = copied_options(alloc, &self.options)?;
+        Ok(Problem {
+            names,
+            primary: self.primary,
+            options,
+        })
+    }
+}
+
+fn copied_names(alloc: Global, names: &[Name]) -> Result<Vec<Name>, AllocError>
+    ensures { IfOk result (λ copied. copied.items ≡ names.now) }
+{
+    let mut copied = Vec::with_capacity(alloc, names.len())?;
+    for name in names {
+        copied.push(name.copy()?)?;
+    }
+    Ok(copied)
+}
+
+fn copied_options(alloc: Global, options: &[Numbers]) -> Result<Vec<Numbers>, AllocError>
+    ensures { IfOk result (λ copied. copied.items ≡ options.now) }
+{
+    let mut copied = Vec::with_capacity(alloc, options.len())?;
+    for option in options {
+        copied.push(option.copy()?)?;
+    }
+    Ok(copied)
 }

@@ -1,6 +1,9 @@
+ghost use Rattle.std.specs.Prelude.{◌≡◌, IfOk};
+
 use brancher::Finding;
 use packet_wire::Packet;
 use spawn_frame::{Job, Unit};
+use std::alloc::AllocError;
 
 /// What happens at a site.
 #[derive(Drop)]
@@ -21,4 +24,22 @@ pub enum Event {
     Again,
     /// A node tells the registry that it is there.
     Greet,
+}
+
+impl Event {
+    /// An equal event; the only error is want of memory.
+    pub fn copy(&self) -> Result<Event, AllocError>
+        ensures { IfOk result (λ copied. copied ≡ self.now) }
+    {
+        match self {
+            Event::Take => Ok(Event::Take),
+            Event::Post(job, finding) => Ok(Event::Post(*job, finding.copy()?)),
+            Event::Finish(unit) => Ok(Event::Finish(*unit)),
+            Event::Ask(victim) => Ok(Event::Ask(*victim)),
+            Event::Redo(serial) => Ok(Event::Redo(*serial)),
+            Event::Deliver(packet) => Ok(Event::Deliver(packet.copy()?)),
+            Event::Again => Ok(Event::Again),
+            Event::Greet => Ok(Event::Greet),
+        }
+    }
 }

@@ -1,5 +1,8 @@
+ghost use Rattle.std.specs.Prelude.{◌≡◌, IfOk};
+
 use cover_problem::Numbers;
 use spawn_frame::{Job, Unit};
+use std::alloc::AllocError;
 
 /// What an event came to.
 #[derive(Drop)]
@@ -14,4 +17,19 @@ pub enum Reply {
     Moved,
     /// Neither.
     Ignored,
+}
+
+impl Reply {
+    /// An equal reply; the only error is want of memory.
+    pub fn copy(&self) -> Result<Reply, AllocError>
+        ensures { IfOk result (λ copied. copied ≡ self.now) }
+    {
+        match self {
+            Reply::Taken(job, prefix) => Ok(Reply::Taken(*job, prefix.copy()?)),
+            Reply::Ripe(unit) => Ok(Reply::Ripe(*unit)),
+            Reply::Idle => Ok(Reply::Idle),
+            Reply::Moved => Ok(Reply::Moved),
+            Reply::Ignored => Ok(Reply::Ignored),
+        }
+    }
 }
