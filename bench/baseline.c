@@ -1,6 +1,7 @@
 /* A baseline for the benchmark: classic dancing links in C, after TAOCP 7.2.2.1, with Knuth's recursion unrolled into calls.
  *
- *     baseline FILE      prints whether there is a cover, the visits, and the seconds of the search alone
+ *     baseline FILE        prints whether there is a cover, the visits, and the seconds of the search alone
+ *     baseline FILE read   reads the file and prints how many options it has
  *
  * It reads the same files as the program, but trusts them: no refusal is made here. Options without a primary item are
  * ignored, a tie goes to the item named first, and an option's line is tried in file order.
@@ -111,13 +112,14 @@ static void read_option(char *line) {
 
 int main(int count, char **words) {
     static char line[70000];
-    FILE *file = count == 2 ? fopen(words[1], "r") : NULL;
-    if (!file) return fprintf(stderr, "baseline FILE\n"), 3;
+    FILE *file = count == 2 || count == 3 ? fopen(words[1], "r") : NULL;
+    if (!file) return fprintf(stderr, "baseline FILE [read]\n"), 3;
     while (fgets(line, sizeof line, file)) {
         char *text = line + strspn(line, " \t\r\n");
         if (!*text || *text == '|') continue;
         if (item_count == 0) read_items(text); else read_option(text);
     }
+    if (count == 3) return printf("%d options\n", option_count), 0;
     clock_t start = clock();
     int found = search();
     printf("%s %llu %.4f\n", found ? "cover" : "none", visits, (double)(clock() - start) / CLOCKS_PER_SEC);
