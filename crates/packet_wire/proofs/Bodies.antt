@@ -1,5 +1,5 @@
 -- Kinds, causes, results and bodies: what is read of each is spelled so and allowed, and is read again.
-use Rattle.std.proofs.Common.{◌≡◌, ℕ, zero, suc, ◌<◌, ◌≤◌, Bool, true, false, cond, eqb, ltb, ◌&&◌, List, [], ◌∷◌, ◌++◌, Option, Some, None, Result, Ok, Err, refl, sym, ap, subst, ◌∙◌, append_assoc, arith}
+use Rattle.std.proofs.Common.{◌≡◌, ℕ, zero, suc, ◌<◌, Bool, true, false, cond, eqb, List, [], ◌++◌, Option, Some, None, Ok, refl, sym, ap, subst, ◌∙◌, append_assoc, arith}
 use Rattle.std.specs.Prelude.{nat_lt}
 use Rattle.std.proofs.lemmas.Bool.{eqb-true, ltb-true}
 use Rattle.spawn_frame.specs.declared.cause.Cause.{Cause}
@@ -8,7 +8,7 @@ use Rattle.spawn_frame.specs.declared.child_result.ChildResult.{ChildResult}
 use Rattle.spawn_frame.specs.declared.child_result.ChildResult.TheVariants.{Cover, Empty}
 use Rattle.packet_wire.specs.Kinds.{kind_number, kind_numbered, kind_of}
 use Rattle.packet_wire.specs.Reading.{◌>>=◌, Read, body_at, cause_at, cause_numbered, child_at, field_at, incarnations_at, known, number_at, options_at, result_at, start_at}
-use Rattle.packet_wire.specs.Spelling.{body_text, cause_number, incarnations_text, number, options_text, result_text, start_text}
+use Rattle.packet_wire.specs.Spelling.{body_text, cause_number, number, options_text, result_text, start_text}
 use Rattle.packet_wire.specs.WellFormed.{are_options, is_body, is_child, is_result}
 use Rattle.packet_wire.specs.declared.fault.WireFault.{WireFault}
 use Rattle.packet_wire.specs.declared.fault.WireFault.TheVariants as faults

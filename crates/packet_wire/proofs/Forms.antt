@@ -1,22 +1,14 @@
 -- The parts of a packet: what is read of each is spelled so and allowed, and is read again.
-use Rattle.std.proofs.Common.{◌≡◌, ℕ, zero, suc, ◌+◌, ◌<◌, ◌≤◌, Bool, true, false, cond, eqb, ◌&&◌, not, List, [], ◌∷◌, ◌++◌, length, Option, Some, None, Result, Ok, Err, refl, sym, ap, subst, ◌∙◌, append_assoc, arith}
+use Rattle.std.proofs.Common.{◌≡◌, ℕ, ◌<◌, true, not, List, ◌++◌, length, Ok, refl, sym, ap, subst, ◌∙◌, append_assoc, arith}
 use Rattle.std.specs.Prelude.{nat_lt}
 use Rattle.std.specs.List.{list_all}
-use Rattle.std.proofs.lemmas.Bool.{eqb-true, ltb-true}
-use Rattle.spawn_frame.specs.declared.cause.Cause.{Cause}
-use Rattle.spawn_frame.specs.declared.cause.Cause.TheVariants.{Aborted, Superseded, Unknown}
-use Rattle.spawn_frame.specs.declared.child_result.ChildResult.{ChildResult}
-use Rattle.spawn_frame.specs.declared.child_result.ChildResult.TheVariants.{Cover, Empty}
+use Rattle.std.proofs.lemmas.Bool.{ltb-true}
 use Rattle.spawn_frame.specs.declared.site.Site.{Site}
-use Rattle.packet_wire.specs.Kinds.{kind_number, kind_numbered}
-use Rattle.packet_wire.specs.Reading.{◌>>=◌, Read, cause_at, cause_numbered, child_at, field_at, fields_at, incarnations_at, number_at, options_at, result_at, site_at, start_at}
-use Rattle.packet_wire.specs.Spelling.{cause_number, child_text, incarnations_text, number, numbers, options_text, result_text, site_text, start_text}
-use Rattle.packet_wire.specs.WellFormed.{are_incarnations, are_options, is_child, is_counted, is_incarnation_of, is_node, is_node_count, is_option, is_option_count, is_result, is_serial, is_site}
-use Rattle.packet_wire.specs.declared.fault.WireFault.{WireFault}
+use Rattle.packet_wire.specs.Reading.{◌>>=◌, Read, child_at, field_at, fields_at, incarnations_at, options_at, site_at}
+use Rattle.packet_wire.specs.Spelling.{child_text, incarnations_text, number, numbers, options_text, site_text}
+use Rattle.packet_wire.specs.WellFormed.{are_incarnations, are_options, is_child, is_counted, is_incarnation_of, is_node, is_node_count, is_option, is_option_count, is_serial, is_site}
 use Rattle.packet_wire.specs.declared.fault.WireFault.TheVariants as faults
-use Rattle.packet_wire.specs.declared.kind.Kind.{Kind}
-use Rattle.packet_wire.specs.declared.kind.Kind.TheVariants as kinds
-use Rattle.packet_wire.proofs.Fields.{ArePassing, IsBytes, IsForm, IsWide, Takes, Takes-then, and_both, bind_ok, both_and, field_form, fields_form, guard_ok, number_form, ok_is, wide1, wide2, wide4}
+use Rattle.packet_wire.proofs.Fields.{IsBytes, IsForm, Takes, Takes-then, and_both, bind_ok, both_and, field_form, fields_form, ok_is, wide1, wide2, wide4}
 
 -- ---- two parts, one after the other
 

@@ -1,11 +1,11 @@
 -- Packets: what is read is well-formed and spelled so, and what is well-formed is read again.
-use Rattle.std.proofs.Common.{◌≡◌, ℕ, zero, suc, ◌<◌, ◌≤◌, Bool, true, false, cond, eqb, ◌&&◌, List, [], ◌∷◌, ◌++◌, length, Result, Ok, Err, refl, sym, ap, subst, ◌∙◌, append_assoc, arith}
+use Rattle.std.proofs.Common.{◌≡◌, ℕ, true, cond, eqb, List, [], ◌++◌, length, Result, Ok, Err, refl, sym, ap, subst, ◌∙◌, append_assoc}
 use Rattle.std.specs.Prelude.{IfOk}
 use Rattle.std.proofs.lemmas.Bool.{eqb-true}
 use Rattle.std.proofs.lemmas.List.{append-nil, nil_from_length}
 use Rattle.spawn_frame.specs.declared.site.Site.{Site}
 use Rattle.packet_wire.specs.Kinds.{is_routed, kind_of}
-use Rattle.packet_wire.specs.Reading.{◌>>=◌, Gives, Read, body_at, header_at, packet_at, reading, site_at, start_at}
+use Rattle.packet_wire.specs.Reading.{◌>>=◌, Gives, body_at, header_at, packet_at, reading, site_at, start_at}
 use Rattle.packet_wire.specs.Spelling.{body_text, header_text, site_text, spelling, start_text}
 use Rattle.packet_wire.specs.WellFormed.{is_body, is_site, is_well_formed}
 use Rattle.packet_wire.specs.declared.fault.WireFault.{WireFault}
