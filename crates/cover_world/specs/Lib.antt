@@ -1,4 +1,5 @@
 pub mod Coverage
+pub mod Determined
 pub mod Overtaken
 pub mod Plays
 pub mod Refusals

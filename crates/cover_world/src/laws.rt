@@ -1,10 +1,21 @@
 //! What holds of every run: each function is a law, and does nothing.
 
-ghost use Rattle.std.specs.Prelude.{ℕ, List};
+ghost use Rattle.std.specs.Prelude.{◌≡◌, ℕ, Bool, true, false, List};
 ghost use Rattle.cover_problem.specs.Problem.{Problem};
 ghost use Rattle.cover_world.specs.Coverage.{AllCovered};
+ghost use Rattle.cover_world.specs.Determined.{SameStep, may_choose};
 ghost use Rattle.cover_world.specs.Safety.{Safe};
 ghost use Rattle.cover_world.specs.Worlds.{World, Run, opening_world};
+ghost use Rattle.node_core.specs.NodeStep.{NodeStep};
+ghost use Rattle.node_core.specs.SiteView.{View};
+ghost use Rattle.node_core.specs.declared.event.Event.{Event};
+ghost use Rattle.node_core.specs.declared.reply.Reply.{Reply};
+ghost use Rattle.packet_wire.specs.declared.packet.Packet.{Packet};
+ghost use Rattle.spawn_frame.specs.Aborts.{IsBelow};
+ghost use Rattle.spawn_frame.specs.Names.{same_unit};
+ghost use Rattle.spawn_frame.specs.Units.{Entry};
+ghost use Rattle.spawn_frame.specs.declared.unit.Unit.{Unit as WorkUnit};
+ghost use Rattle.spawn_frame.specs.declared.unit.Unit.TheVariants.{Own};
 
 /// Whatever list of searches, deliveries, losses, repeats, reorderings, steals, aborts and restarts
 /// a world of sites runs through, its registry never restarted: no child has two accepted results, no
@@ -15,4 +26,18 @@ pub fn safe_over_every_run()
         (e : Run problem (opening_world nodes limits) now) (f : Run problem now end) → Safe e f }
     ensures covered { (problem : Problem) (nodes : ℕ) (limits : List ℕ) (now : World) →
         Run problem (opening_world nodes limits) now → AllCovered problem now }
+{}
+
+/// What is below an own child that is itself below the units is below them, so an abort reaches all of it.
+pub fn below_goes_on()
+    ensures { (top : WorkUnit → Bool) (own : List Entry) (upper lower : ℕ) → IsBelow top own upper →
+        IsBelow (same_unit (Own upper)) own lower → IsBelow top own lower }
+{}
+
+/// A step of a node is determined by its view and the event, but for the child that a Steal is given.
+pub fn step_is_determined()
+    ensures { (problem : Problem) (old : View) (event : Event) (reply other_reply : Reply) (out other_out : List Packet)
+        (new other_new : View) → may_choose event ≡ false → NodeStep problem old event reply out new →
+        NodeStep problem old event other_reply other_out other_new →
+        SameStep reply other_reply out other_out new other_new }
 {}
