@@ -215,3 +215,38 @@ fn the_first_fault_is_told(rt: HostRuntime) {
         );
     }
 }
+
+#[test]
+fn longest_packet(rt: HostRuntime) -> Result<(), Fail> {
+    let alloc = rt.alloc();
+    let mut options = Vec::new(alloc);
+    for option in 19_000..20_000u16 {
+        options.push(option)?;
+    }
+    let packet = Packet {
+        from: site(2, 1),
+        to: site(0, 1),
+        body: Body::Return(0, 1, ChildResult::Cover(list(alloc, &options)?)),
+    };
+    assert!(rt; is_well_formed(&packet));
+    let mut bytes = Vec::new(alloc);
+    write_packet(alloc, &packet, &mut bytes)?;
+    assert_eq!(rt; bytes.len(), 2025);
+    assert_eq!(rt; &bytes[22..27], b"\x01\x03\xe8\x4a\x38".as_slice());
+    assert_eq!(rt; &bytes[2023..], b"\x4e\x1f".as_slice());
+    match read_packet(alloc, &bytes)?.body {
+        Body::Return(0, 1, ChildResult::Cover(read)) => {
+            assert_eq!(rt; read.as_slice(), options.as_slice());
+        }
+        _ => assert!(rt; false, "another body"),
+    }
+
+    options.push(0)?;
+    let longer = Packet {
+        from: site(2, 1),
+        to: site(0, 1),
+        body: Body::Return(0, 1, ChildResult::Cover(list(alloc, &options)?)),
+    };
+    assert!(rt; !is_well_formed(&longer));
+    Ok(())
+}

@@ -17,6 +17,9 @@ pub(crate) const MAGIC: u16 = 0x434e;
 /// The version of each packet.
 pub(crate) const VERSION: u8 = 1;
 
+/// The most bytes that a packet has: a header, a child, a cover and its 1,000 options.
+const MOST_BYTES: usize = 2025;
+
 /// Writes a number of one byte.
 #[tactic(auto, unfolding(crate::specs::Spelling::number))]
 fn write_u8(out: &mut Vec<u8>, value: u8) -> Result<(), AllocError>
@@ -173,7 +176,7 @@ fn spelling_of(alloc: Global, packet: &Packet) -> Result<Vec<u8>, AllocError>
     requires { is_well_formed packet.now ≡ true }
     ensures { IfOk result (λ text. text.items ≡ spelling packet.now) }
 {
-    let mut text = Vec::new(alloc);
+    let mut text = Vec::with_capacity(alloc, MOST_BYTES)?;
     write_header(&mut text, Kind::of(&packet.body), packet.from, packet.to)?;
     write_body(&mut text, &packet.body)?;
     Ok(text)
