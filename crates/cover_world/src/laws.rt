@@ -11,6 +11,7 @@ ghost use Rattle.node_core.specs.SiteView.{View};
 ghost use Rattle.node_core.specs.declared.event.Event.{Event};
 ghost use Rattle.node_core.specs.declared.reply.Reply.{Reply};
 ghost use Rattle.packet_wire.specs.declared.packet.Packet.{Packet};
+ghost use Rattle.root_registry.specs.RegistryStep.{RegistryStep};
 ghost use Rattle.spawn_frame.specs.Aborts.{IsBelow};
 ghost use Rattle.spawn_frame.specs.Names.{same_unit};
 ghost use Rattle.spawn_frame.specs.Units.{Entry};
@@ -34,10 +35,14 @@ pub fn below_goes_on()
         IsBelow (same_unit (Own upper)) own lower → IsBelow top own lower }
 {}
 
-/// A step of a node is determined by its view and the event, but for the child that a Steal is given.
+/// A step of a site is determined by its view and the event, but for the child that a Steal is given.
 pub fn step_is_determined()
-    ensures { (problem : Problem) (old : View) (event : Event) (reply other_reply : Reply) (out other_out : List Packet)
-        (new other_new : View) → may_choose event ≡ false → NodeStep problem old event reply out new →
-        NodeStep problem old event other_reply other_out other_new →
+    ensures node { (problem : Problem) (old : View) (event : Event) (reply other_reply : Reply)
+        (out other_out : List Packet) (new other_new : View) → may_choose event ≡ false →
+        NodeStep problem old event reply out new → NodeStep problem old event other_reply other_out other_new →
+        SameStep reply other_reply out other_out new other_new }
+    ensures registry { (problem : Problem) (old : View) (event : Event) (reply other_reply : Reply)
+        (out other_out : List Packet) (new other_new : View) → may_choose event ≡ false →
+        RegistryStep problem old event reply out new → RegistryStep problem old event other_reply other_out other_new →
         SameStep reply other_reply out other_out new other_new }
 {}
