@@ -17,6 +17,7 @@ use Rattle.packet_wire.specs.declared.packet.Body.TheVariants as bodies
 use Rattle.packet_wire.specs.declared.packet.Packet.{Packet}
 use Rattle.packet_wire.specs.declared.reading.Header.{Header}
 
+-- one step after another: the first fault ends them
 infixl 10 ◌>>=◌
 abbrev pub ◌>>=◌ : {A B : Type 0} → Result A WireFault → (A → Result B WireFault) → Result B WireFault
 (Ok x) >>= f = f x
@@ -83,6 +84,7 @@ options_at least bytes = do
   count ← field_at 2 (is_option_count least) faults.Field bytes
   fields_at 2 is_option count.0 count.1
 
+-- a list of incarnations: its count, and each of them
 unfoldable pub incarnations_at : List ℕ → Read (List ℕ)
 incarnations_at bytes = do
   count ← field_at 1 is_node_count faults.Field bytes
@@ -101,6 +103,7 @@ result_at bytes = do
   flag ← field_at 1 (λ n. nat_lt n 2) faults.Field bytes
   if flag.0 == 0 then Ok (Empty, flag.1) else (options_at 1 flag.1 >>= λ options. Ok (Cover options.0, options.1))
 
+-- the cause that a number stands for, if any
 abbrev pub cause_numbered : ℕ → Option Cause
 cause_numbered n =
     if n == 1 then Some Aborted
@@ -108,6 +111,7 @@ cause_numbered n =
     else if n == 3 then Some Unknown
     else None
 
+-- a cause, by its number
 unfoldable pub cause_at : List ℕ → Read Cause
 cause_at bytes = do
   number ← number_at 1 bytes

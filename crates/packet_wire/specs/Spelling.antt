@@ -29,6 +29,7 @@ start_text kind = number 2 17230 ++ (number 1 1 ++ number 1 (kind_number kind))
 abbrev pub site_text : Site → List ℕ
 site_text s = number 1 s.node ++ number 4 s.incarnation
 
+-- the start, the sender and the receiver
 abbrev pub header_text : Kind → Site → Site → List ℕ
 header_text kind from to = start_text kind ++ (site_text from ++ site_text to)
 
@@ -36,6 +37,7 @@ header_text kind from to = start_text kind ++ (site_text from ++ site_text to)
 abbrev pub options_text : List ℕ → List ℕ
 options_text options = number 2 (length options) ++ numbers 2 options
 
+-- the count in one byte, and the incarnations
 abbrev pub incarnations_text : List ℕ → List ℕ
 incarnations_text incarnations = number 1 (length incarnations) ++ numbers 4 incarnations
 
@@ -48,11 +50,13 @@ abbrev pub result_text : ChildResult → List ℕ
 result_text Empty = number 1 0
 result_text (Cover options) = number 1 1 ++ options_text options
 
+-- the number that stands for a cause
 abbrev pub cause_number : Cause → ℕ
 cause_number Aborted = 1
 cause_number Superseded = 2
 cause_number Unknown = 3
 
+-- what stands behind the header
 abbrev pub body_text : Body → List ℕ
 body_text bodies.Hello = []
 body_text (bodies.Members incarnations) = incarnations_text incarnations

@@ -25,6 +25,7 @@ is_counted n = nat_lt 0 n && nat_lt n 4294967296
 abbrev pub is_incarnation_of : ℕ → ℕ → Bool
 is_incarnation_of node n = is_counted n && (not (node == 0) || n == 1)
 
+-- a node or the registry, in one of its runs
 abbrev pub is_site : Site → Bool
 is_site s = is_node s.node && is_incarnation_of s.node s.incarnation
 
@@ -36,6 +37,7 @@ is_option n = nat_lt n 20000
 abbrev pub is_option_count : ℕ → ℕ → Bool
 is_option_count least n = not (nat_lt n least) && nat_lt n 1001
 
+-- a list of at least so many options
 abbrev pub are_options : ℕ → List ℕ → Bool
 are_options least options = is_option_count least (length options) && list_all is_option options
 
@@ -43,6 +45,7 @@ are_options least options = is_option_count least (length options) && list_all i
 abbrev pub is_node_count : ℕ → Bool
 is_node_count n = nat_lt 0 n && nat_lt n 17
 
+-- the incarnations of the nodes from 1 on
 abbrev pub are_incarnations : List ℕ → Bool
 are_incarnations incarnations = is_node_count (length incarnations) && list_all is_counted incarnations
 
@@ -55,6 +58,7 @@ abbrev pub is_result : ChildResult → Bool
 is_result Empty = true
 is_result (Cover options) = are_options 1 options
 
+-- whether each field of the body is allowed
 abbrev pub is_body : Body → Bool
 is_body bodies.Hello = true
 is_body (bodies.Members incarnations) = are_incarnations incarnations
