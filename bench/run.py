@@ -48,10 +48,10 @@ def main():
         for file in files:
             outcome, visits, (theirs, ours) = compare(baseline, file)
             name = os.path.basename(file)[: -len(".dlx")]
-            ratio = ours / theirs if theirs > 0.01 else math.nan
+            ratio = ours / theirs if theirs > 0.01 else None
             if visits > 100000:
                 ratios.append(ratio)
-            print(f"| {name} | {outcome} | {visits:,} | {theirs:.3f} | {ours:.3f} | {ratio:.2f} |")
+            print(f"| {name} | {outcome} | {visits:,} | {theirs:.3f} | {ours:.3f} | {f'{ratio:.2f}' if ratio else '-'} |")
         if ratios:
             mean = math.exp(sum(map(math.log, ratios)) / len(ratios))
             print(f"\nGeometric mean over {len(ratios)} instances of more than 100,000 visits: {mean:.2f}")
