@@ -75,16 +75,36 @@ fn run_words(rt: &HostRuntime, words: &[&str]) -> u8 {
     }
 }
 
-fn main(rt: HostRuntime) -> io::Result<ExitCode> {
+/// The words of the command line, the program's name first.
+fn given_words(rt: &HostRuntime) -> io::Result<Vec<String>> {
     let mut given = Vec::new(rt.alloc());
-    for word in env::args(&rt)? {
+    for word in env::args(rt)? {
         given.push(word)?;
     }
+    Ok(given)
+}
+
+/// Runs what these words ask for, and answers the exit status.
+fn run_given(rt: &HostRuntime, given: &[String]) -> u8 {
     let mut words = Vec::new(rt.alloc());
-    for word in &given {
-        words.push(word.as_str())?;
+    for word in given {
+        if words.push(word.as_str()).is_err() {
+            return tell_fault(&EngineFault::Memory, &mut CountedWriter::new(rt.stderr()));
+        }
     }
-    Ok(ExitCode::from(run_words(&rt, &words)))
+    run_words(rt, &words)
+}
+
+fn main(rt: HostRuntime) -> ExitCode {
+    let status = match given_words(&rt) {
+        Ok(given) => run_given(&rt, &given),
+        Err(error) if error.kind() == io::ErrorKind::InvalidData => {
+            let _ = eprintln!(rt; "error: a word of the command line is not UTF-8");
+            2
+        }
+        Err(_) => tell_fault(&EngineFault::Memory, &mut CountedWriter::new(rt.stderr())),
+    };
+    ExitCode::from(status)
 }
 
 #[cfg(test)]
