@@ -20,7 +20,7 @@ use Rattle.packet_wire.specs.declared.packet.Packet.{Packet}
 use Rattle.node_core.specs.declared.event.Event.{Event}
 use Rattle.node_core.specs.declared.event.Event.TheVariants.{Take, Deliver}
 use Rattle.node_core.specs.declared.reply.Reply.{Reply}
-use Rattle.cover_world.specs.Worlds.{World, WorldEvent, Acts, Restarts, SiteStep, WorldStep, WasSent, Run, stay, go, opening_world, opening_nodes, opening_node, opening_registry, root}
+use Rattle.cover_world.specs.Worlds.{World, WorldEvent, Acts, Restarts, SiteStep, WorldStep, WasSent, Run, stay, go, opening_world, opening_nodes, opening_node, opening_registry}
 use Rattle.cover_world.specs.Safety.{HasChild, in_file_order, published}
 use Rattle.cover_world.specs.Coverage.{IsCovered, AllCovered}
 use Rattle.cover_world.proofs.Guests.{Every, every_append, every_at, every_map}
@@ -32,6 +32,7 @@ use Rattle.cover_problem.proofs.Sets.{count_map}
 use Rattle.cover_world.proofs.Sound.{Sound, IsSplitUp, FrameOf, Hopes}
 use Rattle.cover_world.proofs.Told.{had_now, had_both, same_prefix, HadBy, GuestTrue, Told, told}
 use Rattle.cover_world.proofs.Walk.{ResultHopes, BodyHopes, EventHopes, site_sound}
+use Rattle.steal_return.specs.Ledger.{root}
 
 -- what a returned result says of the child that it names
 abbrev pub ReturnTrue : {problem : Problem} {start end : World} → Run problem start end → ChildName → ChildResult → Type 0
