@@ -1,5 +1,5 @@
 -- What a step makes of the view, by what it makes of the ledger.
-use Rattle.std.proofs.Common.{◌≡◌, ℕ, List, None, ap, ◌∙◌}
+use Rattle.std.proofs.Common.{◌≡◌, ℕ, List, ap, ◌∙◌}
 use Rattle.cover_problem.specs.Problem.{Problem}
 use Rattle.node_core.specs.Arrivals.{Admits, Drops, Gives, Settles}
 use Rattle.node_core.specs.Membership.{MembersStep}
@@ -8,11 +8,12 @@ use Rattle.node_core.specs.Results.{FinishStep}
 use Rattle.node_core.specs.SiteView.{View, unit_gets, with_guests, with_ledger, with_own}
 use Rattle.packet_wire.specs.declared.packet.Packet.{Packet}
 use Rattle.spawn_frame.specs.Splits.{with_result}
-use Rattle.spawn_frame.specs.Units.{Entry, GuestEntry, change_at, insert_guest, redone, table_guests, table_own, with_status}
+use Rattle.spawn_frame.specs.Tables.{new_guest}
+use Rattle.spawn_frame.specs.Units.{Entry, change_at, insert_guest, redone, table_guests, table_own, with_status}
 use Rattle.spawn_frame.specs.declared.child_result.ChildResult.{ChildResult}
 use Rattle.spawn_frame.specs.declared.site.ChildName.{ChildName}
 use Rattle.spawn_frame.specs.declared.site.Site.{Site}
-use Rattle.spawn_frame.specs.declared.status.Status.TheVariants.{Dropped, Out, Ready, Settled}
+use Rattle.spawn_frame.specs.declared.status.Status.TheVariants.{Dropped, Out, Settled}
 use Rattle.spawn_frame.specs.declared.unit.Unit.{Unit as WorkUnit}
 use Rattle.spawn_frame.specs.declared.unit.Unit.TheVariants.{Guest}
 use Rattle.steal_return.specs.Members.{drop_lost}
@@ -20,13 +21,6 @@ use Rattle.steal_return.specs.Members.{drop_lost}
 pub after_gives : (old : View) (from : Site) (out : List Packet) (new : View) (g : Gives old from out new)
     → new ≡ with_own old (change_at (with_status (Out from)) old.own g.serial)
 after_gives old from out new g = g.after ∙ ap (with_ledger old) g.gives.after
-
--- the guest that a Give makes
-abbrev pub new_guest : ChildName → ℕ → List ℕ → GuestEntry
-new_guest name attempt prefix = record {
-  name = name;
-  entry = record { parent = None; prefix = prefix; attempt = attempt; status = Ready };
-}
 
 pub after_admits : (problem : Problem) (old : View) (from : Site) (serial attempt : ℕ) (prefix : List ℕ) (out : List Packet) (new : View)
     → Admits problem old from serial attempt prefix out new

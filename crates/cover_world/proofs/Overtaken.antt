@@ -17,7 +17,7 @@ use Rattle.spawn_frame.specs.Units.{Entry, with_status}
 use Rattle.spawn_frame.specs.declared.child_result.ChildResult.TheVariants.{Cover}
 use Rattle.spawn_frame.specs.declared.status.Status.TheVariants.{Aborted, Done, Ready}
 use Rattle.spawn_frame.specs.declared.unit.Unit.TheVariants.{Own}
-use Rattle.steal_return.specs.Ledger.{root}
+use Rattle.spawn_frame.specs.Tables.{root_entry}
 use Rattle.steal_return.specs.Returns.{Enters, Holds}
 
 pub two_children : (0 ∷ []) ∷ (1 ∷ []) ∷ [] ≡ children two_ways []
@@ -61,7 +61,7 @@ s1 =
 abbrev pub s2 : Stage two_ways
 s2 =
     acts s1 0 (Deliver p0) Moved _ _ _ refl (0, refl)
-    (refl, omega arith, (refl, inr (record { given = _; ledger = _; gives = given_first root refl refl refl; after = refl; sends = refl })))
+    (refl, omega arith, (refl, inr (record { given = _; ledger = _; gives = given_first root_entry refl refl refl; after = refl; sends = refl })))
 
 abbrev pub s3 : Stage two_ways
 s3 =

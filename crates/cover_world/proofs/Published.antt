@@ -25,7 +25,7 @@ use Rattle.cover_world.specs.Safety.{published, published_by, in_file_order}
 use Rattle.cover_world.proofs.Steps.{registry_grows}
 use Rattle.cover_world.proofs.Later.{get_set, set_get}
 use Rattle.cover_problem.proofs.Sets.{in_order_same}
-use Rattle.steal_return.specs.Ledger.{root}
+use Rattle.spawn_frame.specs.Tables.{root_entry}
 use Rattle.steal_return.specs.Members.{redo_if}
 use Rattle.steal_return.specs.Returns.{Enters, Holds, Judgement, Refuses}
 
@@ -253,7 +253,7 @@ shown_counts problem Empty options e h = absurd (cc)
 opening_counted : (problem : Problem) (nodes : ℕ) (limits : List ℕ) → AllCounted' problem (opening_world nodes limits)
 opening_counted problem nodes limits r reg =
     let v : opening_registry nodes ≡ reg.view = same_Some _ _ reg.is in
-    let c : root ≡ reg.has.entry = same_Some _ _ (ap (λ w. slice_get w.own 0) v ∙ reg.has.is) in
+    let c : root_entry ≡ reg.has.entry = same_Some _ _ (ap (λ w. slice_get w.own 0) v ∙ reg.has.is) in
     let e : Ready ≡ Done r = ap (λ x. x.status) c ∙ reg.has.done in
     cc
 

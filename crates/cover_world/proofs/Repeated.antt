@@ -9,7 +9,7 @@ use Rattle.cover_world.specs.Repeated.{p0, p1, p2, p3}
 use Rattle.node_core.specs.declared.event.Event.TheVariants.{Ask, Deliver, Post, Take}
 use Rattle.node_core.specs.declared.reply.Reply.TheVariants.{Moved, Taken}
 use Rattle.spawn_frame.specs.declared.child_result.ChildResult.TheVariants.{Empty}
-use Rattle.steal_return.specs.Ledger.{root}
+use Rattle.spawn_frame.specs.Tables.{root_entry}
 use Rattle.steal_return.specs.Returns.{Enters, Holds}
 
 abbrev pub s1 : Stage bare
@@ -20,7 +20,7 @@ s1 =
 abbrev pub s2 : Stage bare
 s2 =
     acts s1 0 (Deliver p0) Moved _ _ _ refl (0, refl)
-    (refl, omega arith, (refl, inr (record { given = _; ledger = _; gives = given_first root refl refl refl; after = refl; sends = refl })))
+    (refl, omega arith, (refl, inr (record { given = _; ledger = _; gives = given_first root_entry refl refl refl; after = refl; sends = refl })))
 
 abbrev pub s3 : Stage bare
 s3 =

@@ -24,7 +24,7 @@ use Rattle.spawn_frame.specs.declared.child_result.ChildResult.TheVariants.{Cove
 use Rattle.spawn_frame.specs.declared.site.Site.{Site}
 use Rattle.spawn_frame.specs.declared.status.Status.TheVariants.{Aborted, Done, Out, Ready}
 use Rattle.spawn_frame.specs.declared.unit.Unit.TheVariants.{Own}
-use Rattle.steal_return.specs.Ledger.{root}
+use Rattle.spawn_frame.specs.Tables.{root_entry}
 use Rattle.steal_return.specs.Members.{IsRedoable, is_lost_guest}
 use Rattle.steal_return.specs.Returns.{Enters, Refuses}
 use Rattle.steal_return.specs.Steals.{is_older, last_attempt}
@@ -81,7 +81,7 @@ s1 =
 abbrev pub s2 : Stage small
 s2 =
     acts s1 0 (Deliver p0) Moved _ _ _ refl (0, refl)
-    (refl, omega arith, (refl, inr (record { given = _; ledger = _; gives = given_first root refl refl refl; after = refl; sends = refl })))
+    (refl, omega arith, (refl, inr (record { given = _; ledger = _; gives = given_first root_entry refl refl refl; after = refl; sends = refl })))
 
 abbrev pub s3 : Stage small
 s3 =
@@ -234,11 +234,11 @@ anew11 = record {
   run = go s10.run (Restarts 2 2 9) (record { before = _; is = refl; not_registry = omega arith; greater = omega arith; world = refl });
 }
 
-abbrev pub root_entry : Entry
-root_entry = record { parent = root.parent; prefix = []; attempt = 1; status = Out site1 }
+abbrev pub root_out : Entry
+root_out = with_status (Out site1) root_entry
 
-pub root_redoable : (lost : Site → Bool) → IsRedoable lost (root_entry ∷ [])
-root_redoable lost k entry thief is out gone = each_of_one (λ c. c.attempt < last_attempt) root_entry (omega arith) k entry is
+pub root_redoable : (lost : Site → Bool) → IsRedoable lost (root_out ∷ [])
+root_redoable lost k entry thief is out gone = each_of_one (λ c. c.attempt < last_attempt) root_out (omega arith) k entry is
 
 pub two_redoable : (lost : Site → Bool) → IsRedoable lost (first_child ∷ second_child ∷ [])
 two_redoable lost k entry thief is out gone = each_of_two (λ c. c.attempt < last_attempt) first_child second_child (omega arith) (omega arith) k entry is

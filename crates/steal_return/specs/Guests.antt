@@ -3,10 +3,11 @@ use Rattle.std.specs.Prelude.{◌≡◌, ◌⊎◌, ℕ, true, false, List, Some
 use Rattle.spawn_frame.specs.Aborts.{AbortsBelow, Reached, is_open, reached}
 use Rattle.spawn_frame.specs.Names.{same_unit}
 use Rattle.spawn_frame.specs.Picks.{is_finished}
+use Rattle.spawn_frame.specs.Tables.{new_guest}
 use Rattle.spawn_frame.specs.Units.{Entry, guest_in, insert_guest}
 use Rattle.spawn_frame.specs.declared.child_result.ChildResult.{ChildResult}
 use Rattle.spawn_frame.specs.declared.site.ChildName.{ChildName}
-use Rattle.spawn_frame.specs.declared.status.Status.TheVariants.{Dropped, Ready, Settled}
+use Rattle.spawn_frame.specs.declared.status.Status.TheVariants.{Dropped, Settled}
 use Rattle.spawn_frame.specs.declared.unit.Unit.TheVariants.{Guest}
 use Rattle.steal_return.specs.Ledger.{Ledger, ledger_gets, ledger_guests, ledger_own}
 use Rattle.steal_return.specs.Steals.{is_older}
@@ -15,10 +16,7 @@ use Rattle.steal_return.specs.Steals.{is_older}
 pub record AdmitsGuest (old : Ledger) (name : ChildName) (attempt : ℕ) (prefix : List ℕ) (new : Ledger) : Type 0 where
   pub not_older : is_older old.known name.site ≡ false
   pub is_new : guest_in old.guests name attempt ≡ None
-  pub after : new ≡ ledger_guests old (insert_guest (record {
-    name = name;
-    entry = record { parent = None; prefix = prefix; attempt = attempt; status = Ready };
-  }) old.guests)
+  pub after : new ≡ ledger_guests old (insert_guest (new_guest name attempt prefix) old.guests)
 
 -- Its owner is of an earlier run than is known, or the guest is there already, in whatever status.
 abbrev pub IsNotNew : Ledger → ChildName → ℕ → Type 0

@@ -1,9 +1,9 @@
 -- A site's units of work, with what it knows of the other sites.
-use Rattle.std.specs.Prelude.{ℕ, suc, List, [], ◌∷◌, replicate, None}
+use Rattle.std.specs.Prelude.{ℕ, suc, List, replicate}
+use Rattle.spawn_frame.specs.Tables.{empty_table, root_table}
 use Rattle.spawn_frame.specs.Units.{Entry, GuestEntry, Table, table_gets, table_guests, table_own}
 use Rattle.spawn_frame.specs.declared.site.Site.{Site}
 use Rattle.spawn_frame.specs.declared.status.Status.{Status}
-use Rattle.spawn_frame.specs.declared.status.Status.TheVariants.{Ready}
 use Rattle.spawn_frame.specs.declared.unit.Unit.{Unit as WorkUnit}
 
 -- a site's units of work, and the run of each node that it knows of
@@ -31,20 +31,8 @@ ledger_gets ledger unit status = ledger_table ledger (table_gets ledger.table un
 
 -- a site that begins: nothing in its table, and the first run known of every node
 abbrev pub opening_ledger : Site → ℕ → ℕ → Ledger
-opening_ledger site nodes limit = record {
-  table = record { site = site; limit = limit; own = []; guests = [] };
-  nodes = nodes;
-  known = replicate (suc nodes) 1;
-}
-
--- the root: the empty prefix, at its first attempt
-abbrev pub root : Entry
-root = record { parent = None; prefix = []; attempt = 1; status = Ready }
+opening_ledger site nodes limit = record { table = empty_table site limit; nodes = nodes; known = replicate (suc nodes) 1 }
 
 -- the registry that begins, with the root alone
 abbrev pub root_ledger : ℕ → Ledger
-root_ledger nodes = record {
-  table = record { site = record { node = 0; incarnation = 1 }; limit = 1; own = root ∷ []; guests = [] };
-  nodes = nodes;
-  known = replicate (suc nodes) 1;
-}
+root_ledger nodes = record { table = root_table; nodes = nodes; known = replicate (suc nodes) 1 }
