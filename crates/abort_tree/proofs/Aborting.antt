@@ -1,7 +1,7 @@
 -- The own children when the marked ones up to a serial are aborted, and what that reaches.
-use Rattle.std.proofs.Common.{◌≡◌, ℕ, zero, suc, ◌+◌, ◌<◌, Bool, true, false, ◌&&◌, if◌then◌else◌, List, [], ◌∷◌, ◌++◌, length, drop, Option, Some, None, slice_get, refl, sym, ap, ◌∙◌, ◌≤◌, arith, length-append, subst}
+use Rattle.std.proofs.Common.{◌≡◌, ℕ, zero, suc, ◌+◌, Bool, true, false, ◌&&◌, if◌then◌else◌, List, [], ◌∷◌, ◌++◌, length, drop, Some, slice_get, refl, sym, ap, ◌∙◌, ◌≤◌, arith, length-append, subst}
 use Rattle.std.proofs.lemmas.Option.{same_Some, none-some}
-use Rattle.spawn_frame.specs.Aborts.{Reached, is_open, reached, reached_one}
+use Rattle.spawn_frame.specs.Aborts.{is_open, reached, reached_one}
 use Rattle.spawn_frame.specs.Tables.{has_status}
 use Rattle.spawn_frame.specs.Units.{Entry, change_at, with_status}
 use Rattle.spawn_frame.specs.declared.status.Status.{Status}

@@ -1,6 +1,6 @@
 -- What is below the units, by the marks, and by other lists of the same parents.
-use Rattle.std.proofs.Common.{◌≡◌, ◌⊎◌, ℕ, zero, suc, ◌+◌, ◌<◌, Bool, true, false, ◌||◌, if◌then◌else◌, List, [], ◌∷◌, length, drop, map, Option, Some, None, get_or, slice_get, refl, sym, ap, ◌∙◌, inl, inr, ⊎_elim, arith, subst}
-use Rattle.std.proofs.lemmas.Bool.{cases_Bool, true≢false}
+use Rattle.std.proofs.Common.{◌≡◌, ◌⊎◌, ℕ, zero, suc, ◌<◌, Bool, true, false, ◌||◌, if◌then◌else◌, List, [], ◌∷◌, length, drop, map, Option, Some, None, get_or, slice_get, refl, sym, ap, ◌∙◌, inl, inr, arith}
+use Rattle.std.proofs.lemmas.Bool.{true≢false}
 use Rattle.std.proofs.lemmas.Option.{same_Some, none-some, slice_get-get_or}
 use Rattle.spawn_frame.specs.Aborts.{AbortsBelow, IsBelow, child, deeper, is_open}
 use Rattle.spawn_frame.specs.Names.{same_unit}

@@ -1,5 +1,5 @@
 -- Which own children are below some units, and what an abort makes of them (abort of the Cilk 5.4 manual).
-use Rattle.std.specs.Prelude.{◌≡◌, ℕ, Bool, true, false, ◌&&◌, ◌||◌, if◌then◌else◌, List, [], ◌∷◌, length, map, Option, Some, None, slice_get, unwrap_or}
+use Rattle.std.specs.Prelude.{◌≡◌, ℕ, Bool, true, false, ◌&&◌, ◌||◌, if◌then◌else◌, List, [], ◌∷◌, length, Option, Some, None, slice_get, unwrap_or}
 use Rattle.std.specs.List.{list_any}
 use Rattle.spawn_frame.specs.Aborts.{IsBelow, Reached, is_open, reached, reached_one}
 use Rattle.spawn_frame.specs.Names.{same_unit}

@@ -1,4 +1,4 @@
-use Rattle.std.proofs.Common.{◌≡◌, ◌≤◌, [], length, drop, vec_len, vec_capacity}
+use Rattle.std.proofs.Common.{◌≡◌, ◌≤◌, [], length, drop, vec_capacity}
 use Rattle.abort_tree.specs.Below.{is_among}
 use Rattle.abort_tree.proofs.Marks.{marks_from}
 use Rattle.abort_tree.proofs.reach.Reach.below.Given as goal

@@ -1,6 +1,6 @@
-use Rattle.std.proofs.Common.{◌≡◌, ◌∙◌, ◌+◌, ap, arith, drop, length, length-append, slice_get}
+use Rattle.std.proofs.Common.{◌+◌, ap, arith, drop, length, length-append, slice_get}
 use Rattle.abort_tree.specs.Below.{out_of, outs_from}
-use Rattle.abort_tree.proofs.Aborting.{outs_end, outs_fewer, outs_plus}
+use Rattle.abort_tree.proofs.Aborting.{outs_fewer, outs_plus}
 use Rattle.abort_tree.proofs.reach.Reach.outs.Goals as goal
 
 pub overflow_add-count : goal.overflow_add-count
