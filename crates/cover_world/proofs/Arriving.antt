@@ -5,9 +5,8 @@ use Rattle.cover_world.proofs.Guests.{site_path}
 use Rattle.cover_world.specs.Refusals.{Refused}
 use Rattle.cover_problem.specs.Prefix.{is_prefix}
 use Rattle.cover_problem.specs.Problem.{Problem}
-use Rattle.node_core.specs.Arrivals.{Answers, Enters, GiveStep, Refuses, if_out, judged, judged_by}
+use Rattle.node_core.specs.Arrivals.{Answers, GiveStep}
 use Rattle.node_core.specs.NodeStep.{HearStep, NodeStep}
-use Rattle.node_core.specs.Requests.{is_older}
 use Rattle.node_core.specs.SiteView.{View}
 use Rattle.node_core.specs.declared.event.Event.TheVariants.{Deliver}
 use Rattle.node_core.specs.declared.reply.Reply.{Reply}
@@ -23,6 +22,8 @@ use Rattle.spawn_frame.specs.declared.child_result.ChildResult.{ChildResult}
 use Rattle.spawn_frame.specs.declared.site.Site.{Site}
 use Rattle.spawn_frame.specs.declared.status.Status.{Status}
 use Rattle.spawn_frame.specs.declared.status.Status.TheVariants.{Aborted, Done, Dropped, Finished, Here, Out, Ready, Settled, Split}
+use Rattle.steal_return.specs.Returns.{Enters, Refuses, if_out, judged, judged_by}
+use Rattle.steal_return.specs.Steals.{is_older}
 
 pub give_refused : (problem : Problem) (old : View) (from : Site) (serial attempt : ℕ) (prefix : List ℕ) (reply : Reply) (out : List Packet) (new : View)
     → is_older old.known from ≡ false → guest_in old.guests (record { site = from; serial = serial }) attempt ≡ None → is_prefix problem prefix ≡ false

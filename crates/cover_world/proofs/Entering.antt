@@ -21,7 +21,7 @@ use Rattle.node_core.specs.declared.event.Event.TheVariants.{Post, Deliver}
 use Rattle.node_core.specs.declared.reply.Reply.{Reply}
 use Rattle.node_core.specs.Results.{Leaves}
 use Rattle.spawn_frame.specs.Splits.{new_child}
-use Rattle.node_core.specs.Arrivals.{Judgement, Enters, Holds, Refuses, judged, Answers}
+use Rattle.node_core.specs.Arrivals.{Answers}
 use Rattle.root_registry.specs.RegistryStep.{RootAnswers, RootHears}
 use Rattle.node_core.specs.NodeStep.{HearStep}
 use Rattle.cover_world.specs.Worlds.{World, WorldEvent, Acts, Restarts, SiteStep, WorldStep, Run, stay, go, EachStep}
@@ -29,6 +29,7 @@ use Rattle.cover_world.specs.Safety.{HasChild, NoneLate, attempt_in, attempt_of,
 use Rattle.cover_world.proofs.Grows.{Grows, get_front, get_changed}
 use Rattle.cover_world.proofs.Steps.{judged_enters}
 use Rattle.cover_world.proofs.Later.{get_set, Later, Gone, same_child, not_gone, step_keeps, run_keeps}
+use Rattle.steal_return.specs.Returns.{Enters, Holds, Judgement, Refuses, judged}
 
 -- a child that was not done, and is
 pub record BecomesDone (old new : List Entry) (k : ℕ) (c : Entry) : Type 0 where

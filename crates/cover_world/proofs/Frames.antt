@@ -13,10 +13,10 @@ use Rattle.spawn_frame.specs.Frames.{is_unit, frame}
 use Rattle.spawn_frame.specs.Names.{same_unit, same_name, guest_before}
 use Rattle.spawn_frame.specs.Aborts.{is_open}
 use Rattle.spawn_frame.specs.Splits.{new_child}
-use Rattle.node_core.specs.Requests.{is_older}
-use Rattle.node_core.specs.Membership.{drop_if, drop_lost}
 use Rattle.cover_world.proofs.Grows.{get_changed}
 use Rattle.cover_world.proofs.Guests.{name_path, same_name_self, same_unit_self, changed_guest}
+use Rattle.steal_return.specs.Members.{drop_if, drop_lost}
+use Rattle.steal_return.specs.Steals.{is_older}
 
 -- ---- shapes
 

@@ -12,8 +12,8 @@ use Rattle.spawn_frame.specs.declared.status.Status.TheVariants.{Dropped}
 use Rattle.spawn_frame.specs.Units.{Entry, GuestEntry, is_guest, guest_in, with_status, change_guest, insert_guest}
 use Rattle.spawn_frame.specs.Names.{same_site, same_name, same_unit, guest_before}
 use Rattle.spawn_frame.specs.Aborts.{is_open}
-use Rattle.node_core.specs.Requests.{is_older}
-use Rattle.node_core.specs.Membership.{drop_if, drop_lost}
+use Rattle.steal_return.specs.Members.{drop_if, drop_lost}
+use Rattle.steal_return.specs.Steals.{is_older}
 
 -- ---- equality of names
 

@@ -1,5 +1,5 @@
 -- What a site sends is so: its children are there, its answers are what it holds, and it returns what it finished.
-use Rattle.std.proofs.Common.{◌≡◌, ◌≢◌, ◌⊎◌, ℕ, zero, suc, ◌+◌, Bool, true, false, cond, ◌==◌, List, [], ◌∷◌, map, Option, Some, None, slice_get, refl, sym, subst, ⊎_elim, arith}
+use Rattle.std.proofs.Common.{◌≡◌, ◌≢◌, ◌⊎◌, ℕ, zero, suc, ◌+◌, Bool, true, false, cond, ◌==◌, List, [], ◌∷◌, Option, Some, None, slice_get, refl, sym, subst, ⊎_elim, arith}
 use Rattle.std.proofs.lemmas.Option.{none-some}
 use Rattle.std.proofs.lemmas.Bool.{and_parts}
 use Rattle.cover_problem.specs.Problem.{Problem}
@@ -13,12 +13,13 @@ use Rattle.spawn_frame.specs.declared.child_result.ChildResult.TheVariants.{Cove
 use Rattle.spawn_frame.specs.declared.status.Status.{Status}
 use Rattle.spawn_frame.specs.declared.status.Status.TheVariants.{Ready, Out, Done, Finished}
 use Rattle.spawn_frame.specs.Units.{Entry, GuestEntry, guest_in, with_status, change_at, change_guest, is_guest}
-use Rattle.node_core.specs.SiteView.{View, unit_in, with_own, unit_gets, abort_packet, abort_packets}
+use Rattle.cover_world.proofs.Changes.{after_drops, after_finish, after_gives, after_members}
+use Rattle.node_core.specs.SiteView.{View, unit_in, with_own, unit_gets, abort_packets}
 use Rattle.spawn_frame.specs.Names.{same_name}
 use Rattle.packet_wire.specs.declared.packet.Body.{Body}
 use Rattle.packet_wire.specs.declared.packet.Body.TheVariants.{Hello, Members, Steal, Give, NoWork, Return, Accept, Refuse, Abort, Over}
 use Rattle.packet_wire.specs.declared.packet.Packet.{Packet}
-use Rattle.spawn_frame.specs.Aborts.{Reached, reached}
+use Rattle.spawn_frame.specs.Aborts.{Reached}
 use Rattle.node_core.specs.declared.event.Event.{Event}
 use Rattle.node_core.specs.declared.event.Event.TheVariants.{Take, Post, Finish, Ask, Redo, Deliver, Again, Greet}
 use Rattle.node_core.specs.declared.reply.Reply.{Reply}
@@ -27,13 +28,14 @@ use Rattle.node_core.specs.Results.{Leaves, return_packets}
 use Rattle.spawn_frame.specs.Splits.{with_result}
 use Rattle.node_core.specs.Requests.{give_again, gives_again, return_again, returns_again}
 use Rattle.root_registry.specs.RegistryStep.{to_each, if_done, over_packets, RootAnswers, RootSteal, RootHears, RegistryStep, root_result}
-use Rattle.node_core.specs.Arrivals.{Judgement, Enters, Holds, Refuses, judged, Answers, GiveStep, AcceptStep, RefuseStep, Denies, Gives}
+use Rattle.node_core.specs.Arrivals.{Answers, GiveStep, AcceptStep, RefuseStep, Denies, Gives}
 use Rattle.node_core.specs.NodeStep.{HearStep, EventStep}
 use Rattle.node_core.specs.Taking.{TakeStep}
 use Rattle.cover_world.specs.Worlds.{SiteStep}
 use Rattle.cover_world.proofs.Grows.{get_changed}
 use Rattle.cover_world.proofs.Steps.{judged_enters, judged_holds}
 use Rattle.cover_world.proofs.Guests.{Every, every_append, name_path}
+use Rattle.steal_return.specs.Returns.{Enters, Holds, Judgement, Refuses, judged}
 
 -- the site has this child
 pub record HasOwn (view : View) (serial : ℕ) (P : Entry → Type 0) : Type 0 where
@@ -58,12 +60,9 @@ Honest view p = (p.from ≡ view.site) × IsSo view p.to p.body
 abbrev pub AllHonest : View → List Packet → Type 0
 AllHonest view out = Every (Honest view) out
 
-quiet_all : (view : View) (from : Site) (rs : List Reached) → from ≡ view.site → AllHonest view (map (λ r. abort_packet from r) rs)
-quiet_all view from [] e = tt
-quiet_all view from (r ∷ rs) e = ((e, tt), quiet_all view from rs e)
-
-quiet_aborts : (view : View) (from : Site) (serial : ℕ) (xs ys : List Entry) → from ≡ view.site → AllHonest view (abort_packets from serial xs ys)
-quiet_aborts view from serial xs ys e = quiet_all view from (reached serial xs ys) e
+quiet_aborts : (view : View) (from : Site) (outs : List Reached) → from ≡ view.site → AllHonest view (abort_packets from outs)
+quiet_aborts view from [] e = tt
+quiet_aborts view from (r ∷ rs) e = ((e, tt), quiet_aborts view from rs e)
 
 pub returns_changed : (result : ChildResult) (gs : List GuestEntry) (name : ChildName) (attempt : ℕ) (entry : Entry) → guest_in gs name attempt ≡ Some entry
     → Returns name result (change_guest (with_status (Finished result)) gs name attempt)
@@ -153,7 +152,7 @@ finish_honest old (Guest name attempt) result entry own is = ((refl, returns_cha
 
 refuse_honest : (old : View) (name : ChildName) (attempt : ℕ) (reply : Reply) (out : List Packet) (new : View) → RefuseStep old name attempt reply out new → AllHonest new out
 refuse_honest old name attempt Moved out new h =
-    same_honest _ new out h.after (subst (AllHonest _) (sym h.sends) (quiet_aborts _ old.site 0 _ h.own refl))
+    same_honest _ new out (after_drops old name attempt out new h) (subst (AllHonest _) (sym h.sends) (quiet_aborts _ old.site h.outs refl))
 refuse_honest old name attempt Ignored out new h = no_packets new out h.1.1
 refuse_honest old name attempt _ out new h = absurd h
 
@@ -181,8 +180,8 @@ steal_honest old from out new =
     ⊎_elim
     (λ (d : Denies old from out new). same_honest old new out d.after (one_packet old out old.site from NoWork refl tt d.sends))
     (λ (g : Gives old from out new).
-    same_honest _ new out g.after
-    (one_packet _ out old.site from _ refl (has_changed old g.serial (Out from) g.entry (λ c. c.prefix ≡ g.entry.prefix) g.is refl) g.sends))
+    same_honest _ new out (after_gives old from out new g)
+    (one_packet _ out old.site from _ refl (has_changed old g.serial (Out from) g.entry (λ c. c.prefix ≡ g.given.prefix) g.is (sym g.gives.prefix)) g.sends))
 
 root_steal_honest : (r : Option ChildResult) (old : View) (from : Site) (out : List Packet) (new : View) → RootSteal r old from out new → AllHonest new out
 root_steal_honest (Some result) old from out new h = same_honest old new out h.0 (one_packet old out old.site from Over refl tt h.1)
@@ -199,7 +198,7 @@ hear_honest : (problem : Problem) (old : View) (from : Site) (body : Body) (repl
     → HearStep problem old from body reply out new → AllHonest new out
 hear_honest problem old from Hello reply out new h = absurd h
 hear_honest problem old from (Members incarnations) reply out new h =
-    same_honest _ new out h.0.after (subst (AllHonest _) (sym h.0.sends) (quiet_aborts _ old.site 0 _ h.0.own refl))
+    same_honest _ new out (after_members old incarnations out new h.0) (subst (AllHonest _) (sym h.0.sends) (quiet_aborts _ old.site h.0.outs refl))
 hear_honest problem old from Steal reply out new h = steal_honest old from out new h.1
 hear_honest problem old from (Give serial attempt prefix) reply out new h = give_quiet reply h
   where
@@ -225,9 +224,9 @@ event_honest problem old Take reply out new h = take_honest old reply out new h
 event_honest problem old (Post job finding) reply out new h =
     leaves_honest problem old job.unit finding.prefix finding.outcome out new h.1.entry h.1.is h.1.leaves
 event_honest problem old (Finish unit) reply out new h =
-    same_honest _ new out h.1.after
+    same_honest _ new out (after_finish old unit out new h.1)
     (subst (AllHonest _) (sym h.1.sends)
-    (every_append (Honest _) (abort_packets old.site 0 _ h.1.own) _ (quiet_aborts _ old.site 0 _ h.1.own (site_kept old unit _))
+    (every_append (Honest _) (abort_packets old.site h.1.outs) _ (quiet_aborts _ old.site h.1.outs (site_kept old unit _))
     (finish_honest old unit h.1.result h.1.entry h.1.own h.1.is)))
 event_honest problem old (Ask victim) reply out new h = same_honest old new out h.1.after (one_packet old out old.site _ Steal refl tt h.1.sends)
 event_honest problem old (Redo serial) reply out new h = no_packets new out h.1.sends

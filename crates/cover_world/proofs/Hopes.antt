@@ -20,7 +20,7 @@ use Rattle.packet_wire.specs.declared.packet.Packet.{Packet}
 use Rattle.node_core.specs.declared.event.Event.{Event}
 use Rattle.node_core.specs.declared.event.Event.TheVariants.{Take, Deliver}
 use Rattle.node_core.specs.declared.reply.Reply.{Reply}
-use Rattle.cover_world.specs.Worlds.{World, WorldEvent, Acts, Restarts, SiteStep, WorldStep, WasSent, Run, stay, go, opening_world, opening_nodes, opening_node, opening_registry, root}
+use Rattle.cover_world.specs.Worlds.{World, WorldEvent, Acts, Restarts, SiteStep, WorldStep, WasSent, Run, stay, go, opening_world, opening_nodes, opening_node, opening_registry}
 use Rattle.cover_world.specs.Safety.{HasChild, in_file_order, published}
 use Rattle.cover_world.specs.Coverage.{IsCovered, AllCovered}
 use Rattle.cover_world.proofs.Guests.{Every, every_append, every_at, every_map}
@@ -32,6 +32,7 @@ use Rattle.cover_problem.proofs.Sets.{count_map}
 use Rattle.cover_world.proofs.Sound.{Sound, IsSplitUp, FrameOf, Hopes}
 use Rattle.cover_world.proofs.Told.{had_now, had_both, same_prefix, HadBy, GuestTrue, Told, told}
 use Rattle.cover_world.proofs.Walk.{ResultHopes, BodyHopes, EventHopes, site_sound}
+use Rattle.spawn_frame.specs.Tables.{root_entry}
 
 -- what a returned result says of the child that it names
 abbrev pub ReturnTrue : {problem : Problem} {start end : World} → Run problem start end → ChildName → ChildResult → Type 0
@@ -174,12 +175,12 @@ registry_start problem nodes = record {
 }
   where
     frames : (u : WorkUnit) (e : Entry) → unit_in (opening_registry nodes) u ≡ Some e → FrameOf problem (opening_registry nodes).own u e.prefix e.status
-    frames (Own zero) e at = subst (λ x. FrameOf problem (opening_registry nodes).own (Own 0) x.prefix x.status) (same_Some root e at) refl
+    frames (Own zero) e at = subst (λ x. FrameOf problem (opening_registry nodes).own (Own 0) x.prefix x.status) (same_Some root_entry e at) refl
     frames (Own (suc k)) e at = absurd (none-some e at)
     frames (Guest m b) e at = absurd (none-some e at)
 
     hopeless : (k : ℕ) (c : Entry) → slice_get (opening_registry nodes).own k ≡ Some c → c.status ≡ Done Empty → IsBarren problem c.prefix
-    hopeless zero c at done = absurd (let e : Ready ≡ Done Empty = ap (λ x. x.status) (same_Some root c at) ∙ done in cc)
+    hopeless zero c at done = absurd (let e : Ready ≡ Done Empty = ap (λ x. x.status) (same_Some root_entry c at) ∙ done in cc)
     hopeless (suc k) c at done = absurd (none-some c at)
 
 nodes_sound : (problem : Problem) (nodes node : ℕ) (limits : List ℕ) (k : ℕ) (view : View) → slice_get (opening_nodes nodes node limits) k ≡ Some view → Sound problem view
@@ -226,7 +227,7 @@ root_step problem old (Restarts node incarnation limit) new s h view at =
 root_there : {problem : Problem} (nodes : ℕ) (limits : List ℕ) {end : World} → Run problem (opening_world nodes limits) end → (view : View) → slice_get end.sites 0 ≡ Some view → RootThere view
 root_there nodes limits stay view at =
     let v : opening_registry nodes ≡ view = same_Some (opening_registry nodes) view at in
-    record { entry = root; is = ap (λ w. slice_get w.own 0) (sym v); all = refl }
+    record { entry = root_entry; is = ap (λ w. slice_get w.own 0) (sym v); all = refl }
 root_there {problem} nodes limits (go {old = old} {new = new} run event step) view at = root_step problem old event new step (root_there nodes limits run) view at
 
 -- ---- none is published only where there is none

@@ -10,6 +10,7 @@ use Rattle.spawn_frame.specs.declared.child_result.ChildResult.{ChildResult}
 use Rattle.spawn_frame.specs.declared.status.Status.{Status}
 use Rattle.spawn_frame.specs.declared.status.Status.TheVariants.{Ready, Here, Split, Settled, Dropped}
 use Rattle.spawn_frame.specs.Units.{Entry, GuestEntry, with_status}
+use Rattle.cover_world.proofs.Changes.{after_admits, after_drops, after_finish, after_gives, after_members, after_redo, after_settles}
 use Rattle.node_core.specs.SiteView.{View, unit_in, unit_gets}
 use Rattle.packet_wire.specs.declared.packet.Body.{Body}
 use Rattle.packet_wire.specs.declared.packet.Body.TheVariants.{Hello, Members, Steal, Give, NoWork, Return, Accept, Refuse, Abort, Over}
@@ -20,12 +21,13 @@ use Rattle.node_core.specs.declared.reply.Reply.{Reply}
 use Rattle.node_core.specs.declared.reply.Reply.TheVariants.{Taken, Ripe, Idle, Moved, Ignored}
 use Rattle.node_core.specs.Results.{Leaves}
 use Rattle.spawn_frame.specs.Splits.{with_result}
-use Rattle.node_core.specs.Arrivals.{Judgement, Enters, Holds, Refuses, Answers, GiveStep, AcceptStep, RefuseStep, Denies, Gives}
+use Rattle.node_core.specs.Arrivals.{Answers, GiveStep, AcceptStep, RefuseStep, Denies, Gives}
 use Rattle.root_registry.specs.RegistryStep.{RootAnswers, RootSteal, RootHears, RegistryStep, root_result}
 use Rattle.node_core.specs.NodeStep.{HearStep, EventStep}
 use Rattle.node_core.specs.Taking.{TakeStep}
 use Rattle.cover_world.specs.Worlds.{SiteStep}
 use Rattle.cover_world.proofs.Guests.{Every, every_changed, every_inserted, every_dropped}
+use Rattle.steal_return.specs.Returns.{Enters, Holds, Judgement, Refuses}
 
 -- a status that is no settlement
 abbrev pub IsUnsettled : Status → Type 0
@@ -79,7 +81,7 @@ module _ (P : GuestEntry → Type 0) where
 
   steal_kept : (old : View) (from : Site) (out : List Packet) (new : View) → Denies old from out new ⊎ Gives old from out new → Every P old.guests → Every P new.guests
   steal_kept old from out new s h =
-      ⊎_elim (λ (d : Denies old from out new). kept_as _ new d.after h) (λ (g : Gives old from out new). kept_as _ new g.after h) s
+      ⊎_elim (λ (d : Denies old from out new). kept_as _ new d.after h) (λ (g : Gives old from out new). kept_as _ new (after_gives old from out new g) h) s
 
   root_steal_kept : (r : Option ChildResult) (old : View) (from : Site) (out : List Packet) (new : View) → RootSteal r old from out new → Every P old.guests → Every P new.guests
   root_steal_kept (Some result) old from out new s h = kept_as _ new s.0 h
@@ -94,18 +96,18 @@ module _ (P : GuestEntry → Type 0) where
 
   give_kept : (problem : Problem) (old : View) (from : Site) (serial attempt : ℕ) (prefix : List ℕ) (reply : Reply) (out : List Packet) (new : View)
       → BodyShows from (Give serial attempt prefix) → GiveStep problem old from serial attempt prefix reply out new → Every P old.guests → Every P new.guests
-  give_kept problem old from serial attempt prefix Moved out new p s h = kept_as _ new s.after (every_inserted P _ old.guests p h)
+  give_kept problem old from serial attempt prefix Moved out new p s h = kept_as _ new (after_admits problem old from serial attempt prefix out new s) (every_inserted P _ old.guests p h)
   give_kept problem old from serial attempt prefix Ignored out new p s h = kept_as _ new s.1.0 h
   give_kept problem old from serial attempt prefix _ out new p s h = absurd s
 
   accept_kept : (old : View) (from : Site) (serial attempt : ℕ) (result : ChildResult) (reply : Reply) (out : List Packet) (new : View)
       → BodyShows from (Accept serial attempt result) → AcceptStep old (record { site = from; serial = serial }) attempt result reply out new → Every P old.guests → Every P new.guests
-  accept_kept old from serial attempt result Moved out new p s h = kept_as _ new s.after (every_changed P (Settled result) old.guests _ attempt s.entry s.is (p s.entry) h)
+  accept_kept old from serial attempt result Moved out new p s h = kept_as _ new (after_settles old _ attempt result out new s) (every_changed P (Settled result) old.guests _ attempt s.entry s.is (p s.entry) h)
   accept_kept old from serial attempt result Ignored out new p s h = kept_as _ new s.1.0 h
   accept_kept old from serial attempt result _ out new p s h = absurd s
 
   refuse_kept : AnyStatus → (old : View) (name : ChildName) (attempt : ℕ) (reply : Reply) (out : List Packet) (new : View) → RefuseStep old name attempt reply out new → Every P old.guests → Every P new.guests
-  refuse_kept any old name attempt Moved out new s h = kept_as _ new s.after (every_changed P Dropped old.guests name attempt s.entry s.is (any name s.entry Dropped (λ r e. cc)) h)
+  refuse_kept any old name attempt Moved out new s h = kept_as _ new (after_drops old name attempt out new s) (every_changed P Dropped old.guests name attempt s.entry s.is (any name s.entry Dropped (λ r e. cc)) h)
   refuse_kept any old name attempt Ignored out new s h = kept_as _ new s.1.0 h
   refuse_kept any old name attempt _ out new s h = absurd s
 
@@ -113,7 +115,7 @@ module _ (P : GuestEntry → Type 0) where
       → BodyShows from body → HearStep problem old from body reply out new → Every P old.guests → Every P new.guests
   hear_kept any problem old from Hello reply out new p s h = absurd s
   hear_kept any problem old from (Members incarnations) reply out new p s h =
-      kept_as _ new s.0.after (every_dropped P s.0.known old.guests (λ g q. any g.name g.entry Dropped (λ r e. cc) q) h)
+      kept_as _ new (after_members old incarnations out new s.0) (every_dropped P s.0.known old.guests (λ g q. any g.name g.entry Dropped (λ r e. cc) q) h)
   hear_kept any problem old from Steal reply out new p s h = steal_kept old from out new s.1 h
   hear_kept any problem old from (Give serial attempt prefix) reply out new p s h = give_kept problem old from serial attempt prefix reply out new p s h
   hear_kept any problem old from NoWork reply out new p s h = kept_as _ new s.1.0 h
@@ -129,9 +131,9 @@ module _ (P : GuestEntry → Type 0) where
   event_kept any problem old (Post job finding) reply out new p s h =
       leaves_kept any problem old job.unit finding.prefix finding.outcome out new s.1.entry s.1.is s.1.leaves h
   event_kept any problem old (Finish unit) reply out new p s h =
-      kept_as _ new s.1.after (gets_kept any old unit _ s.1.entry s.1.is (result_unsettled unit s.1.result) h)
+      kept_as _ new (after_finish old unit out new s.1) (gets_kept any old unit _ s.1.entry s.1.is (result_unsettled unit s.1.result) h)
   event_kept any problem old (Ask victim) reply out new p s h = kept_as _ new s.1.after h
-  event_kept any problem old (Redo serial) reply out new p s h = kept_as _ new s.1.after h
+  event_kept any problem old (Redo serial) reply out new p s h = kept_as _ new (after_redo old serial out new s.1) h
   event_kept any problem old (Deliver packet) reply out new p s h = hear_kept any problem old packet.from packet.body reply out new p s.2 h
   event_kept any problem old Again reply out new p s h = kept_as _ new s.1 h
   event_kept any problem old Greet reply out new p s h = kept_as _ new s.1 h
@@ -145,7 +147,7 @@ module _ (P : GuestEntry → Type 0) where
 
   registry_kept : (problem : Problem) (old : View) (event : Event) (reply : Reply) (out : List Packet) (new : View)
       → RegistryStep problem old event reply out new → Every P old.guests → Every P new.guests
-  registry_kept problem old (Redo serial) reply out new s h = kept_as _ new s.1.after h
+  registry_kept problem old (Redo serial) reply out new s h = kept_as _ new (after_redo old serial out new s.1) h
   registry_kept problem old (Deliver packet) reply out new s h = root_hears_kept problem old packet.from packet.body reply out new s.2 h
   registry_kept problem old Again reply out new s h = kept_as _ new s.1 h
   registry_kept problem old _ reply out new s h = absurd s

@@ -5,11 +5,10 @@ use Rattle.cover_problem.specs.Branching.{branch_item, children, live_options, o
 use Rattle.cover_problem.specs.ExactCover.{IsExactCover, uses}
 use Rattle.cover_problem.specs.Numbers.{is_in}
 use Rattle.cover_problem.specs.Search.{Covers, Spent, first_within, outcome, visits_within}
-use Rattle.cover_world.proofs.Stages.{Stage, aborts_first, acts, opening}
+use Rattle.cover_world.proofs.Stages.{Stage, aborts_first, acts, given_first, opening}
 use Rattle.cover_world.specs.Overtaken.{p0, p1, p2, p3, p4, p5, p6, p9, two_ways}
 use Rattle.cover_world.specs.Plays.{root_guest}
-use Rattle.cover_world.specs.Worlds.{opening_node, root}
-use Rattle.node_core.specs.Arrivals.{Enters, Holds}
+use Rattle.cover_world.specs.Worlds.{opening_node}
 use Rattle.node_core.specs.SiteView.{View, with_table}
 use Rattle.node_core.specs.declared.event.Event.TheVariants.{Ask, Deliver, Finish, Post, Redo, Take}
 use Rattle.node_core.specs.declared.reply.Reply.TheVariants.{Moved, Taken}
@@ -18,6 +17,8 @@ use Rattle.spawn_frame.specs.Units.{Entry, with_status}
 use Rattle.spawn_frame.specs.declared.child_result.ChildResult.TheVariants.{Cover}
 use Rattle.spawn_frame.specs.declared.status.Status.TheVariants.{Aborted, Done, Ready}
 use Rattle.spawn_frame.specs.declared.unit.Unit.TheVariants.{Own}
+use Rattle.spawn_frame.specs.Tables.{root_entry}
+use Rattle.steal_return.specs.Returns.{Enters, Holds}
 
 pub two_children : (0 ∷ []) ∷ (1 ∷ []) ∷ [] ≡ children two_ways []
 unfolding branch_item live_options open_items
@@ -60,12 +61,12 @@ s1 =
 abbrev pub s2 : Stage two_ways
 s2 =
     acts s1 0 (Deliver p0) Moved _ _ _ refl (0, refl)
-    (refl, omega arith, (refl, inr (record { serial = 0; entry = root; not_older = refl; is = refl; ready = refl; after = refl; sends = refl })))
+    (refl, omega arith, (refl, inr (record { given = _; ledger = _; gives = given_first root_entry refl refl refl; after = refl; sends = refl })))
 
 abbrev pub s3 : Stage two_ways
 s3 =
     acts s2 0 (Redo 0) Moved _ _ _ refl tt
-    (refl, record { entry = _; thief = _; is = refl; out_there = refl; not_last = omega arith; after = refl; sends = refl })
+    (refl, record { ledger = _; redoes = record { entry = _; thief = _; is = refl; out_there = refl; not_last = omega arith; after = refl }; after = refl; sends = refl })
 
 abbrev pub s4 : Stage two_ways
 s4 =
@@ -75,17 +76,17 @@ s4 =
 abbrev pub s5 : Stage two_ways
 s5 =
     acts s4 0 (Deliver p2) Moved _ _ _ refl (2, refl)
-    (refl, omega arith, (refl, inr (record { serial = 0; entry = _; not_older = refl; is = refl; ready = refl; after = refl; sends = refl })))
+    (refl, omega arith, (refl, inr (record { given = _; ledger = _; gives = given_first _ refl refl refl; after = refl; sends = refl })))
 
 abbrev pub s6 : Stage two_ways
 s6 =
     acts s5 1 (Deliver p1) Moved _ _ _ refl (1, refl)
-    (refl, (refl, omega arith, record { not_older = refl; is_new = refl; lawful = refl; after = refl; sends = refl }))
+    (refl, (refl, omega arith, record { ledger = _; admits = record { not_older = refl; is_new = refl; after = refl }; lawful = refl; after = refl; sends = refl }))
 
 abbrev pub s7 : Stage two_ways
 s7 =
     acts s6 2 (Deliver p3) Moved _ _ _ refl (3, refl)
-    (refl, (refl, omega arith, record { not_older = refl; is_new = refl; lawful = refl; after = refl; sends = refl }))
+    (refl, (refl, omega arith, record { ledger = _; admits = record { not_older = refl; is_new = refl; after = refl }; lawful = refl; after = refl; sends = refl }))
 
 abbrev pub s8 : Stage two_ways
 s8 =
@@ -177,13 +178,19 @@ s14 =
       (
         refl,
         record {
-          entry = _;
-          is = refl;
-          split = refl;
-          result = Cover (1 ∷ []);
-          settled = refl;
-          own = with_status Aborted first_child ∷ second_child ∷ [];
-          aborts = aborts_first (root_guest 2) first_child second_child refl refl refl refl;
+          outs = _;
+          ledger = _;
+          finishes = record {
+            entry = _;
+            is = refl;
+            split = refl;
+            result = Cover (1 ∷ []);
+            settled = refl;
+            own = with_status Aborted first_child ∷ second_child ∷ [];
+            aborts = aborts_first (root_guest 2) first_child second_child refl refl refl refl;
+            after = refl;
+            reaches = refl;
+          };
           after = refl;
           sends = refl;
         },
@@ -203,9 +210,9 @@ s16 =
 abbrev pub s17 : Stage two_ways
 s17 =
     acts s16 1 (Deliver p9) Moved _ _ _ refl (9, refl)
-    (refl, (refl, omega arith, record { entry = _; is = refl; finished = refl; after = refl; sends = refl }))
+    (refl, (refl, omega arith, record { ledger = _; settles = record { entry = _; is = refl; finished = refl; after = refl }; after = refl; sends = refl }))
 
 abbrev pub s18 : Stage two_ways
 s18 =
     acts s17 2 (Deliver p6) Moved _ _ _ refl (6, refl)
-    (refl, (refl, omega arith, record { entry = _; is = refl; finished = refl; after = refl; sends = refl }))
+    (refl, (refl, omega arith, record { ledger = _; settles = record { entry = _; is = refl; finished = refl; after = refl }; after = refl; sends = refl }))

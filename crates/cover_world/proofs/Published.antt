@@ -10,6 +10,7 @@ use Rattle.spawn_frame.specs.declared.child_result.ChildResult.TheVariants.{Cove
 use Rattle.spawn_frame.specs.declared.status.Status.{Status}
 use Rattle.spawn_frame.specs.declared.status.Status.TheVariants.{Ready, Out, Done}
 use Rattle.spawn_frame.specs.Units.{Entry, with_status, redone, change_at}
+use Rattle.cover_world.proofs.Changes.{after_gives, after_redo}
 use Rattle.node_core.specs.SiteView.{View}
 use Rattle.packet_wire.specs.declared.packet.Body.{Body}
 use Rattle.packet_wire.specs.declared.packet.Body.TheVariants.{Hello, Steal, Return}
@@ -17,14 +18,16 @@ use Rattle.packet_wire.specs.declared.packet.Packet.{Packet}
 use Rattle.node_core.specs.declared.event.Event.{Event}
 use Rattle.node_core.specs.declared.event.Event.TheVariants.{Redo, Deliver, Again}
 use Rattle.node_core.specs.declared.reply.Reply.{Reply}
-use Rattle.node_core.specs.Membership.{redo_if}
-use Rattle.node_core.specs.Arrivals.{Judgement, Enters, Holds, Refuses, Denies, Gives}
+use Rattle.node_core.specs.Arrivals.{Denies, Gives}
 use Rattle.root_registry.specs.RegistryStep.{RootAnswers, RootSteal, RootHears, RegistryStep, IsAcceptable, root_result, entry_result, status_result}
-use Rattle.cover_world.specs.Worlds.{World, WorldEvent, Acts, Restarts, WorldStep, Run, stay, go, opening_world, opening_registry, root}
+use Rattle.cover_world.specs.Worlds.{World, WorldEvent, Acts, Restarts, WorldStep, Run, stay, go, opening_world, opening_registry}
 use Rattle.cover_world.specs.Safety.{published, published_by, in_file_order}
 use Rattle.cover_world.proofs.Steps.{registry_grows}
 use Rattle.cover_world.proofs.Later.{get_set, set_get}
 use Rattle.cover_problem.proofs.Sets.{in_order_same}
+use Rattle.spawn_frame.specs.Tables.{root_entry}
+use Rattle.steal_return.specs.Members.{redo_if}
+use Rattle.steal_return.specs.Returns.{Enters, Holds, Judgement, Refuses}
 
 -- ---- a result that the root has
 
@@ -167,7 +170,7 @@ module _ (problem : Problem) where
   counted_steal old from out new s h r has =
       ⊎_elim
       (λ (d : Denies old from out new). counted_same old new d.after h r has)
-      (λ (g : Gives old from out new). counted_change old (with_status (Out from)) g.serial new.own h (λ c q e. absurd (cc)) (ap (λ v. v.own) g.after) r has.entry has.is has.done)
+      (λ (g : Gives old from out new). counted_change old (with_status (Out from)) g.serial new.own h (λ c q e. absurd (cc)) (ap (λ v. v.own) (after_gives old from out new g)) r has.entry has.is has.done)
       s
 
   counted_root_steal : (o : Option ChildResult) (old : View) (from : Site) (out : List Packet) (new : View) → RootSteal o old from out new
@@ -200,7 +203,7 @@ module _ (problem : Problem) where
   pub registry_counted : (old : View) (event : Event) (reply : Reply) (out : List Packet) (new : View) → RegistryStep problem old event reply out new
       → ((r : ChildResult) → RootHas old r → IsCounted problem r) → (r : ChildResult) → RootHas new r → IsCounted problem r
   registry_counted old (Redo serial) reply out new s h r has =
-      counted_change old redone serial new.own h (λ c q e. absurd (cc)) (ap (λ v. v.own) s.1.after) r has.entry has.is has.done
+      counted_change old redone serial new.own h (λ c q e. absurd (cc)) (ap (λ v. v.own) (after_redo old serial out new s.1)) r has.entry has.is has.done
   registry_counted old (Deliver packet) reply out new s h r has = counted_hears old packet.from packet.body reply out new s.2 h r has
   registry_counted old Again reply out new s h r has = counted_same old new s.1 h r has
   registry_counted old _ reply out new s h r has = absurd s
@@ -250,7 +253,7 @@ shown_counts problem Empty options e h = absurd (cc)
 opening_counted : (problem : Problem) (nodes : ℕ) (limits : List ℕ) → AllCounted' problem (opening_world nodes limits)
 opening_counted problem nodes limits r reg =
     let v : opening_registry nodes ≡ reg.view = same_Some _ _ reg.is in
-    let c : root ≡ reg.has.entry = same_Some _ _ (ap (λ w. slice_get w.own 0) v ∙ reg.has.is) in
+    let c : root_entry ≡ reg.has.entry = same_Some _ _ (ap (λ w. slice_get w.own 0) v ∙ reg.has.is) in
     let e : Ready ≡ Done r = ap (λ x. x.status) c ∙ reg.has.done in
     cc
 

@@ -3,14 +3,14 @@ use Rattle.std.proofs.Common.{[], refl, inr, arith}
 use Rattle.cover_problem.specs.Examples.{bare}
 use Rattle.cover_problem.specs.Search.{Barren}
 use Rattle.cover_world.proofs.Searches.{bare_barren}
-use Rattle.cover_world.proofs.Stages.{Stage, acts, opening}
+use Rattle.cover_world.proofs.Stages.{Stage, acts, given_first, opening}
 use Rattle.cover_world.specs.Plays.{root_guest}
 use Rattle.cover_world.specs.Repeated.{p0, p1, p2, p3}
-use Rattle.cover_world.specs.Worlds.{root}
-use Rattle.node_core.specs.Arrivals.{Enters, Holds}
 use Rattle.node_core.specs.declared.event.Event.TheVariants.{Ask, Deliver, Post, Take}
 use Rattle.node_core.specs.declared.reply.Reply.TheVariants.{Moved, Taken}
 use Rattle.spawn_frame.specs.declared.child_result.ChildResult.TheVariants.{Empty}
+use Rattle.spawn_frame.specs.Tables.{root_entry}
+use Rattle.steal_return.specs.Returns.{Enters, Holds}
 
 abbrev pub s1 : Stage bare
 s1 =
@@ -20,12 +20,12 @@ s1 =
 abbrev pub s2 : Stage bare
 s2 =
     acts s1 0 (Deliver p0) Moved _ _ _ refl (0, refl)
-    (refl, omega arith, (refl, inr (record { serial = 0; entry = root; not_older = refl; is = refl; ready = refl; after = refl; sends = refl })))
+    (refl, omega arith, (refl, inr (record { given = _; ledger = _; gives = given_first root_entry refl refl refl; after = refl; sends = refl })))
 
 abbrev pub s3 : Stage bare
 s3 =
     acts s2 1 (Deliver p1) Moved _ _ _ refl (1, refl)
-    (refl, (refl, omega arith, record { not_older = refl; is_new = refl; lawful = refl; after = refl; sends = refl }))
+    (refl, (refl, omega arith, record { ledger = _; admits = record { not_older = refl; is_new = refl; after = refl }; lawful = refl; after = refl; sends = refl }))
 
 abbrev pub s4 : Stage bare
 s4 =
@@ -59,4 +59,4 @@ s7 = acts s6 0 (Deliver p2) Moved _ _ _ refl (2, refl) (refl, omega arith, (refl
 abbrev pub s8 : Stage bare
 s8 =
     acts s7 1 (Deliver p3) Moved _ _ _ refl (3, refl)
-    (refl, (refl, omega arith, record { entry = _; is = refl; finished = refl; after = refl; sends = refl }))
+    (refl, (refl, omega arith, record { ledger = _; settles = record { entry = _; is = refl; finished = refl; after = refl }; after = refl; sends = refl }))

@@ -3,11 +3,12 @@ use Rattle.std.proofs.Common.{◌≡◌, ◌⊎◌, ℕ, suc, ◌<◌, ◌≤◌
 use Rattle.std.proofs.lemmas.Option.{none-some, same_Some, slice_get_cases, slice_get_past}
 use Rattle.cover_problem.specs.Problem.{Problem}
 use Rattle.cover_problem.specs.Search.{Barren, Covers, Outcome, Spent}
+use Rattle.cover_world.proofs.Changes.{after_admits, after_drops, after_finish, after_members, after_redo, after_settles, with_known}
 use Rattle.cover_world.specs.Determined.{SameStep, asks_for_work, may_choose}
-use Rattle.node_core.specs.Arrivals.{AcceptStep, Admits, Answers, Drops, Enters, GiveStep, Holds, Judgement, RefuseStep, Refuses}
-use Rattle.node_core.specs.Membership.{MembersStep, drop_lost, is_lost_guest, redo_lost}
+use Rattle.node_core.specs.Arrivals.{AcceptStep, Admits, Answers, Drops, GiveStep, RefuseStep}
+use Rattle.node_core.specs.Membership.{MembersStep}
 use Rattle.node_core.specs.NodeStep.{EventStep, HearStep, Tells}
-use Rattle.node_core.specs.Requests.{is_older, moved_by}
+use Rattle.node_core.specs.Requests.{moved_by}
 use Rattle.node_core.specs.Results.{FinishStep, Leaves, return_packets}
 use Rattle.node_core.specs.SiteView.{View, abort_packets, unit_gets, unit_in, with_own}
 use Rattle.node_core.specs.Taking.{Stays, TakeStep, TakesUp}
@@ -18,10 +19,10 @@ use Rattle.node_core.specs.declared.reply.Reply.TheVariants.{Idle, Ignored, Move
 use Rattle.packet_wire.specs.declared.packet.Body.{Body}
 use Rattle.packet_wire.specs.declared.packet.Body.TheVariants.{Abort, Accept, Give, Hello, Members, NoWork, Over, Refuse, Return, Steal}
 use Rattle.packet_wire.specs.declared.packet.Packet.{Packet}
-use Rattle.spawn_frame.specs.Aborts.{AbortsBelow, IsBelow, is_open}
+use Rattle.spawn_frame.specs.Aborts.{AbortsBelow, IsBelow, is_open, reached}
 use Rattle.spawn_frame.specs.Names.{same_unit}
 use Rattle.spawn_frame.specs.Splits.{with_result}
-use Rattle.spawn_frame.specs.Units.{Entry, guest_in, table_guests, table_own, with_status}
+use Rattle.spawn_frame.specs.Units.{Entry, guest_in, with_status}
 use Rattle.spawn_frame.specs.declared.child_result.ChildResult.{ChildResult}
 use Rattle.spawn_frame.specs.declared.site.ChildName.{ChildName}
 use Rattle.spawn_frame.specs.declared.site.Site.{Site}
@@ -29,6 +30,9 @@ use Rattle.spawn_frame.specs.declared.status.Status.TheVariants.{Aborted, Droppe
 use Rattle.spawn_frame.specs.declared.unit.Job.{Job}
 use Rattle.spawn_frame.specs.declared.unit.Unit.{Unit as WorkUnit}
 use Rattle.spawn_frame.specs.declared.unit.Unit.TheVariants.{Guest}
+use Rattle.steal_return.specs.Members.{is_lost_guest, redo_lost}
+use Rattle.steal_return.specs.Returns.{Enters, Holds, Judgement, Refuses}
+use Rattle.steal_return.specs.Steals.{is_older}
 
 pub same_list : (xs ys : List Entry) → ((k : ℕ) → slice_get xs k ≡ slice_get ys k) → xs ≡ ys
 same_list [] [] h = refl
@@ -100,35 +104,30 @@ finish_same old unit p q v w h k =
     let result : h.result ≡ k.result = same_Some h.result k.result (sym h.settled ∙ k.settled) in
     let aborts : AbortsBelow (same_unit unit) (with_its_result old unit h.result).own k.own =
     subst (λ r. AbortsBelow (same_unit unit) (with_its_result old unit r).own k.own) (sym result) k.aborts in
-    let own : h.own ≡ k.own = aborts_same (same_unit unit) (with_its_result old unit h.result).own h.own k.own h.aborts aborts in (
-      h.sends ∙ (λ t. abort_packets old.site 0 (with_its_result old unit (result t)).own (own t) ++ return_packets old.site unit (result t)) ∙ sym k.sends,
-      h.after ∙ (λ t. with_own (with_its_result old unit (result t)) (own t)) ∙ sym k.after,
+    let own : h.own ≡ k.own = aborts_same (same_unit unit) (with_its_result old unit h.result).own h.own k.own h.aborts aborts in
+    let outs : h.outs ≡ k.outs = h.finishes.reaches ∙ (λ t. reached 0 (with_its_result old unit (result t)).own (own t)) ∙ sym k.finishes.reaches in (
+      h.sends ∙ (λ t. abort_packets old.site (outs t) ++ return_packets old.site unit (result t)) ∙ sym k.sends,
+      after_finish old unit p v h ∙ (λ t. with_own (with_its_result old unit (result t)) (own t)) ∙ sym (after_finish old unit q w k),
     )
-
-abbrev pub after_members : View → List ℕ → List Entry → View
-after_members old known own = record {
-  table = table_guests (table_own old.table own) (drop_lost known old.guests);
-  nodes = old.nodes;
-  known = known;
-  over = old.over;
-}
 
 pub members_same : (old : View) (incarnations : List ℕ) (p q : List Packet) (v w : View) → MembersStep old incarnations p v → MembersStep old incarnations q w → (p ≡ q) × (v ≡ w)
 members_same old incarnations p q v w h k =
     let known : h.known ≡ k.known = h.known_is ∙ sym k.known_is in
     let aborts : AbortsBelow (is_lost_guest h.known old.guests) (redo_lost (is_older h.known) old.own) k.own =
     subst (λ n. AbortsBelow (is_lost_guest n old.guests) (redo_lost (is_older n) old.own) k.own) (sym known) k.aborts in
-    let own : h.own ≡ k.own = aborts_same (is_lost_guest h.known old.guests) (redo_lost (is_older h.known) old.own) h.own k.own h.aborts aborts in (
-      h.sends ∙ (λ t. abort_packets old.site 0 (redo_lost (is_older (known t)) old.own) (own t)) ∙ sym k.sends,
-      h.after ∙ (λ t. after_members old (known t) (own t)) ∙ sym k.after,
+    let own : h.own ≡ k.own = aborts_same (is_lost_guest h.known old.guests) (redo_lost (is_older h.known) old.own) h.own k.own h.aborts aborts in
+    let outs : h.outs ≡ k.outs = h.learns.reaches ∙ (λ t. reached 0 (redo_lost (is_older (known t)) old.own) (own t)) ∙ sym k.learns.reaches in (
+      h.sends ∙ ap (abort_packets old.site) outs ∙ sym k.sends,
+      after_members old incarnations p v h ∙ (λ t. with_known old (known t) (own t)) ∙ sym (after_members old incarnations q w k),
     )
 
 pub drops_same : (old : View) (name : ChildName) (attempt : ℕ) (p q : List Packet) (v w : View) → Drops old name attempt p v → Drops old name attempt q w → SameStep Moved Moved p q v w
 drops_same old name attempt p q v w h k =
-    let own : h.own ≡ k.own = aborts_same (same_unit (Guest name attempt)) old.own h.own k.own h.aborts k.aborts in (
+    let own : h.own ≡ k.own = aborts_same (same_unit (Guest name attempt)) old.own h.own k.own h.aborts k.aborts in
+    let outs : h.outs ≡ k.outs = h.drops.reaches ∙ ap (reached 0 old.own) own ∙ sym k.drops.reaches in (
       refl,
-      h.sends ∙ (λ t. abort_packets old.site 0 old.own (own t)) ∙ sym k.sends,
-      h.after ∙ (λ t. with_own (unit_gets old (Guest name attempt) Dropped) (own t)) ∙ sym k.after,
+      h.sends ∙ ap (abort_packets old.site) outs ∙ sym k.sends,
+      after_drops old name attempt p v h ∙ ap (with_own (unit_gets old (Guest name attempt) Dropped)) own ∙ sym (after_drops old name attempt q w k),
     )
 
 pub admits_or_not : (problem : Problem) (old : View) (from : Site) (serial attempt : ℕ) (prefix : List ℕ) (p : List Packet) (v : View) → Admits problem old from serial attempt prefix p v
@@ -144,7 +143,8 @@ answers_same old from serial attempt result (Refuses cause) p q v w h k = (h.1 �
 
 pub give_same : (problem : Problem) (old : View) (from : Site) (serial attempt : ℕ) (prefix : List ℕ) (r s : Reply) (p q : List Packet) (v w : View)
     → GiveStep problem old from serial attempt prefix r p v → GiveStep problem old from serial attempt prefix s q w → SameStep r s p q v w
-give_same problem old from serial attempt prefix Moved Moved p q v w h k = (refl, h.sends ∙ sym k.sends, h.after ∙ sym k.after)
+give_same problem old from serial attempt prefix Moved Moved p q v w h k =
+    (refl, h.sends ∙ sym k.sends, after_admits problem old from serial attempt prefix p v h ∙ sym (after_admits problem old from serial attempt prefix q w k))
 give_same problem old from serial attempt prefix Moved Ignored p q v w h k = absurd (admits_or_not problem old from serial attempt prefix p v h k.0)
 give_same problem old from serial attempt prefix Moved Idle p q v w h k = absurd k
 give_same problem old from serial attempt prefix Moved (Ripe u) p q v w h k = absurd k
@@ -160,7 +160,8 @@ give_same problem old from serial attempt prefix (Taken i xs) s p q v w h k = ab
 
 pub accept_same : (old : View) (name : ChildName) (attempt : ℕ) (result : ChildResult) (r s : Reply) (p q : List Packet) (v w : View)
     → AcceptStep old name attempt result r p v → AcceptStep old name attempt result s q w → SameStep r s p q v w
-accept_same old name attempt result Moved Moved p q v w h k = (refl, h.sends ∙ sym k.sends, h.after ∙ sym k.after)
+accept_same old name attempt result Moved Moved p q v w h k =
+    (refl, h.sends ∙ sym k.sends, after_settles old name attempt result p v h ∙ sym (after_settles old name attempt result q w k))
 accept_same old name attempt result Moved Ignored p q v w h k = absurd (true≢false (sym h.finished ∙ k.0 h.entry h.is))
 accept_same old name attempt result Moved Idle p q v w h k = absurd k
 accept_same old name attempt result Moved (Ripe u) p q v w h k = absurd k
@@ -233,7 +234,8 @@ event_same problem old (Finish unit) r s p q v w other h k =
     let same = finish_same old unit p q v w h.1 k.1 in
     (h.0 ∙ sym k.0, same.0, same.1)
 event_same problem old (Ask victim) r s p q v w other h k = (h.0 ∙ sym k.0, h.1.sends ∙ sym k.1.sends, h.1.after ∙ sym k.1.after)
-event_same problem old (Redo serial) r s p q v w other h k = (h.0 ∙ sym k.0, h.1.sends ∙ sym k.1.sends, h.1.after ∙ sym k.1.after)
+event_same problem old (Redo serial) r s p q v w other h k =
+    (h.0 ∙ sym k.0, h.1.sends ∙ sym k.1.sends, after_redo old serial p v h.1 ∙ sym (after_redo old serial q w k.1))
 event_same problem old (Deliver packet) r s p q v w other h k = hear_same problem old packet.from packet.body r s p q v w other h.2 k.2
 event_same problem old Again r s p q v w other h k = (h.2 ∙ ap moved_by (h.0 ∙ sym k.0) ∙ sym k.2, h.0 ∙ sym k.0, h.1 ∙ sym k.1)
 event_same problem old Greet r s p q v w other h k = (h.0 ∙ sym k.0, h.2 ∙ sym k.2, h.1 ∙ sym k.1)

@@ -1,12 +1,11 @@
 -- A step of the registry is determined by its view and the event, but for a Steal.
 use Rattle.std.proofs.Common.{◌≡◌, ℕ, false, List, drop, sym, ap, subst, ◌∙◌, true≢false}
 use Rattle.cover_problem.specs.Problem.{Problem}
+use Rattle.cover_world.proofs.Changes.{after_redo}
 use Rattle.cover_world.proofs.Same.{answers_same}
 use Rattle.cover_world.specs.Determined.{SameStep, asks_for_work, may_choose}
-use Rattle.node_core.specs.Arrivals.{Enters, Holds, Judgement, Refuses}
-use Rattle.node_core.specs.Membership.{redo_lost}
 use Rattle.node_core.specs.Requests.{moved_by}
-use Rattle.node_core.specs.SiteView.{View}
+use Rattle.node_core.specs.SiteView.{View, with_ledger}
 use Rattle.node_core.specs.declared.event.Event.{Event}
 use Rattle.node_core.specs.declared.event.Event.TheVariants.{Again, Ask, Deliver, Finish, Greet, Post, Redo, Take}
 use Rattle.node_core.specs.declared.reply.Reply.{Reply}
@@ -17,14 +16,15 @@ use Rattle.root_registry.specs.RegistryStep.{HelloStep, RegistryStep, RootAnswer
 use Rattle.spawn_frame.specs.Units.{table_own}
 use Rattle.spawn_frame.specs.declared.child_result.ChildResult.{ChildResult}
 use Rattle.spawn_frame.specs.declared.site.Site.{Site}
+use Rattle.steal_return.specs.Members.{redo_lost}
+use Rattle.steal_return.specs.Returns.{Enters, Holds, Judgement, Refuses}
 
 abbrev pub after_hello : View → Site → List ℕ → View
-after_hello old from known = record {
+after_hello old from known = with_ledger old (record {
   table = table_own old.table (redo_lost (is_earlier_run from.node known) old.own);
   nodes = old.nodes;
   known = known;
-  over = old.over;
-}
+})
 
 pub hello_same : (old : View) (from : Site) (p q : List Packet) (v w : View) → HelloStep old from p v → HelloStep old from q w → (p ≡ q) × (v ≡ w)
 hello_same old from p q v w h k =
@@ -57,7 +57,8 @@ root_hear_same problem old from Over r s p q v w other h k = absurd h
 
 pub registry_same : (problem : Problem) (old : View) (event : Event) (r s : Reply) (p q : List Packet) (v w : View) → may_choose event ≡ false
     → RegistryStep problem old event r p v → RegistryStep problem old event s q w → SameStep r s p q v w
-registry_same problem old (Redo serial) r s p q v w other h k = (h.0 ∙ sym k.0, h.1.sends ∙ sym k.1.sends, h.1.after ∙ sym k.1.after)
+registry_same problem old (Redo serial) r s p q v w other h k =
+    (h.0 ∙ sym k.0, h.1.sends ∙ sym k.1.sends, after_redo old serial p v h.1 ∙ sym (after_redo old serial q w k.1))
 registry_same problem old (Deliver packet) r s p q v w other h k = root_hear_same problem old packet.from packet.body r s p q v w other h.2 k.2
 registry_same problem old Again r s p q v w other h k = (h.2 ∙ ap moved_by (h.0 ∙ sym k.0) ∙ sym k.2, h.0 ∙ sym k.0, h.1 ∙ sym k.1)
 registry_same problem old Take r s p q v w other h k = absurd h

@@ -10,9 +10,12 @@ use Rattle.node_core.specs.declared.reply.Reply.{Reply}
 use Rattle.packet_wire.specs.declared.packet.Packet.{Packet}
 use Rattle.spawn_frame.specs.Aborts.{AbortsBelow, IsBelow, child, deeper, is_open}
 use Rattle.spawn_frame.specs.Names.{same_unit}
-use Rattle.spawn_frame.specs.Units.{Entry, with_status}
-use Rattle.spawn_frame.specs.declared.status.Status.TheVariants.{Aborted}
+use Rattle.spawn_frame.specs.Units.{Entry, change_at, with_status}
+use Rattle.spawn_frame.specs.declared.site.Site.{Site}
+use Rattle.spawn_frame.specs.declared.status.Status.TheVariants.{Aborted, Out, Ready}
 use Rattle.spawn_frame.specs.declared.unit.Unit.{Unit as WorkUnit}
+use Rattle.steal_return.specs.Ledger.{Ledger, ledger_own}
+use Rattle.steal_return.specs.Steals.{GivesChild, is_older}
 
 -- a run of two nodes so far
 pub record Stage (problem : Problem) : Type 0 where
@@ -38,6 +41,13 @@ acts stage node event reply before out new is was_sent step = record {
     world = refl;
   });
 }
+
+-- the first own child is given
+abbrev pub given_first : {old : Ledger} {thief : Site} (entry : Entry)
+    → is_older old.known thief ≡ false → slice_get old.own 0 ≡ Some entry → entry.status ≡ Ready
+    → GivesChild old thief (record { serial = 0; attempt = entry.attempt; prefix = entry.prefix }) (ledger_own old (change_at (with_status (Out thief)) old.own 0))
+given_first entry not_older is ready =
+    record { entry = entry; not_older = not_older; is = is; ready = ready; attempt = refl; prefix = refl; after = refl }
 
 pub aborts_nothing : (top : WorkUnit → Bool) → AbortsBelow top [] []
 aborts_nothing top = record { each = λ k entry e. absurd (none-some entry e); ends = refl }

@@ -15,6 +15,7 @@ use Rattle.spawn_frame.specs.declared.child_result.ChildResult.TheVariants.{Cove
 use Rattle.spawn_frame.specs.declared.status.Status.{Status}
 use Rattle.spawn_frame.specs.declared.status.Status.TheVariants.{Ready, Here, Split, Out, Done}
 use Rattle.spawn_frame.specs.Units.{Entry, with_status, redone, change_at}
+use Rattle.cover_world.proofs.Changes.{after_admits, after_drops, after_finish, after_gives, after_members, after_redo, after_settles}
 use Rattle.node_core.specs.SiteView.{View, unit_in, with_own, unit_gets}
 use Rattle.spawn_frame.specs.Aborts.{is_open}
 use Rattle.packet_wire.specs.declared.packet.Body.{Body}
@@ -26,12 +27,13 @@ use Rattle.node_core.specs.declared.reply.Reply.{Reply}
 use Rattle.node_core.specs.declared.reply.Reply.TheVariants.{Taken, Ripe, Idle, Moved, Ignored}
 use Rattle.node_core.specs.Results.{Leaves}
 use Rattle.spawn_frame.specs.Splits.{with_result, new_child}
-use Rattle.node_core.specs.Membership.{redo_if, redo_lost}
-use Rattle.node_core.specs.Arrivals.{Judgement, Enters, Holds, Refuses, judged, judged_by, if_out, Answers, GiveStep, AcceptStep, RefuseStep, Denies, Gives}
+use Rattle.node_core.specs.Arrivals.{Answers, GiveStep, AcceptStep, RefuseStep, Denies, Gives}
 use Rattle.root_registry.specs.RegistryStep.{RootAnswers, RootSteal, RootHears, RegistryStep, root_result}
 use Rattle.node_core.specs.NodeStep.{HearStep, EventStep, NodeStep}
 use Rattle.node_core.specs.Taking.{TakeStep}
 use Rattle.cover_world.proofs.Grows.{Grows, grows_same, grows_open, grows_redone, OwnGrows, own_same, own_then, own_append, own_change, own_map, own_aborts}
+use Rattle.steal_return.specs.Members.{redo_if, redo_lost}
+use Rattle.steal_return.specs.Returns.{Enters, Holds, Judgement, Refuses, if_out, judged, judged_by}
 
 pub record SiteGrows (old new : View) : Type 0 where
   pub site : new.site ≡ old.site
@@ -142,7 +144,7 @@ steal_grows old from out new =
     ⊎_elim
     (λ (d : Denies old from out new). stays old new d.after)
     (λ (g : Gives old from out new).
-    by_equation old _ new g.after (record { site = refl; own = own_gets old g.serial (Out from) g.entry g.is (ap is_open g.ready) }))
+    by_equation old _ new (after_gives old from out new g) (record { site = refl; own = own_gets old g.serial (Out from) g.entry g.is (ap is_open g.ready) }))
 
 root_steal_grows : (r : Option ChildResult) (old : View) (from : Site) (out : List Packet) (new : View) → RootSteal r old from out new → SiteGrows old new
 root_steal_grows (Some result) old from out new h = stays old new h.0
@@ -157,19 +159,22 @@ take_grows old Ignored out new h = absurd h
 
 give_grows : (problem : Problem) (old : View) (from : Site) (serial attempt : ℕ) (prefix : List ℕ) (reply : Reply) (out : List Packet) (new : View)
     → GiveStep problem old from serial attempt prefix reply out new → SiteGrows old new
-give_grows problem old from serial attempt prefix Moved out new h = by_equation old _ new h.after (record { site = refl; own = own_same old.own })
+give_grows problem old from serial attempt prefix Moved out new h =
+    by_equation old _ new (after_admits problem old from serial attempt prefix out new h) (record { site = refl; own = own_same old.own })
 give_grows problem old from serial attempt prefix Ignored out new h = stays old new h.1.0
 give_grows problem old from serial attempt prefix _ out new h = absurd h
 
 accept_grows : (old : View) (name : ChildName) (attempt : ℕ) (result : ChildResult) (reply : Reply) (out : List Packet) (new : View)
     → AcceptStep old name attempt result reply out new → SiteGrows old new
-accept_grows old name attempt result Moved out new h = by_equation old _ new h.after (record { site = refl; own = own_same old.own })
+accept_grows old name attempt result Moved out new h =
+    by_equation old _ new (after_settles old name attempt result out new h) (record { site = refl; own = own_same old.own })
 accept_grows old name attempt result Ignored out new h = stays old new h.1.0
 accept_grows old name attempt result _ out new h = absurd h
 
 refuse_grows : (old : View) (name : ChildName) (attempt : ℕ) (reply : Reply) (out : List Packet) (new : View)
     → RefuseStep old name attempt reply out new → SiteGrows old new
-refuse_grows old name attempt Moved out new h = by_equation old _ new h.after (record { site = refl; own = own_aborts _ old.own h.own h.aborts })
+refuse_grows old name attempt Moved out new h =
+    by_equation old _ new (after_drops old name attempt out new h) (record { site = refl; own = own_aborts _ old.own h.own h.aborts })
 refuse_grows old name attempt Ignored out new h = stays old new h.1.0
 refuse_grows old name attempt _ out new h = absurd h
 
@@ -177,7 +182,7 @@ hear_grows : (problem : Problem) (old : View) (from : Site) (body : Body) (reply
     → HearStep problem old from body reply out new → SiteGrows old new
 hear_grows problem old from Hello reply out new h = absurd h
 hear_grows problem old from (Members incarnations) reply out new h =
-    by_equation old _ new h.0.after (record { site = refl; own = own_then old.own _ h.0.own (redo_lost_grows _ old.own) (own_aborts _ _ h.0.own h.0.aborts) })
+    by_equation old _ new (after_members old incarnations out new h.0) (record { site = refl; own = own_then old.own _ h.0.own (redo_lost_grows _ old.own) (own_aborts _ _ h.0.own h.0.aborts) })
 hear_grows problem old from Steal reply out new h = steal_grows old from out new h.1
 hear_grows problem old from (Give serial attempt prefix) reply out new h = give_grows problem old from serial attempt prefix reply out new h
 hear_grows problem old from NoWork reply out new h = stays old new h.1.0
@@ -193,11 +198,11 @@ event_grows problem old Take reply out new h = take_grows old reply out new h
 event_grows problem old (Post job finding) reply out new h =
     leaves_grows problem old job.unit finding.prefix finding.outcome out new h.1.entry h.1.is (ap is_open h.1.here) h.1.leaves
 event_grows problem old (Finish unit) reply out new h =
-    by_equation old _ new h.1.after
+    by_equation old _ new (after_finish old unit out new h.1)
     (grown_own old _ h.1.own (gets_grows old unit (with_result unit h.1.result) h.1.entry h.1.is (ap is_open h.1.split)) (own_aborts _ _ h.1.own h.1.aborts))
 event_grows problem old (Ask victim) reply out new h = stays old new h.1.after
 event_grows problem old (Redo serial) reply out new h =
-    by_equation old _ new h.1.after
+    by_equation old _ new (after_redo old serial out new h.1)
     (record { site = refl; own = own_change redone old.own serial (λ d e. grows_redone d (subst (λ x. is_open x.status ≡ true) (same_Some h.1.entry d (sym h.1.is ∙ e)) (ap is_open h.1.out_there))) })
 event_grows problem old (Deliver packet) reply out new h = hear_grows problem old packet.from packet.body reply out new h.2
 event_grows problem old Again reply out new h = stays old new h.1

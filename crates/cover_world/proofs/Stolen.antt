@@ -7,13 +7,10 @@ use Rattle.cover_problem.specs.ExactCover.{IsExactCover, uses}
 use Rattle.cover_problem.specs.Numbers.{is_in}
 use Rattle.cover_problem.specs.Search.{Barren, Covers, Spent}
 use Rattle.cover_world.proofs.Searches.{first_barren, root_spent, second_covers, small_children}
-use Rattle.cover_world.proofs.Stages.{Stage, aborts_first, aborts_none, aborts_nothing, acts, each_of_one, each_of_two, opening}
+use Rattle.cover_world.proofs.Stages.{Stage, aborts_first, aborts_none, aborts_nothing, acts, each_of_one, each_of_two, given_first, opening}
 use Rattle.cover_world.specs.Plays.{IsRefused, root_guest, site1, site2}
 use Rattle.cover_world.specs.Stolen.{anew5, anew6, cover, late6, late7, p0, p1, p2, p3, p4, stolen}
-use Rattle.cover_world.specs.Worlds.{Acts, Restarts, go, opening_node, root}
-use Rattle.node_core.specs.Arrivals.{Enters, Refuses}
-use Rattle.node_core.specs.Membership.{IsRedoable, is_lost_guest}
-use Rattle.node_core.specs.Requests.{is_older, last_attempt}
+use Rattle.cover_world.specs.Worlds.{Acts, Restarts, go, opening_node}
 use Rattle.node_core.specs.SiteView.{View, with_table}
 use Rattle.node_core.specs.declared.event.Event.TheVariants.{Ask, Deliver, Finish, Greet, Post, Take}
 use Rattle.node_core.specs.declared.reply.Reply.TheVariants.{Moved, Taken}
@@ -27,6 +24,10 @@ use Rattle.spawn_frame.specs.declared.child_result.ChildResult.TheVariants.{Cove
 use Rattle.spawn_frame.specs.declared.site.Site.{Site}
 use Rattle.spawn_frame.specs.declared.status.Status.TheVariants.{Aborted, Done, Out, Ready}
 use Rattle.spawn_frame.specs.declared.unit.Unit.TheVariants.{Own}
+use Rattle.spawn_frame.specs.Tables.{root_entry}
+use Rattle.steal_return.specs.Members.{IsRedoable, is_lost_guest}
+use Rattle.steal_return.specs.Returns.{Enters, Refuses}
+use Rattle.steal_return.specs.Steals.{is_older, last_attempt}
 
 pub counted : IsExactCover small (is_in cover)
 counted = record { in_range = in_range; primary = primary; others = others }
@@ -80,12 +81,12 @@ s1 =
 abbrev pub s2 : Stage small
 s2 =
     acts s1 0 (Deliver p0) Moved _ _ _ refl (0, refl)
-    (refl, omega arith, (refl, inr (record { serial = 0; entry = root; not_older = refl; is = refl; ready = refl; after = refl; sends = refl })))
+    (refl, omega arith, (refl, inr (record { given = _; ledger = _; gives = given_first root_entry refl refl refl; after = refl; sends = refl })))
 
 abbrev pub s3 : Stage small
 s3 =
     acts s2 1 (Deliver p1) Moved _ _ _ refl (1, refl)
-    (refl, (refl, omega arith, record { not_older = refl; is_new = refl; lawful = refl; after = refl; sends = refl }))
+    (refl, (refl, omega arith, record { ledger = _; admits = record { not_older = refl; is_new = refl; after = refl }; lawful = refl; after = refl; sends = refl }))
 
 abbrev pub s4 : Stage small
 s4 =
@@ -125,12 +126,12 @@ s6 =
 abbrev pub s7 : Stage small
 s7 =
     acts s6 1 (Deliver p2) Moved _ _ _ refl (2, refl)
-    (refl, (refl, omega arith, (refl, inr (record { serial = 0; entry = _; not_older = refl; is = refl; ready = refl; after = refl; sends = refl }))))
+    (refl, (refl, omega arith, (refl, inr (record { given = _; ledger = _; gives = given_first _ refl refl refl; after = refl; sends = refl }))))
 
 abbrev pub s8 : Stage small
 s8 =
     acts s7 2 (Deliver p3) Moved _ _ _ refl (3, refl)
-    (refl, (refl, omega arith, record { not_older = refl; is_new = refl; lawful = refl; after = refl; sends = refl }))
+    (refl, (refl, omega arith, record { ledger = _; admits = record { not_older = refl; is_new = refl; after = refl }; lawful = refl; after = refl; sends = refl }))
 
 abbrev pub s9 : Stage small
 s9 =
@@ -192,13 +193,19 @@ late13 =
       (
         refl,
         record {
-          entry = _;
-          is = refl;
-          split = refl;
-          result = Cover cover;
-          settled = refl;
-          own = with_status Aborted first_child ∷ with_status (Done (Cover cover)) second_child ∷ [];
-          aborts = aborts_first (root_guest 1) first_child (with_status (Done (Cover cover)) second_child) refl refl refl refl;
+          outs = _;
+          ledger = _;
+          finishes = record {
+            entry = _;
+            is = refl;
+            split = refl;
+            result = Cover cover;
+            settled = refl;
+            own = with_status Aborted first_child ∷ with_status (Done (Cover cover)) second_child ∷ [];
+            aborts = aborts_first (root_guest 1) first_child (with_status (Done (Cover cover)) second_child) refl refl refl refl;
+            after = refl;
+            reaches = refl;
+          };
           after = refl;
           sends = refl;
         },
@@ -213,7 +220,7 @@ late14 =
 abbrev pub late15 : Stage small
 late15 =
     acts late14 2 (Deliver late7) Moved _ _ _ refl (7, refl)
-    (refl, (refl, omega arith, record { entry = _; is = refl; open_still = refl; own = []; aborts = aborts_nothing _; after = refl; sends = refl }))
+    (refl, (refl, omega arith, record { outs = _; ledger = _; drops = record { entry = _; is = refl; open_still = refl; own = []; aborts = aborts_nothing _; after = refl; reaches = refl }; after = refl; sends = refl }))
 
 abbrev pub late16 : Stage small
 late16 =
@@ -227,11 +234,11 @@ anew11 = record {
   run = go s10.run (Restarts 2 2 9) (record { before = _; is = refl; not_registry = omega arith; greater = omega arith; world = refl });
 }
 
-abbrev pub root_entry : Entry
-root_entry = record { parent = root.parent; prefix = []; attempt = 1; status = Out site1 }
+abbrev pub root_out : Entry
+root_out = with_status (Out site1) root_entry
 
-pub root_redoable : (lost : Site → Bool) → IsRedoable lost (root_entry ∷ [])
-root_redoable lost k entry thief is out gone = each_of_one (λ c. c.attempt < last_attempt) root_entry (omega arith) k entry is
+pub root_redoable : (lost : Site → Bool) → IsRedoable lost (root_out ∷ [])
+root_redoable lost k entry thief is out gone = each_of_one (λ c. c.attempt < last_attempt) root_out (omega arith) k entry is
 
 pub two_redoable : (lost : Site → Bool) → IsRedoable lost (first_child ∷ second_child ∷ [])
 two_redoable lost k entry thief is out gone = each_of_two (λ c. c.attempt < last_attempt) first_child second_child (omega arith) (omega arith) k entry is
@@ -265,11 +272,17 @@ anew14 =
         omega arith,
         (
           record {
-            known = _;
-            known_is = refl;
-            redoable = two_redoable (is_older (1 ∷ 1 ∷ 2 ∷ []));
-            own = redone first_child ∷ second_child ∷ [];
-            aborts = none_lost;
+            outs = _;
+            ledger = _;
+            learns = record {
+              known = _;
+              known_is = refl;
+              redoable = two_redoable (is_older (1 ∷ 1 ∷ 2 ∷ []));
+              own = redone first_child ∷ second_child ∷ [];
+              aborts = none_lost;
+              after = refl;
+              reaches = refl;
+            };
             after = refl;
             sends = refl;
           },

@@ -15,6 +15,7 @@ use Rattle.spawn_frame.specs.declared.child_result.ChildResult.TheVariants.{Cove
 use Rattle.spawn_frame.specs.declared.status.Status.{Status}
 use Rattle.spawn_frame.specs.declared.status.Status.TheVariants.{Ready, Here, Split, Out, Done, Aborted, Settled, Dropped}
 use Rattle.spawn_frame.specs.Units.{Entry, guest_in, with_status, redone, change_at}
+use Rattle.cover_world.proofs.Changes.{after_admits, after_drops, after_finish, after_gives, after_members, after_redo, after_settles}
 use Rattle.node_core.specs.SiteView.{View, unit_in, with_own, with_guests, unit_gets}
 use Rattle.spawn_frame.specs.Names.{same_unit}
 use Rattle.spawn_frame.specs.Frames.{frame, frame_result}
@@ -28,9 +29,7 @@ use Rattle.node_core.specs.declared.reply.Reply.{Reply}
 use Rattle.node_core.specs.declared.reply.Reply.TheVariants.{Taken, Ripe, Idle, Moved, Ignored}
 use Rattle.node_core.specs.Results.{Leaves, split_up}
 use Rattle.spawn_frame.specs.Splits.{with_result}
-use Rattle.node_core.specs.Membership.{redo_if, redo_lost, drop_lost, is_lost_guest, is_open_entry}
-use Rattle.node_core.specs.Requests.{is_older}
-use Rattle.node_core.specs.Arrivals.{Judgement, Enters, Holds, Refuses, judged, Answers, GiveStep, AcceptStep, RefuseStep, Denies, Gives}
+use Rattle.node_core.specs.Arrivals.{Answers, GiveStep, AcceptStep, RefuseStep, Denies, Gives}
 use Rattle.root_registry.specs.RegistryStep.{RootAnswers, RootSteal, RootHears, RegistryStep, root_result}
 use Rattle.node_core.specs.NodeStep.{HearStep, EventStep}
 use Rattle.node_core.specs.Taking.{TakeStep}
@@ -43,6 +42,9 @@ use Rattle.cover_problem.proofs.Outcomes.{barren_is_barren, spent_branches}
 use Rattle.cover_world.proofs.Frames.{shape, changed_shapes, mapped_shapes, gets_same, if_lost, dropped_guest}
 use Rattle.cover_world.proofs.Sound.{Sound, FrameOf, Barrens, Redoes, sound_gets, sound_alike, sound_redoes, sound_aborts, finish_barren}
 use Rattle.cover_world.proofs.Splitting.{sound_splits, sound_admits, sound_drops, lost_some}
+use Rattle.steal_return.specs.Members.{drop_lost, is_lost_guest, is_open_entry, redo_if, redo_lost}
+use Rattle.steal_return.specs.Returns.{Enters, Holds, Judgement, Refuses, judged}
+use Rattle.steal_return.specs.Steals.{is_older}
 
 -- a result that is returned empty-handed is of a barren prefix
 abbrev pub ResultHopes : Problem → List Entry → ℕ → ChildResult → Type 0
@@ -183,7 +185,7 @@ module _ (problem : Problem) where
       ⊎_elim
       (λ (d : Denies old from out new). as_is old new d.after s)
       (λ (g : Gives old from out new).
-      as_is _ new g.after
+      as_is _ new (after_gives old from out new g)
       (sound_gets problem old s (Own g.serial) (Out from) g.entry g.is (λ e. cc)
       (subst (λ t. FrameOf problem old.own (Own g.serial) g.entry.prefix t) g.ready (s.frames (Own g.serial) g.entry g.is)) tt))
       h
@@ -211,12 +213,12 @@ module _ (problem : Problem) where
   root_answers_sound old from serial attempt result (Refuses cause) out new h e a s = as_is old new a.0 s
 
   give_sound : (old : View) (from : Site) (serial attempt : ℕ) (prefix : List ℕ) (reply : Reply) (out : List Packet) (new : View) → GiveStep problem old from serial attempt prefix reply out new → Sound problem old → Sound problem new
-  give_sound old from serial attempt prefix Moved out new h s = as_is _ new h.after (sound_admits problem old s _ refl h.is_new)
+  give_sound old from serial attempt prefix Moved out new h s = as_is _ new (after_admits problem old from serial attempt prefix out new h) (sound_admits problem old s _ refl h.is_new)
   give_sound old from serial attempt prefix Ignored out new h s = as_is old new h.1.0 s
   give_sound old from serial attempt prefix _ out new h s = absurd h
 
   accept_sound : (old : View) (name : ChildName) (attempt : ℕ) (result : ChildResult) (reply : Reply) (out : List Packet) (new : View) → AcceptStep old name attempt result reply out new → Sound problem old → Sound problem new
-  accept_sound old name attempt result Moved out new h s = as_is _ new h.after (sound_gets problem old s (Guest name attempt) (Settled result) h.entry h.is (λ e. cc) tt tt)
+  accept_sound old name attempt result Moved out new h s = as_is _ new (after_settles old name attempt result out new h) (sound_gets problem old s (Guest name attempt) (Settled result) h.entry h.is (λ e. cc) tt tt)
   accept_sound old name attempt result Ignored out new h s = as_is old new h.1.0 s
   accept_sound old name attempt result _ out new h s = absurd h
 
@@ -224,7 +226,7 @@ module _ (problem : Problem) where
   refuse_sound old name attempt Moved out new h s =
       let unit = Guest name attempt in
       let mid = unit_gets old unit Dropped in
-      as_is _ new h.after
+      as_is _ new (after_drops old name attempt out new h)
       (sound_aborts problem (same_unit unit) mid h.own (sound_gets problem old s unit Dropped h.entry h.is (λ e. cc) tt tt) h.aborts
       (λ u d t at sp.
       let here : unit_in mid u ≡ Some (with_status Dropped h.entry) = ap (unit_in mid) (sym (unit_path unit u t)) ∙ gets_same old unit Dropped h.entry h.is in
@@ -249,7 +251,7 @@ module _ (problem : Problem) where
       let own = redo_lost (is_older known) old.own in
       let mid = with_guests (with_own old own) (drop_lost known old.guests) in
       let mid_sound = sound_drops problem (with_own old own) (sound_redoes problem old s own (lost_redoes (is_older known) old.own)) known in
-      as_is _ new h.0.after
+      as_is _ new (after_members old incarnations out new h.0)
       (sound_alike problem (with_own mid h.0.own) _ refl refl
       (sound_aborts problem (is_lost_guest known old.guests) mid h.0.own mid_sound h.0.aborts (lost_no_frame known old mid refl)))
   hear_sound old from Steal reply out new b h s = steal_sound old from out new h.1 s
@@ -266,10 +268,10 @@ module _ (problem : Problem) where
   event_sound old (Post job finding) reply out new b h s =
       leaves_sound old job.unit finding.prefix finding.fuel finding.outcome out new h.1.entry h.1.is h.1.here h.1.prefix h.1.right.fuel h.1.right.outcome h.1.leaves s
   event_sound old (Finish unit) reply out new b h s =
-      as_is _ new h.1.after (finish_sound old unit h.1.entry h.1.result h.1.own h.1.is h.1.split h.1.settled h.1.aborts s)
+      as_is _ new (after_finish old unit out new h.1) (finish_sound old unit h.1.entry h.1.result h.1.own h.1.is h.1.split h.1.settled h.1.aborts s)
   event_sound old (Ask victim) reply out new b h s = as_is old new h.1.after s
   event_sound old (Redo serial) reply out new b h s =
-      as_is _ new h.1.after (sound_redoes problem old s _ (redo_redoes old.own serial h.1.entry h.1.thief h.1.is h.1.out_there))
+      as_is _ new (after_redo old serial out new h.1) (sound_redoes problem old s _ (redo_redoes old.own serial h.1.entry h.1.thief h.1.is h.1.out_there))
   event_sound old (Deliver packet) reply out new b h s = hear_sound old packet.from packet.body reply out new b h.2 s
   event_sound old Again reply out new b h s = as_is old new h.1 s
   event_sound old Greet reply out new b h s = as_is old new h.1 s

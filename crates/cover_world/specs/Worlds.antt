@@ -1,5 +1,5 @@
 -- The registry and the nodes with all that was ever sent, and how they go on together.
-use Rattle.std.specs.Prelude.{◌≡◌, ◌⊎◌, ℕ, zero, suc, ◌<◌, false, List, [], ◌∷◌, ◌++◌, replicate, Some, None, slice_get, slice_set, ⊤}
+use Rattle.std.specs.Prelude.{◌≡◌, ◌⊎◌, ℕ, zero, suc, ◌<◌, false, List, [], ◌∷◌, ◌++◌, Some, slice_get, slice_set, ⊤}
 use Rattle.cover_problem.specs.Problem.{Problem}
 use Rattle.cover_problem.specs.Search.{first}
 use Rattle.node_core.specs.NodeStep.{NodeStep}
@@ -9,35 +9,23 @@ use Rattle.node_core.specs.declared.event.Event.TheVariants.{Deliver}
 use Rattle.node_core.specs.declared.reply.Reply.{Reply}
 use Rattle.packet_wire.specs.declared.packet.Packet.{Packet}
 use Rattle.root_registry.specs.RegistryStep.{RegistryStep}
-use Rattle.spawn_frame.specs.Units.{Entry}
-use Rattle.spawn_frame.specs.declared.status.Status.TheVariants.{Ready}
+use Rattle.steal_return.specs.Ledger.{opening_ledger, root_ledger}
 
 -- the sites in their present runs, and the network as the packets ever sent
 pub record World : Type 0 where
   pub sites : List View  -- by node, the registry first
   pub sent : List Packet  -- every packet that was ever sent
 
--- a node that begins: nothing in its table, and the first run known of every node
+-- a node that begins
 abbrev pub opening_node : ℕ → ℕ → ℕ → ℕ → View
 opening_node nodes node incarnation limit = record {
-  table = record { site = record { node = node; incarnation = incarnation }; limit = limit; own = []; guests = [] };
-  nodes = nodes;
-  known = replicate (suc nodes) 1;
+  ledger = opening_ledger (record { node = node; incarnation = incarnation }) nodes limit;
   over = false;
 }
 
--- the root: the empty prefix, at its first attempt
-abbrev pub root : Entry
-root = record { parent = None; prefix = []; attempt = 1; status = Ready }
-
--- the registry that begins, with the root alone
+-- the registry that begins
 abbrev pub opening_registry : ℕ → View
-opening_registry nodes = record {
-  table = record { site = record { node = 0; incarnation = 1 }; limit = 1; own = root ∷ []; guests = [] };
-  nodes = nodes;
-  known = replicate (suc nodes) 1;
-  over = false;
-}
+opening_registry nodes = record { ledger = root_ledger nodes; over = false }
 
 -- nodes from this number on, each with a names limit
 abbrev pub opening_nodes : ℕ → ℕ → List ℕ → List View

@@ -7,9 +7,7 @@ ghost use Rattle.cover_problem.specs.Prefix.{is_prefix};
 ghost use Rattle.cover_problem.specs.Problem.{Problem};
 ghost use Rattle.cover_problem.specs.Search.{Spent};
 ghost use Rattle.cover_world.specs.Refusals.{IsAwaited, IsOut, NodeRefuses, Refused, RegistryRefuses};
-ghost use Rattle.node_core.specs.Arrivals.{Enters, judged};
 ghost use Rattle.node_core.specs.NodeStep.{NodeStep};
-ghost use Rattle.node_core.specs.Requests.{is_older, last_attempt};
 ghost use Rattle.node_core.specs.Results.{split_up};
 ghost use Rattle.node_core.specs.SiteView.{View, unit_in};
 ghost use Rattle.node_core.specs.declared.event.Event.{Event};
@@ -27,6 +25,8 @@ ghost use Rattle.spawn_frame.specs.declared.site.Site.{Site};
 ghost use Rattle.spawn_frame.specs.declared.status.Status.TheVariants.{Out, Split};
 ghost use Rattle.spawn_frame.specs.declared.unit.Job.{Job};
 ghost use Rattle.spawn_frame.specs.declared.unit.Unit.{Unit as WorkUnit};
+ghost use Rattle.steal_return.specs.Returns.{Enters, judged};
+ghost use Rattle.steal_return.specs.Steals.{is_older, last_attempt};
 
 /// A packet for another site, another run of the same node too, changes nothing and isn't answered.
 pub fn packet_for_another_site()

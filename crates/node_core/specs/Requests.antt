@@ -1,16 +1,18 @@
 -- What a site does of itself: it asks for work, gives a child out anew, and says again what may be lost.
-use Rattle.std.specs.Prelude.{◌≡◌, ◌≢◌, ℕ, suc, ◌<◌, ◌≤◌, Bool, List, [], ◌∷◌, ◌++◌, Some, slice_get, slice_index, nat_lt}
+use Rattle.std.specs.Prelude.{◌≡◌, ◌≢◌, ℕ, suc, ◌≤◌, List, [], ◌∷◌, ◌++◌, slice_index}
 use Rattle.node_core.specs.Results.{return_packets}
-use Rattle.node_core.specs.SiteView.{View, with_own}
+use Rattle.node_core.specs.SiteView.{View, with_ledger}
 use Rattle.node_core.specs.declared.reply.Reply.{Reply}
 use Rattle.node_core.specs.declared.reply.Reply.TheVariants.{Ignored, Moved}
 use Rattle.packet_wire.specs.declared.packet.Body.TheVariants.{Give, Steal}
 use Rattle.packet_wire.specs.declared.packet.Packet.{Packet}
-use Rattle.spawn_frame.specs.Units.{Entry, GuestEntry, change_at, redone}
+use Rattle.spawn_frame.specs.Units.{Entry, GuestEntry}
 use Rattle.spawn_frame.specs.declared.site.Site.{Site}
 use Rattle.spawn_frame.specs.declared.status.Status.{Status}
 use Rattle.spawn_frame.specs.declared.status.Status.TheVariants.{Finished, Out}
 use Rattle.spawn_frame.specs.declared.unit.Unit.TheVariants.{Guest}
+use Rattle.steal_return.specs.Ledger.{Ledger}
+use Rattle.steal_return.specs.Steals.{RedoesChild}
 
 -- the site of the registry
 abbrev pub registry : Site
@@ -20,10 +22,6 @@ registry = record { node = 0; incarnation = 1 }
 abbrev pub known_site : View → ℕ → Site
 known_site view node = record { node = node; incarnation = slice_index view.known node }
 
--- a later incarnation of the site's node is known
-abbrev pub is_older : List ℕ → Site → Bool
-is_older known site = nat_lt site.incarnation (slice_index known site.node)
-
 -- A Steal goes to another node that there is (Cilk-NOW).
 pub record AskStep (old : View) (victim : ℕ) (out : List Packet) (new : View) : Type 0 where
   pub another : victim ≢ old.site.node
@@ -31,18 +29,12 @@ pub record AskStep (old : View) (victim : ℕ) (out : List Packet) (new : View) 
   pub after : new ≡ old
   pub sends : out ≡ record { from = old.site; to = known_site old victim; body = Steal } ∷ []
 
--- the greatest number that a packet can tell
-abbrev pub last_attempt : ℕ
-last_attempt = 4294967295
-
--- A child that is out is ready again at the next attempt (redo of Cilk-NOW).
+-- A child that is out is given out anew.
 pub record RedoStep (old : View) (serial : ℕ) (out : List Packet) (new : View) : Type 0 where
-  pub entry : Entry
-  pub thief : Site
-  pub is : slice_get old.own serial ≡ Some entry
-  pub out_there : entry.status ≡ Out thief
-  pub not_last : entry.attempt < last_attempt
-  pub after : new ≡ with_own old (change_at redone old.own serial)
+  pub ledger : Ledger
+  pub redoes : RedoesChild old.ledger serial ledger
+  pub open redoes use {entry, thief, is, out_there, not_last}
+  pub after : new ≡ with_ledger old ledger
   pub sends : out ≡ []
 
 -- the Give of a child that is out

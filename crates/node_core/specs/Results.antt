@@ -3,23 +3,22 @@ use Rattle.std.specs.Prelude.{◌≡◌, ℕ, ◌≤◌, length, List, [], ◌�
 use Rattle.brancher.specs.Finding.{Finding}
 use Rattle.cover_problem.specs.Branching.{children}
 use Rattle.cover_problem.specs.Problem.{Problem}
-use Rattle.cover_problem.specs.Search.{Barren, Covers, Outcome, Spent}
-use Rattle.node_core.specs.SiteView.{View, abort_packets, unit_gets, unit_in, with_own, with_table}
+use Rattle.cover_problem.specs.Search.{Barren, Covers, Outcome, Spent, outcome}
+use Rattle.node_core.specs.SiteView.{View, abort_packets, unit_gets, unit_in, with_ledger, with_table}
 use Rattle.packet_wire.specs.declared.packet.Body.TheVariants.{Return}
 use Rattle.packet_wire.specs.declared.packet.Packet.{Packet}
-use Rattle.spawn_frame.specs.Aborts.{AbortsBelow}
-use Rattle.spawn_frame.specs.Frames.{frame, frame_result}
-use Rattle.spawn_frame.specs.Names.{same_unit}
+use Rattle.spawn_frame.specs.Aborts.{Reached}
 use Rattle.spawn_frame.specs.Splits.{split_into, with_result}
 use Rattle.spawn_frame.specs.Units.{Entry}
 use Rattle.spawn_frame.specs.declared.child_result.ChildResult.{ChildResult}
 use Rattle.spawn_frame.specs.declared.child_result.ChildResult.TheVariants.{Cover, Empty}
 use Rattle.spawn_frame.specs.declared.site.Site.{Site}
-use Rattle.spawn_frame.specs.declared.status.Status.TheVariants.{Here, Split}
+use Rattle.spawn_frame.specs.declared.status.Status.TheVariants.{Here}
 use Rattle.spawn_frame.specs.declared.unit.Job.{Job}
 use Rattle.spawn_frame.specs.declared.unit.Unit.{Unit as WorkUnit}
 use Rattle.spawn_frame.specs.declared.unit.Unit.TheVariants.{Guest, Own}
-use Rattle.cover_problem.specs.Search.{outcome}
+use Rattle.steal_return.specs.Finishing.{FinishesFrame}
+use Rattle.steal_return.specs.Ledger.{Ledger}
 
 -- The finding holds the outcome of its prefix and fuel, of which there is some.
 pub record IsRight (problem : Problem) (finding : Finding) : Type 0 where
@@ -52,14 +51,11 @@ pub record PostStep (problem : Problem) (old : View) (job : Job) (finding : Find
   pub right : IsRight problem finding
   pub leaves : Leaves problem old job.unit finding.prefix finding.outcome out new
 
--- A settled frame gets its result, and all open units below it are aborted (inlet and abort of the Cilk 5.4 manual).
+-- A settled frame is finished, and the thieves below are told.
 pub record FinishStep (old : View) (unit : WorkUnit) (out : List Packet) (new : View) : Type 0 where
-  pub entry : Entry
-  pub is : unit_in old unit ≡ Some entry
-  pub split : entry.status ≡ Split
-  pub result : ChildResult
-  pub settled : frame_result (frame unit old.own) ≡ Some result
-  pub own : List Entry
-  pub aborts : AbortsBelow (same_unit unit) (unit_gets old unit (with_result unit result)).own own
-  pub after : new ≡ with_own (unit_gets old unit (with_result unit result)) own
-  pub sends : out ≡ abort_packets old.site 0 (unit_gets old unit (with_result unit result)).own own ++ return_packets old.site unit result
+  pub outs : List Reached
+  pub ledger : Ledger
+  pub finishes : FinishesFrame old.ledger unit outs ledger
+  pub open finishes use {entry, is, split, result, settled, own, aborts}
+  pub after : new ≡ with_ledger old ledger
+  pub sends : out ≡ abort_packets old.site outs ++ return_packets old.site unit result

@@ -1,28 +1,31 @@
 -- All that a site knows.
-use Rattle.std.specs.Prelude.{ℕ, Bool, List, map, Option}
+use Rattle.std.specs.Prelude.{Bool, List, map, Option}
 use Rattle.packet_wire.specs.declared.packet.Body.TheVariants.{Abort}
 use Rattle.packet_wire.specs.declared.packet.Packet.{Packet}
-use Rattle.spawn_frame.specs.Aborts.{Reached, reached}
+use Rattle.spawn_frame.specs.Aborts.{Reached}
 use Rattle.spawn_frame.specs.Units.{Entry, GuestEntry, Table, table_gets, table_guests, table_own, unit_of}
 use Rattle.spawn_frame.specs.declared.site.Site.{Site}
 use Rattle.spawn_frame.specs.declared.status.Status.{Status}
 use Rattle.spawn_frame.specs.declared.unit.Unit.{Unit as WorkUnit}
+use Rattle.steal_return.specs.Ledger.{Ledger, ledger_table}
 
 -- all that a site knows
 pub record View : Type 0 where
-  pub table : Table
-  pub open table use *
-  pub nodes : ℕ  -- how many there are beside the registry
-  pub known : List ℕ  -- the known incarnation of each node
+  pub ledger : Ledger
+  pub open ledger use *
   pub over : Bool
 
 -- what a site has of a unit
 abbrev pub unit_in : View → WorkUnit → Option Entry
 unit_in view unit = unit_of view.table unit
 
+-- the view with another ledger
+abbrev pub with_ledger : View → Ledger → View
+with_ledger view ledger = record { ledger = ledger; over = view.over }
+
 -- the view with another table
 abbrev pub with_table : View → Table → View
-with_table view table = record { table = table; nodes = view.nodes; known = view.known; over = view.over }
+with_table view table = with_ledger view (ledger_table view.ledger table)
 
 -- the view with other own children
 abbrev pub with_own : View → List Entry → View
@@ -40,6 +43,6 @@ unit_gets view unit status = with_table view (table_gets view.table unit status)
 abbrev pub abort_packet : Site → Reached → Packet
 abort_packet from r = record { from = from; to = r.thief; body = Abort r.serial r.attempt }
 
--- a packet to the thief of each child that was out and is aborted, by serial
-abbrev pub abort_packets : Site → ℕ → List Entry → List Entry → List Packet
-abort_packets from serial old new = map (λ r. abort_packet from r) (reached serial old new)
+-- a packet to the thief of each of these children, in order
+abbrev pub abort_packets : Site → List Reached → List Packet
+abort_packets from outs = map (λ r. abort_packet from r) outs

@@ -3,10 +3,9 @@ use Rattle.std.specs.Prelude.{◌≡◌, ◌⊎◌, ℕ, zero, suc, ◌≤◌, m
 use Rattle.cover_problem.specs.ExactCover.{IsExactCover}
 use Rattle.cover_problem.specs.Numbers.{is_distinct, is_in}
 use Rattle.cover_problem.specs.Problem.{Problem}
-use Rattle.node_core.specs.Arrivals.{Answers, Denies, Enters, Gives, Judgement, answer_packet, judged}
-use Rattle.node_core.specs.Membership.{IsRedoable, redo_lost}
-use Rattle.node_core.specs.Requests.{RedoStep, gives_again, is_older, moved_by}
-use Rattle.node_core.specs.SiteView.{View, with_own}
+use Rattle.node_core.specs.Arrivals.{Answers, Denies, Gives, answer_packet}
+use Rattle.node_core.specs.Requests.{RedoStep, gives_again, moved_by}
+use Rattle.node_core.specs.SiteView.{View, with_ledger}
 use Rattle.node_core.specs.declared.event.Event.{Event}
 use Rattle.node_core.specs.declared.event.Event.TheVariants.{Again, Deliver, Redo}
 use Rattle.node_core.specs.declared.reply.Reply.{Reply}
@@ -14,12 +13,15 @@ use Rattle.node_core.specs.declared.reply.Reply.TheVariants.{Moved}
 use Rattle.packet_wire.specs.declared.packet.Body.{Body}
 use Rattle.packet_wire.specs.declared.packet.Body.TheVariants.{Accept, Hello, Members, Over, Return, Steal}
 use Rattle.packet_wire.specs.declared.packet.Packet.{Packet}
-use Rattle.spawn_frame.specs.Units.{Entry, change_at, table_own, with_status}
+use Rattle.spawn_frame.specs.Units.{Entry, table_own}
 use Rattle.spawn_frame.specs.declared.child_result.ChildResult.{ChildResult}
 use Rattle.spawn_frame.specs.declared.child_result.ChildResult.TheVariants.{Cover, Empty}
 use Rattle.spawn_frame.specs.declared.site.Site.{Site}
 use Rattle.spawn_frame.specs.declared.status.Status.{Status}
 use Rattle.spawn_frame.specs.declared.status.Status.TheVariants.{Done}
+use Rattle.steal_return.specs.Members.{IsRedoable, redo_lost}
+use Rattle.steal_return.specs.Returns.{Enters, Judgement, judged, returned}
+use Rattle.steal_return.specs.Steals.{is_older}
 
 -- one packet to each node, ascending, at its known incarnation
 abbrev pub to_each : Site → Body → ℕ → List ℕ → List Packet
@@ -45,12 +47,11 @@ pub record HelloStep (old : View) (from : Site) (out : List Packet) (new : View)
   pub known : List ℕ
   pub known_is : known ≡ raised old.known from.node from.incarnation
   pub redoable : IsRedoable (is_earlier_run from.node known) old.own
-  pub after : new ≡ record {
+  pub after : new ≡ with_ledger old (record {
     table = table_own old.table (redo_lost (is_earlier_run from.node known) old.own);
     nodes = old.nodes;
     known = known;
-    over = old.over;
-  }
+  })
   pub sends : out ≡ to_each old.site (Members (drop 1 known)) 1 (drop 1 known)
 
 -- the result of a child that is done
@@ -84,7 +85,7 @@ IsAcceptable problem Empty = ⊤
 -- as at a node; where the result enters, a cover has to count right, and all nodes are told that it is over
 abbrev pub RootAnswers : Problem → View → Site → ℕ → ℕ → ChildResult → Judgement → List Packet → View → Type 0
 RootAnswers problem old from serial attempt result Enters out new =
-    IsAcceptable problem result × (new ≡ with_own old (change_at (with_status (Done result)) old.own serial))
+    IsAcceptable problem result × (new ≡ with_ledger old (returned old.ledger serial result Enters))
     × (out ≡ answer_packet old from (Accept serial attempt result) ++ over_packets old)
 RootAnswers problem old from serial attempt result judgement out new = Answers old from serial attempt result judgement out new
 

@@ -1,6 +1,9 @@
 pub mod Aborts
 pub mod Frames
+pub mod Inlets
 pub mod Names
 pub mod Picks
 pub mod Splits
+pub mod Tables
 pub mod Units
+pub mod Works

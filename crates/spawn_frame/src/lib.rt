@@ -1,14 +1,34 @@
 //! Sites, the children that they name, and the units of work of one site.
 #![tactic(auto)]
 
+mod building;
 mod cause;
+mod child;
 mod child_result;
+mod first_found;
+mod guest;
+mod heard;
+mod inlet;
+mod out;
 mod site;
+mod spawn_fault;
 mod status;
+mod table;
 mod unit;
+mod unit_view;
+mod units;
+mod wanted;
+mod work;
 
 pub use cause::Cause;
 pub use child_result::ChildResult;
+pub use first_found::FirstFound;
+pub use heard::Heard;
+pub use inlet::Inlet;
+pub use out::Out;
 pub use site::{Attempt, ChildName, Site};
+pub use spawn_fault::SpawnFault;
 pub use status::Status;
+pub use table::Table;
 pub use unit::{Job, Unit};
+pub use unit_view::UnitView;

@@ -1,0 +1,56 @@
+-- What a step makes of the view, by what it makes of the ledger.
+use Rattle.std.proofs.Common.{◌≡◌, ℕ, List, ap, ◌∙◌}
+use Rattle.cover_problem.specs.Problem.{Problem}
+use Rattle.node_core.specs.Arrivals.{Admits, Drops, Gives, Settles}
+use Rattle.node_core.specs.Membership.{MembersStep}
+use Rattle.node_core.specs.Requests.{RedoStep}
+use Rattle.node_core.specs.Results.{FinishStep}
+use Rattle.node_core.specs.SiteView.{View, unit_gets, with_guests, with_ledger, with_own}
+use Rattle.packet_wire.specs.declared.packet.Packet.{Packet}
+use Rattle.spawn_frame.specs.Splits.{with_result}
+use Rattle.spawn_frame.specs.Tables.{new_guest}
+use Rattle.spawn_frame.specs.Units.{Entry, change_at, insert_guest, redone, table_guests, table_own, with_status}
+use Rattle.spawn_frame.specs.declared.child_result.ChildResult.{ChildResult}
+use Rattle.spawn_frame.specs.declared.site.ChildName.{ChildName}
+use Rattle.spawn_frame.specs.declared.site.Site.{Site}
+use Rattle.spawn_frame.specs.declared.status.Status.TheVariants.{Dropped, Out, Settled}
+use Rattle.spawn_frame.specs.declared.unit.Unit.{Unit as WorkUnit}
+use Rattle.spawn_frame.specs.declared.unit.Unit.TheVariants.{Guest}
+use Rattle.steal_return.specs.Members.{drop_lost}
+
+pub after_gives : (old : View) (from : Site) (out : List Packet) (new : View) (g : Gives old from out new)
+    → new ≡ with_own old (change_at (with_status (Out from)) old.own g.serial)
+after_gives old from out new g = g.after ∙ ap (with_ledger old) g.gives.after
+
+pub after_admits : (problem : Problem) (old : View) (from : Site) (serial attempt : ℕ) (prefix : List ℕ) (out : List Packet) (new : View)
+    → Admits problem old from serial attempt prefix out new
+    → new ≡ with_guests old (insert_guest (new_guest (record { site = from; serial = serial }) attempt prefix) old.guests)
+after_admits problem old from serial attempt prefix out new h = h.after ∙ ap (with_ledger old) h.admits.after
+
+pub after_settles : (old : View) (name : ChildName) (attempt : ℕ) (result : ChildResult) (out : List Packet) (new : View)
+    → Settles old name attempt result out new → new ≡ unit_gets old (Guest name attempt) (Settled result)
+after_settles old name attempt result out new h = h.after ∙ ap (with_ledger old) h.settles.after
+
+pub after_drops : (old : View) (name : ChildName) (attempt : ℕ) (out : List Packet) (new : View) (h : Drops old name attempt out new)
+    → new ≡ with_own (unit_gets old (Guest name attempt) Dropped) h.own
+after_drops old name attempt out new h = h.after ∙ ap (with_ledger old) h.drops.after
+
+pub after_finish : (old : View) (unit : WorkUnit) (out : List Packet) (new : View) (h : FinishStep old unit out new)
+    → new ≡ with_own (unit_gets old unit (with_result unit h.result)) h.own
+after_finish old unit out new h = h.after ∙ ap (with_ledger old) h.finishes.after
+
+pub after_redo : (old : View) (serial : ℕ) (out : List Packet) (new : View) → RedoStep old serial out new
+    → new ≡ with_own old (change_at redone old.own serial)
+after_redo old serial out new h = h.after ∙ ap (with_ledger old) h.redoes.after
+
+-- the view with other units, and other incarnations known
+abbrev pub with_known : View → List ℕ → List Entry → View
+with_known old known own = with_ledger old (record {
+  table = table_guests (table_own old.table own) (drop_lost known old.guests);
+  nodes = old.nodes;
+  known = known;
+})
+
+pub after_members : (old : View) (incarnations : List ℕ) (out : List Packet) (new : View) (h : MembersStep old incarnations out new)
+    → new ≡ with_known old h.known h.own
+after_members old incarnations out new h = h.after ∙ ap (with_ledger old) h.learns.after

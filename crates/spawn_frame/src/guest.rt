@@ -1,0 +1,44 @@
+ghost use Rattle.std.specs.Prelude.{◌≡◌};
+ghost use Rattle.spawn_frame.specs.Names.{guest_before};
+ghost use Rattle.spawn_frame.specs.Tables.{is_after};
+ghost use Rattle.spawn_frame.specs.Units.{is_guest};
+
+use crate::site::{Attempt, ChildName};
+use crate::work::Work;
+
+/// Another site's child that this site works on.
+#[derive(Drop)]
+pub struct Guest {
+    /// Its name.
+    pub name: ChildName,
+    /// The rest.
+    pub work: Work,
+}
+
+impl Guest {
+    ghost use Rattle.spawn_frame.specs.Works.{guest_entry};
+
+    /// Whether this is its name and attempt.
+    pub fn is_at(&self, name: ChildName, attempt: Attempt) -> bool
+        ensures { result ≡ is_guest name attempt (guest_entry self.now) }
+    {
+        self.name == name && self.work.attempt == attempt
+    }
+
+    /// Whether it stands behind that name and attempt in the order of guests.
+    pub fn is_behind(&self, name: ChildName, attempt: Attempt) -> bool
+        ensures { result ≡ guest_before name attempt self.now.name self.now.work.attempt }
+    {
+        (name, attempt) < (self.name, self.work.attempt)
+    }
+
+    /// Whether it stands behind the given guest, if there is one.
+    pub fn is_after(&self, after: Option<(ChildName, Attempt)>) -> bool
+        ensures { result ≡ is_after after (guest_entry self.now) }
+    {
+        match after {
+            Some((name, attempt)) => self.is_behind(name, attempt),
+            None => true,
+        }
+    }
+}

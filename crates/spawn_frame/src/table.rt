@@ -1,0 +1,370 @@
+//! The units of work of one site.
+
+ghost use Rattle.std.specs.Prelude.{◌≡◌, ◌+◌, ◌<◌, ◌≤◌, ◌↔◌, ◌++◌, length, IfNone, IfOk, IfSome, IsErrOf, IsSome, MatchOption, None, OnErr, OnOk, Some, find, option_map, slice_get, true, Bool, ℕ};
+ghost use Rattle.spawn_frame.specs.Aborts.{is_open};
+ghost use Rattle.spawn_frame.specs.Frames.{frame, frame_result};
+ghost use Rattle.spawn_frame.specs.Inlets.{frame_winner, heard_by};
+ghost use Rattle.spawn_frame.specs.Picks.{is_finished, is_ready, is_split, ready_unit, ripe_unit};
+ghost use Rattle.spawn_frame.specs.Splits.{split_into, with_result};
+ghost use Rattle.spawn_frame.specs.Tables.{attempt_in, empty_table, guest_key, has_status, is_after, is_here, is_out, longer_prefixes, may_end, new_guest, parent_heard, parent_in, prefix_in, root_table, GivesResult, HasParents, IsAscending, IsMadeBefore, IsSeen};
+ghost use Rattle.spawn_frame.specs.declared.site.ChildName.{ChildName};
+ghost use Rattle.spawn_frame.specs.declared.status.Status.{Status};
+ghost use Rattle.spawn_frame.specs.Units.{change_at, guest_in, insert_guest, redone, table_gets, table_guests, table_own, unit_of};
+
+use crate::building::{new_children, new_guest, new_root};
+use crate::child::Child;
+use crate::child_result::ChildResult;
+use crate::guest::Guest;
+use crate::heard::Heard;
+use crate::inlet::Inlet;
+use crate::site::{Attempt, ChildName, Site};
+use crate::spawn_fault::SpawnFault;
+use crate::status::Status;
+use crate::unit::{Job, Unit};
+use crate::unit_view::UnitView;
+use crate::units::{
+    first_after, first_guest, last_child, place_behind, place_of, set_unit, split_unit, tell_parent,
+};
+use crate::wanted::Wanted;
+use crate::work::Work;
+use std::alloc::{AllocError, Global};
+use std::marker::Model;
+
+#[cfg(test)]
+mod tests;
+
+/// The units of work of one site: its own children by serial, and its guests in the order of their names and attempts.
+///
+/// Only `with_root`, `spawn`, `admit` and `prefix_into` take memory. A call costs at most one pass through the own
+/// children and one through the guests; none goes through the children of a frame, whose inlet has heard them.
+#[derive(Drop)]
+pub struct Table {
+    site: Site,
+    names_limit: u32,
+    own: Vec<Child>,
+    guests: Vec<Guest>,
+    alloc: Global,
+}
+
+impl Model for Table {
+    ghost use Rattle.spawn_frame.specs.Units.{Table as SeenTable};
+
+    ghost Value = { SeenTable };
+
+    ghost use Rattle.spawn_frame.specs.Works.{table_of, IsTable};
+
+    ghost view = { λ t. table_of t.site t.names_limit t.own.items t.guests.items };
+
+    ghost invariant = { λ t. IsTable (table_of t.site t.names_limit t.own.items t.guests.items) t.own.items t.guests.items };
+}
+
+impl Table {
+    ghost use Rattle.spawn_frame.specs.Works.{may_become, wanted_status, wanted_unit, IsWork};
+
+    /// The table of a site without units, which may name so many children. It costs nothing.
+    pub fn start(alloc: Global, site: Site, names_limit: u32) -> Table
+        ensures { result ≡ empty_table site names_limit }
+    {
+        Table {
+            site,
+            names_limit,
+            own: Vec::new(alloc),
+            guests: Vec::new(alloc),
+            alloc,
+        }
+    }
+
+    /// The registry's table at the beginning, with the root; the only error is want of memory.
+    pub fn with_root(alloc: Global) -> Result<Table, AllocError>
+        ensures { IfOk result (λ table. table ≡ root_table) }
+    {
+        let mut own = Vec::new(alloc);
+        own.push(new_root(alloc))?;
+        let site = Site {
+            node: 0,
+            incarnation: 1,
+        };
+        Ok(Table {
+            site,
+            names_limit: 1,
+            own,
+            guests: Vec::new(alloc),
+            alloc,
+        })
+    }
+
+    /// Splits a unit that is here: for each option a child whose prefix is the unit's with that option. The children
+    /// have the next serials, in order; the answer is the first.
+    ///
+    /// `NamesSpent` comes exactly where the site may not name so many, `Memory` only where memory ran out; a fault
+    /// changes nothing. It costs a look for the unit and the making of the children.
+    pub fn spawn(&mut self, unit: Unit, options: &[u16]) -> Result<u32, SpawnFault>
+        requires here { has_status is_here (unit_of self.old unit) ≡ true }
+        requires some { 0 < length options.now }
+        ensures first { IfOk result (λ first. first ≡ length self.old.own) }
+        ensures split { OnOk result (self.new ≡ split_into self.old unit (longer_prefixes (prefix_in (unit_of self.old unit)) options.now)) }
+        ensures spent { IsErrOf result SpawnFault.NamesSpent ↔ (self.old.limit < length self.old.own + length options.now) }
+        ensures err { OnErr result (self.new ≡ self.old) }
+    {
+        let first = self.own.len();
+        if options.len() > self.names_limit as usize - first {
+            return Err(SpawnFault::NamesSpent);
+        }
+        let mut prefix = Vec::new(self.alloc);
+        self.prefix_into(unit, &mut prefix)?;
+        let mut children = new_children(self.alloc, unit, &prefix, options)?;
+        self.own.append(&mut children)?;
+        split_unit(&mut self.own, &mut self.guests, unit, options.len() as u32);
+        Ok(first as u32)
+    }
+
+    /// The site.
+    pub fn site(&self) -> Site
+        ensures { result ≡ self.now.site }
+    {
+        self.site
+    }
+
+    /// How many children the site may name.
+    pub fn names_limit(&self) -> u32
+        ensures { result ≡ self.now.limit }
+    {
+        self.names_limit
+    }
+
+    /// How many children the site has named: the serials are the numbers below.
+    pub fn issued(&self) -> u32
+        ensures issued { result ≡ length self.now.own }
+        ensures within { length self.now.own ≤ self.now.limit }
+        ensures parents { HasParents self.now }
+    {
+        self.own.len() as u32
+    }
+
+    /// A unit's attempt and status; none where it isn't there. An own child is found at once, a guest by a pass
+    /// through the guests.
+    pub fn unit(&self, unit: Unit) -> Option<UnitView<'_>>
+        ensures seen { MatchOption result (unit_of self.now unit ≡ None) (λ view. IsSeen (unit_of self.now unit) view.attempt view.status.now) }
+        ensures tested { IfSome result (λ view. (test : Status → Bool) → has_status test (unit_of self.now unit) ≡ test view.status.now) }
+    {
+        let work = self.work(unit)?;
+        Some(UnitView {
+            attempt: work.attempt,
+            status: &work.status,
+        })
+    }
+
+    /// Appends a unit's prefix to the list; the only error is want of memory, and the list is then as it was. It costs
+    /// a look for the unit, and the prefix.
+    pub fn prefix_into(&self, unit: Unit, list: &mut Vec<u16>) -> Result<(), AllocError>
+        requires { IsSome (unit_of self.now unit) }
+        ensures ok { OnOk result (list.new.items ≡ list.old.items ++ prefix_in (unit_of self.now unit)) }
+        ensures err { OnErr result (list.new.items ≡ list.old.items) }
+    {
+        match self.work(unit) {
+            Some(work) => list.extend_from_slice(work.prefix.as_slice()),
+            None => Ok(()),
+        }
+    }
+
+    /// The unit that an own child is a child of; none for the root. It costs nothing.
+    pub fn parent(&self, serial: u32) -> Option<Unit>
+        requires { serial < length self.now.own }
+        ensures parent { result ≡ parent_in (slice_get self.now.own serial) }
+        ensures lower { IfSome result (λ parent. IsMadeBefore parent serial) }
+        ensures there { IfSome result (λ parent. IsSome (unit_of self.now parent)) }
+    {
+        self.own[serial as usize].parent
+    }
+
+    /// The least guest, or the least behind the given one, in the order of guests. It costs a pass through the guests.
+    pub fn next_guest(&self, after: Option<(ChildName, Attempt)>) -> Option<(ChildName, Attempt)>
+        ensures next { result ≡ option_map guest_key (find (is_after after) self.now.guests) }
+        ensures ascending { IsAscending self.now.guests }
+    {
+        first_after(&self.guests, after)
+    }
+
+    /// The settled frame that is finished next: the own child of greatest serial, else the least guest. It costs a
+    /// pass through all units.
+    pub fn ripe(&self) -> Option<Unit>
+        ensures { result ≡ ripe_unit self.now }
+    {
+        self.picked(Wanted::Ripe)
+    }
+
+    /// Whether a frame is settled: a child of it has a cover, or all are empty. It costs a look for the unit.
+    pub fn heard(&self, unit: Unit) -> Heard
+        requires { has_status is_split (unit_of self.now unit) ≡ true }
+        ensures { result ≡ heard_by (frame_result (frame unit self.now.own)) }
+    {
+        match self.work(unit) {
+            Some(work) => work.heard(),
+            None => Heard::Open,
+        }
+    }
+
+    /// The child of a frame that has a cover, the one of least serial. Its cover is the frame's result; a frame that is
+    /// settled and has none is empty. It costs a look for the unit.
+    pub fn winner(&self, unit: Unit) -> Option<u32>
+        requires { has_status is_split (unit_of self.now unit) ≡ true }
+        ensures winner { result ≡ frame_winner unit self.now.own }
+        ensures cover { IfSome result (GivesResult unit self.now.own) }
+        ensures empty { IfNone result (IfSome (frame_result (frame unit self.now.own)) (λ came. came ≡ ChildResult.Empty)) }
+    {
+        match self.work(unit) {
+            Some(work) => match &work.inlet {
+                Some(inlet) => inlet.winner(),
+                None => None,
+            },
+            None => None,
+        }
+    }
+
+    /// Takes up a ready unit, which is here then: the own child of greatest serial, else the least guest. It costs a
+    /// pass through all units.
+    pub fn take(&mut self) -> Option<Job>
+        ensures unit { option_map (λ job. job.unit) result ≡ ready_unit self.old }
+        ensures ready { IfSome result (λ job. IsSeen (unit_of self.old job.unit) job.attempt Status.Ready) }
+        ensures after { MatchOption result (self.new ≡ self.old) (λ job. self.new ≡ table_gets self.old job.unit Status.Here) }
+    {
+        let unit = self.picked(Wanted::Ready)?;
+        let attempt = self.work(unit)?.attempt;
+        self.set_status(unit, Status::Here);
+        Some(Job { unit, attempt })
+    }
+
+    /// Gives a unit its result: an own child is done, a guest is finished. If it is a child of a frame of this site,
+    /// the frame hears of it, and the answer is whether that frame is settled now; else `Open`. It costs looks for the
+    /// unit and its parent.
+    pub fn set_result(&mut self, unit: Unit, child_result: ChildResult) -> Heard
+        requires { has_status may_end (unit_of self.old unit) ≡ true }
+        ensures after { self.new ≡ table_gets self.old unit (with_result unit child_result) }
+        ensures heard { result ≡ parent_heard self.new unit }
+    {
+        match unit {
+            Unit::Own(serial) => self.set_child_result(serial, child_result),
+            Unit::Guest(..) => {
+                self.set_status(unit, Status::Finished(child_result));
+                Heard::Open
+            }
+        }
+    }
+
+    /// A ready own child is given to a thief. It costs nothing.
+    pub fn give(&mut self, serial: u32, thief: Site)
+        requires { has_status is_ready (slice_get self.old.own serial) ≡ true }
+        ensures { self.new ≡ table_gets self.old (Unit.Own serial) (Status.Out thief) }
+    {
+        self.set_status(Unit::Own(serial), Status::Out(thief));
+    }
+
+    /// An own child that is out is ready again, at the next attempt. It costs nothing.
+    pub fn redo(&mut self, serial: u32)
+        requires out { has_status is_out (slice_get self.old.own serial) ≡ true }
+        requires attempt { attempt_in (slice_get self.old.own serial) < 4294967295 }
+        ensures { self.new ≡ table_own self.old (change_at redone self.old.own serial) }
+    {
+        let work = &mut self.own[serial as usize].work;
+        work.attempt += 1;
+        work.status = Status::Ready;
+    }
+
+    /// Another site's child becomes a ready guest; the only error is want of memory, which changes nothing. It costs a
+    /// pass through the guests, and the prefix.
+    pub fn admit(
+        &mut self,
+        name: ChildName,
+        attempt: Attempt,
+        prefix: &[u16],
+    ) -> Result<(), AllocError>
+        requires absent { guest_in self.old.guests name attempt ≡ None }
+        requires attempt { 1 ≤ attempt }
+        ensures ok { OnOk result (self.new ≡ table_guests self.old (insert_guest (new_guest name attempt prefix.now) self.old.guests)) }
+        ensures err { OnErr result (self.new ≡ self.old) }
+    {
+        let guest = new_guest(self.alloc, name, attempt, prefix)?;
+        let place = place_behind(&self.guests, name, attempt).unwrap_or(self.guests.len());
+        self.guests.insert(place, guest)?;
+        Ok(())
+    }
+
+    /// A finished guest settles on the result that its owner accepted. It costs a pass through the guests.
+    pub fn settle(&mut self, name: ChildName, attempt: Attempt, child_result: ChildResult)
+        requires { has_status is_finished (guest_in self.old.guests name attempt) ≡ true }
+        ensures { self.new ≡ table_gets self.old (Unit.Guest name attempt) (Status.Settled child_result) }
+    {
+        self.set_status(Unit::Guest(name, attempt), Status::Settled(child_result));
+    }
+
+    /// An open guest is wanted no more. It costs a pass through the guests.
+    pub fn drop_guest(&mut self, name: ChildName, attempt: Attempt)
+        requires { has_status is_open (guest_in self.old.guests name attempt) ≡ true }
+        ensures { self.new ≡ table_gets self.old (Unit.Guest name attempt) Status.Dropped }
+    {
+        self.set_status(Unit::Guest(name, attempt), Status::Dropped);
+    }
+
+    /// An open own child is wanted no more. It costs nothing.
+    pub fn abort(&mut self, serial: u32)
+        requires { has_status is_open (slice_get self.old.own serial) ≡ true }
+        ensures { self.new ≡ table_gets self.old (Unit.Own serial) Status.Aborted }
+    {
+        self.set_status(Unit::Own(serial), Status::Aborted);
+    }
+
+    /// Gives an own child its result, of which its frame hears.
+    fn set_child_result(&mut self, serial: u32, child_result: ChildResult) -> Heard
+        requires { has_status may_end (slice_get self.old.own serial) ≡ true }
+        ensures after { self.new ≡ table_gets self.old (Unit.Own serial) (Status.Done child_result) }
+        ensures heard { result ≡ parent_heard self.new (Unit.Own serial) }
+    {
+        let index = serial as usize;
+        let parent = self.own[index].parent;
+        let heard = tell_parent(
+            &mut self.own,
+            &mut self.guests,
+            parent,
+            serial,
+            &child_result,
+        );
+        self.own[index].work.status = Status::Done(child_result);
+        heard
+    }
+
+    /// Gives a unit a status of which no frame hears.
+    fn set_status(&mut self, unit: Unit, status: Status)
+        requires { has_status (may_become unit status) (unit_of self.old unit) ≡ true }
+        ensures after { self.new ≡ table_gets self.old unit status }
+        ensures guests { (name : ChildName) (attempt : ℕ) → parent_in (guest_in self.new.guests name attempt) ≡ None }
+    {
+        set_unit(&mut self.own, &mut self.guests, unit, status);
+    }
+
+    /// What is kept of a unit; none where it isn't there.
+    fn work(&self, unit: Unit) -> Option<&Work>
+        ensures { MatchOption result (unit_of self.now unit ≡ None) (λ work. IsWork self.now unit work.now) }
+    {
+        match unit {
+            Unit::Own(serial) => {
+                let child = self.own.get(serial as usize)?;
+                Some(&child.work)
+            }
+            Unit::Guest(name, attempt) => {
+                let place = place_of(&self.guests, name, attempt)?;
+                Some(&self.guests[place].work)
+            }
+        }
+    }
+
+    /// The own child of greatest serial that is wanted, else the least guest.
+    fn picked(&self, wanted: Wanted) -> Option<Unit>
+        ensures unit { result ≡ wanted_unit wanted self.now }
+        ensures status { IfSome result (λ unit. has_status (wanted_status wanted) (unit_of self.now unit) ≡ true) }
+    {
+        match last_child(&self.own, wanted) {
+            Some(unit) => Some(unit),
+            None => first_guest(&self.guests, wanted),
+        }
+    }
+}

@@ -1,0 +1,84 @@
+ghost use Rattle.std.specs.Prelude.{◌≡◌, ◌<◌, Some};
+
+use crate::child_result::ChildResult;
+use crate::first_found::FirstFound;
+use crate::heard::Heard;
+use crate::inlet::Inlet;
+use crate::site::Attempt;
+use crate::status::Status;
+use crate::wanted::Wanted;
+use cover_problem::Numbers;
+
+/// What a table keeps of a unit, own child or guest.
+#[derive(Drop)]
+pub struct Work {
+    /// The options that are chosen.
+    pub prefix: Numbers,
+    /// How often it was given out, from 1.
+    pub attempt: Attempt,
+    /// How far it is.
+    pub status: Status,
+    /// What hears its children, once it was split.
+    pub inlet: Option<FirstFound>,
+}
+
+impl Work {
+    ghost use Rattle.spawn_frame.specs.Works.{frame_says, heard_work, is_wanted, new_work, split_work, with_heard, HearsChildren};
+
+    /// Work that nobody has taken up.
+    pub fn new(prefix: Numbers, attempt: Attempt) -> Work
+        ensures { result ≡ new_work prefix attempt }
+    {
+        Work {
+            prefix,
+            attempt,
+            status: Status::Ready,
+            inlet: None,
+        }
+    }
+
+    /// Whether it is what is looked for.
+    pub fn is_wanted(&self, wanted: Wanted) -> bool
+        ensures { result ≡ is_wanted wanted self.now }
+    {
+        match wanted {
+            Wanted::Ready => matches!(self.status, Status::Ready),
+            Wanted::Ripe => matches!(self.status, Status::Split) && self.heard() == Heard::Settled,
+        }
+    }
+
+    /// What its inlet says; `Open` where it was never split.
+    pub fn heard(&self) -> Heard
+        ensures { result ≡ heard_work self.now.inlet }
+    {
+        match &self.inlet {
+            Some(inlet) => inlet.heard(),
+            None => Heard::Open,
+        }
+    }
+
+    /// Makes it a frame of so many children.
+    pub fn split(&mut self, children: u32)
+        requires { 0 < children }
+        ensures { self.new ≡ split_work children self.old }
+    {
+        self.status = Status::Split;
+        self.inlet = Some(FirstFound::new(children));
+    }
+
+    /// Tells a frame the result of a child of it, and says whether the frame is settled now. What is no frame doesn't
+    /// hear, and says `Open`.
+    pub fn hear(&mut self, child: u32, child_result: &ChildResult) -> Heard
+        requires { HearsChildren self.old }
+        ensures hears { self.new ≡ with_heard child child_result.now self.old }
+        ensures heard { result ≡ frame_says (Some self.new) }
+    {
+        if !matches!(self.status, Status::Split) {
+            return Heard::Open;
+        }
+        match &mut self.inlet {
+            Some(inlet) => inlet.take(child, child_result),
+            None => Heard::Open,
+        }
+    }
+}

@@ -1,0 +1,48 @@
+-- Guests: children of other sites that come, settle or are wanted no more.
+use Rattle.std.specs.Prelude.{◌≡◌, ◌⊎◌, ℕ, true, false, List, Some, None, is_some}
+use Rattle.spawn_frame.specs.Aborts.{AbortsBelow, Reached, is_open, reached}
+use Rattle.spawn_frame.specs.Names.{same_unit}
+use Rattle.spawn_frame.specs.Picks.{is_finished}
+use Rattle.spawn_frame.specs.Tables.{new_guest}
+use Rattle.spawn_frame.specs.Units.{Entry, guest_in, insert_guest}
+use Rattle.spawn_frame.specs.declared.child_result.ChildResult.{ChildResult}
+use Rattle.spawn_frame.specs.declared.site.ChildName.{ChildName}
+use Rattle.spawn_frame.specs.declared.status.Status.TheVariants.{Dropped, Settled}
+use Rattle.spawn_frame.specs.declared.unit.Unit.TheVariants.{Guest}
+use Rattle.steal_return.specs.Ledger.{Ledger, ledger_gets, ledger_guests, ledger_own}
+use Rattle.steal_return.specs.Steals.{is_older}
+
+-- A child that is given to this site becomes a ready guest.
+pub record AdmitsGuest (old : Ledger) (name : ChildName) (attempt : ℕ) (prefix : List ℕ) (new : Ledger) : Type 0 where
+  pub not_older : is_older old.known name.site ≡ false
+  pub is_new : guest_in old.guests name attempt ≡ None
+  pub after : new ≡ ledger_guests old (insert_guest (new_guest name attempt prefix) old.guests)
+
+-- Its owner is of an earlier run than is known, or the guest is there already, in whatever status.
+abbrev pub IsNotNew : Ledger → ChildName → ℕ → Type 0
+IsNotNew old name attempt = (is_older old.known name.site ≡ true) ⊎ (is_some (guest_in old.guests name attempt) ≡ true)
+
+-- A finished guest settles on the result that its owner accepted.
+pub record SettlesGuest (old : Ledger) (name : ChildName) (attempt : ℕ) (result : ChildResult) (new : Ledger) : Type 0 where
+  pub entry : Entry
+  pub is : guest_in old.guests name attempt ≡ Some entry
+  pub finished : is_finished entry.status ≡ true
+  pub after : new ≡ ledger_gets old (Guest name attempt) (Settled result)
+
+-- there is no such guest that is finished
+abbrev pub IsNotFinished : Ledger → ChildName → ℕ → Type 0
+IsNotFinished old name attempt = (entry : Entry) → guest_in old.guests name attempt ≡ Some entry → is_finished entry.status ≡ false
+
+-- An open guest is wanted no more: it is dropped, and all open units below it are aborted.
+pub record DropsGuest (old : Ledger) (name : ChildName) (attempt : ℕ) (outs : List Reached) (new : Ledger) : Type 0 where
+  pub entry : Entry
+  pub is : guest_in old.guests name attempt ≡ Some entry
+  pub open_still : is_open entry.status ≡ true
+  pub own : List Entry
+  pub aborts : AbortsBelow (same_unit (Guest name attempt)) old.own own
+  pub after : new ≡ ledger_own (ledger_gets old (Guest name attempt) Dropped) own
+  pub reaches : outs ≡ reached 0 old.own own
+
+-- there is no such guest that is open
+abbrev pub IsNotOpen : Ledger → ChildName → ℕ → Type 0
+IsNotOpen old name attempt = (entry : Entry) → guest_in old.guests name attempt ≡ Some entry → is_open entry.status ≡ false

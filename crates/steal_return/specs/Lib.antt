@@ -1,0 +1,6 @@
+pub mod Finishing
+pub mod Guests
+pub mod Ledger
+pub mod Members
+pub mod Returns
+pub mod Steals

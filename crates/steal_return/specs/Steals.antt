@@ -1,0 +1,38 @@
+-- Children that are given to thieves, and given out anew (steals and redo of Cilk-NOW).
+use Rattle.std.specs.Prelude.{◌≡◌, ◌≢◌, ◌⊎◌, ℕ, ◌<◌, Bool, true, false, List, Some, slice_get, slice_index, nat_lt}
+use Rattle.spawn_frame.specs.Units.{Entry, change_at, redone, with_status}
+use Rattle.spawn_frame.specs.declared.site.Site.{Site}
+use Rattle.spawn_frame.specs.declared.status.Status.TheVariants.{Out, Ready}
+use Rattle.steal_return.specs.Ledger.{Ledger, ledger_own}
+use Rattle.steal_return.specs.declared.given.Given.{Given}
+
+-- a later incarnation of the site's node is known
+abbrev pub is_older : List ℕ → Site → Bool
+is_older known site = nat_lt site.incarnation (slice_index known site.node)
+
+-- A thief gets nothing: it is of an earlier run than is known, or no own child is ready.
+abbrev pub GivesNothing : Ledger → Site → Type 0
+GivesNothing old thief = (is_older old.known thief ≡ true) ⊎ ((k : ℕ) (entry : Entry) → slice_get old.own k ≡ Some entry → entry.status ≢ Ready)
+
+-- A thief gets a ready own child, at its attempt and with its prefix. Any may be given.
+pub record GivesChild (old : Ledger) (thief : Site) (given : Given) (new : Ledger) : Type 0 where
+  pub entry : Entry
+  pub not_older : is_older old.known thief ≡ false
+  pub is : slice_get old.own given.serial ≡ Some entry
+  pub ready : entry.status ≡ Ready
+  pub attempt : given.attempt ≡ entry.attempt
+  pub prefix : given.prefix ≡ entry.prefix
+  pub after : new ≡ ledger_own old (change_at (with_status (Out thief)) old.own given.serial)
+
+-- the greatest number that a packet can tell
+abbrev pub last_attempt : ℕ
+last_attempt = 4294967295
+
+-- A child that is out is ready again at the next attempt.
+pub record RedoesChild (old : Ledger) (serial : ℕ) (new : Ledger) : Type 0 where
+  pub entry : Entry
+  pub thief : Site
+  pub is : slice_get old.own serial ≡ Some entry
+  pub out_there : entry.status ≡ Out thief
+  pub not_last : entry.attempt < last_attempt
+  pub after : new ≡ ledger_own old (change_at redone old.own serial)

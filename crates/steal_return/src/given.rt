@@ -1,0 +1,13 @@
+use cover_problem::Numbers;
+use spawn_frame::Attempt;
+
+/// What a thief is given.
+#[derive(Drop)]
+pub struct Given {
+    /// The own child's serial number.
+    pub serial: u32,
+    /// Its attempt, from 1.
+    pub attempt: Attempt,
+    /// Its prefix.
+    pub prefix: Numbers,
+}
