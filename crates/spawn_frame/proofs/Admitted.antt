@@ -1,14 +1,14 @@
 -- A new guest at its place in the order.
-use Rattle.std.proofs.Common.{◌≡◌, ◌⊎◌, ℕ, zero, suc, ◌+◌, ◌<◌, ◌≤◌, Bool, true, false, cond, not, ◌&&◌, ◌||◌, ◌==◌, nat_lt, List, [], ◌∷◌, ◌++◌, map, length, take, drop, insert, position, unwrap_or, option_map, Option, Some, None, is_some, IsSome, slice_get, refl, sym, ap, subst, ◌∙◌, ⊎_elim, arith}
-use Rattle.std.specs.List.{AllByRecursion, list_any, position_or_len, prefix_len}
+use Rattle.std.proofs.Common.{◌≡◌, ℕ, suc, ◌+◌, Bool, true, false, cond, not, ◌==◌, nat_lt, List, [], ◌∷◌, map, length, insert, position, unwrap_or, Option, Some, None, is_some, IsSome, slice_get, refl, sym, ap, subst, ◌∙◌, ⊎_elim, arith}
+use Rattle.std.specs.List.{AllByRecursion, position_or_len}
 use Rattle.std.proofs.lemmas.List.Sums.{prefix_len-le-length}
-use Rattle.std.proofs.lemmas.Option.{same_Some, none-some}
-use Rattle.std.proofs.lemmas.Bool.{and_from, and_parts, both_ways, cases_Bool, eqb-true, eq-eqb, false≢true, false_from_ne_true, ltb-false, or_cases, true≢false}
+use Rattle.std.proofs.lemmas.Option.{none-some}
+use Rattle.std.proofs.lemmas.Bool.{and_from, both_ways, eq-eqb, false≢true, false_from_ne_true, ltb-false, or_cases, true≢false}
 use Rattle.spawn_frame.specs.Frames.{is_unit}
-use Rattle.spawn_frame.specs.Names.{guest_before, same_name, same_unit}
-use Rattle.spawn_frame.specs.Tables.{HasParents, IsAscending, new_guest}
-use Rattle.spawn_frame.specs.Units.{Entry, GuestEntry, Table, guest_in, insert_guest, is_guest, table_guests, unit_of}
-use Rattle.spawn_frame.specs.Works.{IsFrame, IsTable, child_entry, entry_of, fresh_guest, guest_entry, has_child, new_work, table_of}
+use Rattle.spawn_frame.specs.Names.{guest_before, same_name}
+use Rattle.spawn_frame.specs.Tables.{HasParents, IsAscending}
+use Rattle.spawn_frame.specs.Units.{Entry, GuestEntry, Table, guest_in, insert_guest, is_guest, unit_of}
+use Rattle.spawn_frame.specs.Works.{IsFrame, IsTable, child_entry, fresh_guest, guest_entry, has_child, table_of}
 use Rattle.spawn_frame.specs.declared.child.Child.{Child}
 use Rattle.spawn_frame.specs.declared.guest.Guest.{Guest}
 use Rattle.spawn_frame.specs.declared.site.ChildName.{ChildName}
@@ -16,7 +16,7 @@ use Rattle.spawn_frame.specs.declared.site.Site.{Site}
 use Rattle.spawn_frame.specs.declared.unit.Unit.{Unit as WorkUnit}
 use Rattle.spawn_frame.specs.declared.unit.Unit.TheVariants as units
 use Rattle.spawn_frame.proofs.Orders.{before_on, before_or_same}
-use Rattle.spawn_frame.proofs.Sames.{name_path, parent_path, same_name_self}
+use Rattle.spawn_frame.proofs.Sames.{parent_path, same_name_self}
 
 -- the list with a new guest before the first that stands behind it
 abbrev pub put_guest : Guest → List Guest → List Guest

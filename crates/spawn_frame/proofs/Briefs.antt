@@ -1,9 +1,9 @@
 -- What frames see of own children: whose they are, whether they are done, and whether with a cover.
 use Rattle.std.proofs.Common.{◌≡◌, ℕ, zero, suc, Bool, true, false, cond, not, ◌&&◌, ◌||◌, List, [], ◌∷◌, map, length, Option, Some, None, is_some, slice_get, refl, sym, ap, ◌∙◌}
 use Rattle.std.specs.List.{filter, list_any}
-use Rattle.std.proofs.lemmas.Option.{same_Some, none-some}
+use Rattle.std.proofs.lemmas.Option.{same_Some}
 use Rattle.spawn_frame.specs.Frames.{cover_of, is_unit}
-use Rattle.spawn_frame.specs.Inlets.{Hearing, children_left, frame_hearing, frame_winner, is_done, winner_from}
+use Rattle.spawn_frame.specs.Inlets.{children_left, frame_hearing, frame_winner, is_done, winner_from}
 use Rattle.spawn_frame.specs.Units.{Entry, change_at}
 use Rattle.spawn_frame.specs.Works.{IsFrame, has_child}
 use Rattle.spawn_frame.specs.declared.unit.Unit.{Unit as WorkUnit}

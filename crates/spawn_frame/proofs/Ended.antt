@@ -1,19 +1,18 @@
 -- An own child becomes done, and its frame hears of it.
-use Rattle.std.proofs.Common.{◌≡◌, ◌⊎◌, ℕ, zero, suc, ◌+◌, ◌<◌, ◌≤◌, Bool, true, false, cond, not, ◌&&◌, ◌||◌, ◌==◌, List, [], ◌∷◌, map, length, option_map, Option, Some, None, is_some, IsSome, slice_get, slice_set, get_or, refl, sym, ap, subst, ◌∙◌, ⊎_elim, arith}
+use Rattle.std.proofs.Common.{◌≡◌, ℕ, zero, suc, ◌<◌, ◌≤◌, Bool, true, false, cond, ◌&&◌, ◌==◌, List, [], ◌∷◌, map, length, option_map, Option, Some, None, is_some, IsSome, slice_get, slice_set, get_or, refl, sym, ap, subst, ◌∙◌, ⊎_elim, arith}
 use Rattle.std.specs.List.{AllByRecursion}
 use Rattle.std.proofs.lemmas.Option.{same_Some, none-some, slice_get-map}
-use Rattle.std.proofs.lemmas.Bool.{and_from, and_parts, both_ways, cases_Bool, eqb-true, eq-eqb, false≢true, false_from_ne_true, ne_eqb, true≢false}
+use Rattle.std.proofs.lemmas.Bool.{and_from, and_parts, both_ways, eqb-true, eq-eqb, false≢true, false_from_ne_true, ne_eqb}
 use Rattle.spawn_frame.specs.Frames.{frame, frame_result, is_unit}
-use Rattle.spawn_frame.specs.Inlets.{Hearing, children_left, frame_hearing, heard_by, heard_of, hearing_of, is_done}
+use Rattle.spawn_frame.specs.Inlets.{frame_hearing, heard_by, is_done}
 use Rattle.spawn_frame.specs.Names.{guest_before, same_name}
 use Rattle.spawn_frame.specs.Picks.{is_split}
 use Rattle.spawn_frame.specs.Tables.{HasParents, IsAscending, has_status, heard_at, may_end, parent_heard, parent_in}
-use Rattle.spawn_frame.specs.Units.{Entry, GuestEntry, Table, change_at, guest_in, is_guest, table_gets, unit_of, with_status}
-use Rattle.spawn_frame.specs.Works.{HearsFrom, IsFrame, IsTable, IsWork, change_child, change_work, child_entry, entry_of, frame_says, guest_entry, guests_told, has_child, heard_work, inlet_after, is_whole, own_told, parent_work, table_of, with_heard, with_work_status, work_in}
+use Rattle.spawn_frame.specs.Units.{Entry, Table, change_at, is_guest, table_gets, unit_of, with_status}
+use Rattle.spawn_frame.specs.Works.{HearsFrom, IsFrame, IsTable, change_child, change_work, child_entry, frame_says, guest_entry, guests_told, has_child, heard_work, inlet_after, own_told, parent_work, table_of, with_heard, with_work_status, work_in}
 use Rattle.spawn_frame.specs.declared.child.Child.{Child}
 use Rattle.spawn_frame.specs.declared.child_result.ChildResult.{ChildResult}
 use Rattle.spawn_frame.specs.declared.guest.Guest.{Guest}
-use Rattle.spawn_frame.specs.declared.heard.Heard.{Heard}
 use Rattle.spawn_frame.specs.declared.heard.Heard.TheVariants as said
 use Rattle.spawn_frame.specs.declared.site.ChildName.{ChildName}
 use Rattle.spawn_frame.specs.declared.site.Site.{Site}

@@ -1,18 +1,17 @@
 -- Units that are looked up, and what is true of them.
-use Rattle.std.proofs.Common.{◌≡◌, ℕ, zero, suc, ◌+◌, ◌<◌, Bool, true, false, cond, ◌&&◌, ◌==◌, List, [], ◌∷◌, map, option_map, Option, Some, None, is_some, IsSome, IfSome, slice_get, refl, sym, ap, subst, ◌∙◌, arith}
+use Rattle.std.proofs.Common.{◌≡◌, ℕ, suc, ◌+◌, Bool, true, false, cond, ◌&&◌, ◌==◌, List, [], ◌∷◌, map, option_map, Option, Some, None, is_some, IsSome, IfSome, slice_get, refl, sym, ap, subst, ◌∙◌, arith}
 use Rattle.std.specs.List.{AllByRecursion}
 use Rattle.std.proofs.lemmas.Option.{same_Some, none-some, slice_get-map}
-use Rattle.std.proofs.lemmas.Bool.{and_parts, eqb-true, false≢true, true≢false}
+use Rattle.std.proofs.lemmas.Bool.{and_parts, eqb-true}
 use Rattle.spawn_frame.specs.Frames.{frame, frame_result}
-use Rattle.spawn_frame.specs.Inlets.{heard_by, heard_of}
+use Rattle.spawn_frame.specs.Inlets.{heard_by}
 use Rattle.spawn_frame.specs.Names.{same_name}
-use Rattle.spawn_frame.specs.Picks.{either_unit, first_guest, is_ready, is_split, last_own, ready_unit, ripe_unit}
+use Rattle.spawn_frame.specs.Picks.{either_unit, first_guest, is_ready, is_split, last_own}
 use Rattle.spawn_frame.specs.Tables.{IsMadeBefore}
 use Rattle.spawn_frame.specs.Units.{Entry, is_guest, unit_of}
 use Rattle.spawn_frame.specs.Works.{IsFrame, IsTable, IsWork, child_entry, child_work, entry_of, first_wanted, guest_entry, guest_work, heard_work, is_settled, is_wanted, last_wanted, table_of, wanted_unit, work_in}
 use Rattle.spawn_frame.specs.declared.child.Child.{Child}
 use Rattle.spawn_frame.specs.declared.guest.Guest.{Guest}
-use Rattle.spawn_frame.specs.declared.heard.Heard.{Heard}
 use Rattle.spawn_frame.specs.declared.site.ChildName.{ChildName}
 use Rattle.spawn_frame.specs.declared.site.Site.{Site}
 use Rattle.spawn_frame.specs.declared.status.Status.{Status}

@@ -1,11 +1,11 @@
 -- What a frame's inlet has heard, and what the frame gives.
-use Rattle.std.proofs.Common.{◌≡◌, ◌⊎◌, ℕ, zero, suc, ◌+◌, ◌-◌, ◌<◌, ◌≤◌, min, Bool, true, false, cond, not, ◌&&◌, List, [], ◌∷◌, length, Option, Some, None, is_some, slice_get, refl, sym, ap, ◌∙◌, arith, filter, zero-add, ◌||◌}
+use Rattle.std.proofs.Common.{◌≡◌, ℕ, zero, suc, ◌+◌, ◌-◌, ◌<◌, ◌≤◌, Bool, true, false, cond, not, ◌&&◌, List, [], ◌∷◌, length, Option, Some, None, is_some, slice_get, refl, sym, ap, ◌∙◌, arith, filter, zero-add, ◌||◌}
 use Rattle.std.proofs.lemmas.Option.{same_Some, none-some}
-use Rattle.std.proofs.lemmas.Bool.{false≢true, true≢false, and_parts, and_from, and_left, and_right, ne_eqb, or_left, or_right}
+use Rattle.std.proofs.lemmas.Bool.{true≢false, and_from, and_right, ne_eqb, or_left, or_right}
 use Rattle.spawn_frame.specs.Frames.{cover_of, first_result, frame, frame_result, is_empty_handed, is_unit}
-use Rattle.spawn_frame.specs.Inlets.{Hearing, children_left, frame_hearing, frame_winner, heard_by, heard_of, hearing_of, is_done, lesser, winner_from}
+use Rattle.spawn_frame.specs.Inlets.{children_left, frame_hearing, frame_winner, heard_by, heard_of, hearing_of, is_done, lesser, winner_from}
 use Rattle.spawn_frame.specs.Units.{Entry, change_at, with_status}
-use Rattle.spawn_frame.specs.Works.{has_child, is_settled}
+use Rattle.spawn_frame.specs.Works.{has_child}
 use Rattle.spawn_frame.specs.declared.child_result.ChildResult.{ChildResult}
 use Rattle.spawn_frame.specs.declared.child_result.ChildResult.TheVariants.{Cover, Empty}
 use Rattle.spawn_frame.specs.declared.heard.Heard.TheVariants.{Open, Settled}

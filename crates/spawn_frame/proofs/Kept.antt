@@ -1,26 +1,20 @@
 -- What is true of a table stays true where the work of a unit changes and frames see no difference.
-use Rattle.std.proofs.Common.{◌≡◌, ◌⊎◌, ℕ, zero, suc, ◌<◌, ◌≤◌, Bool, true, false, cond, not, ◌&&◌, ◌||◌, ◌==◌, List, [], ◌∷◌, map, length, option_map, Option, Some, None, is_some, IsSome, slice_get, refl, sym, ap, subst, ◌∙◌, inl, inr, ⊎_elim, arith}
+use Rattle.std.proofs.Common.{◌≡◌, ℕ, zero, suc, ◌≤◌, Bool, true, false, cond, ◌&&◌, ◌==◌, List, [], ◌∷◌, map, length, Option, Some, None, is_some, IsSome, slice_get, refl, sym, ap, subst, ◌∙◌, ⊎_elim}
 use Rattle.std.specs.List.{AllByRecursion}
-use Rattle.std.proofs.lemmas.Option.{same_Some, none-some, slice_get-map}
-use Rattle.std.proofs.lemmas.Bool.{and_parts, or_cases, true≢false, false≢true}
-use Rattle.spawn_frame.specs.Frames.{cover_of}
-use Rattle.spawn_frame.specs.Inlets.{is_done}
+use Rattle.std.proofs.lemmas.Option.{same_Some, none-some}
 use Rattle.spawn_frame.specs.Names.{guest_before, same_name}
-use Rattle.spawn_frame.specs.Picks.{is_split}
-use Rattle.spawn_frame.specs.Tables.{HasParents, IsAscending, guest_key, has_status}
-use Rattle.spawn_frame.specs.Units.{Entry, GuestEntry, Table, change_guest, guest_in, is_guest, table_gets, unit_of}
-use Rattle.spawn_frame.specs.Works.{IsFrame, IsTable, change_child, change_work, child_entry, entry_of, guest_entry, guest_work, guests_after, is_whole, keeps_frame, may_become, own_after, table_of, with_work_status}
+use Rattle.spawn_frame.specs.Tables.{HasParents, IsAscending, guest_key}
+use Rattle.spawn_frame.specs.Units.{Entry, GuestEntry, Table, guest_in, is_guest, unit_of}
+use Rattle.spawn_frame.specs.Works.{IsFrame, IsTable, change_child, change_work, child_entry, entry_of, guest_entry, guest_work, table_of}
 use Rattle.spawn_frame.specs.declared.child.Child.{Child}
 use Rattle.spawn_frame.specs.declared.guest.Guest.{Guest}
 use Rattle.spawn_frame.specs.declared.site.ChildName.{ChildName}
 use Rattle.spawn_frame.specs.declared.site.Site.{Site}
-use Rattle.spawn_frame.specs.declared.status.Status.{Status}
-use Rattle.spawn_frame.specs.declared.status.Status.TheVariants.{Split}
 use Rattle.spawn_frame.specs.declared.unit.Unit.{Unit as WorkUnit}
 use Rattle.spawn_frame.specs.declared.unit.Unit.TheVariants as units
 use Rattle.spawn_frame.specs.declared.work.Work.{Work}
-use Rattle.spawn_frame.proofs.Briefs.{Brief, brief, briefs, same_frame}
-use Rattle.spawn_frame.proofs.Lookups.{child_before, child_view, guest_at, guest_view, guest_with, with_work}
+use Rattle.spawn_frame.proofs.Briefs.{brief, briefs, same_frame}
+use Rattle.spawn_frame.proofs.Lookups.{child_before, guest_with, with_work}
 
 -- ---- own children of which frames see the same
 

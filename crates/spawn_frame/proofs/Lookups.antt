@@ -1,8 +1,8 @@
 -- Units whose work is changed, looked up.
-use Rattle.std.proofs.Common.{◌≡◌, ◌⊎◌, ℕ, zero, suc, Bool, true, false, cond, ◌&&◌, ◌==◌, List, [], ◌∷◌, map, length, Option, Some, None, slice_get, refl, sym, ap, ◌∙◌, inl, inr, ⊎_elim, option_map, arith}
+use Rattle.std.proofs.Common.{◌≡◌, ◌⊎◌, ℕ, zero, suc, Bool, true, false, cond, List, [], ◌∷◌, map, Option, Some, None, slice_get, refl, sym, ap, ◌∙◌, inl, inr, ⊎_elim, option_map, arith}
 use Rattle.std.proofs.lemmas.Option.{same_Some, none-some}
 use Rattle.spawn_frame.specs.Tables.{parent_in}
-use Rattle.spawn_frame.specs.Units.{Entry, GuestEntry, change_at, change_guest, guest_in, is_guest}
+use Rattle.spawn_frame.specs.Units.{Entry, change_at, change_guest, guest_in, is_guest}
 use Rattle.spawn_frame.specs.Works.{change_child, change_work, child_entry, entry_of, guest_entry, guest_work}
 use Rattle.spawn_frame.specs.declared.child.Child.{Child}
 use Rattle.spawn_frame.specs.declared.guest.Guest.{Guest}

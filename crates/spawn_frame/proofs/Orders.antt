@@ -1,5 +1,5 @@
 -- The order of guests is one: of two that differ one is before the other, and what is before goes on.
-use Rattle.std.proofs.Common.{◌≡◌, ◌⊎◌, ℕ, ◌<◌, Bool, true, false, ◌&&◌, ◌||◌, ◌==◌, nat_lt, refl, sym, ap, ◌∙◌, inl, inr, ⊎_elim, arith}
+use Rattle.std.proofs.Common.{◌≡◌, ◌⊎◌, ℕ, ◌<◌, Bool, true, false, ◌&&◌, ◌||◌, ◌==◌, nat_lt, sym, ◌∙◌, inl, inr, ⊎_elim, arith}
 use Rattle.std.proofs.lemmas.Bool.{and_cases, and_from, and_parts, both_ways, cases_Bool, cases_order, eqb-false, eqb-true, eq-eqb, lt-ltb, ltb-false, ltb-true, or_cases, or_left, or_parts, or_right}
 use Rattle.spawn_frame.specs.Names.{guest_before}
 use Rattle.spawn_frame.specs.declared.site.ChildName.{ChildName}

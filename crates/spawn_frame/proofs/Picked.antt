@@ -1,11 +1,11 @@
 -- The unit that is picked is there, with the status that is looked for.
-use Rattle.std.proofs.Common.{◌≡◌, ℕ, suc, ◌+◌, Bool, true, false, cond, ◌&&◌, ◌||◌, ◌==◌, nat_lt, List, [], ◌∷◌, map, Option, Some, None, IfSome, is_some, slice_get, refl, sym, ap, subst, ◌∙◌, arith}
+use Rattle.std.proofs.Common.{◌≡◌, ℕ, suc, ◌+◌, Bool, true, false, cond, ◌&&◌, ◌==◌, nat_lt, List, [], ◌∷◌, Option, Some, None, IfSome, is_some, slice_get, refl, sym, ap, ◌∙◌, arith}
 use Rattle.std.specs.List.{AllByRecursion}
 use Rattle.std.proofs.lemmas.Option.{same_Some, none-some}
-use Rattle.std.proofs.lemmas.Bool.{and_from, and_left, and_parts, and_right, both_ways, eqb-true, eq-eqb, false≢true, le-ltb, or_from}
+use Rattle.std.proofs.lemmas.Bool.{and_from, and_parts, and_right, both_ways, eqb-true, eq-eqb, false≢true, le-ltb, or_from}
 use Rattle.spawn_frame.specs.Frames.{frame, frame_result}
 use Rattle.spawn_frame.specs.Names.{guest_before, same_name}
-use Rattle.spawn_frame.specs.Picks.{either_unit, first_guest, is_ready, is_split, last_own, pick, ready_unit, ripe_unit}
+use Rattle.spawn_frame.specs.Picks.{either_unit, first_guest, is_ready, is_split, last_own, pick}
 use Rattle.spawn_frame.specs.Tables.{IsAscending, IsSeen, has_status}
 use Rattle.spawn_frame.specs.Units.{Entry, GuestEntry, Table, guest_in, is_guest, unit_of}
 use Rattle.spawn_frame.specs.Works.{IsWork, entry_of, may_become, wanted_status, wanted_unit}

@@ -1,20 +1,18 @@
 -- A child that was out is given out anew.
-use Rattle.std.proofs.Common.{◌≡◌, ℕ, suc, ◌+◌, Bool, true, false, List, map, Option, Some, None, is_some, refl, sym, ap, ◌∙◌, arith}
+use Rattle.std.proofs.Common.{◌≡◌, ℕ, suc, ◌+◌, true, false, List, map, Option, is_some, refl, sym, ap, arith}
 use Rattle.std.proofs.lemmas.Bool.{false≢true}
 use Rattle.spawn_frame.specs.Frames.{cover_of}
 use Rattle.spawn_frame.specs.Inlets.{is_done}
 use Rattle.spawn_frame.specs.Tables.{is_out}
-use Rattle.spawn_frame.specs.Units.{Entry, change_at, redone, table_own}
-use Rattle.spawn_frame.specs.Works.{IsFrame, IsTable, change_child, child_entry, entry_of, is_whole, table_of}
+use Rattle.spawn_frame.specs.Units.{change_at, redone, table_own}
+use Rattle.spawn_frame.specs.Works.{IsTable, change_child, child_entry, entry_of, is_whole, table_of}
 use Rattle.spawn_frame.specs.declared.child.Child.{Child}
 use Rattle.spawn_frame.specs.declared.guest.Guest.{Guest}
 use Rattle.spawn_frame.specs.declared.site.Site.{Site}
 use Rattle.spawn_frame.specs.declared.status.Status.{Status}
 use Rattle.spawn_frame.specs.declared.status.Status.TheVariants.{Aborted, Done, Dropped, Finished, Here, Out, Ready, Settled, Split}
 use Rattle.spawn_frame.specs.declared.unit.Unit.{Unit as WorkUnit}
-use Rattle.spawn_frame.specs.declared.unit.Unit.TheVariants as units
 use Rattle.spawn_frame.specs.declared.work.Work.{Work}
-use Rattle.spawn_frame.proofs.Briefs.{brief}
 use Rattle.spawn_frame.proofs.Kept.{own_kept}
 use Rattle.spawn_frame.proofs.Lookups.{child_view}
 use Rattle.spawn_frame.proofs.Statuses.{HasChild}

@@ -1,20 +1,16 @@
 -- A unit that is split, and its children at the end of the own children.
-use Rattle.std.proofs.Common.{◌≡◌, ◌⊎◌, ℕ, zero, suc, ◌+◌, ◌<◌, ◌≤◌, Bool, true, false, cond, not, ◌&&◌, ◌||◌, ◌==◌, List, [], ◌∷◌, ◌++◌, filter, map, length, option_map, Option, Some, None, is_some, IsSome, slice_get, refl, sym, ap, subst, ◌∙◌, inl, inr, ⊎_elim, arith}
-use Rattle.std.specs.List.{AllByRecursion, list_any}
-use Rattle.std.proofs.lemmas.List.{length-append, length-map, map-append}
+use Rattle.std.proofs.Common.{◌≡◌, ℕ, suc, ◌+◌, Bool, true, false, cond, not, ◌&&◌, List, [], ◌∷◌, ◌++◌, filter, map, length, Some, None, is_some, refl, ap, ◌∙◌, arith}
+use Rattle.std.proofs.lemmas.List.{length-append}
 use Rattle.std.proofs.lemmas.List.Elements.{filter-append}
-use Rattle.std.proofs.lemmas.Option.{same_Some, none-some, slice_get-map, slice_get_within}
-use Rattle.std.proofs.lemmas.Bool.{and_from, and_left, and_parts, and_right, both_ways, cases_Bool, eqb-true, eq-eqb, false≢true, false_from_ne_true, ne_eqb, or_from, or_parts, true≢false}
+use Rattle.std.proofs.lemmas.Bool.{and_from, and_left, and_right, or_from, or_parts}
 use Rattle.spawn_frame.specs.Frames.{cover_of, is_unit}
-use Rattle.spawn_frame.specs.Inlets.{Hearing, children_left, frame_hearing, frame_winner, is_done, new_hearing, winner_from}
-use Rattle.spawn_frame.specs.Names.{same_name, same_unit}
-use Rattle.spawn_frame.specs.Splits.{new_child, split_into}
+use Rattle.spawn_frame.specs.Inlets.{children_left, frame_hearing, is_done, new_hearing, winner_from}
+use Rattle.spawn_frame.specs.Names.{same_unit}
+use Rattle.spawn_frame.specs.Splits.{new_child}
 use Rattle.spawn_frame.specs.Units.{Entry}
 use Rattle.spawn_frame.specs.Works.{child_entry, fresh_child, has_child}
-use Rattle.spawn_frame.specs.declared.status.Status.TheVariants.{Ready}
 use Rattle.spawn_frame.specs.declared.unit.Unit.{Unit as WorkUnit}
-use Rattle.spawn_frame.specs.declared.unit.Unit.TheVariants as units
-use Rattle.spawn_frame.proofs.Sames.{same_unit_self, unit_path}
+use Rattle.spawn_frame.proofs.Sames.{same_unit_self}
 
 -- ---- own children, with new ones behind them
 

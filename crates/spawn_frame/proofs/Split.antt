@@ -1,19 +1,18 @@
 -- What is true of a table stays true where a unit is split.
-use Rattle.std.proofs.Common.{◌≡◌, ◌⊎◌, ℕ, zero, suc, ◌+◌, ◌<◌, ◌≤◌, Bool, true, false, cond, ◌&&◌, ◌==◌, List, [], ◌∷◌, ◌++◌, map, length, option_map, Option, Some, None, is_some, IsSome, slice_get, refl, sym, ap, subst, ◌∙◌, inl, inr, ⊎_elim, arith}
+use Rattle.std.proofs.Common.{◌≡◌, ◌⊎◌, ℕ, zero, suc, ◌+◌, ◌<◌, ◌≤◌, true, false, ◌&&◌, ◌==◌, List, [], ◌∷◌, ◌++◌, map, length, Option, Some, None, is_some, IsSome, slice_get, refl, sym, ap, subst, ◌∙◌, inl, inr, ⊎_elim, arith}
 use Rattle.std.specs.List.{AllByRecursion}
 use Rattle.std.proofs.lemmas.List.{length-append, length-map, map-append}
-use Rattle.std.proofs.lemmas.Option.{same_Some, none-some, slice_get-map, slice_get_within}
-use Rattle.std.proofs.lemmas.Bool.{and_from, and_parts, both_ways, eqb-true, eq-eqb, false≢true, false_from_ne_true, ne_eqb, true≢false}
-use Rattle.spawn_frame.specs.Frames.{cover_of, is_unit}
+use Rattle.std.proofs.lemmas.Option.{same_Some, none-some, slice_get_within}
+use Rattle.std.proofs.lemmas.Bool.{and_from, and_parts, both_ways, eqb-true, eq-eqb, false≢true, false_from_ne_true, ne_eqb}
+use Rattle.spawn_frame.specs.Frames.{cover_of}
 use Rattle.spawn_frame.specs.Inlets.{is_done}
 use Rattle.spawn_frame.specs.Names.{same_name, same_unit}
 use Rattle.spawn_frame.specs.Splits.{new_child, split_into}
-use Rattle.spawn_frame.specs.Tables.{HasParents, IsAscending, has_status, is_here}
-use Rattle.spawn_frame.specs.Units.{Entry, GuestEntry, Table, change_at, change_guest, guest_in, is_guest, table_gets, table_own, unit_of, with_status}
-use Rattle.spawn_frame.specs.Works.{IsFrame, IsTable, IsWork, change_child, change_work, child_entry, child_work, entry_of, fresh_child, guest_entry, guest_work, guests_after, has_child, is_whole, new_work, own_after, split_work, table_of, work_in}
+use Rattle.spawn_frame.specs.Tables.{HasParents, IsAscending, is_here}
+use Rattle.spawn_frame.specs.Units.{Entry, guest_in, is_guest, table_gets, table_own, unit_of, with_status}
+use Rattle.spawn_frame.specs.Works.{IsFrame, IsTable, IsWork, change_child, change_work, child_entry, child_work, fresh_child, guest_entry, guests_after, has_child, is_whole, new_work, own_after, split_work, table_of, work_in}
 use Rattle.spawn_frame.specs.declared.child.Child.{Child}
 use Rattle.spawn_frame.specs.declared.guest.Guest.{Guest}
-use Rattle.spawn_frame.specs.declared.site.ChildName.{ChildName}
 use Rattle.spawn_frame.specs.declared.site.Site.{Site}
 use Rattle.spawn_frame.specs.declared.status.Status.{Status}
 use Rattle.spawn_frame.specs.declared.status.Status.TheVariants.{Aborted, Done, Dropped, Finished, Here, Out, Ready, Settled, Split}
@@ -21,12 +20,12 @@ use Rattle.spawn_frame.specs.declared.unit.Unit.{Unit as WorkUnit}
 use Rattle.spawn_frame.specs.declared.unit.Unit.TheVariants as units
 use Rattle.spawn_frame.specs.declared.work.Work.{Work}
 use Rattle.spawn_frame.proofs.Admitted.{find_child}
-use Rattle.spawn_frame.proofs.Briefs.{brief, briefs, same_child, same_frame}
+use Rattle.spawn_frame.proofs.Briefs.{briefs, same_child, same_frame}
 use Rattle.spawn_frame.proofs.Ended.{each_told}
-use Rattle.spawn_frame.proofs.Found.{unit_none, unit_work}
+use Rattle.spawn_frame.proofs.Found.{unit_work}
 use Rattle.spawn_frame.proofs.Kept.{ascending_kept, child_briefs, each_weaker, guest_there, keys_kept, length_changed, still_there, was_there}
-use Rattle.spawn_frame.proofs.Lookups.{child_before, child_view, guest_view, guest_with, with_work}
-use Rattle.spawn_frame.proofs.Sames.{name_path, parent_path, same_name_self, same_unit_self, unit_path}
+use Rattle.spawn_frame.proofs.Lookups.{child_before, child_view, guest_view, with_work}
+use Rattle.spawn_frame.proofs.Sames.{name_path, parent_path, same_name_self}
 use Rattle.spawn_frame.proofs.Spawned.{child_append, child_of_other, entries_new, hearing_append, hearing_new, news}
 
 -- ---- lists with others behind them

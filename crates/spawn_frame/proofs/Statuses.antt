@@ -1,7 +1,7 @@
 -- Units that get another status of which no frame hears.
-use Rattle.std.proofs.Common.{◌≡◌, ℕ, Bool, true, false, not, ◌&&◌, ◌||◌, List, map, option_map, Option, Some, None, is_some, slice_get, get_or, refl, sym, ap, subst, ◌∙◌, ⊎_elim}
+use Rattle.std.proofs.Common.{◌≡◌, ℕ, Bool, true, not, ◌||◌, List, map, option_map, Option, Some, None, is_some, slice_get, get_or, refl, sym, ap, ◌∙◌, ⊎_elim}
 use Rattle.std.proofs.lemmas.Option.{same_Some, slice_get-map, slice_get_within}
-use Rattle.std.proofs.lemmas.Bool.{and_parts, not-true, or_parts, or_cases, both_ways, true≢false, false≢true}
+use Rattle.std.proofs.lemmas.Bool.{and_parts, not-true, or_parts, or_cases, both_ways, false≢true}
 use Rattle.spawn_frame.specs.Frames.{cover_of}
 use Rattle.spawn_frame.specs.Inlets.{is_done}
 use Rattle.spawn_frame.specs.Picks.{is_split}
@@ -13,7 +13,6 @@ use Rattle.spawn_frame.specs.declared.guest.Guest.{Guest}
 use Rattle.spawn_frame.specs.declared.site.ChildName.{ChildName}
 use Rattle.spawn_frame.specs.declared.site.Site.{Site}
 use Rattle.spawn_frame.specs.declared.status.Status.{Status}
-use Rattle.spawn_frame.specs.declared.status.Status.TheVariants.{Split}
 use Rattle.spawn_frame.specs.declared.unit.Unit.{Unit as WorkUnit}
 use Rattle.spawn_frame.specs.declared.unit.Unit.TheVariants as units
 use Rattle.spawn_frame.specs.declared.work.Work.{Work}

@@ -1,7 +1,7 @@
 -- What the calls of a table ask for and answer.
 use Rattle.std.specs.Prelude.{◌≡◌, ℕ, ◌<◌, IsSome, Bool, true, false, if◌then◌else◌, List, [], ◌∷◌, ◌++◌, map, Option, Some, None, slice_get}
 use Rattle.std.specs.List.{AllByRecursion}
-use Rattle.spawn_frame.specs.Frames.{cover_of, frame, frame_result, is_unit}
+use Rattle.spawn_frame.specs.Frames.{frame, frame_result, is_unit}
 use Rattle.spawn_frame.specs.Inlets.{heard_by}
 use Rattle.spawn_frame.specs.Names.{guest_before}
 use Rattle.spawn_frame.specs.Picks.{is_split}

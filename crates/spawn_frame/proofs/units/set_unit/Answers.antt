@@ -1,4 +1,4 @@
-use Rattle.std.proofs.Common.{◌≡◌, ◌∙◌, ◌<◌, length, sym, ap, arith}
+use Rattle.std.proofs.Common.{◌∙◌, sym, ap, arith}
 use Rattle.spawn_frame.specs.Works.{guests_after, own_after, with_work_status}
 use Rattle.spawn_frame.proofs.Places.{child_past, child_write, guest_unwritten, guest_write}
 use Rattle.spawn_frame.proofs.units.set_unit.Goals as goal

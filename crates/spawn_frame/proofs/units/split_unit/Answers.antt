@@ -1,4 +1,4 @@
-use Rattle.std.proofs.Common.{◌≡◌, ◌∙◌, get_or, slice_set, sym, ap, arith}
+use Rattle.std.proofs.Common.{◌∙◌, get_or, slice_set, sym, ap, arith}
 use Rattle.spawn_frame.specs.Works.{guests_after, own_after, split_work}
 use Rattle.spawn_frame.specs.declared.child.Child.{Child}
 use Rattle.spawn_frame.specs.declared.guest.Guest.{Guest}

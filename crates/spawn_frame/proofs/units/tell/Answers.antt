@@ -1,4 +1,4 @@
-use Rattle.std.proofs.Common.{◌≡◌, ◌∙◌, get_or, option_map, slice_set, Some, subst, sym, ap, arith}
+use Rattle.std.proofs.Common.{◌∙◌, get_or, option_map, slice_set, Some, subst, sym, ap, arith}
 use Rattle.std.proofs.lemmas.Option.{slice_get_past}
 use Rattle.spawn_frame.specs.Works.{HearsFrom, child_work, frame_says, guests_after, own_after, with_heard, work_in}
 use Rattle.spawn_frame.specs.declared.child.Child.{Child}

@@ -1,7 +1,7 @@
-use Rattle.std.proofs.Common.{◌≡◌, Option, ℕ, IfNone, IfSome, ap, subst, sym, ◌∙◌}
+use Rattle.std.proofs.Common.{◌≡◌, IfNone, IfSome, ap, subst, sym, ◌∙◌}
 use Rattle.std.proofs.lemmas.Option.{same_Some}
 use Rattle.spawn_frame.specs.Frames.{frame, frame_result}
-use Rattle.spawn_frame.specs.Inlets.{Hearing, frame_hearing}
+use Rattle.spawn_frame.specs.Inlets.{frame_hearing}
 use Rattle.spawn_frame.specs.Tables.{GivesResult}
 use Rattle.spawn_frame.specs.declared.child_result.ChildResult.TheVariants.{Empty}
 use Rattle.spawn_frame.proofs.Winners.{inlet_is, no_winner_empty, winner_gives}

@@ -1,7 +1,7 @@
-use Rattle.std.proofs.Common.{◌≡◌, ◌<◌, List, get_or, length, MatchOption, None, Some, option_map, position, sym, ap, subst, ◌∙◌, arith}
+use Rattle.std.proofs.Common.{◌≡◌, ◌<◌, List, get_or, length, MatchOption, None, position, sym, ap, subst, ◌∙◌, arith}
 use Rattle.std.proofs.lemmas.Bool.{ltb-true}
 use Rattle.spawn_frame.specs.Units.{is_guest, unit_of}
-use Rattle.spawn_frame.specs.Works.{IsWork, child_work, guest_entry, table_of, work_in}
+use Rattle.spawn_frame.specs.Works.{IsWork, child_work, guest_entry, work_in}
 use Rattle.spawn_frame.specs.declared.guest.Guest.{Guest}
 use Rattle.spawn_frame.proofs.Found.{unit_none, unit_work}
 use Rattle.spawn_frame.proofs.Places.{child_get, guest_get, guest_unread, place_is}
