@@ -6,7 +6,7 @@ ghost use Rattle.dancing_links.specs.Counting.{fewer, more, with_less, with_more
 ghost use Rattle.dancing_links.specs.Covering.{others, others_from, Covers, Uncovers, CoversAll, UncoversAll, items_from};
 ghost use Rattle.dancing_links.specs.Linking.{unlinks, relinks, up_of, down_of};
 
-use crate::layout::{Layout, item_at};
+use crate::layout::{Layout, item_at, row_of};
 use crate::link::{Link, relink, unlink};
 
 /// Counts a node of an option no more: its item has one live option less.
@@ -44,9 +44,7 @@ fn hide(layout: &Layout, links: &mut [Link], counts: &mut [u16], node: usize)
     ensures links { links.new ≡ unlinks links.old (others (columns_of layout.now) node) }
     ensures counts { counts.new ≡ fewer (columns_of layout.now) counts.old (others (columns_of layout.now) node) }
 {
-    let option = layout.options[node] as usize;
-    let begin = layout.first[option] as usize;
-    let end = layout.first[option + 1] as usize;
+    let (begin, end) = row_of(layout, node);
     for other in begin..end {
         if other != node {
             unlink(layout, links, other);
@@ -92,9 +90,7 @@ fn unhide(layout: &Layout, links: &mut [Link], counts: &mut [u16], node: usize)
     ensures links { links.new ≡ relinks links.old (others (columns_of layout.now) node) }
     ensures counts { counts.new ≡ more (columns_of layout.now) counts.old (others (columns_of layout.now) node) }
 {
-    let option = layout.options[node] as usize;
-    let begin = layout.first[option] as usize;
-    let end = layout.first[option + 1] as usize;
+    let (begin, end) = row_of(layout, node);
     relink_others(layout, links, counts, node, begin, end);
 }
 
