@@ -144,7 +144,7 @@ first_within p o h = elim (cases_lt (length p.options) o) [
 ]
 
 -- a node of no option belongs to an empty range
-no_option : (p : Problem) (k : ℕ) → k < tails_of p + heads_of p → get_or (option_list p) k 0 ≡ length p.options → begin_of (table p) k ≤ end_of (table p) k
+no_option : (p : Problem) (k : ℕ) → k < tails_of p + heads_of p → get_or (option_list p) k 0 ≡ length p.options → begin_of (table p) k ≡ end_of (table p) k
 no_option p k h own =
     let row = row_by p k (length p.options) h own in
     let begin = ap (λ (r : Row). r.begin) row ∙ first_at p (length p.options) (omega arith) ∙ starts_end (base_of p) p.options in
@@ -200,9 +200,10 @@ table_is p is =
       row = length-row_list p ∙ sym size;
       each_row = All-from_get_or (λ (r : Row). (heads_of p + heads_of p ≤ r.begin + 1) × (r.end ≤ tails_of p)) (row_list p) empty_row (λ k h. row_within p k (omega (arith, h, length-row_list p)));
       ordered = λ k low high. elim (cases_lt k (base_of p)) [
-        | inl before ↦ no_option p k (omega (arith, high)) (option_before p k before)
+        | inl before ↦ omega (arith, no_option p k (omega (arith, high)) (option_before p k before))
         | inr more ↦ let at = node_at p k more high in omega (arith, at.at.begin, at.at.end)
       ];
+      no_row = λ k low high. no_option p k (omega (arith, high)) (option_before p k (omega (arith, high)));
       tail_columns = λ k low high. omega (arith, column_tail p k low (omega (arith, high, size)), low);
       option_columns = λ k low high.
           let at = node_at p k (omega (arith, low)) high in

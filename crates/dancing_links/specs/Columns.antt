@@ -82,6 +82,7 @@ pub record IsTable (c : Columns) : Type 0 where
   pub row : length c.rows ≡ length c.column
   pub each_row : All (λ r. (c.heads + c.heads ≤ r.begin + 1) × (r.end ≤ c.tails)) c.rows
   pub ordered : (k : ℕ) → c.heads ≤ k → k < c.tails → begin_of c k ≤ end_of c k
+  pub no_row : (k : ℕ) → c.heads ≤ k → k + 1 < c.heads + c.heads → begin_of c k ≡ end_of c k
   pub tail_columns : (k : ℕ) → c.tails ≤ k → k < length c.column → column_of c k + c.tails ≡ k
   pub option_columns : (k : ℕ) → c.heads + c.heads ≤ k + 1 → k < c.tails → column_of c k + 1 < c.heads
   pub head_columns : (k : ℕ) → k < c.heads → column_of c k ≡ k

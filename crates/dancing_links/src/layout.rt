@@ -168,6 +168,7 @@ pub fn row_of(layout: &Layout, node: usize) -> (usize, usize)
     ensures begin { result.0 ≡ begin_of (columns_of layout.now) node }
     ensures end { result.1 ≡ end_of (columns_of layout.now) node }
     ensures range { (layout.now.heads + layout.now.heads ≤ result.0 + 1) × (result.0 ≤ result.1) × (result.1 ≤ layout.now.tails) }
+    ensures within { result.0 < result.1 → (result.0 ≤ node) × (node < result.1) }
 {
     let row = layout.rows[node];
     (row.begin as usize, row.end as usize)
