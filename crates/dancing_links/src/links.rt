@@ -94,6 +94,7 @@ impl<'a> Links<'a> {
     }
 
     /// Takes the last choice back, and answers it: all links are as before it.
+    #[inline(always)]
     pub fn undo(&mut self) -> u16
         requires { 0 < length self.old.chosen }
         ensures { self.old ≡ with_choice self.new result }
