@@ -1,7 +1,8 @@
 -- The loop of a visit over the children of a prefix.
-use Rattle.std.proofs.Common.{◌≡◌, ℕ, zero, suc, ◌+◌, ◌-◌, ◌<◌, ◌≤◌, List, [], ◌∷◌, ◌++◌, length, true, not, Option, Some, None, get_or, take, nat_lt, false, refl, arith, sym, ap, ◌∙◌, slice_get, IfSome, subst, option_map, inl, inr}
+use Rattle.std.proofs.Common.{◌≡◌, ℕ, zero, suc, ◌+◌, ◌-◌, ◌<◌, ◌≤◌, List, [], ◌∷◌, ◌++◌, length, true, not, Option, Some, None, get_or, take, nat_lt, false, refl, arith, sym, ap, ◌∙◌, slice_get, IfSome, subst, option_map}
+use Rattle.std.specs.Option.{option_map_or}
 use Rattle.std.proofs.lemmas.Bool.Decides.{nat_tests}
-use Rattle.std.proofs.lemmas.Bool.{and_from, and_parts, not-true, not_from_false, cases_cond}
+use Rattle.std.proofs.lemmas.Bool.{and_from, and_parts, not-true, not_from_false}
 use Rattle.std.proofs.lemmas.List.{same_from_push}
 use Rattle.cover_problem.specs.Branching.{IsOpen, branch_item, fewest_of, fewer_of, is_choice, live_options, open_items}
 use Rattle.cover_problem.specs.Onward.{open_items_from, live_options_from, first_among, visits_among}
@@ -15,6 +16,7 @@ use Rattle.cover_problem.proofs.Remaining.{open_items_from_take, open_items_star
 use Rattle.cover_problem.proofs.Steps.{within_some, left_end, left_barren, left_found, left_spent}
 use Rattle.dancing_links.specs.Choices.{Choices, with_choice, IsChild}
 use Rattle.dancing_links.proofs.Tables.{in_by_place}
+use Rattle.brancher.specs.Counted.{IsCounted}
 use Rattle.brancher.proofs.Lefts.{items_left, options_left, items_next, options_next, IsOpenItem}
 
 -- ---- the items that are left
@@ -30,8 +32,8 @@ fewest_start p os next e = ap (fewest_of p os None) (items_next p os 0 next e �
 items_taken : (p : Problem) (os : List ℕ) (i : ℕ) (next : Option ℕ) → next ≡ Some i → IsOpen p os i → items_left p os next ≡ i ∷ open_items_from p os (i + 1)
 items_taken p os i next e is = ap (items_left p os) e ∙ open_items_from_take p os i is.primary is.uncovered
 
-pub fewest_step : (p : Problem) (os : List ℕ) (best : Option ℕ) (b i : ℕ) (next later : Option ℕ) → next ≡ Some i → IsOpen p os i → Some b ≡ fewer_of p os best i → later ≡ slice_get (open_items_from p os (i + 1)) 0 → fewest_of p os best (items_left p os next) ≡ branch_item p os → fewest_of p os (Some b) (items_left p os later) ≡ branch_item p os
-fewest_step p os best b i next later e is f g h =
+pub fewest_step : (p : Problem) (os : List ℕ) (best new : Option ℕ) (i : ℕ) (next later : Option ℕ) → next ≡ Some i → IsOpen p os i → new ≡ fewer_of p os best i → later ≡ slice_get (open_items_from p os (i + 1)) 0 → fewest_of p os best (items_left p os next) ≡ branch_item p os → fewest_of p os new (items_left p os later) ≡ branch_item p os
+fewest_step p os best new i next later e is f g h =
     ap (λ o. fewest_of p os o (items_left p os later)) f
     ∙ ap (fewest_of p os (fewer_of p os best i)) (items_next p os (i + 1) later g)
     ∙ sym (ap (fewest_of p os best) (items_taken p os i next e is)) ∙ h
@@ -55,18 +57,23 @@ fewest_found p os best b i next e is f none h =
 pub items_fewer : (p : Problem) (os : List ℕ) (i : ℕ) (next later : Option ℕ) → next ≡ Some i → IsOpen p os i → later ≡ slice_get (open_items_from p os (i + 1)) 0 → length (items_left p os later) < length (items_left p os next)
 items_fewer p os i next later e is g = omega (arith, ap length (items_next p os (i + 1) later g), ap length (items_taken p os i next e is))
 
-same_some : (a b : ℕ) → Some a ≡ Some b → a ≡ b
-same_some a b e = cc
+-- what the best item so far is, once an item was looked at
+pub record IsBest (p : Problem) (os : List ℕ) (best new : Option (ℕ × ℕ)) (i : ℕ) : Type 0 where
+  pub item : option_map (λ b. b.0) new ≡ fewer_of p os (option_map (λ b. b.0) best) i
+  pub counted : IfSome new (IsCounted p os)
+  pub is_open : IfSome new (λ b. IsOpenItem p os b.0)
 
-pub best_open : (p : Problem) (os : List ℕ) (best : Option (ℕ × ℕ)) (b i : ℕ) → IfSome best (λ x. IsOpenItem p os x.0) → IsOpenItem p os i → Some b ≡ fewer_of p os (option_map (λ x. x.0) best) i → IsOpenItem p os b
-best_open p os None b i former is e = let P : ℕ → Type 0 = λ k. IsOpenItem p os k in subst P (sym (same_some b i e)) is
-best_open p os (Some x) b i former is e =
-    let P : ℕ → Type 0 = λ k. IsOpenItem p os k in
-    let at = same_some b _ e in
-    elim (cases_cond _ i x.0 b at) [
-      | inl f ↦ subst P (sym f) is
-      | inr f ↦ subst P (sym f) former
-    ]
+pub best_taken : (p : Problem) (os : List ℕ) (best : Option (ℕ × ℕ)) (i count : ℕ) → count ≡ length (live_options p os i) → IfSome best (IsCounted p os) → IsOpenItem p os i → option_map_or (λ (b : ℕ × ℕ). nat_lt count b.1) best true ≡ true → IsBest p os best (Some (i, count)) i
+best_taken p os None i count e counted is less = record { item = refl; counted = e; is_open = is }
+best_taken p os (Some b) i count e counted is less =
+    let test : nat_lt (length (live_options p os i)) (length (live_options p os b.0)) ≡ true = rw (← e, ← counted) less in
+    record { item = rw test refl; counted = e; is_open = is }
+
+pub best_kept : (p : Problem) (os : List ℕ) (best : Option (ℕ × ℕ)) (i count : ℕ) → count ≡ length (live_options p os i) → IfSome best (IsCounted p os) → IfSome best (λ b. IsOpenItem p os b.0) → option_map_or (λ (b : ℕ × ℕ). nat_lt count b.1) best true ≡ false → IsBest p os best best i
+best_kept p os None i count e counted is less = cc
+best_kept p os (Some b) i count e counted is less =
+    let test : nat_lt (length (live_options p os i)) (length (live_options p os b.0)) ≡ false = rw (← e, ← counted) less in
+    record { item = rw test refl; counted = counted; is_open = is }
 
 -- ---- the prefix, option by option
 

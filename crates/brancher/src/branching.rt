@@ -1,27 +1,22 @@
 //! Where a search goes on from the chosen options.
 
-ghost use Rattle.std.specs.Prelude.{◌≡◌, ◌<◌, ◌++◌, length, option_map, IfSome, OnOk, OnErr, Some, false};
+ghost use Rattle.std.specs.Prelude.{◌≡◌, ◌<◌, ◌++◌, length, nat_lt, OnOk, OnErr, true, false};
+ghost use Rattle.std.specs.Option.{option_map_or};
 ghost use Rattle.cover_problem.specs.Prefix.{is_covered};
-ghost use Rattle.cover_problem.specs.Branching.{live_options, branch_item, fewer_of};
-ghost use Rattle.brancher.specs.Counted.{IsCounted};
+ghost use Rattle.cover_problem.specs.Branching.{live_options, branch_item};
 ghost use Rattle.brancher.specs.Branch.{branch_told, IsOpenBranch};
 
 use crate::ways::Branch;
 use dancing_links::Links;
 use std::alloc::AllocError;
 
-/// The one of two uncovered items with fewer live options, with their number; the former where they have as many.
-fn fewer_of(links: &Links, best: Option<(u16, usize)>, item: u16) -> (u16, usize)
-    requires item { item < length links.now.problem.names }
-    requires uncovered { is_covered links.now.problem links.now.chosen item ≡ false }
-    requires best { IfSome best (IsCounted links.now.problem links.now.chosen) }
-    ensures item { Some result.0 ≡ fewer_of links.now.problem links.now.chosen (option_map (λ b. b.0) best) item }
-    ensures count { IsCounted links.now.problem links.now.chosen result }
+/// Whether an item with so many live options has fewer than the best item so far; so where there is none.
+fn is_fewer(count: usize, best: Option<(u16, usize)>) -> bool
+    ensures { result ≡ option_map_or (λ b. nat_lt count b.1) best true }
 {
-    let count = links.count(item);
     match best {
-        Some((former, least)) if least <= count => (former, least),
-        _ => (item, count),
+        Some((_, least)) => count < least,
+        None => true,
     }
 }
 
@@ -33,12 +28,14 @@ pub fn branch(links: &Links) -> Branch
     let mut best: Option<(u16, usize)> = None;
     let mut next = links.first_item();
     while let Some(item) = next {
-        let fewer = fewer_of(links, best, item);
-        // No other item can have fewer.
-        if fewer.1 == 0 {
-            return Branch::Item(fewer.0);
+        let count = links.count(item);
+        if is_fewer(count, best) {
+            // No other item can have fewer.
+            if count == 0 {
+                return Branch::Item(item);
+            }
+            best = Some((item, count));
         }
-        best = Some(fewer);
         next = links.next_item(item);
     }
     match best {

@@ -1,6 +1,9 @@
-ghost use Rattle.std.specs.Prelude.{◌≡◌, ◌+◌, ◌<◌, ◌≤◌, length};
+ghost use Rattle.std.specs.Prelude.{◌≡◌, ◌+◌, ◌<◌, ◌≤◌, length, IfSome, false, slice_get};
 ghost use Rattle.cover_problem.specs.Branching.{open_items};
+ghost use Rattle.cover_problem.specs.Onward.{live_options_from};
+ghost use Rattle.cover_problem.specs.Prefix.{is_covered};
 ghost use Rattle.cover_problem.specs.Search.{first_within, visits_within};
+ghost use Rattle.dancing_links.specs.Choices.{IsChild};
 ghost use Rattle.brancher.specs.Visit.{IsVisit};
 
 use crate::branching::branch;
@@ -16,6 +19,20 @@ pub enum Visit {
     Barren(u64),
     /// The fuel was spent.
     Spent,
+}
+
+/// Takes the child that is next; the one after it is next then.
+fn take_child(links: &Links, item: u16, next: &mut Option<u16>) -> Option<u16>
+    requires item { item < length links.now.problem.names }
+    requires uncovered { is_covered links.now.problem links.now.chosen item ≡ false }
+    requires child { IfSome next.old (IsChild links.now.problem links.now.chosen item) }
+    ensures taken { result ≡ next.old }
+    ensures next { IfSome result (λ option. next.new ≡ slice_get (live_options_from links.now.problem links.now.chosen item (option + 1)) 0) }
+    ensures child { IfSome next.new (IsChild links.now.problem links.now.chosen item) }
+{
+    let option = (*next)?;
+    *next = links.next_option(item, option);
+    Some(option)
 }
 
 /// Visits the prefix that is chosen, and what is below it. The chosen options come back, or are the first cover.
@@ -35,7 +52,7 @@ pub fn visit_prefix(links: &mut Links, depth: usize, fuel: u64) -> Visit
     };
     let mut left = fuel - 1;
     let mut next = links.first_option(item);
-    while let Some(option) = next {
+    while let Some(option) = take_child(links, item, &mut next) {
         links.choose(option);
         match visit_prefix(links, depth - 1, left) {
             Visit::Found => return Visit::Found,
@@ -45,7 +62,6 @@ pub fn visit_prefix(links: &mut Links, depth: usize, fuel: u64) -> Visit
                 left = rest;
             }
         }
-        next = links.next_option(item, option);
     }
     Visit::Barren(left)
 }

@@ -1,5 +1,6 @@
 pub mod Law
 pub mod Others
+pub mod Round
 pub mod Walk
 pub mod Chain
 pub mod Counts

@@ -13,7 +13,8 @@ use Rattle.cover_problem.proofs.Among.{all_at, all_by, any_at, some_with}
 use Rattle.cover_problem.proofs.Clashes.{clash_by, clash_item}
 use Rattle.cover_problem.proofs.Prefixes.{prefix_more}
 use Rattle.dancing_links.specs.Choices.{covered_items}
-use Rattle.dancing_links.proofs.Present.{among-append, same_flags}
+use Rattle.dancing_links.proofs.Present.{same_flags}
+use Rattle.dancing_links.proofs.Round.{among-append}
 use Rattle.dancing_links.proofs.Tables.{option_distinct}
 
 -- whether an item is among the covered ones

@@ -1,19 +1,12 @@
 -- Which nodes are out once items are covered: those of options that name a covered item.
-use Rattle.std.proofs.Common.{◌≡◌, ℕ, zero, suc, ◌+◌, ◌-◌, ◌<◌, ◌≤◌, List, [], ◌∷◌, ◌++◌, Bool, true, false, not, ◌==◌, ◌&&◌, ◌||◌, filter, refl, arith, sym, ap, ◌∙◌, inl, inr, ◌⊎◌}
+use Rattle.std.proofs.Common.{◌≡◌, ℕ, zero, suc, ◌+◌, ◌-◌, ◌<◌, ◌≤◌, List, [], ◌∷◌, ◌++◌, Bool, true, false, not, ◌==◌, ◌&&◌, filter, refl, arith, sym, ap, ◌∙◌, inl, inr, ◌⊎◌}
 use Rattle.std.specs.List.{range_with_len, list_any, flat_map}
 use Rattle.std.proofs.lemmas.Bool.{eq-eqb, ne_eqb, eqb-true, cases_Bool, cases_eq, both_ways, or_cases, or_left, or_right, and_parts, not-true}
 use Rattle.dancing_links.specs.Columns.{among, Columns, column_of, begin_of, end_of, column_from, IsTable}
-use Rattle.dancing_links.specs.Covering.{outs, others_from, others, hidden_from, covered, IsOpen, AreOpen, outs_all}
+use Rattle.dancing_links.specs.Covering.{outs, others, hidden_from, covered, IsOpen, AreOpen, outs_all}
 use Rattle.dancing_links.proofs.Law.{in_other, out_other}
-use Rattle.dancing_links.proofs.Walk.{others_at, option_node}
-
--- whether a number is in one of two lists
-pub among-append : (xs ys : List ℕ) (k : ℕ) → among (xs ++ ys) k ≡ (among xs k || among ys k)
-among-append [] ys k = refl
-among-append (x ∷ xs) ys k = elim (cases_Bool (x == k)) [
-  | inl t ↦ rw t refl
-  | inr f ↦ rw f (among-append xs ys k)
-]
+use Rattle.dancing_links.proofs.Round.{among-append, others_at, others_has}
+use Rattle.dancing_links.proofs.Walk.{option_node}
 
 pub outs_kept : (xs out : List ℕ) (k : ℕ) → among out k ≡ true → among (outs xs out) k ≡ true
 outs_kept [] out k h = h
@@ -145,26 +138,6 @@ open_by c is out i t o item new = record {
       ];
 }
 
-others_has_in : (node k n start : ℕ) → start ≤ k → k < start + n → (k ≡ node → ⊥) → among (filter (λ j. not (j == node)) (range_with_len start n)) k ≡ true
-others_has_in node k zero start low high ne = absurd (omega (arith, low, high))
-others_has_in node k (suc n) start low high ne =
-    let more : List ℕ = filter (λ j. not (j == node)) (range_with_len (start + 1) n) in
-    elim (cases_eq start k) [
-      | inl e ↦
-          let skip : (start == node) ≡ false = ne_eqb start node (λ f. ne (sym e ∙ f)) in
-          rw skip (or_left (start == k) (among more k) (eq-eqb start k e))
-      | inr off ↦
-          let rest = others_has_in node k n (start + 1) (omega (arith, low, off)) (omega (arith, high)) ne in
-          elim (cases_Bool (start == node)) [
-            | inl t ↦ rw t rest
-            | inr f ↦ rw f (or_right (start == k) (among more k) rest)
-          ]
-    ]
-
-others_has : (c : Columns) (node k : ℕ) → begin_of c node ≤ k → k < end_of c node → (k ≡ node → ⊥) → among (others c node) k ≡ true
-unfolding others others_from
-others_has c node k low high ne = others_has_in node k (end_of c node - begin_of c node) (begin_of c node) low (omega (arith, low, high)) ne
-
 dead_more : (c : Columns) (is : List ℕ) (i k : ℕ) → is_dead c is k ≡ true → is_dead c (i ∷ is) k ≡ true
 dead_more c is i k h =
     let at = dead_at c is (begin_of c k) (end_of c k - begin_of c k) h in
@@ -187,7 +160,7 @@ out_step c is out i t o item new =
                 let at = hidden_at c (x ∷ out) i (c.heads + j) t hid in
                 let option = option_node c i at.node t item at.low at.own in
                 let w = t.within at.node option at.high in
-                let in_option = others_at c at.node (c.heads + j) (omega (arith, w.0, w.1)) at.other in
+                let in_option = others_at c at.node (c.heads + j) w.0 w.1 at.other in
                 omega (arith, w.2, in_option.0, lt)
             | inr old ↦ elim (or_cases (x == c.heads + j) (among out (c.heads + j)) old) [
               | inl same ↦ other.1 (omega (arith, eqb-true x (c.heads + j) same))
@@ -220,7 +193,7 @@ out_step c is out i t o item new =
                       let at' = dead_at c is (begin_of c j) (end_of c j - begin_of c j) d in
                       both_ways (is_dead c is k) alive (dead_by c is (begin_of c k) (end_of c k - begin_of c k) at'.0 (omega (arith, same.0, at'.1)) (omega (arith, same.0, same.1, at'.1, at'.2)) at'.3)) in
                       let here' : among (x ∷ out) j ≡ false = in_other out x j here (λ f. omega (arith, f, low_j, item)) in
-                      let member = others_has c j k (omega (arith, same.0, w.0)) (omega (arith, same.1, w.1)) (λ f. other.1 (ap (column_of c) f ∙ own)) in
+                      let member = others_has c j k (omega (arith, same.0, at.1)) (omega (arith, same.1, below)) (omega (arith, same.0, w.0)) (omega (arith, same.1, w.1)) (λ f. other.1 (ap (column_of c) f ∙ own)) in
                       outs_new hidden (x ∷ out) k (hides_at c (x ∷ out) i k j (omega (arith, low_j, item)) high_j own here' member)
                 ]
           ];
@@ -231,7 +204,7 @@ out_step c is out i t o item new =
                 let at = hidden_at c (x ∷ out) i k t hid in
                 let option = option_node c i at.node t item at.low at.own in
                 let w = t.within at.node option at.high in
-                let in_option = others_at c at.node k (omega (arith, w.0, w.1)) at.other in
+                let in_option = others_at c at.node k w.0 w.1 at.other in
                 let same = t.same at.node k option at.high in_option.0 in_option.1 in
                 dead_by c (i ∷ is) (begin_of c k) (end_of c k - begin_of c k) at.node (omega (arith, same.0, w.0)) (omega (arith, same.0, same.1, w.0, w.1)) (or_left (i == column_of c at.node) (among is (column_of c at.node)) (eq-eqb i (column_of c at.node) (sym at.own)))
             | inr old ↦ elim (or_cases (x == k) (among out k) old) [

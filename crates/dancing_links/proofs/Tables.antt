@@ -1,16 +1,17 @@
 -- The columns of a problem are a table.
 use Rattle.std.proofs.Common.{◌≡◌, ℕ, zero, suc, ◌+◌, ◌-◌, ◌<◌, ◌≤◌, List, [], ◌∷◌, length, Bool, true, not, ◌==◌, ◌&&◌, get_or, map, filter, refl, arith, sym, ap, ◌∙◌, inl, inr}
 use Rattle.std.specs.Prelude.{nat_lt}
-use Rattle.std.specs.List.{sum_by, list_all, concat, range_with_len}
+use Rattle.std.specs.List.{sum_by, list_all, concat, range_with_len, All}
 use Rattle.std.proofs.lemmas.Bool.{cases_lt, both_ways, eq-eqb, and_parts, or_left, or_right, not-true, ltb-true}
-use Rattle.std.proofs.lemmas.List.{length-map}
+use Rattle.std.proofs.lemmas.List.{length-map, get_or-map}
 use Rattle.std.proofs.lemmas.List.FromFn.{length-range_with_len}
 use Rattle.std.proofs.lemmas.List.Sums.{length-filter, count_by-le-length}
 use Rattle.std.proofs.lemmas.List.Elements.{All-get_or, All-from_get_or}
 use Rattle.cover_problem.specs.Numbers.{is_distinct, is_in, are_below}
 use Rattle.cover_problem.specs.Problem.{Problem, IsProblem, items_of, names_item}
+use Rattle.dancing_links.specs.declared.row.Row.{Row}
 use Rattle.dancing_links.specs.Columns.{Columns, among, option_of, column_of, column_from, begin_of, end_of, IsTable}
-use Rattle.dancing_links.specs.Table.{starts, numbered, heads_of, base_of, tails_of, column_list, option_list, first_list, table}
+use Rattle.dancing_links.specs.Table.{starts, numbered, heads_of, base_of, tails_of, column_list, option_list, first_list, row_at, row_list, table}
 use Rattle.dancing_links.proofs.Walk.{column_skip_to}
 use Rattle.dancing_links.proofs.Parts.{options_part}
 use Rattle.dancing_links.proofs.Nodes.{starts_next, starts_low, starts_high, starts_end, find_node, item_at_place, option_at_place, length-column_list, length-option_list, length-first_list, first_at, first_past, column_head, column_item, column_node, column_tail, option_before, option_node_list, option_after_list}
@@ -18,6 +19,15 @@ use Rattle.dancing_links.proofs.Nodes.{starts_next, starts_low, starts_high, sta
 -- where an option begins
 abbrev pub start_of : Problem → ℕ → ℕ
 start_of p o = get_or (starts (base_of p) p.options) o 0
+
+-- no row
+abbrev pub empty_row : Row
+empty_row = record { begin = 0; end = 0 }
+
+-- the row of a node, by its option
+row_by : (p : Problem) (k o : ℕ) → k < tails_of p + heads_of p → get_or (option_list p) k 0 ≡ o → get_or (row_list p) k empty_row ≡ row_at (first_list p) o
+unfolding row_list
+row_by p k o h own = get_or-map (row_at (first_list p)) (option_list p) k 0 empty_row (omega (arith, h, length-option_list p)) ∙ ap (row_at (first_list p)) own
 
 -- a node of an option of a problem
 pub record IsNodeAt (p : Problem) (k o j : ℕ) : Type 0 where
@@ -42,13 +52,14 @@ node_by p k o j ho hj e =
     option_node_list p k k_low k_high
     ∙ ap (λ n. get_or (numbered 0 p.options) (n - base_of p) 0) e
     ∙ option_at_place 0 (base_of p) p.options o j ho hj ∙ omega arith in
+    let row = row_by p k o (omega (arith, k_high)) own in
     record {
       option_in = ho;
       place_in = hj;
       node = e;
       own = own;
-      begin = ap (λ n. get_or (first_list p) n 0) own ∙ first_at p o (omega (arith, ho));
-      end = ap (λ n. get_or (first_list p) (n + 1) 0) own ∙ first_at p (o + 1) (omega (arith, ho)) ∙ next;
+      begin = ap (λ (r : Row). r.begin) row ∙ first_at p o (omega (arith, ho));
+      end = ap (λ (r : Row). r.end) row ∙ first_at p (o + 1) (omega (arith, ho)) ∙ next;
       low = low;
       high = omega (arith, next, last);
       item = column_node p k k_low k_high ∙ ap (λ n. get_or (concat p.options) (n - base_of p) 0) e ∙ item_at_place (base_of p) p.options o j ho hj;
@@ -133,10 +144,11 @@ first_within p o h = elim (cases_lt (length p.options) o) [
 ]
 
 -- a node of no option belongs to an empty range
-no_option : (p : Problem) (k : ℕ) → get_or (option_list p) k 0 ≡ length p.options → begin_of (table p) k ≤ end_of (table p) k
-no_option p k own =
-    let begin = ap (λ n. get_or (first_list p) n 0) own ∙ first_at p (length p.options) (omega arith) ∙ starts_end (base_of p) p.options in
-    let end = ap (λ n. get_or (first_list p) (n + 1) 0) own ∙ first_past p in
+no_option : (p : Problem) (k : ℕ) → k < tails_of p + heads_of p → get_or (option_list p) k 0 ≡ length p.options → begin_of (table p) k ≡ end_of (table p) k
+no_option p k h own =
+    let row = row_by p k (length p.options) h own in
+    let begin = ap (λ (r : Row). r.begin) row ∙ first_at p (length p.options) (omega arith) ∙ starts_end (base_of p) p.options in
+    let end = ap (λ (r : Row). r.end) row ∙ first_past p in
     omega (arith, begin, end)
 
 -- no column has more nodes than there are options
@@ -158,6 +170,23 @@ few_nodes p i is h =
     let length_all : length (map (option_of c) (column_from c [] i (heads_of p))) ≡ length (filter (λ o. true && names_item p o i) (range_with_len 0 (length p.options))) = ap length all in
     omega (arith, length_all, length-map (column_from c [] i (heads_of p)) (option_of c), length-filter (λ o. true && names_item p o i) (range_with_len 0 (length p.options)), count_by-le-length (λ o. true && names_item p o i) (range_with_len 0 (length p.options)), length-range_with_len 0 (length p.options), is.options)
 
+length-row_list : (p : Problem) → length (row_list p) ≡ tails_of p + heads_of p
+unfolding row_list
+length-row_list p = length-map (option_list p) (row_at (first_list p)) ∙ length-option_list p
+
+-- the options of the nodes have a row
+pub options_in : (p : Problem) → All (λ o. o + 1 < length (first_list p)) (option_list p)
+options_in p = All-from_get_or (λ o. o + 1 < length (first_list p)) (option_list p) 0 (λ k h. omega (arith, length-first_list p, option_below p k (omega (arith, h, length-option_list p))))
+
+row_within : (p : Problem) (k : ℕ) → k < tails_of p + heads_of p → (heads_of p + heads_of p ≤ (get_or (row_list p) k empty_row).begin + 1) × ((get_or (row_list p) k empty_row).end ≤ tails_of p)
+row_within p k h =
+    let o : ℕ = get_or (option_list p) k 0 in
+    let below = option_below p k h in
+    let row = row_by p k o h refl in
+    let begin = first_within p o (omega (arith, below)) in
+    let end = first_within p (o + 1) (omega (arith, below)) in
+    (omega (arith, ap (λ (r : Row). r.begin) row, begin.0), omega (arith, ap (λ (r : Row). r.end) row, end.1))
+
 pub table_is : (p : Problem) → IsProblem p → IsTable (table p)
 table_is p is =
     let size = length-column_list p in
@@ -168,12 +197,13 @@ table_is p is =
       order = omega (arith, is.some_primary, is.primary);
       option = length-option_list p ∙ sym size;
       each_column = All-from_get_or (λ i. i < heads_of p) (column_list p) 0 (λ k h. column_below p k is (omega (arith, h, size)));
-      each_option = All-from_get_or (λ o. o + 1 < length (first_list p)) (option_list p) 0 (λ k h. omega (arith, length-first_list p, option_below p k (omega (arith, h, length-option_list p))));
-      each_first = All-from_get_or (λ k. (heads_of p + heads_of p ≤ k + 1) × (k ≤ tails_of p)) (first_list p) 0 (λ o h. let at = first_within p o (omega (arith, h, length-first_list p)) in (omega (arith, at.0), at.1));
+      row = length-row_list p ∙ sym size;
+      each_row = All-from_get_or (λ (r : Row). (heads_of p + heads_of p ≤ r.begin + 1) × (r.end ≤ tails_of p)) (row_list p) empty_row (λ k h. row_within p k (omega (arith, h, length-row_list p)));
       ordered = λ k low high. elim (cases_lt k (base_of p)) [
-        | inl before ↦ no_option p k (option_before p k before)
+        | inl before ↦ omega (arith, no_option p k (omega (arith, high)) (option_before p k before))
         | inr more ↦ let at = node_at p k more high in omega (arith, at.at.begin, at.at.end)
       ];
+      no_row = λ k low high. no_option p k (omega (arith, high)) (option_before p k (omega (arith, high)));
       tail_columns = λ k low high. omega (arith, column_tail p k low (omega (arith, high, size)), low);
       option_columns = λ k low high.
           let at = node_at p k (omega (arith, low)) high in
@@ -197,13 +227,15 @@ table_is p is =
           omega (arith, by.node, at.at.node, e, at.at.begin);
     }
 
-abbrev columns_by : ℕ → ℕ → List ℕ → List ℕ → List ℕ → Columns
-columns_by heads tails column option first = record { heads = heads; tails = tails; column = column; option = option; first = first }
+abbrev columns_by : ℕ → ℕ → List ℕ → List ℕ → List ℕ → List Row → Columns
+columns_by heads tails column option first rows = record { heads = heads; tails = tails; column = column; option = option; first = first; rows = rows }
 
-pub same_table : (p : Problem) (heads tails : ℕ) (column option first : List ℕ) → heads ≡ heads_of p → tails ≡ tails_of p → column ≡ column_list p → option ≡ option_list p → first ≡ first_list p → columns_by heads tails column option first ≡ table p
-same_table p heads tails column option first a b c d e =
-    ap (λ h. columns_by h tails column option first) a
-    ∙ ap (λ t. columns_by (heads_of p) t column option first) b
-    ∙ ap (λ xs. columns_by (heads_of p) (tails_of p) xs option first) c
-    ∙ ap (λ xs. columns_by (heads_of p) (tails_of p) (column_list p) xs first) d
-    ∙ ap (λ xs. columns_by (heads_of p) (tails_of p) (column_list p) (option_list p) xs) e
+pub same_table : (p : Problem) (heads tails : ℕ) (column option first : List ℕ) (rows : List Row) → heads ≡ heads_of p → tails ≡ tails_of p → column ≡ column_list p → option ≡ option_list p → first ≡ first_list p → rows ≡ map (row_at first) option → columns_by heads tails column option first rows ≡ table p
+unfolding row_list
+same_table p heads tails column option first rows a b c d e f =
+    ap (λ h. columns_by h tails column option first rows) a
+    ∙ ap (λ t. columns_by (heads_of p) t column option first rows) b
+    ∙ ap (λ xs. columns_by (heads_of p) (tails_of p) xs option first rows) c
+    ∙ ap (columns_by (heads_of p) (tails_of p) (column_list p) option first) f
+    ∙ ap (λ xs. columns_by (heads_of p) (tails_of p) (column_list p) xs first (map (row_at first) xs)) d
+    ∙ ap (λ xs. columns_by (heads_of p) (tails_of p) (column_list p) (option_list p) xs (map (row_at xs) (option_list p))) e

@@ -1,14 +1,15 @@
 -- Nodes taken out in a row, and the walk down a column.
-use Rattle.std.proofs.Common.{◌≡◌, ℕ, zero, suc, ◌+◌, ◌-◌, ◌<◌, ◌≤◌, List, [], ◌∷◌, ◌++◌, Bool, true, false, not, ◌==◌, ◌||◌, filter, refl, arith, sym, ap, ◌∙◌, inl, inr, append_assoc, append-nil}
+use Rattle.std.proofs.Common.{◌≡◌, ℕ, zero, suc, ◌+◌, ◌-◌, ◌<◌, ◌≤◌, List, [], ◌∷◌, ◌++◌, Bool, true, false, ◌||◌, refl, arith, sym, ap, ◌∙◌, subst, inl, inr, append_assoc, append-nil}
 use Rattle.std.specs.List.{range_with_len, flat_map}
-use Rattle.std.proofs.lemmas.Bool.{eq-eqb, ne_eqb, eqb-true, cases_Bool, cases_eq, cases_lt, both_ways, or_cases}
+use Rattle.std.proofs.lemmas.Bool.{eq-eqb, ne_eqb, cases_Bool, cases_eq, cases_lt}
 use Rattle.dancing_links.specs.declared.link.Link.{Link}
 use Rattle.dancing_links.specs.Columns.{among, Columns, column_of, begin_of, end_of, IsSpelled, column_from, IsTable}
 use Rattle.dancing_links.specs.Counting.{fewer, more, with_less, with_more}
-use Rattle.dancing_links.specs.Covering.{outs, others_from, others, hidden_from, covered, AreWhole, IsOpen, Covers}
+use Rattle.dancing_links.specs.Covering.{outs, others, hidden_from, covered, AreWhole, IsOpen, Covers}
 use Rattle.dancing_links.specs.Linking.{down_of, unlinked, unlinks, relinks}
 use Rattle.dancing_links.proofs.Law.{between, spelled_unlink, relink_unlink, in_other, out_other}
-use Rattle.dancing_links.proofs.Others.{range_step, others_from_take, others_from_skip, others_from_end}
+use Rattle.dancing_links.proofs.Others.{range_step}
+use Rattle.dancing_links.proofs.Round.{range_at, others_at, others_ranges}
 
 not_true : (b : Bool) → (b ≡ true → ⊥) → b ≡ false
 not_true b never = elim (cases_Bool b) [ inl t ↦ absurd (never t) | inr f ↦ f ]
@@ -47,40 +48,28 @@ outs_same (x ∷ xs) out k h =
     let other = out_other xs x k h in
     outs_same xs (x ∷ out) k other.0 ∙ ap (λ (b : Bool). b || among out k) (ne_eqb x k (λ e. other.1 (sym e)))
 
-among_others : (node n start k : ℕ) → among (filter (λ j. not (j == node)) (range_with_len start n)) k ≡ true → (start ≤ k) × (k < start + n) × (k ≡ node → ⊥)
-among_others node zero start k h = absurd (both_ways false refl h)
-among_others node (suc n) start k h =
-    elim (cases_eq start node) [
-      | inl e ↦
-          let h' : among (filter (λ j. not (j == node)) (range_with_len (start + 1) n)) k ≡ true = rw (eq-eqb start node e) at h in
-          let rest = among_others node n (start + 1) k h' in (omega (arith, rest.0), omega (arith, rest.1), rest.2)
-      | inr ne ↦
-          let h' : among (start ∷ filter (λ j. not (j == node)) (range_with_len (start + 1) n)) k ≡ true = rw (ne_eqb start node ne) at h in
-          elim (or_cases (start == k) (among (filter (λ j. not (j == node)) (range_with_len (start + 1) n)) k) h') [
-            | inl t ↦ let e = eqb-true start k t in (omega (arith, e), omega (arith, e), λ f. ne (e ∙ f))
-            | inr t ↦ let rest = among_others node n (start + 1) k t in (omega (arith, rest.0), omega (arith, rest.1), rest.2)
-          ]
-    ]
+range_in : (c : Columns) (out : List ℕ) (n start : ℕ) → c.heads ≤ start → start + n ≤ c.tails → ((j : ℕ) → start ≤ j → j < start + n → among out j ≡ false) → AreIn c out (range_with_len start n)
+range_in c out zero start low high here = tt
+range_in c out (suc n) start low high here =
+    ((low, omega (arith, high), here start (omega arith) (omega arith)), range_in c (start ∷ out) n (start + 1) (omega (arith, low)) (omega (arith, high)) (λ j above below. in_other out start j (here j (omega (arith, above)) (omega (arith, below))) (λ f. omega (arith, f, above))))
 
--- a number that is among the others of a node
-pub others_at : (c : Columns) (node k : ℕ) → begin_of c node ≤ end_of c node → among (others c node) k ≡ true → (begin_of c node ≤ k) × (k < end_of c node) × (k ≡ node → ⊥)
-unfolding others others_from
-others_at c node k order h = let at = among_others node (end_of c node - begin_of c node) (begin_of c node) k h in (at.0, omega (arith, at.1), at.2)
-
-others_in : (c : Columns) (out : List ℕ) (node n start end : ℕ) → end ≡ start + n → c.heads ≤ start → end ≤ c.tails → ((j : ℕ) → start ≤ j → j < end → among out j ≡ false) → AreIn c out (others_from node start end)
-others_in c out node zero start end e low high here = rw (others_from_end node start end (omega (arith, e))) tt
-others_in c out node (suc n) start end e low high here =
-    elim (cases_eq start node) [
-      | inl same ↦ rw (others_from_skip node start end (omega (arith, e)) same) (others_in c out node n (start + 1) end (omega (arith, e)) (omega (arith, low)) high (λ j above below. here j (omega (arith, above)) below))
-      | inr ne ↦ rw (others_from_take node start end (omega (arith, e)) ne) ((low, omega (arith, e, high), here start (omega arith) (omega (arith, e))), others_in c (start ∷ out) node n (start + 1) end (omega (arith, e)) (omega (arith, low)) high (λ j above below. in_other out start j (here j (omega (arith, above)) below) (λ f. omega (arith, f, above))))
-    ]
+are_in-append : (c : Columns) (out xs ys : List ℕ) → AreIn c out xs → AreIn c (outs xs out) ys → AreIn c out (xs ++ ys)
+are_in-append c out [] ys are more = more
+are_in-append c out (x ∷ xs) ys are more = (are.0, are_in-append c (x ∷ out) xs ys are.1 more)
 
 -- the others of a node can be taken out where its option is in as a whole
 pub others_are_in : (c : Columns) (out : List ℕ) (node : ℕ) → IsTable c → c.heads + c.heads ≤ node + 1 → node < c.tails → ((j : ℕ) → begin_of c node ≤ j → j < end_of c node → among out j ≡ false) → AreIn c out (others c node)
-unfolding others
 others_are_in c out node t low high here =
     let w = t.within node low high in
-    others_in c out node (end_of c node - begin_of c node) (begin_of c node) (end_of c node) (omega (arith, w.0, w.1)) (omega (arith, w.2, t.order, low)) w.3 here
+    let n : ℕ = end_of c node - (node + 1) in
+    let after : List ℕ = range_with_len (node + 1) (end_of c node - (node + 1)) in
+    let before : List ℕ = range_with_len (begin_of c node) (node - begin_of c node) in
+    let are : AreIn c out after = range_in c out n (node + 1) (omega (arith, low, t.order)) (omega (arith, w.1, w.3)) (λ j above below. here j (omega (arith, w.0, above)) (omega (arith, below, w.1))) in
+    let fresh : (j : ℕ) → begin_of c node ≤ j → j < begin_of c node + (node - begin_of c node) → among (outs after out) j ≡ false = (λ j above below.
+    outs_same after out j (not_true (among after j) (λ yes. let at = range_at n (node + 1) j yes in omega (arith, at.0, below, w.0))) ∙ here j above (omega (arith, below, w.0, w.1))) in
+    let then : AreIn c (outs after out) before = range_in c (outs after out) (node - begin_of c node) (begin_of c node) (omega (arith, w.2, t.order, low)) (omega (arith, w.0, high)) fresh in
+    let P : List ℕ → Type 0 = λ ks. AreIn c out ks in
+    subst P (sym (others_ranges c node w.0 w.1)) (are_in-append c out after before are then)
 
 -- going down a column
 pub column_from_take : (c : Columns) (out : List ℕ) (i k : ℕ) → k < c.tails → column_of c k ≡ i → among out k ≡ false → column_from c out i k ≡ k ∷ column_from c out i (k + 1)
@@ -117,10 +106,6 @@ pub record IsGoing (c : Columns) (out : List ℕ) (i : ℕ) (old now : List Link
   pub here : among (outs done out) node ≡ false
   pub own : (k : ℕ) → column_of c k ≡ i → among (outs done out) k ≡ among out k
   pub later : (k : ℕ) → node < c.tails → begin_of c node ≤ k → among (outs done out) k ≡ among out k
-
-are_in-append : (c : Columns) (out xs ys : List ℕ) → AreIn c out xs → AreIn c (outs xs out) ys → AreIn c out (xs ++ ys)
-are_in-append c out [] ys first second = second
-are_in-append c out (x ∷ xs) ys first second = (first.0, are_in-append c (x ∷ out) xs ys first.1 second)
 
 -- a node of an item's column is one of an option
 pub option_node : (c : Columns) (i k : ℕ) → IsTable c → i + 1 < c.heads → c.heads ≤ k → column_of c k ≡ i → c.heads + c.heads ≤ k + 1
@@ -184,7 +169,7 @@ going_step c out i old now node done t item s whole low high g =
     let keep : (k : ℕ) → (among (others c node) k ≡ true → ⊥) → among (outs (done ++ others c node) out) k ≡ among (outs done out) k =
     (λ k never. rw (outs-append done (others c node) out) (outs_same (others c node) (outs done out) k (not_true (among (others c node) k) never))) in
     let own : (k : ℕ) → column_of c k ≡ i → among (outs (done ++ others c node) out) k ≡ among out k =
-    (λ k same. keep k (λ yes. let at = others_at c node k order yes in at.2 (t.apart node k option high at.0 at.1 (same ∙ sym g.column))) ∙ g.own k same) in
+    (λ k same. keep k (λ yes. let at = others_at c node k w.0 w.1 yes in at.2 (t.apart node k option high at.0 at.1 (same ∙ sym g.column))) ∙ g.own k same) in
     let node_in : among (outs (done ++ others c node) out) node ≡ false = own node g.column ∙ here in
     let next = spelled.down node high node_in in
     let d : ℕ = down_of (unlinks now (others c node)) node in
@@ -200,7 +185,7 @@ going_step c out i old now node done t item s whole low high g =
       own = own;
       later = λ k inside after.
           let follow = option_after c node d t option next.below inside next.column in
-          keep k (λ yes. let at = others_at c node k order yes in omega (arith, at.1, follow, after))
+          keep k (λ yes. let at = others_at c node k w.0 w.1 yes in omega (arith, at.1, follow, after))
           ∙ g.later k high (omega (arith, follow, after, order));
     }
 

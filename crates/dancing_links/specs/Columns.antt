@@ -3,13 +3,14 @@ use Rattle.std.specs.Prelude.{◌≡◌, ℕ, ◌<◌, ◌≤◌, ◌+◌, ◌-�
 use Rattle.std.specs.List.{list_any, range_with_len, All}
 use Rattle.dancing_links.specs.declared.link.Link.{Link}
 use Rattle.dancing_links.specs.declared.layout.Layout.{Layout}
+use Rattle.dancing_links.specs.declared.row.Row.{Row}
 use Rattle.dancing_links.specs.Linking.{up_of, down_of}
 
 -- whether a number is among those of a list
 abbrev pub among : List ℕ → ℕ → Bool
 among xs x = list_any (λ y. y == x) xs
 
--- How many heads there are, the first tail, the column and the option of each node, and the first node of each option. The heads come first and
+-- How many heads there are, the first tail, the column and the option of each node, the first node of each option, and each node's row. The heads come first and
 -- the tails last: a column holds its head, then nodes by rising numbers, then its tail. The last column is that of the items, with a node for each.
 pub record Columns : Type 0 where
   pub heads : ℕ
@@ -17,10 +18,11 @@ pub record Columns : Type 0 where
   pub column : List ℕ
   pub option : List ℕ
   pub first : List ℕ
+  pub rows : List Row
 
 -- the columns that a layout lays out
 abbrev pub columns_of : Layout → Columns
-columns_of l = record { heads = l.heads; tails = l.tails; column = l.items.items; option = l.options.items; first = l.first.items }
+columns_of l = record { heads = l.heads; tails = l.tails; column = l.items.items; option = l.options.items; first = l.first.items; rows = l.rows.items }
 
 -- the column of a node
 abbrev pub column_of : Columns → ℕ → ℕ
@@ -49,10 +51,10 @@ pub record IsSpelled (c : Columns) (out : List ℕ) (m : List Link) : Type 0 whe
 
 -- where the option of a node begins, and where it ends
 abbrev pub begin_of : Columns → ℕ → ℕ
-begin_of c k = slice_index_or c.first (slice_index_or c.option k 0) 0
+begin_of c k = (slice_index_or c.rows k (record { begin = 0; end = 0 })).begin
 
 abbrev pub end_of : Columns → ℕ → ℕ
-end_of c k = slice_index_or c.first (slice_index_or c.option k 0 + 1) 0
+end_of c k = (slice_index_or c.rows k (record { begin = 0; end = 0 })).end
 
 -- the nodes of a column that are in, from one on
 unfoldable pub column_from : Columns → List ℕ → ℕ → ℕ → List ℕ
@@ -77,9 +79,10 @@ pub record IsTable (c : Columns) : Type 0 where
   pub order : c.heads + c.heads ≤ c.tails + 1
   pub option : length c.option ≡ length c.column
   pub each_column : All (λ i. i < c.heads) c.column
-  pub each_option : All (λ o. o + 1 < length c.first) c.option
-  pub each_first : All (λ k. (c.heads + c.heads ≤ k + 1) × (k ≤ c.tails)) c.first
+  pub row : length c.rows ≡ length c.column
+  pub each_row : All (λ r. (c.heads + c.heads ≤ r.begin + 1) × (r.end ≤ c.tails)) c.rows
   pub ordered : (k : ℕ) → c.heads ≤ k → k < c.tails → begin_of c k ≤ end_of c k
+  pub no_row : (k : ℕ) → c.heads ≤ k → k + 1 < c.heads + c.heads → begin_of c k ≡ end_of c k
   pub tail_columns : (k : ℕ) → c.tails ≤ k → k < length c.column → column_of c k + c.tails ≡ k
   pub option_columns : (k : ℕ) → c.heads + c.heads ≤ k + 1 → k < c.tails → column_of c k + 1 < c.heads
   pub head_columns : (k : ℕ) → k < c.heads → column_of c k ≡ k

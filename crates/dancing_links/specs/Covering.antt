@@ -1,17 +1,22 @@
 -- Covering and uncovering of items: which nodes leave their columns, and in which order (TAOCP 7.2.2.1).
-use Rattle.std.specs.Prelude.{map, ◌≡◌, ℕ, ◌<◌, ◌≤◌, ◌+◌, ◌-◌, List, [], ◌∷◌, false, not, ◌==◌, filter}
+use Rattle.std.specs.Prelude.{map, ◌≡◌, ℕ, zero, suc, ◌<◌, ◌≤◌, ◌+◌, ◌-◌, List, [], ◌∷◌, false, ◌==◌, if◌then◌else◌}
 use Rattle.std.specs.List.{range_with_len, flat_map}
 use Rattle.dancing_links.specs.declared.link.Link.{Link}
 use Rattle.dancing_links.specs.Linking.{unlinks}
 use Rattle.dancing_links.specs.Columns.{among, Columns, column_of, begin_of, end_of, column_from, IsSpelled}
 
--- the nodes from one on that are not the given one
-unfoldable pub others_from : ℕ → ℕ → ℕ → List ℕ
-others_from node start end = filter (λ k. not (k == node)) (range_with_len start (end - start))
+-- the node after one in a row; behind the last comes the first
+abbrev pub node_after : ℕ → ℕ → ℕ → ℕ
+node_after begin end node = if node + 1 == end then begin else node + 1
 
--- the other nodes of a node's option
+-- so many nodes of a row in turn, from one on
+abbrev pub in_turn : ℕ → ℕ → ℕ → ℕ → List ℕ
+in_turn begin end node zero = []
+in_turn begin end node (suc count) = node ∷ in_turn begin end (node_after begin end node) count
+
+-- the other nodes of a node's option, from the next one on
 unfoldable pub others : Columns → ℕ → List ℕ
-others c node = others_from node (begin_of c node) (end_of c node)
+others c node = in_turn (begin_of c node) (end_of c node) (node_after (begin_of c node) (end_of c node) node) (end_of c node - (begin_of c node + 1))
 
 -- what is taken out with those nodes, from one on: the other nodes of their options
 unfoldable pub hidden_from : Columns → List ℕ → ℕ → ℕ → List ℕ

@@ -1,7 +1,8 @@
 -- The nodes of a problem: heads, nodes of items, nodes of options and tails, with the column and the option of each.
-use Rattle.std.specs.Prelude.{ℕ, ◌+◌, List, [], ◌∷◌, ◌++◌, length, replicate}
+use Rattle.std.specs.Prelude.{ℕ, ◌+◌, List, [], ◌∷◌, ◌++◌, length, map, replicate, slice_index_or}
 use Rattle.std.specs.List.{range_with_len, concat, sum_by}
 use Rattle.cover_problem.specs.Problem.{Problem}
+use Rattle.dancing_links.specs.declared.row.Row.{Row}
 use Rattle.dancing_links.specs.Columns.{Columns}
 
 -- where each option begins if the first does at a number, and where the last one ends
@@ -40,6 +41,14 @@ option_list problem =
 unfoldable pub first_list : Problem → List ℕ
 first_list problem = starts (base_of problem) problem.options ++ tails_of problem ∷ []
 
+-- the row of an option, by the first node of each
+abbrev pub row_at : List ℕ → ℕ → Row
+row_at first option = record { begin = slice_index_or first option 0; end = slice_index_or first (option + 1) 0 }
+
+-- the row of each node's option
+unfoldable pub row_list : Problem → List Row
+row_list problem = map (row_at (first_list problem)) (option_list problem)
+
 -- the columns of a problem
 abbrev pub table : Problem → Columns
-table problem = record { heads = heads_of problem; tails = tails_of problem; column = column_list problem; option = option_list problem; first = first_list problem }
+table problem = record { heads = heads_of problem; tails = tails_of problem; column = column_list problem; option = option_list problem; first = first_list problem; rows = row_list problem }

@@ -1,12 +1,12 @@
 //! Covering of items: they leave the column of items, and the options that name them leave the other columns.
 
-ghost use Rattle.std.specs.Prelude.{◌≡◌, ◌<◌, ◌≤◌, ◌+◌, length};
+ghost use Rattle.std.specs.Prelude.{◌≡◌, ◌<◌, ◌≤◌, ◌+◌, ◌-◌, length};
 ghost use Rattle.dancing_links.specs.Columns.{columns_of, IsLinked, IsTable, column_of};
 ghost use Rattle.dancing_links.specs.Counting.{fewer, more, with_less, with_more, CountsCovered, CountsUncovered, CountsCoveredAll, CountsUncoveredAll};
-ghost use Rattle.dancing_links.specs.Covering.{others, others_from, Covers, Uncovers, CoversAll, UncoversAll, items_from};
+ghost use Rattle.dancing_links.specs.Covering.{node_after, in_turn, others, Covers, Uncovers, CoversAll, UncoversAll, items_from};
 ghost use Rattle.dancing_links.specs.Linking.{unlinks, relinks, up_of, down_of};
 
-use crate::layout::{Layout, item_at};
+use crate::layout::{Layout, item_at, row_of};
 use crate::link::{Link, relink, unlink};
 
 /// Counts a node of an option no more: its item has one live option less.
@@ -33,8 +33,29 @@ fn count_more(layout: &Layout, counts: &mut [u16], node: usize)
     counts[item] = counts[item].wrapping_add(1);
 }
 
-/// Takes the other nodes of a node's option out of their columns.
-#[tactic(auto, unfolding(crate::specs::Covering::others), using(crate::proofs::Others::others_from_take, crate::proofs::Others::others_from_skip, crate::proofs::Others::others_from_end))]
+/// The node after one in its row; behind the last comes the first.
+fn node_after(begin: usize, end: usize, node: usize) -> usize
+    requires row { (begin ≤ node) × (node < end) }
+    requires end { end < 4294967296 }
+    ensures node { result ≡ node_after begin end node }
+    ensures row { (begin ≤ result) × (result < end) }
+{
+    if node + 1 == end { begin } else { node + 1 }
+}
+
+/// The node before one in its row; in front of the first comes the last.
+fn node_before(begin: usize, end: usize, node: usize) -> usize
+    requires { (begin ≤ node) × (node < end) }
+    ensures node { node ≡ node_after begin end result }
+    ensures row { (begin ≤ result) × (result < end) }
+    ensures inside { begin < node → result + 1 ≡ node }
+    ensures round { node ≡ begin → result + 1 ≡ end }
+{
+    if node == begin { end - 1 } else { node - 1 }
+}
+
+/// Takes the other nodes of a node's option out of their columns, the next one first.
+#[tactic(auto, unfolding(crate::specs::Covering::others), using(crate::proofs::Others::in_turn_take, crate::proofs::Others::in_turn_end))]
 fn hide(layout: &Layout, links: &mut [Link], counts: &mut [u16], node: usize)
     requires node { (layout.now.heads ≤ node) × (node < layout.now.tails) }
     requires table { IsTable (columns_of layout.now) }
@@ -44,19 +65,16 @@ fn hide(layout: &Layout, links: &mut [Link], counts: &mut [u16], node: usize)
     ensures links { links.new ≡ unlinks links.old (others (columns_of layout.now) node) }
     ensures counts { counts.new ≡ fewer (columns_of layout.now) counts.old (others (columns_of layout.now) node) }
 {
-    let option = layout.options[node] as usize;
-    let begin = layout.first[option] as usize;
-    let end = layout.first[option + 1] as usize;
-    for other in begin..end {
-        if other != node {
-            unlink(layout, links, other);
-            count_less(layout, counts, other);
-        }
+    let (begin, end) = row_of(layout, node);
+    let mut other = node;
+    for _place in begin + 1..end {
+        other = node_after(begin, end, other);
+        unlink(layout, links, other);
+        count_less(layout, counts, other);
     }
 }
 
-/// Puts the nodes of a range back, but for one.
-#[tactic(auto, using(crate::proofs::Others::others_from_take, crate::proofs::Others::others_from_skip, crate::proofs::Others::others_from_end))]
+/// Puts the other nodes of a row back, the one before the node first.
 fn relink_others(
     layout: &Layout,
     links: &mut [Link],
@@ -66,23 +84,24 @@ fn relink_others(
     end: usize,
 )
     requires range { (layout.now.heads + layout.now.heads ≤ begin + 1) × (begin ≤ end) × (end ≤ layout.now.tails) }
+    requires row { begin < end → (begin ≤ node) × (node < end) }
     requires table { IsTable (columns_of layout.now) }
     requires linked { IsLinked (columns_of layout.now) links.old }
     requires counts { length counts.old + 1 ≡ layout.now.heads }
     ensures linked { IsLinked (columns_of layout.now) links.new }
-    ensures links { links.new ≡ relinks links.old (others_from node begin end) }
-    ensures counts { counts.new ≡ more (columns_of layout.now) counts.old (others_from node begin end) }
+    ensures links { links.new ≡ relinks links.old (in_turn begin end (node_after begin end node) (end - (begin + 1))) }
+    ensures counts { counts.new ≡ more (columns_of layout.now) counts.old (in_turn begin end (node_after begin end node) (end - (begin + 1))) }
 {
-    for other in (begin..end).rev() {
-        if other != node {
-            relink(layout, links, other);
-            count_more(layout, counts, other);
-        }
+    let mut other = node;
+    for _place in begin + 1..end {
+        other = node_before(begin, end, other);
+        relink(layout, links, other);
+        count_more(layout, counts, other);
     }
 }
 
 /// Puts the other nodes of a node's option back.
-#[tactic(auto, unfolding(crate::specs::Covering::others), using(crate::proofs::Others::begin_first))]
+#[tactic(auto, unfolding(crate::specs::Covering::others))]
 fn unhide(layout: &Layout, links: &mut [Link], counts: &mut [u16], node: usize)
     requires node { (layout.now.heads ≤ node) × (node < layout.now.tails) }
     requires table { IsTable (columns_of layout.now) }
@@ -92,9 +111,7 @@ fn unhide(layout: &Layout, links: &mut [Link], counts: &mut [u16], node: usize)
     ensures links { links.new ≡ relinks links.old (others (columns_of layout.now) node) }
     ensures counts { counts.new ≡ more (columns_of layout.now) counts.old (others (columns_of layout.now) node) }
 {
-    let option = layout.options[node] as usize;
-    let begin = layout.first[option] as usize;
-    let end = layout.first[option + 1] as usize;
+    let (begin, end) = row_of(layout, node);
     relink_others(layout, links, counts, node, begin, end);
 }
 

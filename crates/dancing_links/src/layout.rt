@@ -1,11 +1,12 @@
 //! Which column and which option each node belongs to.
 
-ghost use Rattle.std.specs.Prelude.{◌≡◌, ◌<◌, ◌≤◌, ◌+◌, ◌++◌, length, replicate, slice_index, IfOk};
-ghost use Rattle.std.specs.List.{range_with_len, concat};
-ghost use Rattle.dancing_links.specs.Columns.{columns_of, column_of, IsTable};
+ghost use Rattle.std.specs.Prelude.{◌≡◌, ◌<◌, ◌≤◌, ◌+◌, ◌++◌, length, map, replicate, slice_index, IfOk};
+ghost use Rattle.std.specs.List.{range_with_len, concat, All};
+ghost use Rattle.dancing_links.specs.Columns.{columns_of, column_of, begin_of, end_of, IsTable};
 ghost use Rattle.dancing_links.specs.Walking.{IsNaming};
-ghost use Rattle.dancing_links.specs.Table.{table, column_list, option_list, first_list, numbered};
+ghost use Rattle.dancing_links.specs.Table.{table, column_list, option_list, first_list, row_at, numbered};
 
+use crate::row::Row;
 use cover_problem::Problem;
 use std::alloc::{AllocError, Global};
 
@@ -21,6 +22,8 @@ pub struct Layout {
     pub options: Vec<u16>,
     /// The first node of each option; then, twice, the first tail.
     pub first: Vec<u32>,
+    /// The row of each node's option; an empty one for a node that belongs to none.
+    pub rows: Vec<Row>,
     /// How many heads there are.
     pub heads: usize,
     /// The first tail.
@@ -34,12 +37,14 @@ pub fn layout_of(alloc: Global, problem: &Problem) -> Result<Layout, AllocError>
     let items = node_items(alloc, problem)?;
     let options = node_options(alloc, problem)?;
     let first = first_nodes(alloc, problem)?;
+    let rows = node_rows(alloc, &options, &first)?;
     let heads = problem.items() + 1;
     let tails = items.len() - heads;
     Ok(Layout {
         items,
         options,
         first,
+        rows,
         heads,
         tails,
     })
@@ -133,6 +138,20 @@ fn first_nodes(alloc: Global, problem: &Problem) -> Result<Vec<u32>, AllocError>
     Ok(list)
 }
 
+/// The row of each node's option, by the options of the nodes and the first node of each option.
+fn node_rows(alloc: Global, options: &[u16], first: &[u32]) -> Result<Vec<Row>, AllocError>
+    requires { All (λ o. o + 1 < length first.now) options.now }
+    ensures { IfOk result (λ rows. rows.items ≡ map (row_at first.now) options.now) }
+{
+    let mut rows = Vec::new(alloc);
+    for option in options {
+        let begin = first[*option as usize];
+        let end = first[*option as usize + 1];
+        rows.push(Row { begin, end })?;
+    }
+    Ok(rows)
+}
+
 /// The item of a node of an option.
 pub fn item_at(layout: &Layout, node: usize) -> usize
     requires node { (layout.now.heads + layout.now.heads ≤ node + 1) × (node < layout.now.tails) }
@@ -140,6 +159,19 @@ pub fn item_at(layout: &Layout, node: usize) -> usize
     ensures item { result ≡ column_of (columns_of layout.now) node }
 {
     layout.items[node] as usize
+}
+
+/// The row of a node's option: its first node, and the number after the last.
+pub fn row_of(layout: &Layout, node: usize) -> (usize, usize)
+    requires node { (layout.now.heads ≤ node) × (node < layout.now.tails) }
+    requires table { IsTable (columns_of layout.now) }
+    ensures begin { result.0 ≡ begin_of (columns_of layout.now) node }
+    ensures end { result.1 ≡ end_of (columns_of layout.now) node }
+    ensures range { (layout.now.heads + layout.now.heads ≤ result.0 + 1) × (result.0 ≤ result.1) × (result.1 ≤ layout.now.tails) }
+    ensures within { result.0 < result.1 → (result.0 ≤ node) × (node < result.1) }
+{
+    let row = layout.rows[node];
+    (row.begin as usize, row.end as usize)
 }
 
 /// The nodes of an option: the first, and the one after the last.

@@ -13,6 +13,7 @@ mod layout;
 mod link;
 mod links;
 mod options;
+mod row;
 
 pub use laws::links_by_choices;
 pub use links::Links;

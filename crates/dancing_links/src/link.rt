@@ -24,9 +24,10 @@ pub fn unlink(layout: &Layout, links: &mut [Link], node: usize)
     ensures linked { IsLinked (columns_of layout.now) links.new }
     ensures links { links.new ≡ unlinked links.old node }
 {
-    let link = links[node];
-    links[link.up as usize].down = link.down;
-    links[link.down as usize].up = link.up;
+    let up = links[node].up;
+    let down = links[node].down;
+    links[up as usize].down = down;
+    links[down as usize].up = up;
 }
 
 /// Puts the node that was taken out last back into its column.
@@ -38,7 +39,8 @@ pub fn relink(layout: &Layout, links: &mut [Link], node: usize)
     ensures linked { IsLinked (columns_of layout.now) links.new }
     ensures links { links.new ≡ relinked links.old node }
 {
-    let link = links[node];
-    links[link.up as usize].down = node as u32;
-    links[link.down as usize].up = node as u32;
+    let up = links[node].up;
+    let down = links[node].down;
+    links[up as usize].down = node as u32;
+    links[down as usize].up = node as u32;
 }

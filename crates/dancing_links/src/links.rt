@@ -94,6 +94,7 @@ impl<'a> Links<'a> {
     }
 
     /// Takes the last choice back, and answers it: all links are as before it.
+    #[inline(always)]
     pub fn undo(&mut self) -> u16
         requires { 0 < length self.old.chosen }
         ensures { self.old ≡ with_choice self.new result }
@@ -142,7 +143,7 @@ impl<'a> Links<'a> {
         item_below(
             &self.layout,
             &self.links,
-            self.problem.primary(),
+            self.problem.primary() as u16,
             self.layout.heads - 1,
         )
     }
@@ -159,7 +160,7 @@ impl<'a> Links<'a> {
         item_below(
             &self.layout,
             &self.links,
-            self.problem.primary(),
+            self.problem.primary() as u16,
             self.layout.heads + item as usize,
         )
     }
@@ -208,16 +209,16 @@ impl<'a> Links<'a> {
 }
 
 /// The item whose node is below a node in the column of items, if it is primary.
-fn item_below(layout: &Layout, links: &[Link], primary: usize, node: usize) -> Option<u16>
+fn item_below(layout: &Layout, links: &[Link], primary: u16, node: usize) -> Option<u16>
     requires node { node < length links.now }
     requires below { layout.now.heads ≤ down_of links.now node }
     requires primary { primary ≤ 1000 }
     requires heads { layout.now.heads ≤ 1001 }
     ensures { MatchOption result (layout.now.heads + primary ≤ down_of links.now node) (λ item. (down_of links.now node < layout.now.heads + primary) × (item ≡ down_of links.now node - layout.now.heads)) }
 {
-    let below = links[node].down as usize;
-    if below < layout.heads + primary {
-        Some((below - layout.heads) as u16)
+    let item = links[node].down as usize - layout.heads;
+    if item < primary as usize {
+        Some(item as u16)
     } else {
         None
     }

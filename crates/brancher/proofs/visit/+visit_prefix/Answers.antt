@@ -22,8 +22,8 @@ returns-in_default-item-clause-visit t c =
     let came = within_none c.args.links.now.problem c.args.depth c.args.links.now.chosen e in
     (omega (arith, came.visits, c.if-fuel-eq0.false), came.found)
 
-pub loop-next-init : goal.loop-next-init
-loop-next-init t c =
+pub loop-option-init : goal.loop-option-init
+loop-option-init t c =
     let p = c.args.links.now.problem in
     let xs = c.args.links.now.chosen in
     let e : branch_item c.args.links.now.problem c.args.links.now.chosen ≡ Some c.in_Item-item.item = sym c.in_Item-item.ensures.item in
@@ -37,8 +37,9 @@ visit_prefix-requires t c =
     let i = c.in_Item-item.item in
     let o = c.in-Some.option in
     let e : branch_item c.args.links.now.problem c.args.links.now.chosen ≡ Some c.in_Item-item.item = sym c.in_Item-item.ensures.item in
-    let child = next_child p xs i o c.loop-next.next c.in-Some.is c.loop-next.invariant.child in
-    let same : c.choose.new.self ≡ with_choice c.args.links.now c.in-Some.option = c.choose.ensures ∙ ap (λ (v : Choices). with_choice v c.in-Some.option) c.loop-next.invariant.kept in
+    let taken : c.loop-option.next ≡ Some c.in-Some.option = sym c.take_child.ensures.taken ∙ c.in-Some.is in
+    let child = next_child p xs i o c.loop-option.next taken c.loop-option.invariant.child in
+    let same : c.choose.new.self ≡ with_choice c.args.links.now c.in-Some.option = c.choose.ensures ∙ ap (λ (v : Choices). with_choice v c.in-Some.option) c.loop-option.invariant.kept in
     let P : Choices → Type 0 = λ v. length (open_items v.problem v.chosen) ≤ c.args.depth - 1 in
     (omega arith, subst P (sym same) (child_deeper p xs i o c.args.depth e child c.requires))
 
@@ -48,11 +49,12 @@ returns-in-Found-clause-visit t c =
     let xs = c.args.links.now.chosen in
     let i = c.in_Item-item.item in
     let o = c.in-Some.option in
-    let child = next_child p xs i o c.loop-next.next c.in-Some.is c.loop-next.invariant.child in
-    let same : c.choose.new.self ≡ with_choice c.args.links.now c.in-Some.option = c.choose.ensures ∙ ap (λ (v : Choices). with_choice v c.in-Some.option) c.loop-next.invariant.kept in
-    let V : Choices → Type 0 = λ v. (visits_within v.problem (c.args.depth - 1) v.chosen ≤ c.loop-next.left) × (first_within v.problem (c.args.depth - 1) v.chosen ≡ Some c.visit_prefix.new.links.chosen) in
+    let taken : c.loop-option.next ≡ Some c.in-Some.option = sym c.take_child.ensures.taken ∙ c.in-Some.is in
+    let child = next_child p xs i o c.loop-option.next taken c.loop-option.invariant.child in
+    let same : c.choose.new.self ≡ with_choice c.args.links.now c.in-Some.option = c.choose.ensures ∙ ap (λ (v : Choices). with_choice v c.in-Some.option) c.loop-option.invariant.kept in
+    let V : Choices → Type 0 = λ v. (visits_within v.problem (c.args.depth - 1) v.chosen ≤ c.loop-option.left) × (first_within v.problem (c.args.depth - 1) v.chosen ≡ Some c.visit_prefix.new.links.chosen) in
     let below = subst V same c.in-Found.ensures.visit in
-    so_far_found p c.args.depth xs c.visit_prefix.new.links.chosen i o c.args.fuel c.loop-next.left c.loop-next.next c.in-Some.is child below.0 below.1 (record { found = c.loop-next.invariant.found; visits = c.loop-next.invariant.visits })
+    so_far_found p c.args.depth xs c.visit_prefix.new.links.chosen i o c.args.fuel c.loop-option.left c.loop-option.next taken child below.0 below.1 (record { found = c.loop-option.invariant.found; visits = c.loop-option.invariant.visits })
 
 pub returns-in-Spent-clause-visit : goal.returns-in-Spent-clause-visit
 returns-in-Spent-clause-visit t c =
@@ -60,43 +62,45 @@ returns-in-Spent-clause-visit t c =
     let xs = c.args.links.now.chosen in
     let i = c.in_Item-item.item in
     let o = c.in-Some.option in
-    let child = next_child p xs i o c.loop-next.next c.in-Some.is c.loop-next.invariant.child in
-    let same : c.choose.new.self ≡ with_choice c.args.links.now c.in-Some.option = c.choose.ensures ∙ ap (λ (v : Choices). with_choice v c.in-Some.option) c.loop-next.invariant.kept in
-    let V : Choices → Type 0 = λ v. c.loop-next.left < visits_within v.problem (c.args.depth - 1) v.chosen in
+    let taken : c.loop-option.next ≡ Some c.in-Some.option = sym c.take_child.ensures.taken ∙ c.in-Some.is in
+    let child = next_child p xs i o c.loop-option.next taken c.loop-option.invariant.child in
+    let same : c.choose.new.self ≡ with_choice c.args.links.now c.in-Some.option = c.choose.ensures ∙ ap (λ (v : Choices). with_choice v c.in-Some.option) c.loop-option.invariant.kept in
+    let V : Choices → Type 0 = λ v. c.loop-option.left < visits_within v.problem (c.args.depth - 1) v.chosen in
     let below = subst V same c.in-Spent.ensures.visit in
-    so_far_spent p c.args.depth xs i o c.args.fuel c.loop-next.left c.loop-next.next c.in-Some.is child below (record { found = c.loop-next.invariant.found; visits = c.loop-next.invariant.visits })
+    so_far_spent p c.args.depth xs i o c.args.fuel c.loop-option.left c.loop-option.next taken child below (record { found = c.loop-option.invariant.found; visits = c.loop-option.invariant.visits })
 
-pub loop-next-preserved : goal.loop-next-preserved
-loop-next-preserved t c =
+pub loop-option-preserved : goal.loop-option-preserved
+loop-option-preserved t c =
     let p = c.args.links.now.problem in
     let xs = c.args.links.now.chosen in
     let i = c.in_Item-item.item in
     let o = c.in-Some.option in
-    let child = next_child p xs i o c.loop-next.next c.in-Some.is c.loop-next.invariant.child in
-    let same : c.choose.new.self ≡ with_choice c.args.links.now c.in-Some.option = c.choose.ensures ∙ ap (λ (v : Choices). with_choice v c.in-Some.option) c.loop-next.invariant.kept in
-    let V : Choices → Type 0 = λ v. (visits_within v.problem (c.args.depth - 1) v.chosen + c.in-Barren.rest ≡ c.loop-next.left) × (first_within v.problem (c.args.depth - 1) v.chosen ≡ None) × (c.visit_prefix.new.links.chosen ≡ v.chosen) in
+    let taken : c.loop-option.next ≡ Some c.in-Some.option = sym c.take_child.ensures.taken ∙ c.in-Some.is in
+    let child = next_child p xs i o c.loop-option.next taken c.loop-option.invariant.child in
+    let same : c.choose.new.self ≡ with_choice c.args.links.now c.in-Some.option = c.choose.ensures ∙ ap (λ (v : Choices). with_choice v c.in-Some.option) c.loop-option.invariant.kept in
+    let V : Choices → Type 0 = λ v. (visits_within v.problem (c.args.depth - 1) v.chosen + c.in-Barren.rest ≡ c.loop-option.left) × (first_within v.problem (c.args.depth - 1) v.chosen ≡ None) × (c.visit_prefix.new.links.chosen ≡ v.chosen) in
     let below = subst V same c.in-Barren.ensures.visit in
     let was : c.visit_prefix.new.links ≡ with_choice c.args.links.now c.in-Some.option =
     same_choices c.visit_prefix.new.links (with_choice c.args.links.now c.in-Some.option) (c.in-Barren.ensures.problem ∙ ap (λ (v : Choices). v.problem) same) below.2 in
     let kept : c.undo.new.self ≡ c.args.links.now = choice_back c.undo.new.self c.args.links.now c.undo.result c.in-Some.option (sym c.undo.ensures ∙ was) in
-    let N : Choices → Type 0 = λ v. c.next_option-next.result ≡ slice_get (live_options_from v.problem v.chosen c.in_Item-item.item (c.in-Some.option + 1)) 0 in
-    let later = subst N kept c.next_option-next.ensures.next in
-    let C : Choices → Type 0 = λ v. IfSome c.next_option-next.result (IsChild v.problem v.chosen c.in_Item-item.item) in
-    let far = so_far_barren p c.args.depth xs i o c.args.fuel c.loop-next.left c.in-Barren.rest c.loop-next.next c.next_option-next.result c.in-Some.is child below.0 below.1 later (record { found = c.loop-next.invariant.found; visits = c.loop-next.invariant.visits }) in
-    record { kept = kept; child = subst C kept c.next_option-next.ensures.child; found = far.found; visits = far.visits }
+    let N : Choices → Type 0 = λ v. c.take_child.new.next ≡ slice_get (live_options_from v.problem v.chosen c.in_Item-item.item (c.in-Some.option + 1)) 0 in
+    let later = subst N c.loop-option.invariant.kept c.in-Some.ensures.next in
+    let C : Choices → Type 0 = λ v. IfSome c.take_child.new.next (IsChild v.problem v.chosen c.in_Item-item.item) in
+    let far = so_far_barren p c.args.depth xs i o c.args.fuel c.loop-option.left c.in-Barren.rest c.loop-option.next c.take_child.new.next taken child below.0 below.1 later (record { found = c.loop-option.invariant.found; visits = c.loop-option.invariant.visits }) in
+    record { kept = kept; child = subst C c.loop-option.invariant.kept c.take_child.ensures.child; found = far.found; visits = far.visits }
 
-pub loop-next-smaller : goal.loop-next-smaller
-loop-next-smaller t c =
+pub loop-option-smaller : goal.loop-option-smaller
+loop-option-smaller t c =
     let p = c.args.links.now.problem in
     let xs = c.args.links.now.chosen in
     let i = c.in_Item-item.item in
     let o = c.in-Some.option in
-    let child = next_child p xs i o c.loop-next.next c.in-Some.is c.loop-next.invariant.child in
-    let step = loop-next-preserved t c in
-    let N : Choices → Type 0 = λ v. c.next_option-next.result ≡ slice_get (live_options_from v.problem v.chosen c.in_Item-item.item (c.in-Some.option + 1)) 0 in
-    options_fewer p xs i o c.loop-next.next c.next_option-next.result c.in-Some.is child (subst N step.kept c.next_option-next.ensures.next)
+    let taken : c.loop-option.next ≡ Some c.in-Some.option = sym c.take_child.ensures.taken ∙ c.in-Some.is in
+    let child = next_child p xs i o c.loop-option.next taken c.loop-option.invariant.child in
+    let N : Choices → Type 0 = λ v. c.take_child.new.next ≡ slice_get (live_options_from v.problem v.chosen c.in_Item-item.item (c.in-Some.option + 1)) 0 in
+    options_fewer p xs i o c.loop-option.next c.take_child.new.next taken child (subst N c.loop-option.invariant.kept c.in-Some.ensures.next)
 
 pub returns-clause-visit : goal.returns-clause-visit
 returns-clause-visit t c =
-    let far = so_far_end c.args.links.now.problem c.args.depth c.args.links.now.chosen c.in_Item-item.item c.args.fuel c.loop-next.left c.loop-next.next c.in_default.is (record { found = c.loop-next.invariant.found; visits = c.loop-next.invariant.visits }) in
-    (far.0, far.1, ap (λ (v : Choices). v.chosen) c.loop-next.invariant.kept)
+    let far = so_far_end c.args.links.now.problem c.args.depth c.args.links.now.chosen c.in_Item-item.item c.args.fuel c.loop-option.left c.loop-option.next (sym c.take_child.ensures.taken ∙ c.in_default.is) (record { found = c.loop-option.invariant.found; visits = c.loop-option.invariant.visits }) in
+    (far.0, far.1, ap (λ (v : Choices). v.chosen) c.loop-option.invariant.kept)
