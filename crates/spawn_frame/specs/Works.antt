@@ -1,5 +1,5 @@
 -- How a table keeps its units, and what is true of it.
-use Rattle.std.specs.Prelude.{◌≡◌, ℕ, zero, suc, ◌<◌, ◌≤◌, ◌^◌, Bool, true, false, not, ◌&&◌, ◌||◌, if◌then◌else◌, List, [], ◌∷◌, map, length, Option, Some, None, slice_get}
+use Rattle.std.specs.Prelude.{◌≡◌, ℕ, zero, suc, ◌+◌, ◌<◌, ◌≤◌, ◌^◌, Bool, true, false, not, ◌&&◌, ◌||◌, if◌then◌else◌, List, [], ◌∷◌, map, length, Option, Some, None, slice_get}
 use Rattle.std.specs.List.{AllByRecursion, list_any}
 use Rattle.spawn_frame.specs.Frames.{is_unit}
 use Rattle.spawn_frame.specs.Inlets.{Hearing, frame_hearing, heard_of, hearing_of, is_done, new_hearing}
@@ -117,6 +117,10 @@ with_heard child result w = record {
 -- the work with another status
 abbrev pub with_work_status : Status → Work → Work
 with_work_status status w = record { prefix = w.prefix; attempt = w.attempt; status = status; inlet = w.inlet }
+
+-- the work ready again, at the next attempt
+abbrev pub redone_work : Work → Work
+redone_work w = record { prefix = w.prefix; attempt = w.attempt + 1; status = Ready; inlet = w.inlet }
 
 -- the work as a frame of so many children
 abbrev pub split_work : ℕ → Work → Work

@@ -259,15 +259,14 @@ impl Table {
         self.set_status(Unit::Own(serial), Status::Out(thief));
     }
 
-    /// An own child that is out is ready again, at the next attempt. It costs nothing.
+    /// An own child that is out is ready again, at the next attempt, which there is below 4,294,967,295. It costs
+    /// nothing.
     pub fn redo(&mut self, serial: u32)
         requires out { has_status is_out (slice_get self.old.own serial) ≡ true }
         requires attempt { attempt_in (slice_get self.old.own serial) < 4294967295 }
         ensures { self.new ≡ table_own self.old (change_at redone self.old.own serial) }
     {
-        let work = &mut self.own[serial as usize].work;
-        work.attempt += 1;
-        work.status = Status::Ready;
+        self.own[serial as usize].work.redo();
     }
 
     /// Another site's child becomes a ready guest; the only error is want of memory, which changes nothing. It costs a

@@ -23,7 +23,7 @@ pub struct Work {
 }
 
 impl Work {
-    ghost use Rattle.spawn_frame.specs.Works.{frame_says, heard_work, is_wanted, new_work, split_work, with_heard, HearsChildren};
+    ghost use Rattle.spawn_frame.specs.Works.{frame_says, heard_work, is_wanted, new_work, redone_work, split_work, with_heard, HearsChildren};
 
     /// Work that nobody has taken up.
     pub fn new(prefix: Numbers, attempt: Attempt) -> Work
@@ -55,6 +55,15 @@ impl Work {
             Some(inlet) => inlet.heard(),
             None => Heard::Open,
         }
+    }
+
+    /// Makes it ready again, at the next attempt.
+    pub fn redo(&mut self)
+        requires { self.old.attempt < 4294967295 }
+        ensures { self.new ≡ redone_work self.old }
+    {
+        self.attempt += 1;
+        self.status = Status::Ready;
     }
 
     /// Makes it a frame of so many children.
