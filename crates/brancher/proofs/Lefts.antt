@@ -1,7 +1,7 @@
--- What is left for a walk over the uncovered items, or over the live options of an item.
+-- What is left for a walk over the uncovered items, or over the live options of an item; what it keeps.
 use Rattle.std.proofs.Common.{◌≡◌, ℕ, zero, suc, ◌+◌, ◌<◌, ◌≤◌, List, [], length, Option, Some, None, arith, sym, ap, ◌∙◌, inl, inr, slice_get}
 use Rattle.std.proofs.lemmas.Bool.{cases_Bool, cases_lt}
-use Rattle.cover_problem.specs.Branching.{is_choice, IsOpen}
+use Rattle.cover_problem.specs.Branching.{is_choice, live_options, IsOpen}
 use Rattle.cover_problem.specs.Onward.{open_items_from, live_options_from}
 use Rattle.cover_problem.specs.Prefix.{is_covered}
 use Rattle.cover_problem.specs.Problem.{Problem}
@@ -65,3 +65,7 @@ options_next p os i start next e = options_from_next p os i (length p.options) s
 pub record IsOpenItem (p : Problem) (os : List ℕ) (i : ℕ) : Type 0 where
   pub is_open : IsOpen p os i
   pub named : i < length p.names
+
+-- an item with the number of its live options
+abbrev pub IsCounted : Problem → List ℕ → ℕ × ℕ → Type 0
+IsCounted p os b = b.1 ≡ length (live_options p os b.0)

@@ -16,8 +16,7 @@ use Rattle.cover_problem.proofs.Remaining.{open_items_from_take, open_items_star
 use Rattle.cover_problem.proofs.Steps.{within_some, left_end, left_barren, left_found, left_spent}
 use Rattle.dancing_links.specs.Choices.{Choices, with_choice, IsChild}
 use Rattle.dancing_links.proofs.Tables.{in_by_place}
-use Rattle.brancher.specs.Counted.{IsCounted}
-use Rattle.brancher.proofs.Lefts.{items_left, options_left, items_next, options_next, IsOpenItem}
+use Rattle.brancher.proofs.Lefts.{items_left, options_left, items_next, options_next, IsOpenItem, IsCounted}
 
 -- ---- the items that are left
 

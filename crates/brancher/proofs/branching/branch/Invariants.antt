@@ -1,7 +1,6 @@
 use Rattle.std.proofs.Common.{◌≡◌, length, option_map, IfSome}
 use Rattle.cover_problem.specs.Branching.{branch_item, fewest_of}
-use Rattle.brancher.specs.Counted.{IsCounted}
-use Rattle.brancher.proofs.Lefts.{items_left, IsOpenItem}
+use Rattle.brancher.proofs.Lefts.{items_left, IsOpenItem, IsCounted}
 use Rattle.brancher.proofs.branching.branch.Given as goal
 
 abbrev pub invariant-loop-next : goal.invariant-loop-next
