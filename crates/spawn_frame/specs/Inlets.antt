@@ -1,5 +1,5 @@
 -- What an inlet has heard of the children of a frame (inlets of the Cilk 5.4 manual).
-use Rattle.std.specs.Prelude.{◌≡◌, ◌⊎◌, ℕ, zero, suc, ◌-◌, Bool, true, false, not, ◌&&◌, ◌||◌, if◌then◌else◌, List, [], ◌∷◌, count_by, Option, Some, None, is_some, min, ◌==◌}
+use Rattle.std.specs.Prelude.{◌≡◌, ◌⊎◌, ℕ, suc, ◌-◌, Bool, true, false, not, ◌&&◌, ◌||◌, if◌then◌else◌, List, [], ◌∷◌, filter, length, Option, Some, None, is_some, min, ◌==◌}
 use Rattle.spawn_frame.specs.Frames.{cover_of, is_unit}
 use Rattle.spawn_frame.specs.Units.{Entry}
 use Rattle.spawn_frame.specs.declared.child_result.ChildResult.{ChildResult}
@@ -50,7 +50,7 @@ is_done _ = false
 
 -- how many children of the unit are not done
 abbrev pub children_left : WorkUnit → List Entry → ℕ
-children_left unit own = count_by (λ c. is_unit c.parent unit && not (is_done c.status)) own
+children_left unit own = length (filter (λ c. is_unit c.parent unit && not (is_done c.status)) own)
 
 -- the first child of the unit that is done with a cover, of those from serial k on
 abbrev pub winner_from : WorkUnit → ℕ → List Entry → Option ℕ

@@ -1,5 +1,6 @@
 -- What the calls of a table ask for and answer.
-use Rattle.std.specs.Prelude.{◌≡◌, ℕ, ◌<◌, IsSome, Bool, true, false, if◌then◌else◌, List, [], ◌∷◌, ◌++◌, All, map, Option, Some, None, slice_get}
+use Rattle.std.specs.Prelude.{◌≡◌, ℕ, ◌<◌, IsSome, Bool, true, false, if◌then◌else◌, List, [], ◌∷◌, ◌++◌, map, Option, Some, None, slice_get}
+use Rattle.std.specs.List.{AllByRecursion}
 use Rattle.spawn_frame.specs.Frames.{cover_of, frame, frame_result, is_unit}
 use Rattle.spawn_frame.specs.Inlets.{heard_by}
 use Rattle.spawn_frame.specs.Names.{guest_before}
@@ -91,7 +92,7 @@ is_after (Some key) g = guest_before key.0 key.1 g.name g.entry.attempt
 -- each guest comes before all that stand behind it
 abbrev pub IsAscending : List GuestEntry → Type 0
 IsAscending [] = Unit {0}
-IsAscending (g ∷ gs) = All (λ h. guest_before g.name g.entry.attempt h.name h.entry.attempt ≡ true) gs × IsAscending gs
+IsAscending (g ∷ gs) = AllByRecursion (λ h. guest_before g.name g.entry.attempt h.name h.entry.attempt ≡ true) gs × IsAscending gs
 
 -- A parent is there, and an own one was made before its child.
 pub record HasParents (table : Table) : Type 0 where

@@ -1,8 +1,8 @@
 -- How a table keeps its units, and what is true of it.
-use Rattle.std.specs.Prelude.{◌≡◌, ℕ, zero, suc, ◌<◌, ◌≤◌, Bool, true, false, ◌&&◌, if◌then◌else◌, List, [], ◌∷◌, map, length, Option, Some, None, slice_get}
-use Rattle.std.specs.List.{All}
-use Rattle.spawn_frame.specs.Frames.{frame}
-use Rattle.spawn_frame.specs.Inlets.{Hearing, frame_hearing, heard_of, hearing_of, new_hearing}
+use Rattle.std.specs.Prelude.{◌≡◌, ℕ, zero, suc, ◌<◌, ◌≤◌, ◌^◌, Bool, true, false, not, ◌&&◌, ◌||◌, if◌then◌else◌, List, [], ◌∷◌, map, length, Option, Some, None, slice_get}
+use Rattle.std.specs.List.{AllByRecursion, list_any}
+use Rattle.spawn_frame.specs.Frames.{is_unit}
+use Rattle.spawn_frame.specs.Inlets.{Hearing, frame_hearing, heard_of, hearing_of, is_done, new_hearing}
 use Rattle.spawn_frame.specs.Picks.{either_unit, is_ready, is_split, ready_unit, ripe_unit}
 use Rattle.spawn_frame.specs.Tables.{HasParents, IsAscending}
 use Rattle.spawn_frame.specs.Units.{Entry, GuestEntry, Table, is_guest, unit_of}
@@ -44,18 +44,23 @@ is_whole Here = true
 is_whole (Out thief) = true
 is_whole _ = false
 
+-- whether some own child is a child of the unit
+abbrev pub has_child : WorkUnit → List Entry → Bool
+has_child unit own = list_any (λ c. is_unit c.parent unit) own
+
 -- A unit that was never split has no children, and the inlet of one that is split is in step with them.
 pub record IsFrame (unit : WorkUnit) (w : Work) (own : List Entry) : Type 0 where
-  pub whole : is_whole w.status ≡ true → frame unit own ≡ []
+  pub whole : is_whole w.status ≡ true → has_child unit own ≡ false
   pub split : w.status ≡ Split → w.inlet ≡ Some (frame_hearing unit own)
 
 -- What is true of every table: no more names than the limit, guests in order, parents before their children, inlets in step.
 pub record IsTable (table : Table) (own : List Child) (guests : List Guest) : Type 0 where
+  pub small : table.limit < 2 ^ 32
   pub names : length own ≤ table.limit
   pub ascending : IsAscending table.guests
   pub parents : HasParents table
   pub own_frames : (k : ℕ) (c : Child) → slice_get own k ≡ Some c → IsFrame (units.Own k) c.work table.own
-  pub guest_frames : All (λ g. IsFrame (units.Guest g.name g.work.attempt) g.work table.own) guests
+  pub guest_frames : AllByRecursion (λ g. IsFrame (units.Guest g.name g.work.attempt) g.work table.own) guests
 
 -- work that nobody has taken up
 abbrev pub new_work : List ℕ → ℕ → Work
@@ -154,10 +159,30 @@ abbrev pub work_in : List Child → List Guest → WorkUnit → Option Work
 work_in own guests (units.Own serial) = child_work (slice_get own serial)
 work_in own guests (units.Guest name attempt) = guest_work guests name attempt
 
+-- the own children where the work of the parent is changed, if there is one
+abbrev pub own_told : Option WorkUnit → (Work → Work) → List Child → List Child
+own_told None f own = own
+own_told (Some unit) f own = own_after unit f own
+
+-- the guests where the work of the parent is changed, if there is one
+abbrev pub guests_told : Option WorkUnit → (Work → Work) → List Guest → List Guest
+guests_told None f guests = guests
+guests_told (Some unit) f guests = guests_after unit f guests
+
+-- the work of the parent, if there is one
+abbrev pub parent_work : Option WorkUnit → List Child → List Guest → Option Work
+parent_work None own guests = None
+parent_work (Some unit) own guests = work_in own guests unit
+
 -- what a frame says, if there is one
 abbrev pub frame_says : Option Work → Heard
 frame_says None = Open
 frame_says (Some w) = if is_split w.status then heard_work w.inlet else Open
+
+-- what the status of a unit is that is looked for
+abbrev pub wanted_status : Wanted → Status → Bool
+wanted_status wants.Ready status = is_ready status
+wanted_status wants.Ripe status = is_split status
 
 -- the unit that is looked for
 abbrev pub wanted_unit : Wanted → Table → Option WorkUnit
@@ -181,3 +206,12 @@ fresh_child unit prefix = record { parent = Some unit; work = new_work prefix 1 
 -- a guest when it is admitted
 abbrev pub fresh_guest : ChildName → ℕ → List ℕ → Guest
 fresh_guest name attempt prefix = record { name = name; work = new_work prefix attempt }
+
+-- a status that makes no frame, nor a unit whole that was split
+abbrev pub keeps_frame : Status → Status → Bool
+keeps_frame new old = not (is_split new) && (not (is_whole new) || is_whole old)
+
+-- a status that a unit may get with no frame hearing of it: an own child isn't done before or after
+abbrev pub may_become : WorkUnit → Status → Status → Bool
+may_become (units.Own serial) new old = not (is_done new || is_done old) && keeps_frame new old
+may_become (units.Guest name attempt) new old = keeps_frame new old

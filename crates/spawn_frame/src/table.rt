@@ -1,12 +1,13 @@
 //! The units of work of one site.
 
-ghost use Rattle.std.specs.Prelude.{◌≡◌, ◌+◌, ◌<◌, ◌≤◌, ◌↔◌, ◌++◌, length, IfNone, IfOk, IfSome, IsErrOf, IsSome, MatchOption, None, OnErr, OnOk, Some, find, option_map, slice_get, true, Bool};
+ghost use Rattle.std.specs.Prelude.{◌≡◌, ◌+◌, ◌<◌, ◌≤◌, ◌↔◌, ◌++◌, length, IfNone, IfOk, IfSome, IsErrOf, IsSome, MatchOption, None, OnErr, OnOk, Some, find, option_map, slice_get, true, Bool, ℕ};
 ghost use Rattle.spawn_frame.specs.Aborts.{is_open};
 ghost use Rattle.spawn_frame.specs.Frames.{frame, frame_result};
 ghost use Rattle.spawn_frame.specs.Inlets.{frame_winner, heard_by};
 ghost use Rattle.spawn_frame.specs.Picks.{is_finished, is_ready, is_split, ready_unit, ripe_unit};
 ghost use Rattle.spawn_frame.specs.Splits.{split_into, with_result};
 ghost use Rattle.spawn_frame.specs.Tables.{attempt_in, empty_table, guest_key, has_status, is_after, is_here, is_out, longer_prefixes, may_end, new_guest, parent_heard, parent_in, prefix_in, root_table, GivesResult, HasParents, IsAscending, IsMadeBefore, IsSeen};
+ghost use Rattle.spawn_frame.specs.declared.site.ChildName.{ChildName};
 ghost use Rattle.spawn_frame.specs.declared.status.Status.{Status};
 ghost use Rattle.spawn_frame.specs.Units.{change_at, guest_in, insert_guest, redone, table_gets, table_guests, table_own, unit_of};
 
@@ -21,7 +22,9 @@ use crate::spawn_fault::SpawnFault;
 use crate::status::Status;
 use crate::unit::{Job, Unit};
 use crate::unit_view::UnitView;
-use crate::units::{first_guest, last_child, place_behind, place_of, set_guest, split_unit, tell};
+use crate::units::{
+    first_after, first_guest, last_child, place_behind, place_of, set_unit, split_unit, tell_parent,
+};
 use crate::wanted::Wanted;
 use crate::work::Work;
 use std::alloc::{AllocError, Global};
@@ -56,7 +59,7 @@ impl Model for Table {
 }
 
 impl Table {
-    ghost use Rattle.spawn_frame.specs.Works.{wanted_unit, IsWork};
+    ghost use Rattle.spawn_frame.specs.Works.{may_become, wanted_status, wanted_unit, IsWork};
 
     /// The table of a site without units, which may name so many children. It costs nothing.
     pub fn start(alloc: Global, site: Site, names_limit: u32) -> Table
@@ -179,10 +182,7 @@ impl Table {
         ensures next { result ≡ option_map guest_key (find (is_after after) self.now.guests) }
         ensures ascending { IsAscending self.now.guests }
     {
-        self.guests
-            .iter()
-            .find(|guest| guest.is_after(after))
-            .map(|guest| (guest.name, guest.work.attempt))
+        first_after(&self.guests, after)
     }
 
     /// The settled frame that is finished next: the own child of greatest serial, else the least guest. It costs a
@@ -229,20 +229,9 @@ impl Table {
         ensures after { MatchOption result (self.new ≡ self.old) (λ job. self.new ≡ table_gets self.old job.unit Status.Here) }
     {
         let unit = self.picked(Wanted::Ready)?;
-        match unit {
-            Unit::Own(serial) => {
-                let work = &mut self.own[serial as usize].work;
-                work.status = Status::Here;
-                Some(Job {
-                    unit,
-                    attempt: work.attempt,
-                })
-            }
-            Unit::Guest(name, attempt) => {
-                set_guest(&mut self.guests, name, attempt, Status::Here);
-                Some(Job { unit, attempt })
-            }
-        }
+        let attempt = self.work(unit)?.attempt;
+        self.set_status(unit, Status::Here);
+        Some(Job { unit, attempt })
     }
 
     /// Gives a unit its result: an own child is done, a guest is finished. If it is a child of a frame of this site,
@@ -254,28 +243,9 @@ impl Table {
         ensures heard { result ≡ parent_heard self.new unit }
     {
         match unit {
-            Unit::Own(serial) => {
-                let index = serial as usize;
-                let heard = match self.own[index].parent {
-                    Some(parent) => tell(
-                        &mut self.own,
-                        &mut self.guests,
-                        parent,
-                        serial,
-                        &child_result,
-                    ),
-                    None => Heard::Open,
-                };
-                self.own[index].work.status = Status::Done(child_result);
-                heard
-            }
-            Unit::Guest(name, attempt) => {
-                set_guest(
-                    &mut self.guests,
-                    name,
-                    attempt,
-                    Status::Finished(child_result),
-                );
+            Unit::Own(serial) => self.set_child_result(serial, child_result),
+            Unit::Guest(..) => {
+                self.set_status(unit, Status::Finished(child_result));
                 Heard::Open
             }
         }
@@ -286,7 +256,7 @@ impl Table {
         requires { has_status is_ready (slice_get self.old.own serial) ≡ true }
         ensures { self.new ≡ table_gets self.old (Unit.Own serial) (Status.Out thief) }
     {
-        self.own[serial as usize].work.status = Status::Out(thief);
+        self.set_status(Unit::Own(serial), Status::Out(thief));
     }
 
     /// An own child that is out is ready again, at the next attempt. It costs nothing.
@@ -314,7 +284,7 @@ impl Table {
         ensures err { OnErr result (self.new ≡ self.old) }
     {
         let guest = new_guest(self.alloc, name, attempt, prefix)?;
-        let place = place_behind(&self.guests, name, attempt);
+        let place = place_behind(&self.guests, name, attempt).unwrap_or(self.guests.len());
         self.guests.insert(place, guest)?;
         Ok(())
     }
@@ -324,12 +294,7 @@ impl Table {
         requires { has_status is_finished (guest_in self.old.guests name attempt) ≡ true }
         ensures { self.new ≡ table_gets self.old (Unit.Guest name attempt) (Status.Settled child_result) }
     {
-        set_guest(
-            &mut self.guests,
-            name,
-            attempt,
-            Status::Settled(child_result),
-        );
+        self.set_status(Unit::Guest(name, attempt), Status::Settled(child_result));
     }
 
     /// An open guest is wanted no more. It costs a pass through the guests.
@@ -337,7 +302,7 @@ impl Table {
         requires { has_status is_open (guest_in self.old.guests name attempt) ≡ true }
         ensures { self.new ≡ table_gets self.old (Unit.Guest name attempt) Status.Dropped }
     {
-        set_guest(&mut self.guests, name, attempt, Status::Dropped);
+        self.set_status(Unit::Guest(name, attempt), Status::Dropped);
     }
 
     /// An open own child is wanted no more. It costs nothing.
@@ -345,7 +310,35 @@ impl Table {
         requires { has_status is_open (slice_get self.old.own serial) ≡ true }
         ensures { self.new ≡ table_gets self.old (Unit.Own serial) Status.Aborted }
     {
-        self.own[serial as usize].work.status = Status::Aborted;
+        self.set_status(Unit::Own(serial), Status::Aborted);
+    }
+
+    /// Gives an own child its result, of which its frame hears.
+    fn set_child_result(&mut self, serial: u32, child_result: ChildResult) -> Heard
+        requires { has_status may_end (slice_get self.old.own serial) ≡ true }
+        ensures after { self.new ≡ table_gets self.old (Unit.Own serial) (Status.Done child_result) }
+        ensures heard { result ≡ parent_heard self.new (Unit.Own serial) }
+    {
+        let index = serial as usize;
+        let parent = self.own[index].parent;
+        let heard = tell_parent(
+            &mut self.own,
+            &mut self.guests,
+            parent,
+            serial,
+            &child_result,
+        );
+        self.own[index].work.status = Status::Done(child_result);
+        heard
+    }
+
+    /// Gives a unit a status of which no frame hears.
+    fn set_status(&mut self, unit: Unit, status: Status)
+        requires { has_status (may_become unit status) (unit_of self.old unit) ≡ true }
+        ensures after { self.new ≡ table_gets self.old unit status }
+        ensures guests { (name : ChildName) (attempt : ℕ) → parent_in (guest_in self.new.guests name attempt) ≡ None }
+    {
+        set_unit(&mut self.own, &mut self.guests, unit, status);
     }
 
     /// What is kept of a unit; none where it isn't there.
@@ -366,7 +359,8 @@ impl Table {
 
     /// The own child of greatest serial that is wanted, else the least guest.
     fn picked(&self, wanted: Wanted) -> Option<Unit>
-        ensures { result ≡ wanted_unit wanted self.now }
+        ensures unit { result ≡ wanted_unit wanted self.now }
+        ensures status { IfSome result (λ unit. has_status (wanted_status wanted) (unit_of self.now unit) ≡ true) }
     {
         match last_child(&self.own, wanted) {
             Some(unit) => Some(unit),

@@ -1,9 +1,10 @@
 //! Units among the own children and guests of a table.
 
-ghost use Rattle.std.specs.Prelude.{◌≡◌, ◌<◌, ◌^◌, length, position, unwrap_or};
+ghost use Rattle.std.specs.Prelude.{◌≡◌, ◌<◌, ◌^◌, find, length, map, option_map, position};
 ghost use Rattle.spawn_frame.specs.Names.{guest_before};
+ghost use Rattle.spawn_frame.specs.Tables.{guest_key, is_after};
 ghost use Rattle.spawn_frame.specs.Units.{is_guest};
-ghost use Rattle.spawn_frame.specs.Works.{change_work, first_wanted, frame_says, guest_entry, guests_after, last_wanted, own_after, split_work, with_heard, with_work_status, work_in, HearsFrom};
+ghost use Rattle.spawn_frame.specs.Works.{first_wanted, frame_says, guest_entry, guests_after, guests_told, last_wanted, own_after, own_told, parent_work, split_work, with_heard, with_work_status, work_in, HearsFrom};
 
 use crate::child::Child;
 use crate::child_result::ChildResult;
@@ -40,6 +41,21 @@ pub fn first_guest(guests: &[Guest], wanted: Wanted) -> Option<Unit>
     None
 }
 
+/// The name and attempt of the first guest behind the given one, or of the first of all.
+pub fn first_after(
+    guests: &[Guest],
+    after: Option<(ChildName, Attempt)>,
+) -> Option<(ChildName, Attempt)>
+    ensures { result ≡ option_map guest_key (find (is_after after) (map guest_entry guests.now)) }
+{
+    for guest in guests {
+        if guest.is_after(after) {
+            return Some((guest.name, guest.work.attempt));
+        }
+    }
+    None
+}
+
 /// The place of the guest of this name and attempt.
 pub fn place_of(guests: &[Guest], name: ChildName, attempt: Attempt) -> Option<usize>
     ensures { result ≡ position (λ g. is_guest name attempt (guest_entry g)) guests.now }
@@ -47,22 +63,32 @@ pub fn place_of(guests: &[Guest], name: ChildName, attempt: Attempt) -> Option<u
     guests.iter().position(|guest| guest.is_at(name, attempt))
 }
 
-/// How many guests stand before this name and attempt.
-pub fn place_behind(guests: &[Guest], name: ChildName, attempt: Attempt) -> usize
-    ensures { result ≡ unwrap_or (position (λ g. guest_before name attempt g.name g.work.attempt) guests.now) (length guests.now) }
+/// The place of the first guest that stands behind this name and attempt in the order of guests.
+pub fn place_behind(guests: &[Guest], name: ChildName, attempt: Attempt) -> Option<usize>
+    ensures { result ≡ position (λ g. guest_before name attempt g.name g.work.attempt) guests.now }
 {
     guests
         .iter()
         .position(|guest| guest.is_behind(name, attempt))
-        .unwrap_or(guests.len())
 }
 
-/// Gives a guest another status, if it is there.
-pub fn set_guest(guests: &mut [Guest], name: ChildName, attempt: Attempt, status: Status)
-    ensures { guests.new ≡ change_work (with_work_status status) guests.old name attempt }
+/// Gives a unit another status, if it is there.
+pub fn set_unit(own: &mut [Child], guests: &mut [Guest], unit: Unit, status: Status)
+    ensures own { own.new ≡ own_after unit (with_work_status status) own.old }
+    ensures guests { guests.new ≡ guests_after unit (with_work_status status) guests.old }
 {
-    if let Some(place) = place_of(guests, name, attempt) {
-        guests[place].work.status = status;
+    match unit {
+        Unit::Own(serial) => {
+            let serial = serial as usize;
+            if serial < own.len() {
+                own[serial].work.status = status;
+            }
+        }
+        Unit::Guest(name, attempt) => {
+            if let Some(place) = place_of(guests, name, attempt) {
+                guests[place].work.status = status;
+            }
+        }
     }
 }
 
@@ -88,7 +114,7 @@ pub fn split_unit(own: &mut [Child], guests: &mut [Guest], unit: Unit, children:
 }
 
 /// Tells a frame the result of a child, and says whether it is settled now; what is no frame says `Open`.
-pub fn tell(
+fn tell(
     own: &mut [Child],
     guests: &mut [Guest],
     unit: Unit,
@@ -98,7 +124,7 @@ pub fn tell(
     requires { HearsFrom (work_in own.old guests.old unit) }
     ensures own { own.new ≡ own_after unit (with_heard child child_result.now) own.old }
     ensures guests { guests.new ≡ guests_after unit (with_heard child child_result.now) guests.old }
-    ensures heard { result ≡ frame_says (work_in own.new guests.new unit) }
+    ensures heard { result ≡ frame_says (option_map (with_heard child child_result.now) (work_in own.old guests.old unit)) }
 {
     match unit {
         Unit::Own(serial) => {
@@ -113,5 +139,24 @@ pub fn tell(
             Some(place) => guests[place].work.hear(child, child_result),
             None => Heard::Open,
         },
+    }
+}
+
+/// Tells the parent of a child its result, if it has one, and says whether that frame is settled now; else `Open`.
+pub fn tell_parent(
+    own: &mut [Child],
+    guests: &mut [Guest],
+    parent: Option<Unit>,
+    child: u32,
+    child_result: &ChildResult,
+) -> Heard
+    requires { HearsFrom (parent_work parent own.old guests.old) }
+    ensures own { own.new ≡ own_told parent (with_heard child child_result.now) own.old }
+    ensures guests { guests.new ≡ guests_told parent (with_heard child child_result.now) guests.old }
+    ensures heard { result ≡ frame_says (option_map (with_heard child child_result.now) (parent_work parent own.old guests.old)) }
+{
+    match parent {
+        Some(unit) => tell(own, guests, unit, child, child_result),
+        None => Heard::Open,
     }
 }

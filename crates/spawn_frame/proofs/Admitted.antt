@@ -1,0 +1,166 @@
+-- A new guest at its place in the order.
+use Rattle.std.proofs.Common.{◌≡◌, ◌⊎◌, ℕ, zero, suc, ◌+◌, ◌<◌, ◌≤◌, Bool, true, false, cond, not, ◌&&◌, ◌||◌, ◌==◌, nat_lt, List, [], ◌∷◌, ◌++◌, map, length, take, drop, insert, position, unwrap_or, option_map, Option, Some, None, is_some, IsSome, slice_get, refl, sym, ap, subst, ◌∙◌, ⊎_elim, arith}
+use Rattle.std.specs.List.{AllByRecursion, list_any, position_or_len, prefix_len}
+use Rattle.std.proofs.lemmas.List.Sums.{prefix_len-le-length}
+use Rattle.std.proofs.lemmas.Option.{same_Some, none-some}
+use Rattle.std.proofs.lemmas.Bool.{and_from, and_parts, both_ways, cases_Bool, eqb-true, eq-eqb, false≢true, false_from_ne_true, ltb-false, or_cases, true≢false}
+use Rattle.spawn_frame.specs.Frames.{is_unit}
+use Rattle.spawn_frame.specs.Names.{guest_before, same_name, same_unit}
+use Rattle.spawn_frame.specs.Tables.{HasParents, IsAscending, new_guest}
+use Rattle.spawn_frame.specs.Units.{Entry, GuestEntry, Table, guest_in, insert_guest, is_guest, table_guests, unit_of}
+use Rattle.spawn_frame.specs.Works.{IsFrame, IsTable, child_entry, entry_of, fresh_guest, guest_entry, has_child, new_work, table_of}
+use Rattle.spawn_frame.specs.declared.child.Child.{Child}
+use Rattle.spawn_frame.specs.declared.guest.Guest.{Guest}
+use Rattle.spawn_frame.specs.declared.site.ChildName.{ChildName}
+use Rattle.spawn_frame.specs.declared.site.Site.{Site}
+use Rattle.spawn_frame.specs.declared.unit.Unit.{Unit as WorkUnit}
+use Rattle.spawn_frame.specs.declared.unit.Unit.TheVariants as units
+use Rattle.spawn_frame.proofs.Orders.{before_on, before_or_same}
+use Rattle.spawn_frame.proofs.Sames.{name_path, parent_path, same_name_self}
+
+-- the list with a new guest before the first that stands behind it
+abbrev pub put_guest : Guest → List Guest → List Guest
+put_guest new [] = new ∷ []
+put_guest new (g ∷ gs) = cond (guest_before new.name new.work.attempt g.name g.work.attempt) (new ∷ g ∷ gs) (g ∷ put_guest new gs)
+
+place_is_len : {X : Type 0} (p : X → Bool) (xs : List X) → unwrap_or (position p xs) (length xs) ≡ position_or_len p xs
+place_is_len p xs = go (nat_lt (position_or_len p xs) (length xs)) refl
+  where
+    go : (b : Bool) → nat_lt (position_or_len p xs) (length xs) ≡ b → unwrap_or (cond b (Some (position_or_len p xs)) None) (length xs) ≡ position_or_len p xs
+    go true t = refl
+    go false t =
+        let past = ltb-false (position_or_len p xs) (length xs) t in
+        omega (arith, past, prefix_len-le-length (λ x. not (p x)) xs)
+
+pub put_is : (new : Guest) (gs : List Guest)
+    → insert gs (unwrap_or (position (λ g. guest_before new.name new.work.attempt g.name g.work.attempt) gs) (length gs)) new ≡ put_guest new gs
+put_is new gs = ap (λ n. insert gs n new) (place_is_len (λ g. guest_before new.name new.work.attempt g.name g.work.attempt) gs) ∙ by_place new gs
+  where
+    by_place : (new : Guest) (gs : List Guest) → insert gs (position_or_len (λ g. guest_before new.name new.work.attempt g.name g.work.attempt) gs) new ≡ put_guest new gs
+    by_place new [] = refl
+    by_place new (g ∷ gs) = go (guest_before new.name new.work.attempt g.name g.work.attempt) (by_place new gs)
+      where
+        go : (b : Bool) → insert gs (position_or_len (λ x. guest_before new.name new.work.attempt x.name x.work.attempt) gs) new ≡ put_guest new gs
+            → insert (g ∷ gs) (cond (not b) (1 + position_or_len (λ x. guest_before new.name new.work.attempt x.name x.work.attempt) gs) 0) new ≡ cond b (new ∷ g ∷ gs) (g ∷ put_guest new gs)
+        go true e = refl
+        go false e =
+            let n : ℕ = position_or_len (λ x. guest_before new.name new.work.attempt x.name x.work.attempt) gs in
+            let next : 1 + n ≡ suc n = omega arith in
+            ap (λ k. insert (g ∷ gs) k new) next ∙ ap (λ l. g ∷ l) e
+
+pub put_view : (new : Guest) (gs : List Guest) → map guest_entry (put_guest new gs) ≡ insert_guest (guest_entry new) (map guest_entry gs)
+put_view new [] = refl
+put_view new (g ∷ gs) = go (guest_before new.name new.work.attempt g.name g.work.attempt) (put_view new gs)
+  where
+    go : (b : Bool) → map guest_entry (put_guest new gs) ≡ insert_guest (guest_entry new) (map guest_entry gs)
+        → map guest_entry (cond b (new ∷ g ∷ gs) (g ∷ put_guest new gs)) ≡ cond b (guest_entry new ∷ guest_entry g ∷ map guest_entry gs) (guest_entry g ∷ insert_guest (guest_entry new) (map guest_entry gs))
+    go true e = refl
+    go false e = ap (λ l. guest_entry g ∷ l) e
+
+pub each_put : (P : Guest → Type 0) (new : Guest) (gs : List Guest) → P new → AllByRecursion P gs → AllByRecursion P (put_guest new gs)
+each_put P new [] p h = (p, tt)
+each_put P new (g ∷ gs) p h = go (guest_before new.name new.work.attempt g.name g.work.attempt) (each_put P new gs p h.1)
+  where
+    go : (b : Bool) → AllByRecursion P (put_guest new gs) → AllByRecursion P (cond b (new ∷ g ∷ gs) (g ∷ put_guest new gs))
+    go true later = (p, h)
+    go false later = (h.0, later)
+
+-- ---- the order
+
+each_inserted : (P : GuestEntry → Type 0) (new : GuestEntry) (gs : List GuestEntry) → P new → AllByRecursion P gs → AllByRecursion P (insert_guest new gs)
+each_inserted P new [] p h = (p, tt)
+each_inserted P new (g ∷ gs) p h = go (guest_before new.name new.entry.attempt g.name g.entry.attempt) (each_inserted P new gs p h.1)
+  where
+    go : (b : Bool) → AllByRecursion P (insert_guest new gs) → AllByRecursion P (cond b (new ∷ g ∷ gs) (g ∷ insert_guest new gs))
+    go true later = (p, h)
+    go false later = (h.0, later)
+
+before_rest : (new g : GuestEntry) → guest_before new.name new.entry.attempt g.name g.entry.attempt ≡ true → (gs : List GuestEntry)
+    → AllByRecursion (λ x. guest_before g.name g.entry.attempt x.name x.entry.attempt ≡ true) gs → AllByRecursion (λ x. guest_before new.name new.entry.attempt x.name x.entry.attempt ≡ true) gs
+before_rest new g t [] h = tt
+before_rest new g t (x ∷ xs) h = (before_on new.name g.name x.name new.entry.attempt g.entry.attempt x.entry.attempt t h.0, before_rest new g t xs h.1)
+
+-- what a list without a guest says of its first
+first_another : (n : ChildName) (a : ℕ) (g : GuestEntry) (gs : List GuestEntry) → guest_in (g ∷ gs) n a ≡ None → (is_guest n a g ≡ false) × (guest_in gs n a ≡ None)
+first_another n a g gs e = go (is_guest n a g) refl e
+  where
+    go : (b : Bool) → is_guest n a g ≡ b → cond b (Some g.entry) (guest_in gs n a) ≡ None → (is_guest n a g ≡ false) × (guest_in gs n a ≡ None)
+    go true t q = absurd (none-some g.entry (sym q))
+    go false t q = (t, q)
+
+pub ascending_inserted : (new : GuestEntry) (gs : List GuestEntry) → guest_in gs new.name new.entry.attempt ≡ None → IsAscending gs → IsAscending (insert_guest new gs)
+ascending_inserted new [] e h = (tt, tt)
+ascending_inserted new (g ∷ gs) e h =
+    let other = first_another new.name new.entry.attempt g gs e in
+    go (guest_before new.name new.entry.attempt g.name g.entry.attempt) refl other.0 (ascending_inserted new gs other.1 h.1)
+  where
+    go : (b : Bool) → guest_before new.name new.entry.attempt g.name g.entry.attempt ≡ b → is_guest new.name new.entry.attempt g ≡ false → IsAscending (insert_guest new gs)
+        → IsAscending (cond b (new ∷ g ∷ gs) (g ∷ insert_guest new gs))
+    go true t d later = ((t, before_rest new g t gs h.0), h)
+    go false t d later = (each_inserted (λ x. guest_before g.name g.entry.attempt x.name x.entry.attempt ≡ true) new gs before h.0, later)
+      where
+        before : guest_before g.name g.entry.attempt new.name new.entry.attempt ≡ true
+        before = ⊎_elim
+            (λ (u : guest_before g.name g.entry.attempt new.name new.entry.attempt ≡ true). u)
+            (λ (s : (new.name ≡ g.name) × (new.entry.attempt ≡ g.entry.attempt)).
+            absurd (both_ways (is_guest new.name new.entry.attempt g) d
+            (and_from (same_name g.name new.name) (g.entry.attempt == new.entry.attempt) (ap (same_name g.name) s.0 ∙ same_name_self g.name) (eq-eqb g.entry.attempt new.entry.attempt (sym s.1)))))
+            (before_or_same new.name g.name new.entry.attempt g.entry.attempt t)
+
+there_inserted : (new : GuestEntry) (gs : List GuestEntry) (m : ChildName) (b : ℕ) → IsSome (guest_in gs m b) → IsSome (guest_in (insert_guest new gs) m b)
+there_inserted new [] m b h = absurd (false≢true h)
+there_inserted new (g ∷ gs) m b h = go (guest_before new.name new.entry.attempt g.name g.entry.attempt) (λ i. there_inserted new gs m b i)
+  where
+    either : (t : Bool) (x : Entry) (o : Option Entry) → IsSome o → IsSome (cond t (Some x) o)
+    either true x o i = refl
+    either false x o i = i
+
+    behind : (t : Bool) (x : Entry) → IsSome (cond t (Some x) (guest_in gs m b)) → (IsSome (guest_in gs m b) → IsSome (guest_in (insert_guest new gs) m b)) → IsSome (cond t (Some x) (guest_in (insert_guest new gs) m b))
+    behind true x i f = refl
+    behind false x i f = f i
+
+    go : (t : Bool) → (IsSome (guest_in gs m b) → IsSome (guest_in (insert_guest new gs) m b)) → IsSome (guest_in (cond t (new ∷ g ∷ gs) (g ∷ insert_guest new gs)) m b)
+    go true later = either (is_guest m b new) new.entry (guest_in (g ∷ gs) m b) h
+    go false later = behind (is_guest m b g) g.entry h later
+
+-- ---- a unit that is not there has no children
+
+pub record FindsChild (unit : WorkUnit) (es : List Entry) : Type 0 where
+  pub place : ℕ
+  pub entry : Entry
+  pub is : slice_get es place ≡ Some entry
+  pub child : is_unit entry.parent unit ≡ true
+
+pub find_child : (unit : WorkUnit) (es : List Entry) → has_child unit es ≡ true → FindsChild unit es
+find_child unit [] h = absurd (false≢true h)
+find_child unit (c ∷ cs) h = ⊎_elim
+    (λ (t : is_unit c.parent unit ≡ true). record { place = 0; entry = c; is = refl; child = t })
+    (λ (t : has_child unit cs ≡ true). let f = find_child unit cs t in record { place = suc f.place; entry = f.entry; is = f.is; child = f.child })
+    (or_cases (is_unit c.parent unit) (has_child unit cs) h)
+
+pub none_there : (table : Table) (unit : WorkUnit) → HasParents table → unit_of table unit ≡ None → has_child unit table.own ≡ false
+none_there table unit h e = false_from_ne_true (has_child unit table.own) (λ t.
+    let f = find_child unit table.own t in
+    true≢false (sym (h.there f.place f.entry unit f.is (parent_path f.entry.parent unit f.child)) ∙ ap is_some e))
+
+-- ---- the table
+
+pub put_kept : (site : Site) (limit : ℕ) (own : List Child) (guests : List Guest) → IsTable (table_of site limit own guests) own guests → (name : ChildName) (attempt : ℕ) (prefix : List ℕ)
+    → guest_in (map guest_entry guests) name attempt ≡ None → IsTable (table_of site limit own (put_guest (fresh_guest name attempt prefix) guests)) own (put_guest (fresh_guest name attempt prefix) guests)
+put_kept site limit own guests h name attempt prefix absent =
+    let new = fresh_guest name attempt prefix in
+    let view = put_view new guests in
+    record {
+      small = h.small;
+      names = h.names;
+      ascending = subst IsAscending (sym view) (ascending_inserted (guest_entry new) (map guest_entry guests) absent h.ascending);
+      parents = record { lower = h.parents.lower; there = λ k c unit at p. there unit (h.parents.there k c unit at p) };
+      own_frames = h.own_frames;
+      guest_frames = each_put (λ g. IsFrame (units.Guest g.name g.work.attempt) g.work (map child_entry own)) new guests
+          (record { whole = λ t. none_there (table_of site limit own guests) (units.Guest name attempt) h.parents absent; split = λ s. absurd (cc) }) h.guest_frames;
+    }
+  where
+    there : (unit : WorkUnit) → IsSome (unit_of (table_of site limit own guests) unit) → IsSome (unit_of (table_of site limit own (put_guest (fresh_guest name attempt prefix) guests)) unit)
+    there (units.Own j) i = i
+    there (units.Guest m b) i =
+        subst (λ l. IsSome (guest_in l m b)) (sym (put_view (fresh_guest name attempt prefix) guests)) (there_inserted (guest_entry (fresh_guest name attempt prefix)) (map guest_entry guests) m b i)

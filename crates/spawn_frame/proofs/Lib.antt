@@ -1,0 +1,17 @@
+pub mod Sames
+pub mod Briefs
+pub mod Lookups
+pub mod Frames
+pub mod Places
+pub mod Kept
+pub mod Statuses
+pub mod Writes
+pub mod Found
+pub mod Redone
+pub mod Winners
+pub mod Picked
+pub mod Ended
+pub mod Orders
+pub mod Admitted
+pub mod Spawned
+pub mod Split

@@ -1,0 +1,286 @@
+-- What is true of a table stays true where a unit is split.
+use Rattle.std.proofs.Common.{◌≡◌, ◌⊎◌, ℕ, zero, suc, ◌+◌, ◌<◌, ◌≤◌, Bool, true, false, cond, ◌&&◌, ◌==◌, List, [], ◌∷◌, ◌++◌, map, length, option_map, Option, Some, None, is_some, IsSome, slice_get, refl, sym, ap, subst, ◌∙◌, inl, inr, ⊎_elim, arith}
+use Rattle.std.specs.List.{AllByRecursion}
+use Rattle.std.proofs.lemmas.List.{length-append, length-map, map-append}
+use Rattle.std.proofs.lemmas.Option.{same_Some, none-some, slice_get-map, slice_get_within}
+use Rattle.std.proofs.lemmas.Bool.{and_from, and_parts, both_ways, eqb-true, eq-eqb, false≢true, false_from_ne_true, ne_eqb, true≢false}
+use Rattle.spawn_frame.specs.Frames.{cover_of, is_unit}
+use Rattle.spawn_frame.specs.Inlets.{is_done}
+use Rattle.spawn_frame.specs.Names.{same_name, same_unit}
+use Rattle.spawn_frame.specs.Splits.{new_child, split_into}
+use Rattle.spawn_frame.specs.Tables.{HasParents, IsAscending, has_status, is_here}
+use Rattle.spawn_frame.specs.Units.{Entry, GuestEntry, Table, change_at, change_guest, guest_in, is_guest, table_gets, table_own, unit_of, with_status}
+use Rattle.spawn_frame.specs.Works.{IsFrame, IsTable, IsWork, change_child, change_work, child_entry, child_work, entry_of, fresh_child, guest_entry, guest_work, guests_after, has_child, is_whole, new_work, own_after, split_work, table_of, work_in}
+use Rattle.spawn_frame.specs.declared.child.Child.{Child}
+use Rattle.spawn_frame.specs.declared.guest.Guest.{Guest}
+use Rattle.spawn_frame.specs.declared.site.ChildName.{ChildName}
+use Rattle.spawn_frame.specs.declared.site.Site.{Site}
+use Rattle.spawn_frame.specs.declared.status.Status.{Status}
+use Rattle.spawn_frame.specs.declared.status.Status.TheVariants.{Aborted, Done, Dropped, Finished, Here, Out, Ready, Settled, Split}
+use Rattle.spawn_frame.specs.declared.unit.Unit.{Unit as WorkUnit}
+use Rattle.spawn_frame.specs.declared.unit.Unit.TheVariants as units
+use Rattle.spawn_frame.specs.declared.work.Work.{Work}
+use Rattle.spawn_frame.proofs.Admitted.{find_child}
+use Rattle.spawn_frame.proofs.Briefs.{brief, briefs, same_child, same_frame}
+use Rattle.spawn_frame.proofs.Ended.{each_told}
+use Rattle.spawn_frame.proofs.Found.{unit_none, unit_work}
+use Rattle.spawn_frame.proofs.Kept.{ascending_kept, child_briefs, each_weaker, guest_there, keys_kept, length_changed, still_there, was_there}
+use Rattle.spawn_frame.proofs.Lookups.{child_before, child_view, guest_view, guest_with, with_work}
+use Rattle.spawn_frame.proofs.Sames.{name_path, parent_path, same_name_self, same_unit_self, unit_path}
+use Rattle.spawn_frame.proofs.Spawned.{child_append, child_of_other, entries_new, hearing_append, hearing_new, news}
+
+-- ---- lists with others behind them
+
+change_front : (f : Work → Work) (xs ys : List Child) (k : ℕ) → k < length xs → change_child f (xs ++ ys) k ≡ change_child f xs k ++ ys
+change_front f [] ys k h = absurd (omega (arith, h))
+change_front f (x ∷ xs) ys zero h = refl
+change_front f (x ∷ xs) ys (suc k) h = ap (λ l. x ∷ l) (change_front f xs ys k (omega (arith, h)))
+
+front_or_behind : {X : Type 0} (xs ys : List X) (j : ℕ) (d : X) → slice_get (xs ++ ys) j ≡ Some d → (slice_get xs j ≡ Some d) ⊎ ((i : ℕ) × (length xs ≤ j) × (slice_get ys i ≡ Some d))
+front_or_behind [] ys j d at = inr (j, omega arith, at)
+front_or_behind (x ∷ xs) ys zero d at = inl at
+front_or_behind {X} (x ∷ xs) ys (suc j) d at = ⊎_elim
+    (λ (h : slice_get xs j ≡ Some d). inl h)
+    (λ (h : (i : ℕ) × (length xs ≤ j) × (slice_get ys i ≡ Some d)). let l : length xs ≤ j = h.1 in inr (h.0, omega arith, h.2))
+    (front_or_behind xs ys j d at)
+
+front_there : (xs ys : List Entry) (j : ℕ) → IsSome (slice_get xs j) → IsSome (slice_get (xs ++ ys) j)
+front_there [] ys j h = absurd (false≢true h)
+front_there (x ∷ xs) ys zero h = refl
+front_there (x ∷ xs) ys (suc j) h = front_there xs ys j h
+
+new_at : (unit : WorkUnit) (ps : List (List ℕ)) (i : ℕ) (d : Child) → slice_get (map (fresh_child unit) ps) i ≡ Some d → (p : List ℕ) × (d ≡ fresh_child unit p)
+new_at unit [] i d at = absurd (none-some d at)
+new_at unit (p ∷ ps) zero d at = (p, sym (same_Some (fresh_child unit p) d at))
+new_at unit (p ∷ ps) (suc i) d at = new_at unit ps i d at
+
+new_entry_at : (unit : WorkUnit) (ps : List (List ℕ)) (i : ℕ) (d : Entry) → slice_get (news unit ps) i ≡ Some d → d.parent ≡ Some unit
+new_entry_at unit [] i d at = absurd (none-some d at)
+new_entry_at unit (p ∷ ps) zero d at = ap (λ x. x.parent) (sym (same_Some (new_child unit p) d at))
+new_entry_at unit (p ∷ ps) (suc i) d at = new_entry_at unit ps i d at
+
+-- what frames see of a unit that is here
+pub record IsBegun (status : Status) : Type 0 where
+  pub whole : is_whole status ≡ true
+  pub undone : is_done status ≡ false
+  pub uncovered : is_some (cover_of status) ≡ false
+
+here_is_begun : (status : Status) → is_here status ≡ true → IsBegun status
+here_is_begun Here h = record { whole = refl; undone = refl; uncovered = refl }
+here_is_begun Ready h = absurd (false≢true h)
+here_is_begun Split h = absurd (false≢true h)
+here_is_begun (Out thief) h = absurd (false≢true h)
+here_is_begun (Done result) h = absurd (false≢true h)
+here_is_begun Aborted h = absurd (false≢true h)
+here_is_begun (Finished result) h = absurd (false≢true h)
+here_is_begun (Settled result) h = absurd (false≢true h)
+here_is_begun Dropped h = absurd (false≢true h)
+
+-- ---- the table
+
+module _ (site : Site) (limit : ℕ) (own : List Child) (guests : List Guest) (is_table : IsTable (table_of site limit own guests) own guests)
+    (unit : WorkUnit) (w : Work) (found : work_in own guests unit ≡ Some w) (here : is_here w.status ≡ true)
+    (ps : List (List ℕ)) (fits : length own + length ps ≤ limit) where
+  abbrev es : List Entry
+  es = map child_entry own
+
+  abbrev becomes : Work → Work
+  becomes = split_work (length ps)
+
+  abbrev kids : List Child
+  kids = map (fresh_child unit) ps
+
+  abbrev pub own_split : List Child
+  own_split = own_after unit becomes (own ++ kids)
+
+  abbrev pub guests_split : List Guest
+  guests_split = guests_after unit becomes guests
+
+  abbrev front : List Child
+  front = own_after unit becomes own
+
+  begun : IsBegun w.status
+  begun = here_is_begun w.status here
+
+  is_work : IsWork (table_of site limit own guests) unit w
+  is_work = unit_work site limit own guests is_table unit w found
+
+  childless : has_child unit es ≡ false
+  childless = is_work.in_step.whole begun.whole
+
+  -- an own unit was made before its children
+  own_below : (k : ℕ) → unit ≡ units.Own k → k < length own
+  own_below k e = go (slice_get own k) refl (ap (work_in own guests) (sym e) ∙ found)
+    where
+      go : (o : Option Child) → slice_get own k ≡ o → child_work o ≡ Some w → k < length own
+      go None at q = absurd (none-some w q)
+      go (Some c) at q = slice_get_within own k c at
+
+  own_is : own_split ≡ front ++ kids
+  own_is = go unit refl
+    where
+      go : (u : WorkUnit) → unit ≡ u → own_after u becomes (own ++ kids) ≡ own_after u becomes own ++ kids
+      go (units.Own k) e = change_front becomes own kids k (own_below k e)
+      go (units.Guest n a) e = refl
+
+  front_length : length front ≡ length own
+  front_length = go unit
+    where
+      go : (u : WorkUnit) → length (own_after u becomes own) ≡ length own
+      go (units.Own k) = length_changed becomes own k
+      go (units.Guest n a) = refl
+
+  front_briefs : briefs (map child_entry front) ≡ briefs es
+  front_briefs = go unit refl
+    where
+      one : (k : ℕ) (o : Option Child) → slice_get own k ≡ o → child_work o ≡ Some w → briefs (map child_entry (change_child becomes own k)) ≡ briefs es
+      one k None at q = absurd (none-some w q)
+      one k (Some c) at q =
+          let same : c.work ≡ w = same_Some c.work w q in
+          let undone : is_done c.work.status ≡ false = ap (λ x. is_done x.status) same ∙ begun.undone in
+          let uncovered : is_some (cover_of c.work.status) ≡ false = ap (λ x. is_some (cover_of x.status)) same ∙ begun.uncovered in
+          child_briefs becomes own k c at (λ i. record { parent = c.parent; done = sym undone i; covered = sym uncovered i })
+
+      go : (u : WorkUnit) → unit ≡ u → briefs (map child_entry (own_after u becomes own)) ≡ briefs es
+      go (units.Own k) e = one k (slice_get own k) refl (ap (work_in own guests) (sym e) ∙ found)
+      go (units.Guest n a) e = refl
+
+  abbrev entries : List Entry
+  entries = map child_entry front ++ news unit ps
+
+  entries_are : map child_entry own_split ≡ entries
+  entries_are = ap (map child_entry) own_is ∙ map-append child_entry front kids ∙ ap (λ l. map child_entry front ++ l) (entries_new unit ps)
+
+  untold : (v : WorkUnit) (x : Work) → same_unit unit v ≡ false → IsFrame v x es → IsFrame v x entries
+  untold v x d h =
+      let f = same_frame v x es (map child_entry front) front_briefs h in
+      let other = child_of_other unit v ps d in
+      record {
+        whole = λ t. child_append v (map child_entry front) (news unit ps) (f.whole t) other;
+        split = λ s. f.split s ∙ ap Some (sym (hearing_append v (map child_entry front) (news unit ps) other));
+      }
+
+  told : (x : Work) → IsFrame unit (becomes x) entries
+  told x = record {
+    whole = λ t. absurd (false≢true t);
+    split = λ s. ap Some (sym (hearing_new unit (map child_entry front) ps (same_child unit es (map child_entry front) front_briefs ∙ childless)));
+  }
+
+  -- a child that is made has no children yet
+  fresh : (j : ℕ) (p : List ℕ) → length own ≤ j → IsFrame (units.Own j) (new_work p 1) entries
+  fresh j p l = record {
+    whole = λ t. child_append (units.Own j) (map child_entry front) (news unit ps) (same_child (units.Own j) es (map child_entry front) front_briefs ∙ none) (child_of_other unit (units.Own j) ps (other unit refl));
+    split = λ s. absurd (cc);
+  }
+    where
+      none : has_child (units.Own j) es ≡ false
+      none = false_from_ne_true (has_child (units.Own j) es) (λ t.
+          let f = find_child (units.Own j) es t in
+          let lower = is_table.parents.lower f.place j f.entry f.is (parent_path f.entry.parent (units.Own j) f.child) in
+          let within = slice_get_within es f.place f.entry f.is in
+          omega (arith, l, lower, within, length-map own child_entry))
+
+      other : (u : WorkUnit) → unit ≡ u → same_unit u (units.Own j) ≡ false
+      other (units.Own k) e = let below = own_below k e in ne_eqb k j (omega (arith, l, below))
+      other (units.Guest n a) e = refl
+
+  own_front : (u : WorkUnit) → unit ≡ u → (j : ℕ) (d : Child) → slice_get (own_after u becomes own) j ≡ Some d → IsFrame (units.Own j) d.work entries
+  own_front (units.Guest n a) e j d at = untold (units.Own j) d.work (ap (λ u. same_unit u (units.Own j)) e) (is_table.own_frames j d at)
+  own_front (units.Own k) e j d at =
+      let b = child_before becomes own k j d at in
+      ⊎_elim
+      (λ (h : (j ≡ k) × (d ≡ with_work becomes b.child)).
+      subst (λ x. IsFrame (units.Own j) x.work entries) (sym h.1)
+      (subst (λ u. IsFrame u (becomes b.child.work) entries) (e ∙ ap units.Own (sym h.0)) (told b.child.work)))
+      (λ (h : (j ≡ k → ⊥) × (d ≡ b.child)).
+      subst (λ x. IsFrame (units.Own j) x.work entries) (sym h.1)
+      (untold (units.Own j) b.child.work (ap (λ u. same_unit u (units.Own j)) e ∙ ne_eqb k j (λ q. h.0 (sym q))) (is_table.own_frames j b.child b.is)))
+      b.became
+
+  own_frame : (j : ℕ) (d : Child) → slice_get (front ++ kids) j ≡ Some d → IsFrame (units.Own j) d.work entries
+  own_frame j d at = ⊎_elim
+      (λ (h : slice_get front j ≡ Some d). own_front unit refl j d h)
+      (λ (h : (i : ℕ) × (length front ≤ j) × (slice_get kids i ≡ Some d)).
+      let p = new_at unit ps h.0 d h.2 in
+      subst (λ x. IsFrame (units.Own j) x.work entries) (sym p.1) (fresh j p.0 (subst (λ n. n ≤ j) front_length h.1)))
+      (front_or_behind front kids j d at)
+
+  guest_frame : (u : WorkUnit) → unit ≡ u → AllByRecursion (λ g. IsFrame (units.Guest g.name g.work.attempt) g.work entries) (guests_after u becomes guests)
+  guest_frame (units.Own k) e =
+      each_weaker (λ g. IsFrame (units.Guest g.name g.work.attempt) g.work es) (λ g. IsFrame (units.Guest g.name g.work.attempt) g.work entries)
+      (λ g h. untold (units.Guest g.name g.work.attempt) g.work (ap (λ u. same_unit u (units.Guest g.name g.work.attempt)) e) h) guests is_table.guest_frames
+  guest_frame (units.Guest n a) e =
+      each_told (λ g. IsFrame (units.Guest g.name g.work.attempt) g.work es) (λ g. IsFrame (units.Guest g.name g.work.attempt) g.work entries)
+      becomes n a
+      (λ g t h.
+      let parts = and_parts (same_name g.name n) (g.work.attempt == a) t in
+      let name : g.name ≡ n = name_path g.name n parts.0 in
+      let attempt : g.work.attempt ≡ a = eqb-true g.work.attempt a parts.1 in
+      subst (λ u. IsFrame u (becomes g.work) entries) (e ∙ (λ i. units.Guest (sym name i) (sym attempt i))) (told g.work))
+      (λ g t h. untold (units.Guest g.name g.work.attempt) g.work (ap (λ u. same_unit u (units.Guest g.name g.work.attempt)) e ∙ other_key g t) h)
+      guests is_table.ascending is_table.guest_frames
+    where
+      other_key : (g : Guest) → is_guest n a (guest_entry g) ≡ false → (same_name n g.name && a == g.work.attempt) ≡ false
+      other_key g t = false_from_ne_true (same_name n g.name && a == g.work.attempt) (λ s.
+          let parts = and_parts (same_name n g.name) (a == g.work.attempt) s in
+          let name : n ≡ g.name = name_path n g.name parts.0 in
+          let attempt : a ≡ g.work.attempt = eqb-true a g.work.attempt parts.1 in
+          both_ways (is_guest n a (guest_entry g)) t
+          (and_from (same_name g.name n) (g.work.attempt == a) (ap (same_name g.name) name ∙ same_name_self g.name) (eq-eqb g.work.attempt a (sym attempt))))
+
+  guests_view : (u : WorkUnit) → map guest_entry (guests_after u becomes guests) ≡ (table_gets (table_of site limit own guests) u Split).guests
+  guests_view (units.Own k) = refl
+  guests_view (units.Guest n a) = guest_view becomes (with_status Split) (λ p x. refl) guests n a
+
+  front_view : (u : WorkUnit) → map child_entry (own_after u becomes own) ≡ (table_gets (table_of site limit own guests) u Split).own
+  front_view (units.Own k) = child_view becomes (with_status Split) (λ p x. refl) own k
+  front_view (units.Guest n a) = refl
+
+  pub split_view : table_of site limit own_split guests_split ≡ split_into (table_of site limit own guests) unit ps
+  split_view = go unit (entries_are ∙ ap (λ l. l ++ news unit ps) (front_view unit)) (guests_view unit)
+    where
+      go : (u : WorkUnit) → map child_entry own_split ≡ (table_gets (table_of site limit own guests) u Split).own ++ news unit ps → map guest_entry guests_split ≡ (table_gets (table_of site limit own guests) u Split).guests
+          → table_of site limit own_split guests_split ≡ table_own (table_gets (table_of site limit own guests) u Split) ((table_gets (table_of site limit own guests) u Split).own ++ news unit ps)
+      go (units.Own k) e g = λ i. record { site = site; limit = limit; own = e i; guests = g i }
+      go (units.Guest n a) e g = λ i. record { site = site; limit = limit; own = e i; guests = g i }
+
+  unit_there : (v : WorkUnit) → IsSome (unit_of (table_of site limit own guests) v) → IsSome (unit_of (table_of site limit own_split guests_split) v)
+  unit_there (units.Own j) h = subst (λ l. IsSome (slice_get l j)) (sym entries_are) (front_there (map child_entry front) (news unit ps) j (still_there es (map child_entry front) front_briefs j ∙ h))
+  unit_there (units.Guest m b) h = go unit
+    where
+      go : (u : WorkUnit) → IsSome (guest_in (map guest_entry (guests_after u becomes guests)) m b)
+      go (units.Own k) = h
+      go (units.Guest n a) = guest_there becomes (λ x. refl) guests n m a b ∙ h
+
+  parents_split : HasParents (table_of site limit own_split guests_split)
+  parents_split = record {
+    lower = λ k j c at p. ⊎_elim
+        (λ (h : slice_get (map child_entry front) k ≡ Some c).
+        let b = was_there es (map child_entry front) front_briefs k c h in is_table.parents.lower k j b.entry b.is (sym (ap (λ x. x.parent) b.same) ∙ p))
+        (λ (h : (i : ℕ) × (length (map child_entry front) ≤ k) × (slice_get (news unit ps) i ≡ Some c)).
+        let below = own_below j (same_Some unit (units.Own j) (sym (new_entry_at unit ps h.0 c h.2) ∙ p)) in
+        let behind : length (map child_entry front) ≤ k = h.1 in
+        omega (arith, below, behind, front_length, length-map front child_entry))
+        (front_or_behind (map child_entry front) (news unit ps) k c (ap (λ l. slice_get l k) (sym entries_are) ∙ at));
+    there = λ k c v at p. ⊎_elim
+        (λ (h : slice_get (map child_entry front) k ≡ Some c).
+        let b = was_there es (map child_entry front) front_briefs k c h in unit_there v (is_table.parents.there k b.entry v b.is (sym (ap (λ x. x.parent) b.same) ∙ p)))
+        (λ (h : (i : ℕ) × (length (map child_entry front) ≤ k) × (slice_get (news unit ps) i ≡ Some c)).
+        subst (λ u. IsSome (unit_of (table_of site limit own_split guests_split) u)) (same_Some unit v (sym (new_entry_at unit ps h.0 c h.2) ∙ p))
+        (unit_there unit (ap is_some is_work.is)))
+        (front_or_behind (map child_entry front) (news unit ps) k c (ap (λ l. slice_get l k) (sym entries_are) ∙ at));
+  }
+
+  ascending_split : (u : WorkUnit) → IsAscending (map guest_entry (guests_after u becomes guests))
+  ascending_split (units.Own k) = is_table.ascending
+  ascending_split (units.Guest n a) = ascending_kept (map guest_entry guests) (map guest_entry (change_work becomes guests n a)) (keys_kept becomes (λ x. refl) guests n a) is_table.ascending
+
+  pub split_kept : IsTable (table_of site limit own_split guests_split) own_split guests_split
+  split_kept = record {
+    small = is_table.small;
+    names = subst (λ n. n ≤ limit) (sym (ap length own_is ∙ length-append front kids ∙ (λ i. front_length i + length-map ps (fresh_child unit) i))) fits;
+    ascending = ascending_split unit;
+    parents = parents_split;
+    own_frames = λ j d at. subst (λ l. IsFrame (units.Own j) d.work l) (sym entries_are) (own_frame j d (ap (λ l. slice_get l j) (sym own_is) ∙ at));
+    guest_frames = subst (λ l. AllByRecursion (λ g. IsFrame (units.Guest g.name g.work.attempt) g.work l) guests_split) (sym entries_are) (guest_frame unit refl);
+  }

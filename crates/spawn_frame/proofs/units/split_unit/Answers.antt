@@ -1,0 +1,33 @@
+use Rattle.std.proofs.Common.{◌≡◌, ◌∙◌, get_or, slice_set, sym, ap, arith}
+use Rattle.spawn_frame.specs.Works.{guests_after, own_after, split_work}
+use Rattle.spawn_frame.specs.declared.child.Child.{Child}
+use Rattle.spawn_frame.specs.declared.guest.Guest.{Guest}
+use Rattle.spawn_frame.specs.declared.work.Work.{Work}
+use Rattle.spawn_frame.proofs.Places.{child_past, child_write, guest_unwritten, guest_write}
+use Rattle.spawn_frame.proofs.units.split_unit.Goals as goal
+
+pub returns-then-serial-own-clause-own : goal.returns-then-serial-own-clause-own
+returns-then-serial-own-clause-own c =
+    let own = c.args.own.now in
+    let at : Child = get_or own c.in-Own.serial c.index-own-serial.result in
+    ap (λ (w : Work). slice_set own c.in-Own.serial (record { parent = at.parent; work = w })) c.split.ensures
+    ∙ child_write (split_work c.args.children) own c.in-Own.serial _ (omega arith)
+    ∙ ap (λ u. own_after u (split_work c.args.children) own) (sym c.in-Own.is)
+
+pub returns-else-serial-own-clause-own : goal.returns-else-serial-own-clause-own
+returns-else-serial-own-clause-own c =
+    child_past (split_work c.args.children) c.args.own.now c.in-Own.serial (omega arith)
+    ∙ ap (λ u. own_after u (split_work c.args.children) c.args.own.now) (sym c.in-Own.is)
+
+pub returns-in-Some-clause-guests : goal.returns-in-Some-clause-guests
+returns-in-Some-clause-guests c =
+    let guests = c.args.guests.now in
+    let at : Guest = get_or guests c.in-Some.place c.index-guests-place.result in
+    ap (λ (w : Work). slice_set guests c.in-Some.place (record { name = at.name; work = w })) c.split-in-Some.ensures
+    ∙ guest_write (split_work c.args.children) guests c.in-Guest.name c.in-Guest.attempt c.in-Some.place _ (sym c.in-Some.is ∙ c.place_of.ensures)
+    ∙ ap (λ u. guests_after u (split_work c.args.children) guests) (sym c.in-Guest.is)
+
+pub returns-in_default-clause-guests : goal.returns-in_default-clause-guests
+returns-in_default-clause-guests c =
+    guest_unwritten (split_work c.args.children) c.args.guests.now c.in-Guest.name c.in-Guest.attempt (sym c.in_default.is ∙ c.place_of.ensures)
+    ∙ ap (λ u. guests_after u (split_work c.args.children) c.args.guests.now) (sym c.in-Guest.is)
