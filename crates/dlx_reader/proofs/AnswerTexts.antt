@@ -2,11 +2,22 @@
 use Rattle.std.proofs.Common.{◌≡◌, ℕ, ◌+◌, ◌<◌, List, ◌∷◌, ◌++◌, length, get_or, drop, add-one, drop-cons, refl, take, ◌-◌, ◌≤◌, [], arith, suc, ap, sym, ◌∙◌, append-nil}
 use Rattle.std.proofs.Math.Seq.{take-length}
 use Rattle.std.specs.List.{flat_map}
+use Rattle.std.proofs.lemmas.List.Elements.{All-drop, All-take}
+use Rattle.cover_problem.specs.Prefix.{AreOptions}
 use Rattle.cover_problem.specs.Problem.{Problem}
 use Rattle.dlx_reader.specs.Writing.{name_text, items_text, names_after, option_text}
 
-pub options_step : (p : Problem) (os : List ℕ) (k : ℕ) → k < length os → flat_map (option_text p) (drop k os) ≡ option_text p (get_or os k 0) ++ flat_map (option_text p) (drop (k + 1) os)
-options_step p os k h = rw (add-one, drop-cons os k 0) refl
+-- the first option, and the others, as a slice's pattern gives them
+pub options_split : (p : Problem) (os : List ℕ) → 1 ≤ length os → flat_map (option_text p) os ≡ option_text p (get_or os 0 0) ++ flat_map (option_text p) (take (length os - 1) (drop 1 os))
+options_split p [] h = absurd (omega arith)
+options_split p (o ∷ os) h =
+    let n : suc (length os) - 1 ≡ length os = omega arith in
+    let e : take (suc (length os) - 1) os ≡ os = rw n (take-length os) in
+    ap (λ t. option_text p o ++ flat_map (option_text p) t) (sym e)
+
+-- each of the others is an option still
+pub others_are : (p : Problem) (os : List ℕ) → AreOptions p os → AreOptions p (take (length os - 1) (drop 1 os))
+others_are p os all = All-take (λ o. o < length p.options) (length os - 1) (drop 1 os) (All-drop (λ o. o < length p.options) 1 os all)
 
 pub names_step : (p : Problem) (is : List ℕ) (k : ℕ) → k < length is → names_after p (drop k is) ≡ (32 ∷ name_text p (get_or is k 0)) ++ names_after p (drop (k + 1) is)
 names_step p is k h = rw (add-one, drop-cons is k 0) refl

@@ -93,8 +93,10 @@ fn write_options<W: Sink>(
     ensures bytes { IsWritten (W.contents sink.old) (W.contents sink.new) (flat_map (option_text problem.now) options.now) result }
     ensures failed { IsCounted (W.failed sink.old) (W.failed sink.new) result }
 {
-    for option in options {
+    let mut left = options;
+    while let [option, others @ ..] = left {
         write_option(problem, *option, sink)?;
+        left = others;
     }
     Ok(())
 }

@@ -1,6 +1,7 @@
 -- What is below a unit, and what an abort makes of it (abort of the Cilk 5.4 manual).
 use Rattle.std.specs.Prelude.{◌≡◌, ◌⊎◌, ℕ, suc, Bool, true, false, length, List, [], ◌∷◌, ◌++◌, Some, slice_get}
 use Rattle.spawn_frame.specs.Units.{Entry, with_status}
+use Rattle.spawn_frame.specs.declared.out.Out.{Out as WasOut}
 use Rattle.spawn_frame.specs.declared.site.Site.{Site}
 use Rattle.spawn_frame.specs.declared.status.Status.{Status}
 use Rattle.spawn_frame.specs.declared.status.Status.TheVariants.{Aborted, Finished, Here, Out, Ready, Split}
@@ -31,10 +32,8 @@ pub record AbortsBelow (top : WorkUnit → Bool) (old new : List Entry) : Type 0
   pub ends : length new ≡ length old
 
 -- a child that was out, and whose thief an abort has to reach
-pub record Reached : Type 0 where
-  pub serial : ℕ
-  pub attempt : ℕ
-  pub thief : Site
+abbrev pub Reached : Type 0
+Reached = WasOut
 
 -- a child that was out before and is aborted after
 abbrev pub reached_one : ℕ → ℕ → Status → Status → List Reached

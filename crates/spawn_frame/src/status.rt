@@ -29,6 +29,18 @@ pub enum Status {
 }
 
 impl Status {
+    ghost use Rattle.spawn_frame.specs.Aborts.{is_open};
+
+    /// Whether the unit is not finished for good.
+    pub fn is_open(&self) -> bool
+        ensures { result ≡ is_open self.now }
+    {
+        matches!(
+            self,
+            Status::Ready | Status::Here | Status::Split | Status::Out(_) | Status::Finished(_)
+        )
+    }
+
     /// An equal status; the only error is want of memory.
     pub fn copy(&self) -> Result<Status, AllocError>
         ensures { IfOk result (λ copied. copied ≡ self.now) }

@@ -1,30 +1,18 @@
 -- One pass by serial finds all that is below some units, where each parent has the lower serial.
-use Rattle.std.proofs.Common.{◌≡◌, ◌⊎◌, ℕ, zero, suc, ◌+◌, ◌<◌, Bool, true, false, ◌||◌, List, [], ◌∷◌, ◌++◌, length, Option, Some, None, unwrap_or, slice_get, refl, sym, ap, ◌∙◌, inl, inr, ⊎_elim, arith, length-append, get_or}
+use Rattle.std.proofs.Common.{◌≡◌, ◌⊎◌, ℕ, zero, suc, ◌+◌, ◌<◌, Bool, true, false, List, [], ◌∷◌, ◌++◌, length, Option, Some, None, unwrap_or, slice_get, refl, sym, ap, ◌∙◌, inl, inr, ⊎_elim, arith, length-append, get_or, drop, subst}
 use Rattle.std.proofs.lemmas.Option.{same_Some, none-some, slice_get-get_or}
 use Rattle.std.proofs.lemmas.Bool.{or_cases, or_left, or_right, true≢false}
 use Rattle.spawn_frame.specs.declared.unit.Unit.{Unit as WorkUnit}
 use Rattle.spawn_frame.specs.declared.unit.Unit.TheVariants.{Own, Guest}
-use Rattle.spawn_frame.specs.declared.status.Status.TheVariants.{Aborted}
-use Rattle.spawn_frame.specs.Units.{Entry, with_status}
-use Rattle.spawn_frame.specs.Aborts.{is_open, IsBelow, child, deeper}
-
-abbrev pub is_marked : (WorkUnit → Bool) → List Bool → Option WorkUnit → Bool
-is_marked top marks None = false
-is_marked top marks (Some (Own j)) = top (Own j) || unwrap_or (slice_get marks j) false
-is_marked top marks (Some (Guest name attempt)) = top (Guest name attempt)
+use Rattle.spawn_frame.specs.Tables.{HasParents, parent_in}
+use Rattle.spawn_frame.specs.Units.{Entry, Table}
+use Rattle.spawn_frame.specs.Aborts.{IsBelow, child, deeper}
+use Rattle.abort_tree.specs.Below.{MarksBelow, is_marked}
 
 -- the marks of the children so far, and of those that follow
 abbrev pub marks_from : (WorkUnit → Bool) → List Bool → List Entry → List Bool
 marks_from top marks [] = marks
 marks_from top marks (c ∷ cs) = marks_from top (marks ++ is_marked top marks c.parent ∷ []) cs
-
-abbrev pub abort_if : Bool → Entry → Entry
-abort_if true c = if_open (is_open c.status) c
-  where
-    if_open : Bool → Entry → Entry
-    if_open true c = with_status Aborted c
-    if_open false c = c
-abort_if false c = c
 
 pub record Decides (top : WorkUnit → Bool) (own : List Entry) (marks : List Bool) : Type 0 where
   pub each : (j : ℕ) (b : Bool) → slice_get marks j ≡ Some b → (b ≡ true → IsBelow top own j) × (IsBelow top own j → b ≡ true)
@@ -78,3 +66,28 @@ module _ (top : WorkUnit → Bool) (own : List Entry) (parents_first : (k j : �
       marks_decide cs (marks ++ is_marked top marks c.parent ∷ [])
       (λ j k x e at. h (suc j) k x (omega (arith, e, length-append marks (is_marked top marks c.parent ∷ []))) at)
       (one_more marks d c (h 0 (length marks) c (omega arith) refl))
+
+-- the first mark after these is that of the next child
+next_mark : (top : WorkUnit → Bool) (marks : List Bool) (own : List Entry) (k : ℕ) (parent : Option WorkUnit) → k < length own → parent_in (slice_get own k) ≡ parent → marks_from top marks (drop k own) ≡ marks_from top (marks ++ is_marked top marks parent ∷ []) (drop (suc k) own)
+next_mark top marks [] k parent less is = absurd (omega (arith, less))
+next_mark top marks (c ∷ cs) zero parent less is = ap (λ p. marks_from top (marks ++ is_marked top marks p ∷ []) cs) is
+next_mark top marks (c ∷ cs) (suc k) parent less is = next_mark top marks cs k parent (omega (arith, less)) is
+
+pub marks_next : (top : WorkUnit → Bool) (marks : List Bool) (own : List Entry) (k : ℕ) (parent : Option WorkUnit) → k < length own → parent ≡ parent_in (slice_get own k) → marks_from top (marks ++ is_marked top marks parent ∷ []) (drop (k + 1) own) ≡ marks_from top marks (drop k own)
+marks_next top marks own k parent less is =
+    let plus : suc k ≡ k + 1 = omega arith in
+    subst (λ n. marks_from top (marks ++ is_marked top marks parent ∷ []) (drop n own) ≡ marks_from top marks (drop k own)) plus (sym (next_mark top marks own k parent less (sym is)))
+
+marks_length : (top : WorkUnit → Bool) (marks : List Bool) (own : List Entry) → length (marks_from top marks own) ≡ length marks + length own
+marks_length top marks [] = omega arith
+marks_length top marks (c ∷ cs) = omega (arith, marks_length top (marks ++ is_marked top marks c.parent ∷ []) cs, length-append marks (is_marked top marks c.parent ∷ []))
+
+-- the marks of all tell what is below
+pub marks_below : (top : WorkUnit → Bool) (table : Table) → HasParents table → MarksBelow top table.own (marks_from top [] table.own)
+marks_below top table has =
+    let decides = marks_decide top table.own has.lower table.own [] (λ j k c e at. subst (λ i. slice_get table.own i ≡ Some c) (omega (arith, e)) at) (record { each = λ j b e. absurd (none-some b e) }) in
+    record {
+      one_each = omega (arith, marks_length top [] table.own);
+      marked = λ k mark. (decides.each k true mark).0 refl;
+      unmarked = λ k mark below. true≢false (sym ((decides.each k false mark).1 below));
+    }

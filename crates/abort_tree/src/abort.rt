@@ -1,0 +1,32 @@
+//! The abort of what is below one unit.
+
+ghost use Rattle.std.specs.Prelude.{◌≡◌, ◌++◌, OnErr, OnOk};
+ghost use Rattle.spawn_frame.specs.Aborts.{AbortsBelow, reached};
+ghost use Rattle.spawn_frame.specs.Names.{same_unit};
+ghost use Rattle.spawn_frame.specs.Units.{table_own};
+
+use crate::reach::Reach;
+use spawn_frame::{Out, Table, Unit};
+use std::alloc::{AllocError, Global};
+
+/// Aborts each open unit below the given one, and appends those that were out, by serial.
+///
+/// The only error is want of memory, which changes nothing: all memory is taken before the first abort. It costs three
+/// passes through the own children.
+pub fn abort_below(
+    alloc: Global,
+    table: &mut Table,
+    unit: Unit,
+    list: &mut Vec<Out>,
+) -> Result<(), AllocError>
+    ensures aborts { OnOk result (AbortsBelow (same_unit unit) table.old.own table.new.own) }
+    ensures others { OnOk result (table.new ≡ table_own table.old table.new.own) }
+    ensures list { OnOk result (list.new.items ≡ list.old.items ++ reached 0 table.old.own table.new.own) }
+    ensures table { OnErr result (table.new ≡ table.old) }
+    ensures unchanged { OnErr result (list.new.items ≡ list.old.items) }
+{
+    let reach = Reach::below(alloc, table, &[unit])?;
+    list.reserve(reach.outs(table))?;
+    reach.abort(table, list);
+    Ok(())
+}

@@ -1,0 +1,13 @@
+//! What is below a unit of work, and the abort of it.
+#![tactic(auto)]
+
+mod abort;
+mod laws;
+mod reach;
+#[cfg(test)]
+mod tests;
+
+pub use abort::abort_below;
+pub use laws::{parents_decide, same_tops_reach_the_same};
+pub use reach::Reach;
+pub use spawn_frame::Out;

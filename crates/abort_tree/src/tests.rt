@@ -1,0 +1,120 @@
+//! Aborts in small tables; what is expected is worked out by hand from the rules.
+
+ghost use Rattle.std.specs.Prelude.{◌≡◌};
+ghost use Rattle.spawn_frame.specs.Picks.{is_ready};
+ghost use Rattle.spawn_frame.specs.Tables.{has_status, is_here};
+ghost use Rattle.spawn_frame.specs.Units.{unit_of};
+
+use crate::*;
+use spawn_frame::{ChildName, Site, Status, Table, Unit};
+use std::alloc::{AllocError, Global};
+use std::process::Abort;
+use std::test::Fail;
+
+const HERE: Site = Site {
+    node: 1,
+    incarnation: 1,
+};
+
+const THIEF: Site = Site {
+    node: 2,
+    incarnation: 1,
+};
+
+const ROOT: ChildName = ChildName {
+    site: Site {
+        node: 0,
+        incarnation: 1,
+    },
+    serial: 0,
+};
+
+fn is_here(table: &Table, unit: Unit) -> bool
+    ensures { result ≡ has_status is_here (unit_of table.now unit) }
+{
+    match table.unit(unit) {
+        Some(view) => matches!(view.status, Status::Here),
+        None => false,
+    }
+}
+
+fn is_ready(table: &Table, unit: Unit) -> bool
+    ensures { result ≡ has_status is_ready (unit_of table.now unit) }
+{
+    match table.unit(unit) {
+        Some(view) => matches!(view.status, Status::Ready),
+        None => false,
+    }
+}
+
+/// A letter for the status of each own child, by serial.
+fn letters(alloc: Global, table: &Table) -> Result<String, AllocError> {
+    let mut letters = String::new(alloc);
+    for serial in 0..table.issued() {
+        letters.push(match table.unit(Unit::Own(serial)) {
+            Some(view) => letter(view.status),
+            None => '-',
+        })?;
+    }
+    Ok(letters)
+}
+
+fn letter(status: &Status) -> char {
+    match status {
+        Status::Ready => 'R',
+        Status::Here => 'H',
+        Status::Split => 'S',
+        Status::Out(_) => 'O',
+        Status::Done(_) => 'D',
+        Status::Aborted => 'A',
+        Status::Finished(_) => 'F',
+        Status::Settled(_) => 'T',
+        Status::Dropped => 'X',
+    }
+}
+
+/// A guest with children 0 and 1, and below 1 the child 2; 0 is out.
+fn three_deep(rt: &impl Abort, alloc: Global) -> Result<Table, Fail> {
+    let guest = Unit::Guest(ROOT, 1);
+    let mut table = Table::start(alloc, HERE, 4);
+    table.admit(ROOT, 1, &[])?;
+    table.take();
+    assert!(rt; is_here(&table, guest));
+    table.spawn(guest, &[0, 1])?;
+    table.take();
+    assert!(rt; is_here(&table, Unit::Own(1)));
+    table.spawn(Unit::Own(1), &[4])?;
+    assert!(rt; is_ready(&table, Unit::Own(0)));
+    table.give(0, THIEF);
+    Ok(table)
+}
+
+#[test]
+fn aborts_reach_all_below_and_no_other(rt: HostRuntime) -> Result<(), Fail> {
+    let alloc = rt.alloc();
+    let guest = Unit::Guest(ROOT, 1);
+    let out = Out {
+        serial: 0,
+        attempt: 1,
+        thief: THIEF,
+    };
+    for (unit, letters_after, outs) in [
+        (guest, "AAA", 1),
+        (Unit::Own(1), "OSA", 0),
+        (Unit::Own(2), "OSR", 0),
+        (Unit::Own(3), "OSR", 0),
+        (Unit::Guest(ROOT, 2), "OSR", 0),
+    ] {
+        let mut table = three_deep(&rt, alloc)?;
+        let mut list = Vec::new(alloc);
+        list.push(out)?;
+        abort_below(alloc, &mut table, unit, &mut list)?;
+        assert_eq!(rt; letters(alloc, &table)?.as_str(), letters_after);
+        assert_eq!(rt; list.len(), 1 + outs);
+        assert!(rt; list.iter().all(|each| *each == out));
+        assert!(rt;
+            matches!(table.unit(guest), Some(view) if matches!(view.status, Status::Split))
+        );
+    }
+    Ok(())
+}
