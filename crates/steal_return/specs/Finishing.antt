@@ -1,5 +1,5 @@
 -- Frames that come to their result (inlet and abort of the Cilk 5.4 manual).
-use Rattle.std.specs.Prelude.{◌≡◌, List, Some}
+use Rattle.std.specs.Prelude.{◌≡◌, List, ◌++◌, Some}
 use Rattle.spawn_frame.specs.Aborts.{AbortsBelow, Reached, reached}
 use Rattle.spawn_frame.specs.Frames.{frame, frame_result}
 use Rattle.spawn_frame.specs.Names.{same_unit}
@@ -9,6 +9,10 @@ use Rattle.spawn_frame.specs.declared.child_result.ChildResult.{ChildResult}
 use Rattle.spawn_frame.specs.declared.status.Status.TheVariants.{Split}
 use Rattle.spawn_frame.specs.declared.unit.Unit.{Unit as WorkUnit}
 use Rattle.steal_return.specs.Ledger.{Ledger, ledger_gets, ledger_own}
+
+-- elements of which this is so were appended to the list
+abbrev pub Appends : List Reached → List Reached → (List Reached → Type 0) → Type 0
+Appends old new P = (outs : List Reached) × (new ≡ old ++ outs) × P outs
 
 -- A settled frame gets its result, and all open units below it are aborted.
 pub record FinishesFrame (old : Ledger) (unit : WorkUnit) (outs : List Reached) (new : Ledger) : Type 0 where

@@ -1,7 +1,8 @@
 -- What a site learns of the others, and what it does again then (Cilk-NOW).
-use Rattle.std.specs.Prelude.{◌≡◌, ℕ, suc, ◌<◌, max, Bool, true, false, ◌&&◌, if◌then◌else◌, List, [], ◌∷◌, map, drop, Option, Some, None, slice_get, slice_index, ◌==◌}
+use Rattle.std.specs.Prelude.{◌≡◌, ◌≢◌, ◌⊎◌, ℕ, suc, ◌<◌, max, Bool, true, false, ◌&&◌, if◌then◌else◌, length, List, [], ◌∷◌, filter, map, drop, Option, Some, None, slice_get, slice_index, nat_le, ◌==◌}
 use Rattle.spawn_frame.specs.Aborts.{AbortsBelow, Reached, is_open, reached}
-use Rattle.spawn_frame.specs.Units.{Entry, GuestEntry, guest_in, redone, table_guests, table_own, with_status}
+use Rattle.spawn_frame.specs.Tables.{has_status}
+use Rattle.spawn_frame.specs.Units.{Entry, GuestEntry, change_guest, guest_in, redone, table_guests, table_own, with_status}
 use Rattle.spawn_frame.specs.declared.site.Site.{Site}
 use Rattle.spawn_frame.specs.declared.status.Status.{Status}
 use Rattle.spawn_frame.specs.declared.status.Status.TheVariants.{Dropped, Out}
@@ -31,6 +32,21 @@ IsRedoable lost own =
     (k : ℕ) (entry : Entry) (thief : Site)
     → slice_get own k ≡ Some entry → entry.status ≡ Out thief → lost thief ≡ true → entry.attempt < last_attempt
 
+-- out to a lost site
+abbrev pub is_out_to : (Site → Bool) → Status → Bool
+is_out_to lost (Out thief) = lost thief
+is_out_to lost _ = false
+
+-- out to a lost site, and at the last attempt
+abbrev pub is_spent_at : (Site → Bool) → Option Entry → Bool
+is_spent_at lost None = false
+is_spent_at lost (Some entry) = nat_le last_attempt entry.attempt && is_out_to lost entry.status
+
+-- An own child would be redone, and stands at its last attempt.
+pub record IsSpent (lost : Site → Bool) (own : List Entry) : Type 0 where
+  pub serial : ℕ
+  pub spent : is_spent_at lost (slice_get own serial) ≡ true
+
 -- the guest, dropped or as it was
 abbrev pub drop_if : Bool → GuestEntry → GuestEntry
 drop_if true g = record { name = g.name; entry = with_status Dropped g.entry }
@@ -39,6 +55,27 @@ drop_if false g = g
 -- each open guest of a lost owner is dropped
 abbrev pub drop_lost : List ℕ → List GuestEntry → List GuestEntry
 drop_lost known guests = map (λ g. drop_if (is_older known g.name.site && is_open g.entry.status) g) guests
+
+-- an open guest of a lost owner
+abbrev pub is_lost : List ℕ → GuestEntry → Bool
+is_lost known g = is_older known g.name.site && is_open g.entry.status
+
+-- the lost guests, in order
+abbrev pub lost_units : List ℕ → List GuestEntry → List WorkUnit
+lost_units known guests = map (λ g. Guest g.name g.entry.attempt) (filter (is_lost known) guests)
+
+-- the guests once these units are dropped, one after another
+abbrev pub dropped : List WorkUnit → List GuestEntry → List GuestEntry
+dropped [] guests = guests
+dropped (Guest name attempt ∷ units) guests = dropped units (change_guest (with_status Dropped) guests name attempt)
+dropped (Own serial ∷ units) guests = dropped units guests
+
+-- each of these guests is open when its turn comes
+abbrev pub MayDrop : List WorkUnit → List GuestEntry → Type 0
+MayDrop [] guests = Unit {0}
+MayDrop (Guest name attempt ∷ units) guests =
+    (has_status is_open (guest_in guests name attempt) ≡ true) × MayDrop units (change_guest (with_status Dropped) guests name attempt)
+MayDrop (Own serial ∷ units) guests = MayDrop units guests
 
 -- there, and not finished for good
 abbrev pub is_open_entry : Option Entry → Bool
@@ -50,14 +87,26 @@ abbrev pub is_lost_guest : List ℕ → List GuestEntry → WorkUnit → Bool
 is_lost_guest known guests (Own serial) = false
 is_lost_guest known guests (Guest name attempt) = is_older known name.site && is_open_entry (guest_in guests name attempt)
 
--- the known incarnations, with those that are told: the registry has one run alone
-abbrev pub now_known : Ledger → List ℕ → List ℕ
-now_known old incarnations = slice_index old.known 0 ∷ learnt old.site.node 1 (drop 1 old.known) incarnations
+-- what a site of this node knows then: the registry has one run alone
+abbrev pub now_known : ℕ → List ℕ → List ℕ → List ℕ
+now_known self known incarnations = slice_index known 0 ∷ learnt self 1 (drop 1 known) incarnations
+
+-- what makes a difference: another run is known, or a guest is dropped, or a child is redone
+abbrev pub Differs : Ledger → List ℕ → List WorkUnit → Type 0
+Differs old known lost =
+    (known ≢ old.known)
+    ⊎ ((0 < length lost) ⊎ ((k : ℕ) × (has_status (is_out_to (is_older known)) (slice_get old.own k) ≡ true)))
+
+-- No other run is known, no guest is dropped and no child is redone.
+pub record IsAlike (old : Ledger) (known : List ℕ) (lost : List WorkUnit) : Type 0 where
+  pub same : known ≡ old.known
+  pub none_lost : lost ≡ []
+  pub none_redone : (k : ℕ) (entry : Entry) → slice_get old.own k ≡ Some entry → is_out_to (is_older known) entry.status ≡ false
 
 -- Incarnations are learnt; then children out to earlier runs are redone, then guests of earlier runs dropped with all below (redo of Cilk-NOW).
 pub record LearnsMembers (old : Ledger) (incarnations : List ℕ) (outs : List Reached) (new : Ledger) : Type 0 where
   pub known : List ℕ
-  pub known_is : known ≡ now_known old incarnations
+  pub known_is : known ≡ now_known old.site.node old.known incarnations
   pub redoable : IsRedoable (is_older known) old.own
   pub own : List Entry
   pub aborts : AbortsBelow (is_lost_guest known old.guests) (redo_lost (is_older known) old.own) own

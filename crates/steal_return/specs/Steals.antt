@@ -1,5 +1,8 @@
 -- Children that are given to thieves, and given out anew (steals and redo of Cilk-NOW).
-use Rattle.std.specs.Prelude.{◌≡◌, ◌≢◌, ◌⊎◌, ℕ, ◌<◌, Bool, true, false, List, Some, slice_get, slice_index, nat_lt}
+use Rattle.std.specs.Prelude.{◌≡◌, ◌≢◌, ◌⊎◌, ℕ, ◌<◌, Bool, true, false, List, Option, Some, slice_get, slice_index, nat_lt}
+use Rattle.std.specs.List.{position_from}
+use Rattle.spawn_frame.specs.Picks.{is_ready}
+use Rattle.spawn_frame.specs.Tables.{attempt_in, prefix_in}
 use Rattle.spawn_frame.specs.Units.{Entry, change_at, redone, with_status}
 use Rattle.spawn_frame.specs.declared.site.Site.{Site}
 use Rattle.spawn_frame.specs.declared.status.Status.TheVariants.{Out, Ready}
@@ -13,6 +16,10 @@ is_older known site = nat_lt site.incarnation (slice_index known site.node)
 -- A thief gets nothing: it is of an earlier run than is known, or no own child is ready.
 abbrev pub GivesNothing : Ledger → Site → Type 0
 GivesNothing old thief = (is_older old.known thief ≡ true) ⊎ ((k : ℕ) (entry : Entry) → slice_get old.own k ≡ Some entry → entry.status ≢ Ready)
+
+-- the ready own child of least serial
+abbrev pub first_ready : List Entry → Option ℕ
+first_ready own = position_from (λ c. is_ready c.status) 0 own
 
 -- A thief gets a ready own child, at its attempt and with its prefix. Any may be given.
 pub record GivesChild (old : Ledger) (thief : Site) (given : Given) (new : Ledger) : Type 0 where
@@ -36,3 +43,9 @@ pub record RedoesChild (old : Ledger) (serial : ℕ) (new : Ledger) : Type 0 whe
   pub out_there : entry.status ≡ Out thief
   pub not_last : entry.attempt < last_attempt
   pub after : new ≡ ledger_own old (change_at redone old.own serial)
+
+-- A child as a thief is told of it.
+pub record IsGiven (own : List Entry) (serial : ℕ) (given : Given) : Type 0 where
+  pub serial_is : given.serial ≡ serial
+  pub attempt : given.attempt ≡ attempt_in (slice_get own serial)
+  pub prefix : given.prefix ≡ prefix_in (slice_get own serial)

@@ -1,8 +1,17 @@
 //! The children that a site gives away, and the results that come back.
 #![tactic(auto)]
 
+mod children;
 mod given;
+mod guests;
+mod known;
+mod learn_fault;
+mod ledger;
+mod redo_fault;
 mod return_reply;
 
 pub use given::Given;
+pub use learn_fault::LearnFault;
+pub use ledger::Ledger;
+pub use redo_fault::RedoFault;
 pub use return_reply::ReturnReply;

@@ -1,0 +1,66 @@
+-- The incarnations that are known once some are learnt.
+use Rattle.std.proofs.Common.{◌≡◌, ◌≢◌, ℕ, zero, suc, ◌+◌, ◌-◌, ◌<◌, ◌≤◌, max, Bool, true, false, cond, ◌==◌, nat_lt, List, [], ◌∷◌, length, get_or, refl, sym, ap, ◌∙◌, arith}
+use Rattle.std.proofs.lemmas.Bool.{eq-eqb, ne_eqb, le-ltb}
+use Rattle.std.proofs.lemmas.List.{get_or_past}
+use Rattle.spawn_frame.specs.declared.site.Site.{Site}
+use Rattle.steal_return.specs.Members.{learnt, now_known}
+use Rattle.steal_return.specs.Steals.{is_older}
+
+max_zero : (n : ℕ) → max n 0 ≡ n
+max_zero n = omega arith
+
+learnt_at : (self node : ℕ) (ks ms : List ℕ) (j : ℕ) → j < length ks
+    → get_or (learnt self node ks ms) j 0 ≡ cond (node + j == self) (get_or ks j 0) (max (get_or ks j 0) (get_or ms j 0))
+learnt_at self node [] ms j h = absurd (omega (arith, h))
+learnt_at self node (k ∷ ks) [] j h = either (node + j == self)
+  where
+    either : (b : Bool) → get_or (k ∷ ks) j 0 ≡ cond b (get_or (k ∷ ks) j 0) (max (get_or (k ∷ ks) j 0) 0)
+    either true = refl
+    either false = sym (max_zero (get_or (k ∷ ks) j 0))
+learnt_at self node (k ∷ ks) (m ∷ ms) zero h = ap (λ n. cond (n == self) k (max k m)) (let e : node ≡ node + 0 = omega arith in e)
+learnt_at self node (k ∷ ks) (m ∷ ms) (suc j) h =
+    learnt_at self (suc node) ks ms j (omega (arith, h))
+    ∙ ap (λ n. cond (n == self) (get_or ks j 0) (max (get_or ks j 0) (get_or ms j 0))) (let e : suc node + j ≡ node + suc j = omega arith in e)
+
+known_at : (self : ℕ) (known ms : List ℕ) (j : ℕ) → suc j < length known
+    → get_or (now_known self known ms) (suc j) 0 ≡ cond (1 + j == self) (get_or known (suc j) 0) (max (get_or known (suc j) 0) (get_or ms j 0))
+known_at self [] ms j h = absurd (omega (arith, h))
+known_at self (k ∷ ks) ms j h = learnt_at self 1 ks ms j (omega (arith, h))
+
+-- the registry's stays
+pub known_zero : (self : ℕ) (known ms : List ℕ) (node : ℕ) → node < length known → node ≡ 0 → get_or known node 0 ≡ get_or (now_known self known ms) node 0
+known_zero self known ms zero h e = refl
+known_zero self known ms (suc j) h e = absurd (omega (arith, e))
+
+-- the own node's stays
+pub known_own : (self : ℕ) (known ms : List ℕ) (node : ℕ) → node < length known → node ≡ self → get_or known node 0 ≡ get_or (now_known self known ms) node 0
+known_own self known ms zero h e = refl
+known_own self known ms (suc j) h e =
+    sym (known_at self known ms j h ∙ ap (λ b. cond b (get_or known (suc j) 0) (max (get_or known (suc j) 0) (get_or ms j 0))) (eq-eqb (1 + j) self (let f : 1 + j ≡ self = omega (arith, e) in f)))
+
+pub known_other : (self : ℕ) (known ms : List ℕ) (node : ℕ) → node < length known → node ≢ 0 → node ≢ self
+    → max (get_or known node 0) (get_or ms (node - 1) 0) ≡ get_or (now_known self known ms) node 0
+known_other self known ms zero h n e = absurd (n refl)
+known_other self known ms (suc j) h n e =
+    ap (λ i. max (get_or known (suc j) 0) (get_or ms i 0)) (let f : suc j - 1 ≡ j = omega arith in f)
+    ∙ sym (known_at self known ms j h ∙ ap (λ b. cond b (get_or known (suc j) 0) (max (get_or known (suc j) 0) (get_or ms j 0))) (ne_eqb (1 + j) self (λ f. e (let g : suc j ≡ self = omega (arith, f) in g))))
+
+-- a node of which nothing is told
+pub known_untold : (self : ℕ) (known ms : List ℕ) (node : ℕ) → node < length known → node ≢ 0 → node ≢ self → length ms ≤ node - 1
+    → get_or known node 0 ≡ get_or (now_known self known ms) node 0
+known_untold self known ms node h n e past =
+    sym (max_zero (get_or known node 0)) ∙ ap (λ m. max (get_or known node 0) m) (sym (get_or_past ms (node - 1) 0 past)) ∙ known_other self known ms node h n e
+
+learnt_length : (self node : ℕ) (ks ms : List ℕ) → length (learnt self node ks ms) ≡ length ks
+learnt_length self node [] ms = refl
+learnt_length self node (k ∷ ks) [] = refl
+learnt_length self node (k ∷ ks) (m ∷ ms) = ap suc (learnt_length self (suc node) ks ms)
+
+pub known_length : (self : ℕ) (known ms : List ℕ) → 0 < length known → length (now_known self known ms) ≡ length known
+known_length self [] ms h = absurd (omega (arith, h))
+known_length self (k ∷ ks) ms h = ap suc (learnt_length self 1 ks ms)
+
+-- of a node that there is not, no later run is known
+pub no_such_node : (known : List ℕ) (site : Site) → length known ≤ site.node → is_older known site ≡ false
+no_such_node known site past =
+    ap (λ n. nat_lt site.incarnation n) (get_or_past known site.node 0 past) ∙ le-ltb site.incarnation 0 (omega arith)

@@ -1,0 +1,188 @@
+-- What is learnt, redone, dropped and aborted in one call.
+use Rattle.std.proofs.Common.{◌≡◌, ◌≢◌, ◌⊎◌, ℕ, zero, suc, ◌<◌, Bool, true, false, ◌&&◌, cond, map, List, [], ◌∷◌, length, Option, Some, None, is_some, not, ◌==◌, slice_get, refl, sym, ap, subst, ◌∙◌, inr, ⊎_elim, arith, true≢false}
+use Rattle.std.proofs.lemmas.Bool.{eqb-true}
+use Rattle.std.specs.Bool.{OnFalse, OnTrue}
+use Rattle.std.specs.List.{position_from}
+use Rattle.abort_tree.specs.Below.{MarksBelow, aborted, is_among}
+use Rattle.spawn_frame.specs.Aborts.{AbortsBelow, IsBelow, child, deeper, is_open, reached}
+use Rattle.spawn_frame.specs.Tables.{IsAscending, has_status}
+use Rattle.spawn_frame.specs.Units.{Entry, GuestEntry, Table, redone, table_guests, table_own, with_status}
+use Rattle.spawn_frame.specs.declared.site.Site.{Site}
+use Rattle.spawn_frame.specs.declared.status.Status.{Status}
+use Rattle.spawn_frame.specs.declared.status.Status.TheVariants.{Aborted, Out, Ready}
+use Rattle.spawn_frame.specs.declared.unit.Unit.{Unit as WorkUnit}
+use Rattle.steal_return.proofs.Dropping.{lost_dropped, lost_tops, none_dropped, some_dropped}
+use Rattle.steal_return.proofs.Marking.{NoMoreOut, parents, redo_no_more}
+use Rattle.steal_return.proofs.Redoing.{redo_none, redoes_lost}
+use Rattle.steal_return.proofs.Scans.{found_first, found_none}
+use Rattle.steal_return.specs.Ledger.{Ledger}
+use Rattle.steal_return.specs.Members.{Differs, IsAlike, IsRedoable, LearnsMembers, drop_lost, dropped, is_lost_guest, is_out_to, lost_units, now_known, redo_if, redo_lost}
+use Rattle.steal_return.specs.Steals.{is_older}
+
+-- a redo keeps the parent
+same_parent : (lost : Site → Bool) (c : Entry) (s : Status) → c.parent ≡ (redo_if lost c s).parent
+same_parent lost c (Out thief) = by (lost thief)
+  where
+    by : (b : Bool) → c.parent ≡ (cond b (redone c) c).parent
+    by true = refl
+    by false = refl
+same_parent lost c Ready = refl
+same_parent lost c _ = refl
+
+pub parents_redo : (lost : Site → Bool) (own : List Entry) → parents own ≡ parents (redo_lost lost own)
+parents_redo lost [] = refl
+parents_redo lost (c ∷ cs) = λ i. same_parent lost c c.status i ∷ parents_redo lost cs i
+
+-- the ledger that is left
+abbrev pub left_ledger : Ledger → List ℕ → Table → Ledger
+left_ledger was known table = record { table = table; nodes = was.nodes; known = known }
+
+abbrev attempts : List Entry → List ℕ
+attempts own = map (λ c. c.attempt) own
+
+aborted_one : (b : Bool) (c : Entry) → (cond b (with_status Aborted c) c).attempt ≡ c.attempt
+aborted_one true c = refl
+aborted_one false c = refl
+
+aborted_attempts : (marks : List Bool) (own : List Entry) → attempts (aborted marks own) ≡ attempts own
+aborted_attempts [] own = refl
+aborted_attempts (m ∷ ms) [] = refl
+aborted_attempts (m ∷ ms) (c ∷ cs) = λ i. aborted_one (m && is_open c.status) c i ∷ aborted_attempts ms cs i
+
+-- a redo changes an attempt
+redo_raises : (lost : Site → Bool) (own : List Entry) (k : ℕ) → has_status (is_out_to lost) (slice_get own k) ≡ true → attempts (redo_lost lost own) ≡ attempts own → ⊥
+redo_raises lost [] k h e = true≢false (sym h)
+redo_raises lost (c ∷ cs) zero h e =
+    let same : (redo_if lost c c.status).attempt ≡ c.attempt = cc in
+    let raised : (redo_if lost c c.status).attempt ≡ suc c.attempt = ap (λ d. d.attempt) (redoes_lost lost c c.status h) in
+    omega (arith, same, raised)
+redo_raises lost (c ∷ cs) (suc k) h e = redo_raises lost cs k h (let same : attempts (redo_lost lost cs) ≡ attempts cs = cc in same)
+
+-- nothing is below no units
+below_none : (own : List Entry) (k : ℕ) → IsBelow (is_among []) own k → ⊥
+below_none own k (child is parent passes) = true≢false (sym passes)
+below_none own k (deeper {parent = above} is parent under) = below_none own above under
+
+marked_none : (marks : List Bool) (own : List Entry) → ((k : ℕ) (m : Bool) → slice_get marks k ≡ Some m → m ≡ false) → aborted marks own ≡ own
+marked_none [] own h = refl
+marked_none (m ∷ ms) [] h = refl
+marked_none (m ∷ ms) (c ∷ cs) h =
+    λ i. cond (h 0 m refl i && is_open c.status) (with_status Aborted c) c ∷ marked_none ms cs (λ k n at. h (suc k) n at) i
+
+none_marked : (own : List Entry) (marks : List Bool) → MarksBelow (is_among []) own marks → (k : ℕ) (m : Bool) → slice_get marks k ≡ Some m → m ≡ false
+none_marked own marks h k true at = absurd (below_none own k (h.marked k at))
+none_marked own marks h k false at = refl
+
+first_of : (us : List WorkUnit) → 0 < length us → (u : WorkUnit) × ((vs : List WorkUnit) × (us ≡ u ∷ vs))
+first_of [] h = absurd (omega (arith, h))
+first_of (u ∷ us) h = (u, (us, refl))
+
+-- ---- through the three changes of the table
+
+module _ (was now : Ledger) (same : was ≡ now) (known incarnations : List ℕ) (lost : List WorkUnit) (marks : List Bool) (first second third : Table)
+    (redoes : first ≡ table_own was.table (redo_lost (is_older known) was.own)) (drops : second ≡ table_guests first (dropped lost first.guests))
+    (aborts : third ≡ table_own second (aborted marks second.own)) (ascending : IsAscending was.guests) (lost_is : lost ≡ lost_units known was.guests) where
+  abbrev own_redone : List Entry
+  own_redone = redo_lost (is_older known) was.own
+
+  second_is : second ≡ table_guests (table_own was.table own_redone) (drop_lost known was.guests)
+  second_is =
+      drops ∙ ap (λ t. table_guests t (dropped lost t.guests)) redoes
+      ∙ ap (table_guests (table_own was.table own_redone)) (ap (λ us. dropped us was.guests) lost_is ∙ lost_dropped known was.guests ascending)
+
+  third_is : third ≡ table_own (table_guests (table_own was.table own_redone) (drop_lost known was.guests)) (aborted marks own_redone)
+  third_is = aborts ∙ ap (λ t. table_own t (aborted marks t.own)) second_is
+
+  pub parents_same : parents was.own ≡ parents second.own
+  parents_same = parents_redo (is_older known) was.own ∙ ap (λ t. parents t.own) (sym second_is)
+
+  pub learns_members : known ≡ now_known was.site.node was.known incarnations → IsRedoable (is_older known) was.own
+      → AbortsBelow (is_among lost) second.own third.own
+      → LearnsMembers now incarnations (reached 0 second.own third.own) (left_ledger was known third)
+  learns_members known_is redoable below =
+      subst (λ l. LearnsMembers l incarnations (reached 0 second.own third.own) (left_ledger was known third)) same
+      (record {
+        known = known;
+        known_is = known_is;
+        redoable = redoable;
+        own = third.own;
+        aborts =
+            subst (λ xs. AbortsBelow (is_lost_guest known was.guests) xs third.own) (ap (λ t. t.own) second_is)
+            (subst (λ top. AbortsBelow top second.own third.own) (ap is_among lost_is ∙ lost_tops known was.guests ascending) below);
+        after =
+            ap (left_ledger was known)
+            (third_is ∙ ap (table_own (table_guests (table_own was.table own_redone) (drop_lost known was.guests))) (sym (ap (λ t. t.own) third_is)));
+        reaches = ap (λ t. reached 0 t.own third.own) second_is;
+      })
+
+  pub moves : Differs now known lost → left_ledger was known third ≡ now → ⊥
+  moves differs e =
+      let same_end : left_ledger was known third ≡ was = e ∙ sym same in
+      ⊎_elim
+      (λ (d : known ≢ was.known). d (ap (λ l. l.known) same_end))
+      (λ (rest : (0 < length lost) ⊎ ((k : ℕ) × (has_status (is_out_to (is_older known)) (slice_get was.own k) ≡ true))). ⊎_elim
+      (λ (d : 0 < length lost).
+      let u = first_of lost d in
+      some_dropped known was.guests u.0 u.1.0 (sym lost_is ∙ u.1.1) (sym (ap (λ t. t.guests) third_is) ∙ ap (λ l. l.guests) same_end))
+      (λ (d : (k : ℕ) × (has_status (is_out_to (is_older known)) (slice_get was.own k) ≡ true)).
+      redo_raises (is_older known) was.own d.0 d.1
+      (sym (aborted_attempts marks own_redone) ∙ sym (ap (λ t. attempts t.own) third_is) ∙ ap (λ l. attempts l.own) same_end))
+      rest)
+      (subst (λ l. Differs l known lost) (sym same) differs)
+
+  pub rests : MarksBelow (is_among lost) was.own marks → IsAlike now known lost → left_ledger was known third ≡ now
+  rests below alike_now =
+      let alike : IsAlike was known lost = subst (λ l. IsAlike l known lost) (sym same) alike_now in
+      let own : aborted marks own_redone ≡ was.own =
+      ap (aborted marks) (redo_none (is_older known) was.own alike.none_redone)
+      ∙ marked_none marks was.own (none_marked was.own marks (subst (λ us. MarksBelow (is_among us) was.own marks) alike.none_lost below)) in
+      let guests : drop_lost known was.guests ≡ was.guests = none_dropped known was.guests (sym lost_is ∙ alike.none_lost) in
+      ap (left_ledger was known) third_is
+      ∙ (λ i. record {
+        table = record { site = was.site; limit = was.limit; own = own i; guests = guests i };
+        nodes = was.nodes;
+        known = alike.same i;
+      })
+      ∙ same
+
+-- no more children are out once some were redone and guests were dropped
+pub redone_no_more : (lost : Site → Bool) (old first second : Table) (guests : List GuestEntry) → first ≡ table_own old (redo_lost lost old.own)
+    → second ≡ table_guests first guests → NoMoreOut old.own second.own
+redone_no_more lost old first second guests redoes drops =
+    subst (λ t. NoMoreOut old.own t.own) (sym (drops ∙ ap (λ t. table_guests t guests) redoes)) (redo_no_more lost old.own)
+
+-- ---- whether there is a difference
+
+pub on_true : {P Q : Type 0} → (b : Bool) → (P → Q) → OnTrue b P → OnTrue b Q
+on_true true f h = f h
+on_true false f h = h
+
+pub on_false : {P Q : Type 0} → (b : Bool) → (P → Q) → OnFalse b P → OnFalse b Q
+on_false true f h = h
+on_false false f h = f h
+
+pub differs_by : (was now : Ledger) → was ≡ now → (known : List ℕ) (lost : List WorkUnit) (o : Option ℕ)
+    → o ≡ position_from (λ c. is_out_to (is_older known) c.status) 0 was.own → (b : Bool) → b ≡ is_some o → OnTrue b (Differs now known lost)
+differs_by was now same known lost None found true e = absurd (true≢false e)
+differs_by was now same known lost None found false e = tt
+differs_by was now same known lost (Some k) found false e = absurd (true≢false (sym e))
+differs_by was now same known lost (Some k) found true e =
+    subst (λ l. Differs l known lost) same (inr (inr (k, found_first (is_out_to (is_older known)) was.own k (sym found))))
+
+pub alike_by : (was now : Ledger) → was ≡ now → (known : List ℕ) (lost : List WorkUnit) (o : Option ℕ)
+    → o ≡ position_from (λ c. is_out_to (is_older known) c.status) 0 was.own → (b : Bool) → b ≡ is_some o
+    → known ≡ was.known → lost ≡ [] → OnFalse b (IsAlike now known lost)
+alike_by was now same known lost None found true e k l = tt
+alike_by was now same known lost None found false e k l =
+    subst (λ w. IsAlike w known lost) same
+    (record { same = k; none_lost = l; none_redone = found_none (is_out_to (is_older known)) was.own 0 (sym found) })
+alike_by was now same known lost (Some i) found false e k l = absurd (true≢false (sym e))
+alike_by was now same known lost (Some i) found true e k l = tt
+
+pub empty_list : (us : List WorkUnit) → true ≡ (length us == 0) → us ≡ []
+empty_list [] h = refl
+empty_list (u ∷ us) h = absurd (let e : length (u ∷ us) ≡ 0 = eqb-true (length (u ∷ us)) 0 (sym h) in omega (arith, e))
+
+pub not_false : (b : Bool) → false ≡ not b → true ≡ b
+not_false true h = refl
+not_false false h = absurd (true≢false (sym h))

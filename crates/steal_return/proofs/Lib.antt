@@ -1,0 +1,10 @@
+pub mod Dropping
+pub mod Drops
+pub mod Finishes
+pub mod Giving
+pub mod Learning
+pub mod Learns
+pub mod Marking
+pub mod Order
+pub mod Redoing
+pub mod Scans

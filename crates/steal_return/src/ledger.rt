@@ -1,0 +1,397 @@
+//! The ledger of a site: what it gave away, and what came back.
+
+ghost use Rattle.std.specs.Prelude.{◌≡◌, ◌≢◌, ◌+◌, ◌<◌, ◌≤◌, ◌↔◌, length, option_map, slice_get, slice_index, false, true, IfOk, IfSome, IsErrOf, IsSome, MatchBool, MatchOption, OnErr, OnOk, Some};
+ghost use Rattle.std.specs.Bool.{OnFalse, OnTrue};
+ghost use Rattle.spawn_frame.specs.Frames.{frame, frame_result};
+ghost use Rattle.spawn_frame.specs.Picks.{is_split, ready_unit};
+ghost use Rattle.spawn_frame.specs.Splits.{split_into, with_result};
+ghost use Rattle.spawn_frame.specs.Tables.{attempt_in, has_status, is_here, is_out, longer_prefixes, may_end, parent_heard, prefix_in, IsSeen};
+ghost use Rattle.spawn_frame.specs.Units.{unit_of};
+ghost use Rattle.steal_return.specs.Finishing.{Appends, FinishesFrame};
+ghost use Rattle.steal_return.specs.Guests.{AdmitsGuest, DropsGuest, IsNotFinished, IsNotNew, IsNotOpen, SettlesGuest};
+ghost use Rattle.steal_return.specs.Ledger.{ledger_gets, ledger_table, opening_ledger, root_ledger};
+ghost use Rattle.steal_return.specs.Members.{now_known, Differs, IsAlike, IsSpent, LearnsMembers};
+ghost use Rattle.steal_return.specs.Returns.{judged, reply_to, returned};
+ghost use Rattle.steal_return.specs.Steals.{first_ready, is_older, last_attempt, GivesChild, GivesNothing, IsGiven, RedoesChild};
+
+use crate::children::{LAST_ATTEMPT, first_lost, first_ready, is_redoable, redo_lost};
+use crate::given::Given;
+use crate::guests::{drop_guests, lost_guests};
+use crate::known::{is_older, learn};
+use crate::learn_fault::LearnFault;
+use crate::redo_fault::RedoFault;
+use crate::return_reply::ReturnReply;
+use abort_tree::{Out, Reach, parents_decide};
+use cover_problem::Numbers;
+use spawn_frame::{
+    Attempt, Cause, ChildName, ChildResult, Heard, Job, Site, SpawnFault, Status, Table, Unit,
+};
+use std::alloc::{AllocError, Global};
+use std::marker::Model;
+
+/// The units of work of a site, with the run of each node that it knows of.
+#[derive(Drop)]
+pub struct Ledger {
+    table: Table,
+    nodes: u8,
+    known: Vec<u32>,
+    alloc: Global,
+}
+
+impl Model for Ledger {
+    ghost use Rattle.steal_return.specs.Ledger.{IsLedger, Ledger as SeenLedger};
+
+    ghost Value = { SeenLedger };
+
+    ghost view = { λ l. record { table = l.table; nodes = l.nodes; known = l.known.items } };
+
+    ghost invariant = { λ l. IsLedger (record { table = l.table; nodes = l.nodes; known = l.known.items }) };
+}
+
+impl Ledger {
+    /// The ledger of a node that begins, one of so many: no units, and the first run known of the registry and of every
+    /// node. It may name so many children. The only error is want of memory.
+    pub fn start(
+        alloc: Global,
+        site: Site,
+        nodes: u8,
+        names_limit: u32,
+    ) -> Result<Ledger, AllocError>
+        requires some { 1 ≤ nodes }
+        requires most { nodes ≤ 16 }
+        requires first { 1 ≤ site.node }
+        requires last { site.node ≤ nodes }
+        requires run { 1 ≤ site.incarnation }
+        ensures { IfOk result (λ ledger. ledger ≡ opening_ledger site nodes names_limit) }
+    {
+        let known = vec![in alloc; 1; nodes as usize + 1]?;
+        Ok(Ledger {
+            table: Table::start(alloc, site, names_limit),
+            nodes,
+            known,
+            alloc,
+        })
+    }
+
+    /// The registry's ledger when the search of so many nodes begins: the root alone, and the first run known of every
+    /// node. The only error is want of memory.
+    pub fn with_root(alloc: Global, nodes: u8) -> Result<Ledger, AllocError>
+        requires some { 1 ≤ nodes }
+        requires most { nodes ≤ 16 }
+        ensures { IfOk result (λ ledger. ledger ≡ root_ledger nodes) }
+    {
+        let known = vec![in alloc; 1; nodes as usize + 1]?;
+        Ok(Ledger {
+            table: Table::with_root(alloc)?,
+            nodes,
+            known,
+            alloc,
+        })
+    }
+
+    /// The units of work.
+    pub fn table(&self) -> &Table
+        ensures { result.now ≡ self.now.table }
+    {
+        &self.table
+    }
+
+    /// How many nodes there are beside the registry.
+    pub fn nodes(&self) -> u8
+        ensures { result ≡ self.now.nodes }
+    {
+        self.nodes
+    }
+
+    /// The known incarnation of a node, or of the registry at 0.
+    pub fn known(&self, node: u8) -> u32
+        requires { node ≤ self.now.nodes }
+        ensures { result ≡ slice_index self.now.known node }
+    {
+        self.known[node as usize]
+    }
+
+    /// Takes up a ready unit, as `Table::take` does.
+    pub fn take(&mut self) -> Option<Job>
+        ensures unit { option_map (λ job. job.unit) result ≡ ready_unit self.old.table }
+        ensures ready { IfSome result (λ job. IsSeen (unit_of self.old.table job.unit) job.attempt Status.Ready) }
+        ensures after { MatchOption result (self.new ≡ self.old) (λ job. self.new ≡ ledger_gets self.old job.unit Status.Here) }
+    {
+        self.table.take()
+    }
+
+    /// Splits a unit that is here, as `Table::spawn` does; a fault changes nothing.
+    pub fn spawn(&mut self, unit: Unit, options: &[u16]) -> Result<u32, SpawnFault>
+        requires here { has_status is_here (unit_of self.old.table unit) ≡ true }
+        requires some { 0 < length options.now }
+        ensures first { IfOk result (λ first. first ≡ length self.old.own) }
+        ensures split { OnOk result (self.new ≡ ledger_table self.old (split_into self.old.table unit (longer_prefixes (prefix_in (unit_of self.old.table unit)) options.now))) }
+        ensures spent { IsErrOf result SpawnFault.NamesSpent ↔ (self.old.limit < length self.old.own + length options.now) }
+        ensures err { OnErr result (self.new ≡ self.old) }
+    {
+        self.table.spawn(unit, options)
+    }
+
+    /// Gives a unit its result, as `Table::set_result` does.
+    pub fn set_result(&mut self, unit: Unit, child_result: ChildResult) -> Heard
+        requires { has_status may_end (unit_of self.old.table unit) ≡ true }
+        ensures after { self.new ≡ ledger_gets self.old unit (with_result unit child_result) }
+        ensures heard { result ≡ parent_heard self.new.table unit }
+    {
+        self.table.set_result(unit, child_result)
+    }
+
+    /// Gives a settled frame its result: the cover of its child of least serial that has one, else Empty. All open units
+    /// below become Aborted, and each of them that was out is appended to the list, by serial. The only error is want of
+    /// memory, which changes nothing.
+    pub fn finish(&mut self, unit: Unit, list: &mut Vec<Out>) -> Result<(), AllocError>
+        requires split { has_status is_split (unit_of self.old.table unit) ≡ true }
+        requires settled { IsSome (frame_result (frame unit self.old.own)) }
+        ensures ok { OnOk result (Appends list.old.items list.new.items (λ outs. FinishesFrame self.old unit outs self.new)) }
+        ensures err { OnErr result (self.new ≡ self.old) }
+        ensures list { OnErr result (list.new.items ≡ list.old.items) }
+    {
+        let child_result = self.frame_result(unit)?;
+        let reach = Reach::below(self.alloc, &self.table, &[unit])?;
+        list.reserve(reach.outs(&self.table))?;
+        self.table.set_result(unit, child_result);
+        parents_decide();
+        reach.abort(&mut self.table, list);
+        Ok(())
+    }
+
+    /// What a settled frame came to; the only error is want of memory.
+    fn frame_result(&self, unit: Unit) -> Result<ChildResult, AllocError>
+        requires split { has_status is_split (unit_of self.now.table unit) ≡ true }
+        requires settled { IsSome (frame_result (frame unit self.now.own)) }
+        ensures { IfOk result (λ came. frame_result (frame unit self.now.own) ≡ Some came) }
+    {
+        let Some(winner) = self.table.winner(unit) else {
+            return Ok(ChildResult::Empty);
+        };
+        match self.table.unit(Unit::Own(winner)) {
+            Some(view) => match view.status {
+                Status::Done(child_result) => child_result.copy(),
+                _ => unreachable!(),
+            },
+            None => unreachable!(),
+        }
+    }
+
+    /// Gives the ready own child of least serial to a thief, if there is one and no later run of the thief's node is
+    /// known; the child is out then. The only error is want of memory, which changes nothing.
+    pub fn give(&mut self, thief: Site) -> Result<Option<Given>, AllocError>
+        ensures gives { IfOk result (λ answer. MatchOption answer (GivesNothing self.old thief × (self.new ≡ self.old)) (λ given. GivesChild self.old thief given self.new)) }
+        ensures least { IfOk result (λ answer. IfSome answer (λ given. first_ready self.old.own ≡ Some given.serial)) }
+        ensures err { OnErr result (self.new ≡ self.old) }
+    {
+        if is_older(&self.known, thief) {
+            return Ok(None);
+        }
+        let Some(serial) = first_ready(&self.table) else {
+            return Ok(None);
+        };
+        let given = self.given(serial)?;
+        self.table.give(serial, thief);
+        Ok(Some(given))
+    }
+
+    /// What a thief is told of an own child.
+    fn given(&self, serial: u32) -> Result<Given, AllocError>
+        requires { serial < length self.now.own }
+        ensures { IfOk result (IsGiven self.now.own serial) }
+    {
+        let mut prefix = Vec::new(self.alloc);
+        self.table.prefix_into(Unit::Own(serial), &mut prefix)?;
+        let attempt = match self.table.unit(Unit::Own(serial)) {
+            Some(view) => view.attempt,
+            None => 0,
+        };
+        Ok(Given {
+            serial,
+            attempt,
+            prefix: Numbers::from_vec(prefix),
+        })
+    }
+
+    /// Makes an own child that is out ready again, at the next attempt. `NotOut` comes exactly where there is no such
+    /// child, `NamesSpent` exactly where it stands at its last attempt; a fault changes nothing.
+    pub fn redo(&mut self, serial: u32) -> Result<(), RedoFault>
+        ensures ok { OnOk result (RedoesChild self.old serial self.new) }
+        ensures not_out { IsErrOf result RedoFault.NotOut ↔ (has_status is_out (slice_get self.old.own serial) ≡ false) }
+        ensures spent { IsErrOf result RedoFault.NamesSpent ↔ (has_status is_out (slice_get self.old.own serial) ≡ true) × (last_attempt ≤ attempt_in (slice_get self.old.own serial)) }
+        ensures err { OnErr result (self.new ≡ self.old) }
+    {
+        let Some(view) = self.table.unit(Unit::Own(serial)) else {
+            return Err(RedoFault::NotOut);
+        };
+        if !matches!(view.status, Status::Out(_)) {
+            return Err(RedoFault::NotOut);
+        }
+        if view.attempt == LAST_ATTEMPT {
+            return Err(RedoFault::NamesSpent);
+        }
+        self.table.redo(serial);
+        Ok(())
+    }
+
+    /// Judges a result that a site returns for an own child at an attempt. It enters where the child is out to that very
+    /// site at that attempt: the child is done with it. A child that is done answers with the result that it has. The
+    /// only error is want of memory, which changes nothing.
+    pub fn receive_return(
+        &mut self,
+        from: Site,
+        serial: u32,
+        attempt: Attempt,
+        child_result: &ChildResult,
+    ) -> Result<ReturnReply, AllocError>
+        ensures reply { IfOk result (λ reply. reply ≡ reply_to child_result.now (judged (slice_get self.old.own serial) from attempt)) }
+        ensures after { OnOk result (self.new ≡ returned self.old serial child_result.now (judged (slice_get self.old.own serial) from attempt)) }
+        ensures err { OnErr result (self.new ≡ self.old) }
+    {
+        let Some(view) = self.table.unit(Unit::Own(serial)) else {
+            return Ok(ReturnReply::Refuse(Cause::Unknown));
+        };
+        if view.attempt < attempt {
+            return Ok(ReturnReply::Refuse(Cause::Unknown));
+        }
+        match view.status {
+            Status::Aborted => Ok(ReturnReply::Refuse(Cause::Aborted)),
+            Status::Done(held) => Ok(ReturnReply::Accept(held.copy()?)),
+            Status::Out(thief) if *thief == from && view.attempt == attempt => {
+                let accepted = child_result.copy()?;
+                self.table
+                    .set_result(Unit::Own(serial), child_result.copy()?);
+                Ok(ReturnReply::Accept(accepted))
+            }
+            _ => Ok(ReturnReply::Refuse(Cause::Superseded)),
+        }
+    }
+
+    /// A child of another site, given to this one at an attempt of at least 1, becomes a ready guest. It doesn't where a
+    /// later run of its owner is known, or where this guest is there already. True where it does. The only error is
+    /// want of memory, which changes nothing.
+    pub fn receive_give(
+        &mut self,
+        from: Site,
+        serial: u32,
+        attempt: Attempt,
+        prefix: &[u16],
+    ) -> Result<bool, AllocError>
+        requires { 1 ≤ attempt }
+        ensures ok { IfOk result (λ moved. MatchBool moved (AdmitsGuest self.old (record { site = from; serial = serial }) attempt prefix.now self.new) (IsNotNew self.old (record { site = from; serial = serial }) attempt × (self.new ≡ self.old))) }
+        ensures err { OnErr result (self.new ≡ self.old) }
+    {
+        let name = ChildName { site: from, serial };
+        if is_older(&self.known, from) {
+            return Ok(false);
+        }
+        if self.table.unit(Unit::Guest(name, attempt)).is_some() {
+            return Ok(false);
+        }
+        self.table.admit(name, attempt, prefix)?;
+        Ok(true)
+    }
+
+    /// A finished guest settles on the result that its owner accepted, which may be another than its own. True where it
+    /// does; a guest that isn't there or isn't finished is left as it is.
+    pub fn receive_accept(
+        &mut self,
+        from: Site,
+        serial: u32,
+        attempt: Attempt,
+        child_result: ChildResult,
+    ) -> bool
+        ensures { MatchBool result (SettlesGuest self.old (record { site = from; serial = serial }) attempt child_result self.new) (IsNotFinished self.old (record { site = from; serial = serial }) attempt × (self.new ≡ self.old)) }
+    {
+        let name = ChildName { site: from, serial };
+        let Some(view) = self.table.unit(Unit::Guest(name, attempt)) else {
+            return false;
+        };
+        if !matches!(view.status, Status::Finished(_)) {
+            return false;
+        }
+        self.table.settle(name, attempt, child_result);
+        true
+    }
+
+    /// An open guest is wanted no more, since its owner refused its result or aborted it: it is dropped. All open units
+    /// below become Aborted, and each of them that was out is appended to the list, by serial. True where it is dropped;
+    /// a guest that isn't there or isn't open is left as it is. The only error is want of memory, which changes nothing.
+    pub fn receive_refuse(
+        &mut self,
+        from: Site,
+        serial: u32,
+        attempt: Attempt,
+        list: &mut Vec<Out>,
+    ) -> Result<bool, AllocError>
+        ensures dropped { IfOk result (λ moved. OnTrue moved (Appends list.old.items list.new.items (λ outs. DropsGuest self.old (record { site = from; serial = serial }) attempt outs self.new))) }
+        ensures left { IfOk result (λ moved. OnFalse moved (IsNotOpen self.old (record { site = from; serial = serial }) attempt × (self.new ≡ self.old) × (list.new.items ≡ list.old.items))) }
+        ensures err { OnErr result (self.new ≡ self.old) }
+        ensures list { OnErr result (list.new.items ≡ list.old.items) }
+    {
+        let name = ChildName { site: from, serial };
+        let unit = Unit::Guest(name, attempt);
+        let Some(view) = self.table.unit(unit) else {
+            return Ok(false);
+        };
+        if !view.status.is_open() {
+            return Ok(false);
+        }
+        let reach = Reach::below(self.alloc, &self.table, &[unit])?;
+        list.reserve(reach.outs(&self.table))?;
+        self.table.drop_guest(name, attempt);
+        reach.abort(&mut self.table, list);
+        Ok(true)
+    }
+
+    /// Learns the incarnations of nodes 1, 2, ..: of each other node the greater one is kept; what is told beyond the
+    /// nodes that there are is passed over. Then each own child that is out to an earlier run than is known now is
+    /// redone. Then each open guest of such an owner is dropped, and all open units below these guests become Aborted;
+    /// each of them that is out then is appended to the list, by serial. True where anything changed.
+    ///
+    /// `NamesSpent` comes exactly where a child that would have to be redone stands at its last attempt, `Memory` only
+    /// where memory ran out; a fault changes nothing.
+    pub fn learn_members(
+        &mut self,
+        incarnations: &[u32],
+        list: &mut Vec<Out>,
+    ) -> Result<bool, LearnFault>
+        ensures learns { OnOk result (Appends list.old.items list.new.items (λ outs. LearnsMembers self.old incarnations.now outs self.new)) }
+        ensures moved { IfOk result (λ moved. OnTrue moved (self.new ≢ self.old)) }
+        ensures same { IfOk result (λ moved. OnFalse moved (self.new ≡ self.old)) }
+        ensures spent { IsErrOf result LearnFault.NamesSpent ↔ IsSpent (is_older (now_known self.old.site.node self.old.known incarnations.now)) self.old.own }
+        ensures err { OnErr result (self.new ≡ self.old) }
+        ensures list { OnErr result (list.new.items ≡ list.old.items) }
+    {
+        let own = self.table.site().node;
+        if !is_redoable(&self.table, &self.known, own, incarnations) {
+            return Err(LearnFault::NamesSpent);
+        }
+        let known = learn(self.alloc, &self.known, own, incarnations)?;
+        let lost = lost_guests(self.alloc, &self.table, &known)?;
+        let reach = Reach::below(self.alloc, &self.table, &lost)?;
+        list.reserve(reach.outs(&self.table))?;
+        let moved = self.differs(&known, &lost);
+        redo_lost(&mut self.table, &known);
+        drop_guests(&mut self.table, &lost);
+        parents_decide();
+        reach.abort(&mut self.table, list);
+        self.known = known;
+        Ok(moved)
+    }
+
+    /// Whether it makes a difference that these runs are known and these guests lost.
+    fn differs(&self, known: &[u32], lost: &[Unit]) -> bool
+        ensures differs { OnTrue result (Differs self.now known.now lost.now) }
+        ensures alike { OnFalse result (IsAlike self.now known.now lost.now) }
+    {
+        if known != self.known.as_slice() {
+            return true;
+        }
+        if !lost.is_empty() {
+            return true;
+        }
+        first_lost(&self.table, known).is_some()
+    }
+}
