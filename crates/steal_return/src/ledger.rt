@@ -29,6 +29,9 @@ use spawn_frame::{
 use std::alloc::{AllocError, Global};
 use std::marker::Model;
 
+#[cfg(test)]
+mod tests;
+
 /// The units of work of a site, with the run of each node that it knows of.
 #[derive(Drop)]
 pub struct Ledger {
