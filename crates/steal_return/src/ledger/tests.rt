@@ -8,6 +8,11 @@ use spawn_frame::{ChildResult, Site};
 use std::alloc::{AllocError, Global};
 use std::test::Fail;
 
+const HERE: Site = Site {
+    node: 1,
+    incarnation: 1,
+};
+
 /// A run of a node.
 fn site(node: u8, incarnation: u32) -> Site {
     Site { node, incarnation }
@@ -101,5 +106,24 @@ fn a_root_that_is_redone_takes_no_earlier_result(rt: HostRuntime) -> Result<(), 
     assert_eq!(rt; ledger.redo(0), Err(RedoFault::NotOut));
     assert_eq!(rt; ledger.redo(1), Err(RedoFault::NotOut));
     assert_eq!(rt; given(alloc, &mut ledger, thief)?.as_str(), "0 2 []");
+    Ok(())
+}
+
+#[test]
+fn a_guest_of_an_earlier_run_is_dropped(rt: HostRuntime) -> Result<(), Fail> {
+    let alloc = rt.alloc();
+    let owner = site(2, 1);
+    let mut list = Vec::new(alloc);
+    let mut ledger = Ledger::start(alloc, HERE, 3, 20)?;
+    assert_eq!(rt; ledger.receive_give(owner, 0, 1, &[])?, true);
+    assert_eq!(rt;
+        ledger.receive_accept(owner, 0, 1, ChildResult::Empty),
+        false
+    );
+    assert_eq!(rt; ledger.learn_members(&[9, 1], &mut list)?, false);
+    assert_eq!(rt; ledger.learn_members(&[9, 2], &mut list)?, true);
+    assert_eq!(rt; ledger.receive_refuse(owner, 0, 1, &mut list)?, false);
+    assert_eq!(rt; ledger.receive_give(owner, 1, 1, &[])?, false);
+    assert_eq!(rt; list.len(), 0);
     Ok(())
 }
