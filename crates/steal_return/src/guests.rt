@@ -31,11 +31,17 @@ pub fn lost_guests(alloc: Global, table: &Table, known: &[u32]) -> Result<Vec<Un
 fn is_lost(table: &Table, known: &[u32], name: ChildName, attempt: Attempt) -> bool
     ensures { result ≡ (is_older known.now name.site && has_status is_open (guest_in table.now.guests name attempt)) }
 {
-    is_older(known, name.site)
-        && match table.unit(Unit::Guest(name, attempt)) {
-            Some(view) => view.status.is_open(),
-            None => false,
-        }
+    is_older(known, name.site) && is_open(table, name, attempt)
+}
+
+/// Whether a guest is there and open.
+pub fn is_open(table: &Table, name: ChildName, attempt: Attempt) -> bool
+    ensures { result ≡ has_status is_open (guest_in table.now.guests name attempt) }
+{
+    match table.unit(Unit::Guest(name, attempt)) {
+        Some(view) => view.status.is_open(),
+        None => false,
+    }
 }
 
 /// Drops these guests, one after another.

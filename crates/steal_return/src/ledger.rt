@@ -16,7 +16,7 @@ ghost use Rattle.steal_return.specs.Steals.{first_ready, is_older, last_attempt,
 
 use crate::children::{LAST_ATTEMPT, first_lost, first_ready, is_redoable, redo_lost};
 use crate::given::Given;
-use crate::guests::{drop_guests, lost_guests};
+use crate::guests::{drop_guests, is_open, lost_guests};
 use crate::known::{is_older, learn};
 use crate::learn_fault::LearnFault;
 use crate::redo_fault::RedoFault;
@@ -28,9 +28,6 @@ use spawn_frame::{
 };
 use std::alloc::{AllocError, Global};
 use std::marker::Model;
-
-#[cfg(test)]
-mod tests;
 
 /// The units of work of a site, with the run of each node that it knows of.
 #[derive(Drop)]
@@ -334,14 +331,10 @@ impl Ledger {
         ensures list { OnErr result (list.new.items ≡ list.old.items) }
     {
         let name = ChildName { site: from, serial };
-        let unit = Unit::Guest(name, attempt);
-        let Some(view) = self.table.unit(unit) else {
-            return Ok(false);
-        };
-        if !view.status.is_open() {
+        if !is_open(&self.table, name, attempt) {
             return Ok(false);
         }
-        let reach = Reach::below(self.alloc, &self.table, &[unit])?;
+        let reach = Reach::below(self.alloc, &self.table, &[Unit::Guest(name, attempt)])?;
         list.reserve(reach.outs(&self.table))?;
         self.table.drop_guest(name, attempt);
         reach.abort(&mut self.table, list);

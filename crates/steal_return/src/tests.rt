@@ -256,10 +256,10 @@ fn members_redo_drop_and_abort(rt: HostRuntime) -> Result<(), Fail> {
     }
     assert_eq!(rt; ledger.learn_members(&[1, 2, 1], &mut outs), Ok(false));
     assert_eq!(rt; outs.len(), 2);
-    assert_eq!(rt;
-        (ledger.known(1), ledger.known(2), ledger.known(3)),
-        (1, 2, 1)
-    );
+    for (node, incarnation) in [(1, 1), (2, 2), (3, 1)] {
+        assert!(rt; node <= ledger.nodes());
+        assert_eq!(rt; ledger.known(node), incarnation);
+    }
     assert_eq!(rt; given(alloc, &mut ledger, site(2, 1))?.as_str(), "nothing");
     assert_eq!(rt; given(alloc, &mut ledger, site(2, 2))?.as_str(), "3 2 [5]");
     assert_eq!(rt; ledger.receive_give(site(2, 1), 9, 1, &[1]), Ok(false));
@@ -305,5 +305,46 @@ fn a_frame_finishes_and_its_guest_settles(rt: HostRuntime) -> Result<(), Fail> {
     assert!(rt; !ledger.receive_accept(owner, 0, 1, ChildResult::Empty));
     assert_eq!(rt; ledger.receive_refuse(owner, 0, 1, &mut outs), Ok(false));
     assert_eq!(rt; told(alloc, &ledger, root)?.as_str(), "T1");
+    Ok(())
+}
+
+#[test]
+fn the_root_is_given_and_returned(rt: HostRuntime) -> Result<(), Fail> {
+    let alloc = rt.alloc();
+    let thief = site(1, 1);
+    let mut ledger = Ledger::with_root(alloc, 2)?;
+    assert_eq!(rt; ledger.nodes(), 2);
+    assert_eq!(rt; given(alloc, &mut ledger, thief)?.as_str(), "0 1 []");
+    assert_eq!(rt; given(alloc, &mut ledger, thief)?.as_str(), "nothing");
+    let answers = [
+        (thief, 2, None, "refuse Unknown"),
+        (site(2, 1), 1, None, "refuse Superseded"),
+        (thief, 1, None, "accept empty"),
+        (thief, 1, Some(7), "accept empty"),
+    ];
+    for (from, attempt, option, answer) in answers {
+        assert_eq!(rt;
+            returned(alloc, &mut ledger, (from, 0, attempt, option))?.as_str(),
+            answer
+        );
+    }
+    Ok(())
+}
+
+#[test]
+fn a_root_that_is_redone_takes_no_earlier_result(rt: HostRuntime) -> Result<(), Fail> {
+    let alloc = rt.alloc();
+    let thief = site(1, 1);
+    let mut ledger = Ledger::with_root(alloc, 2)?;
+    assert_eq!(rt; ledger.redo(0), Err(RedoFault::NotOut));
+    assert_eq!(rt; given(alloc, &mut ledger, thief)?.as_str(), "0 1 []");
+    assert_eq!(rt; ledger.redo(0), Ok(()));
+    assert_eq!(rt;
+        returned(alloc, &mut ledger, (thief, 0, 1, None))?.as_str(),
+        "refuse Superseded"
+    );
+    assert_eq!(rt; ledger.redo(0), Err(RedoFault::NotOut));
+    assert_eq!(rt; ledger.redo(1), Err(RedoFault::NotOut));
+    assert_eq!(rt; given(alloc, &mut ledger, thief)?.as_str(), "0 2 []");
     Ok(())
 }

@@ -1,6 +1,5 @@
 use Rattle.std.proofs.Common.{sym, subst, ◌∙◌}
 use Rattle.abort_tree.specs.Below.{MarksBelow, is_among}
-use Rattle.spawn_frame.specs.Aborts.{is_open}
 use Rattle.spawn_frame.specs.declared.unit.Unit.TheVariants.{Guest}
 use Rattle.std.proofs.Common.{[], ◌∷◌}
 use Rattle.steal_return.proofs.Finishes.{appended, drops_guest}
@@ -12,7 +11,7 @@ returns-clause-dropped c = (
   _,
   appended c.args.list.now.items c.reserve.new.self.items c.abort.new.list.items _ c.abort.ensures.list c.reserve.ensures.items,
   drops_guest _ c.args.self.now c.self.view_is (record { site = c.args.from; serial = c.args.serial }) c.args.attempt c.drop_guest.new.self c.abort.new.table
-      (c.in-Some.ensures.tested is_open ∙ sym c.if-not-is_open.ensures) c.drop_guest.ensures (only_own c.drop_guest.new.self c.abort.new.table _ c.abort.ensures.table)
+      (sym c.is_open.ensures ∙ c.if-not-is_open.false) c.drop_guest.ensures (only_own c.drop_guest.new.self c.abort.new.table _ c.abort.ensures.table)
       (c.abort.ensures.below _
       (subst (λ t. MarksBelow (is_among (Guest (record { site = c.args.from; serial = c.args.serial }) c.args.attempt ∷ [])) t.own c.in_ok-reach.reach) (sym c.drop_guest.ensures)
       c.in_ok-reach.ensures)),
