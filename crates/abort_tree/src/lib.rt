@@ -4,8 +4,6 @@
 mod abort;
 mod laws;
 mod reach;
-#[cfg(test)]
-mod tests;
 
 pub use abort::abort_below;
 pub use laws::{parents_decide, same_tops_reach_the_same};

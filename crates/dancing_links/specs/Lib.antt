@@ -3,7 +3,6 @@ pub mod Choices
 pub mod Columns
 pub mod Counting
 pub mod Covering
-pub mod Examples
 pub mod Linking
 pub mod Table
 pub mod Walking

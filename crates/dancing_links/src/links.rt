@@ -20,9 +20,6 @@ use cover_problem::Problem;
 use std::alloc::{AllocError, Global};
 use std::marker::Model;
 
-#[cfg(test)]
-mod tests;
-
 /// The dancing links of a problem, and the options that are chosen in it.
 ///
 /// Each choice covers the items of its option; only `build` takes memory.

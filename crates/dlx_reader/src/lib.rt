@@ -23,8 +23,3 @@ pub use fault::ReadFault;
 pub use laws::one_problem_or_first_fault;
 pub use reading::{Read, read_problem};
 pub use writing::{WriteFault, write_answer, write_bytes};
-
-#[cfg(test)]
-mod answer_tests;
-#[cfg(test)]
-mod tests;

@@ -17,6 +17,3 @@ pub use packet::{Body, Packet};
 pub use reading::read_packet;
 pub use well_formed::is_well_formed;
 pub use writing::write_packet;
-
-#[cfg(test)]
-mod tests;

@@ -1,7 +1,18 @@
-//! Tests that cross the crates: the engines over texts in memory, and what is told of them.
+//! Tests of all crates: public calls over small cases, and the engines over texts in memory. They stand in one place since
+//! a crate with tests is proved twice.
 
+mod aborts;
 mod alone;
+mod answers;
 mod check;
 mod command_line;
+mod ledgers;
+mod limits;
+mod links;
+mod packets;
 mod plain;
+mod reading;
 mod search;
+mod tables;
+mod told;
+mod units;

@@ -82,26 +82,3 @@ impl Inlet for FirstFound {
         self.left
     }
 }
-
-#[cfg(test)]
-mod tests {
-    use super::*;
-    use cover_problem::Numbers;
-    use std::test::Fail;
-
-    #[test]
-    fn settles_at_a_cover_or_at_the_last(rt: HostRuntime) -> Result<(), Fail> {
-        let cover = ChildResult::Cover(Numbers::from_vec(Vec::new(rt.alloc())));
-        let mut all_empty = FirstFound::new(2);
-        assert_eq!(rt; all_empty.take(0, &ChildResult::Empty), Heard::Open);
-        assert_eq!(rt; all_empty.take(1, &ChildResult::Empty), Heard::Settled);
-        assert_eq!(rt; (all_empty.winner(), all_empty.left()), (None, 0));
-        let mut covered = FirstFound::new(2);
-        assert_eq!(rt; covered.heard(), Heard::Open);
-        assert_eq!(rt; covered.take(1, &cover), Heard::Settled);
-        assert_eq!(rt; (covered.winner(), covered.left()), (Some(1), 1));
-        assert_eq!(rt; covered.take(0, &cover), Heard::Settled);
-        assert_eq!(rt; (covered.winner(), covered.left()), (Some(0), 0));
-        Ok(())
-    }
-}

@@ -30,9 +30,6 @@ use crate::work::Work;
 use std::alloc::{AllocError, Global};
 use std::marker::Model;
 
-#[cfg(test)]
-mod tests;
-
 /// The units of work of one site: its own children by serial, and its guests in the order of their names and attempts.
 ///
 /// Only `with_root`, `spawn`, `admit` and `prefix_into` take memory. A call costs at most one pass through the own

@@ -9,8 +9,6 @@ mod learn_fault;
 mod ledger;
 mod redo_fault;
 mod return_reply;
-#[cfg(test)]
-mod tests;
 
 pub use given::Given;
 pub use learn_fault::LearnFault;

@@ -32,39 +32,42 @@ fn reads_words(rt: HostRuntime) -> Result<(), Fail> {
     Ok(())
 }
 
+/// Each with the status.
+static WORDS: [(&[&str], u8); 19] = [
+    (&["solve_cli"], 2),
+    (&["solve_cli", "--help"], 0),
+    (&["solve_cli", "--version"], 0),
+    (&["solve_cli", "alone", "--help"], 0),
+    (&["solve_cli", "alone"], 2),
+    (&["solve_cli", "alone", "a", "b"], 2),
+    (&["solve_cli", "check", "a"], 2),
+    (&["solve_cli", "simulate", "a"], 2),
+    (&["solve_cli", "solve", "a"], 2),
+    (&["solve_cli", "alone", "a", "--fuel"], 2),
+    (&["solve_cli", "alone", "a", "--fuel", "0"], 2),
+    (&["solve_cli", "alone", "a", "--fuel", "+5"], 2),
+    (&["solve_cli", "alone", "a", "--fuel", "-5"], 2),
+    (&["solve_cli", "alone", "a", "--fuel", "5x"], 2),
+    (&["solve_cli", "alone", "a", "--fuel", ""], 2),
+    (
+        &["solve_cli", "alone", "a", "--fuel", "1", "--fuel", "1"],
+        2,
+    ),
+    (
+        &["solve_cli", "alone", "a", "--fuel", "18446744073709551615"],
+        9,
+    ),
+    (
+        &["solve_cli", "alone", "a", "--fuel", "18446744073709551616"],
+        2,
+    ),
+    (&["solve_cli", "alone", "a", "--nodes", "4"], 2),
+];
+
 #[test]
 fn refuses_words(rt: HostRuntime) {
-    for (words, status) in [
-        (["solve_cli"].as_slice(), 2u8),
-        (["solve_cli", "--help"].as_slice(), 0),
-        (["solve_cli", "--version"].as_slice(), 0),
-        (["solve_cli", "alone", "--help"].as_slice(), 0),
-        (["solve_cli", "alone"].as_slice(), 2),
-        (["solve_cli", "alone", "a", "b"].as_slice(), 2),
-        (["solve_cli", "check", "a"].as_slice(), 2),
-        (["solve_cli", "simulate", "a"].as_slice(), 2),
-        (["solve_cli", "solve", "a"].as_slice(), 2),
-        (["solve_cli", "alone", "a", "--fuel"].as_slice(), 2),
-        (["solve_cli", "alone", "a", "--fuel", "0"].as_slice(), 2),
-        (["solve_cli", "alone", "a", "--fuel", "+5"].as_slice(), 2),
-        (["solve_cli", "alone", "a", "--fuel", "-5"].as_slice(), 2),
-        (["solve_cli", "alone", "a", "--fuel", "5x"].as_slice(), 2),
-        (["solve_cli", "alone", "a", "--fuel", ""].as_slice(), 2),
-        (
-            ["solve_cli", "alone", "a", "--fuel", "1", "--fuel", "1"].as_slice(),
-            2,
-        ),
-        (
-            ["solve_cli", "alone", "a", "--fuel", "18446744073709551615"].as_slice(),
-            9,
-        ),
-        (
-            ["solve_cli", "alone", "a", "--fuel", "18446744073709551616"].as_slice(),
-            2,
-        ),
-        (["solve_cli", "alone", "a", "--nodes", "4"].as_slice(), 2),
-    ] {
-        assert_eq!(rt; status_of(rt.alloc(), words), status);
+    for (words, status) in WORDS.iter() {
+        assert_eq!(rt; status_of(rt.alloc(), words), *status);
     }
 }
 

@@ -6,7 +6,7 @@ use brancher::{Branch, Outcome, Searcher, branch, children};
 use cover_problem::is_prefix;
 use dancing_links::Links;
 use dlx_reader::read_problem;
-use std::alloc::Global;
+use std::alloc::{AllocError, Global};
 use std::process::Abort;
 use std::test::Fail;
 
@@ -203,22 +203,25 @@ fn prefixes_are_searched(rt: HostRuntime) -> Result<(), Fail> {
     Ok(())
 }
 
+/// The branch, and its children in a list that begins with 9.
+fn branch_of(alloc: Global, links: &Links) -> Result<(Branch, Vec<u16>), AllocError> {
+    let mut list = vec![in alloc; 9u16]?;
+    let branch = branch(links);
+    if let Branch::Item(item) = branch {
+        children(links, item, &mut list)?;
+    }
+    Ok((branch, list))
+}
+
 #[test]
 fn links_branch(rt: HostRuntime) -> Result<(), Fail> {
-    let alloc = rt.alloc();
-    let read = read_problem(alloc, LETTERS)?;
-    let mut links = Links::build(alloc, &read.problem)?;
-    assert!(rt; read.problem.options() == 6);
-    assert!(rt; links.is_live(3));
+    let read = read_problem(rt.alloc(), LETTERS)?;
+    let mut links = Links::build(rt.alloc(), &read.problem)?;
+    assert!(rt; read.problem.options() == 6 && links.is_live(3));
     links.choose(3);
-    let Branch::Item(item) = branch(&links) else {
-        return Err("an uncovered item")?;
-    };
-    assert_eq!(rt; item, 1);
-    let mut list = vec![in alloc; 9u16]?;
-    children(&links, item, &mut list)?;
+    let (branch, list) = branch_of(rt.alloc(), &links)?;
+    assert_eq!(rt; branch, Branch::Item(1));
     assert_eq!(rt; list.as_slice(), [9, 4].as_slice());
-    assert_eq!(rt; links.undo(), 3);
     Ok(())
 }
 

@@ -1,8 +1,8 @@
 //! Answers for small problems, each worked out by hand from the rules of the format.
 
-use crate::AnswerFault::{BadHead, UnknownOption, WrongCount};
-use crate::*;
 use cover_problem::{Answer, Numbers, Problem, in_file_order};
+use dlx_reader::AnswerFault::{BadHead, UnknownOption, WrongCount};
+use dlx_reader::*;
 use std::alloc::{AllocError, Global};
 use std::io;
 use std::io::Write;
@@ -80,22 +80,33 @@ fn problem(alloc: Global, text: &str) -> Result<Problem, ReadFault> {
 }
 
 #[test]
-fn answers_are_read(rt: HostRuntime) -> Result<(), Fail> {
-    let alloc = rt.alloc();
-    let problem = problem(alloc, FILE)?;
+fn covers_are_read(rt: HostRuntime) -> Result<(), Fail> {
+    let problem = problem(rt.alloc(), FILE)?;
     for (text, cover) in &COVERS {
-        let read = read_answer(alloc, text.as_bytes(), &problem);
+        let read = read_answer(rt.alloc(), text.as_bytes(), &problem);
         assert!(rt;
             matches!(&read, Ok(Answer::Cover(options)) if options.as_slice() == *cover),
             "{text:?}"
         );
     }
+    Ok(())
+}
+
+#[test]
+fn no_cover_is_read(rt: HostRuntime) -> Result<(), Fail> {
+    let problem = problem(rt.alloc(), FILE)?;
     for text in &NONES {
-        let read = read_answer(alloc, text.as_bytes(), &problem);
+        let read = read_answer(rt.alloc(), text.as_bytes(), &problem);
         assert!(rt; matches!(&read, Ok(Answer::NoCover)), "{text:?}");
     }
+    Ok(())
+}
+
+#[test]
+fn other_texts_are_refused(rt: HostRuntime) -> Result<(), Fail> {
+    let problem = problem(rt.alloc(), FILE)?;
     for (text, fault) in &FAULTS {
-        let read = read_answer(alloc, text.as_bytes(), &problem);
+        let read = read_answer(rt.alloc(), text.as_bytes(), &problem);
         assert!(rt; matches!(&read, Err(told) if told == fault), "{text:?}");
     }
     Ok(())
@@ -213,21 +224,24 @@ impl io::Read for Broken {
 }
 
 #[test]
-fn failures_are_counted(rt: HostRuntime) {
+fn failed_writes_are_counted(rt: HostRuntime) {
     let mut full = CountedWriter::new(Full);
-    assert!(rt; write_bytes(b"", &mut full).is_ok());
-    assert_eq!(rt; full.failures(), 0);
-    assert!(rt; write_bytes(b"none\n", &mut full).is_err());
-    assert_eq!(rt; full.failures(), 1);
+    assert!(rt; write_bytes(b"", &mut full).is_ok() && full.failures() == 0);
+    assert!(rt; write_bytes(b"none\n", &mut full).is_err() && full.failures() == 1);
+}
 
-    let mut buffer = [0; 4];
+#[test]
+fn failed_reads_are_counted(rt: HostRuntime) {
     let mut broken = CountedReader::new(Broken);
-    assert!(rt; broken.fetch(&mut buffer).is_err());
-    assert_eq!(rt; broken.failures(), 1);
+    assert!(rt; broken.fetch(&mut [0; 4]).is_err() && broken.failures() == 1);
+}
 
+#[test]
+fn a_source_is_read_to_its_end(rt: HostRuntime) {
+    let mut buffer = [0; 4];
     let mut source = CountedReader::new(b"none\n".as_slice());
     assert_eq!(rt; source.fetch(&mut buffer), Ok(4));
-    assert_eq!(rt; &buffer[..], b"none".as_slice());
+    assert!(rt; buffer == *b"none");
     assert_eq!(rt; source.fetch(&mut buffer), Ok(1));
     assert_eq!(rt; source.fetch(&mut buffer), Ok(0));
     assert_eq!(rt; source.failures(), 0);

@@ -1,10 +1,10 @@
 //! Texts with the fault or the problem that the rules of the format give them, worked out by hand.
 
-use crate::ReadFault::{
+use dlx_reader::ReadFault::{
     self, DuplicateInOption, DuplicateItem, IllegalByte, NameTooLong, NoItems, SecondBar,
     UnknownItem,
 };
-use crate::{Read, read_problem};
+use dlx_reader::{Read, read_problem};
 use std::alloc::{AllocError, Global};
 use std::test::Fail;
 

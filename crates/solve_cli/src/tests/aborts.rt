@@ -1,25 +1,11 @@
 //! Aborts in small tables; what is expected is worked out by hand from the rules.
 
-ghost use Rattle.std.specs.Prelude.{◌≡◌};
-ghost use Rattle.spawn_frame.specs.Picks.{is_ready};
-ghost use Rattle.spawn_frame.specs.Tables.{has_status, is_here};
-ghost use Rattle.spawn_frame.specs.Units.{unit_of};
-
-use crate::*;
-use spawn_frame::{ChildName, Site, Status, Table, Unit};
+use super::units::{HERE, THIEF, is_here, is_ready, letter};
+use abort_tree::abort_below;
+use spawn_frame::{ChildName, Out, Site, Status, Table, Unit};
 use std::alloc::{AllocError, Global};
 use std::process::Abort;
 use std::test::Fail;
-
-const HERE: Site = Site {
-    node: 1,
-    incarnation: 1,
-};
-
-const THIEF: Site = Site {
-    node: 2,
-    incarnation: 1,
-};
 
 const ROOT: ChildName = ChildName {
     site: Site {
@@ -28,24 +14,6 @@ const ROOT: ChildName = ChildName {
     },
     serial: 0,
 };
-
-fn is_here(table: &Table, unit: Unit) -> bool
-    ensures { result ≡ has_status is_here (unit_of table.now unit) }
-{
-    match table.unit(unit) {
-        Some(view) => matches!(view.status, Status::Here),
-        None => false,
-    }
-}
-
-fn is_ready(table: &Table, unit: Unit) -> bool
-    ensures { result ≡ has_status is_ready (unit_of table.now unit) }
-{
-    match table.unit(unit) {
-        Some(view) => matches!(view.status, Status::Ready),
-        None => false,
-    }
-}
 
 /// A letter for the status of each own child, by serial.
 fn letters(alloc: Global, table: &Table) -> Result<String, AllocError> {
@@ -57,20 +25,6 @@ fn letters(alloc: Global, table: &Table) -> Result<String, AllocError> {
         })?;
     }
     Ok(letters)
-}
-
-fn letter(status: &Status) -> char {
-    match status {
-        Status::Ready => 'R',
-        Status::Here => 'H',
-        Status::Split => 'S',
-        Status::Out(_) => 'O',
-        Status::Done(_) => 'D',
-        Status::Aborted => 'A',
-        Status::Finished(_) => 'F',
-        Status::Settled(_) => 'T',
-        Status::Dropped => 'X',
-    }
 }
 
 /// A guest with children 0 and 1, and below 1 the child 2; 0 is out.

@@ -1,8 +1,11 @@
 //! Texts at the limits, and one above.
 
-use crate::ReadFault::{DuplicateItem, IllegalByte, TooManyItems, TooManyNodes, TooManyOptions};
-use crate::read_problem;
+use dlx_reader::ReadFault::{
+    DuplicateItem, IllegalByte, TooManyItems, TooManyNodes, TooManyOptions,
+};
+use dlx_reader::{ReadFault, read_problem};
 use std::alloc::{AllocError, Global};
+use std::process::Abort;
 use std::test::Fail;
 
 /// So many names.
@@ -78,38 +81,42 @@ fn options(rt: HostRuntime) -> Result<(), Fail> {
     Ok(())
 }
 
+/// A line so many times, the first as the item line.
+fn lines(alloc: Global, line: &str, count: u16) -> Result<String, AllocError> {
+    let mut text = String::new(alloc);
+    for _ in 0..count {
+        text.push_str(line)?;
+        text.push('\n')?;
+    }
+    Ok(text)
+}
+
+/// A text has so many options, and with a further line this fault.
+fn ends_with<R: Abort>(
+    rt: &R,
+    text: &mut String,
+    alloc: Global,
+    count: usize,
+    fault: ReadFault,
+) -> Result<(), Fail> {
+    let read = read_problem(alloc, text.as_bytes())?;
+    assert_eq!(rt; read.problem.options(), count);
+    text.push_str("n0\n")?;
+    assert_eq!(rt; read_problem(alloc, text.as_bytes()).err(), Some(fault));
+    Ok(())
+}
+
 #[test]
 fn occurrences(rt: HostRuntime) -> Result<(), Fail> {
     let alloc = rt.alloc();
-    let line = names(alloc, 1000)?;
-    let mut text = line.clone()?;
-    text.push('\n')?;
-    for _ in 0..200 {
-        text.push_str(line.as_str())?;
-        text.push('\n')?;
-    }
-    let read = read_problem(alloc, text.as_bytes())?;
-    assert_eq!(rt; read.problem.options(), 200);
-    text.push_str("n0\n")?;
-    let fault = read_problem(alloc, text.as_bytes()).err();
-    assert_eq!(rt; fault, Some(TooManyNodes(202)));
-    Ok(())
+    let mut text = lines(alloc, names(alloc, 1000)?.as_str(), 201)?;
+    ends_with(&rt, &mut text, alloc, 200, TooManyNodes(202))
 }
 
 /// Both limits at one option: that of the options counts.
 #[test]
 fn both(rt: HostRuntime) -> Result<(), Fail> {
     let alloc = rt.alloc();
-    let line = names(alloc, 10)?;
-    let mut text = String::new(alloc);
-    for _ in 0..20001 {
-        text.push_str(line.as_str())?;
-        text.push('\n')?;
-    }
-    let read = read_problem(alloc, text.as_bytes())?;
-    assert_eq!(rt; read.problem.options(), 20000);
-    text.push_str("n0\n")?;
-    let fault = read_problem(alloc, text.as_bytes()).err();
-    assert_eq!(rt; fault, Some(TooManyOptions(20002)));
-    Ok(())
+    let mut text = lines(alloc, names(alloc, 10)?.as_str(), 20001)?;
+    ends_with(&rt, &mut text, alloc, 20000, TooManyOptions(20002))
 }

@@ -1,2 +1,0 @@
-mod limits;
-mod reading;

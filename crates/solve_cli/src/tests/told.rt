@@ -1,0 +1,18 @@
+//! What a run of the program tells.
+
+/// What is written to both outputs, and the status.
+#[derive(Drop)]
+pub struct Told {
+    pub out: Vec<u8>,
+    pub errors: Vec<u8>,
+    pub status: u8,
+}
+
+impl Told {
+    /// Whether it is this.
+    pub fn is(&self, out: &str, errors: &str, status: u8) -> bool {
+        self.out.as_slice() == out.as_bytes()
+            && self.errors.as_slice() == errors.as_bytes()
+            && self.status == status
+    }
+}

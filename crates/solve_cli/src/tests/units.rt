@@ -1,0 +1,112 @@
+//! Names, results and statuses of units, for the tests of tables, aborts and ledgers.
+
+ghost use Rattle.std.specs.Prelude.{◌≡◌};
+ghost use Rattle.spawn_frame.specs.Aborts.{is_open};
+ghost use Rattle.spawn_frame.specs.Picks.{is_finished, is_ready, is_split};
+ghost use Rattle.spawn_frame.specs.Tables.{has_status, is_here, may_end};
+ghost use Rattle.spawn_frame.specs.Units.{unit_of};
+
+use cover_problem::Numbers;
+use spawn_frame::{ChildName, ChildResult, Site, Status, Table, Unit};
+use std::alloc::{AllocError, Global};
+
+/// The site whose tables these are.
+pub const HERE: Site = Site {
+    node: 1,
+    incarnation: 1,
+};
+
+/// Another site.
+pub const THIEF: Site = Site {
+    node: 2,
+    incarnation: 1,
+};
+
+/// A run of a node.
+pub fn site(node: u8, incarnation: u32) -> Site {
+    Site { node, incarnation }
+}
+
+/// A child of the first run of a node.
+pub fn name(node: u8, serial: u32) -> ChildName {
+    let site = site(node, 1);
+    ChildName { site, serial }
+}
+
+/// A cover of one option.
+pub fn cover(alloc: Global, option: u16) -> Result<ChildResult, AllocError> {
+    let options = vec![in alloc; option]?;
+    Ok(ChildResult::Cover(Numbers::from_vec(options)))
+}
+
+/// A letter for each status.
+pub fn letter(status: &Status) -> char {
+    match status {
+        Status::Ready => 'R',
+        Status::Here => 'H',
+        Status::Split => 'S',
+        Status::Out(_) => 'O',
+        Status::Done(_) => 'D',
+        Status::Aborted => 'A',
+        Status::Finished(_) => 'F',
+        Status::Settled(_) => 'T',
+        Status::Dropped => 'X',
+    }
+}
+
+pub fn is_ready(table: &Table, unit: Unit) -> bool
+    ensures { result ≡ has_status is_ready (unit_of table.now unit) }
+{
+    match table.unit(unit) {
+        Some(view) => matches!(view.status, Status::Ready),
+        None => false,
+    }
+}
+
+pub fn is_here(table: &Table, unit: Unit) -> bool
+    ensures { result ≡ has_status is_here (unit_of table.now unit) }
+{
+    match table.unit(unit) {
+        Some(view) => matches!(view.status, Status::Here),
+        None => false,
+    }
+}
+
+pub fn is_split(table: &Table, unit: Unit) -> bool
+    ensures { result ≡ has_status is_split (unit_of table.now unit) }
+{
+    match table.unit(unit) {
+        Some(view) => matches!(view.status, Status::Split),
+        None => false,
+    }
+}
+
+pub fn is_open(table: &Table, unit: Unit) -> bool
+    ensures { result ≡ has_status is_open (unit_of table.now unit) }
+{
+    match table.unit(unit) {
+        Some(view) => matches!(
+            view.status,
+            Status::Ready | Status::Here | Status::Split | Status::Out(_) | Status::Finished(_)
+        ),
+        None => false,
+    }
+}
+
+pub fn is_finished(table: &Table, unit: Unit) -> bool
+    ensures { result ≡ has_status is_finished (unit_of table.now unit) }
+{
+    match table.unit(unit) {
+        Some(view) => matches!(view.status, Status::Finished(_)),
+        None => false,
+    }
+}
+
+pub fn may_end(table: &Table, unit: Unit) -> bool
+    ensures { result ≡ has_status may_end (unit_of table.now unit) }
+{
+    match table.unit(unit) {
+        Some(view) => matches!(view.status, Status::Here | Status::Split | Status::Out(_)),
+        None => false,
+    }
+}
