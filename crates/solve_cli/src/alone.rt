@@ -52,6 +52,7 @@ fn write_found<W: Sink>(
 }
 
 /// Searches the empty prefix, writes what comes of it, and answers the status.
+#[tactic(auto, unfolding(crate::specs::Alone::alone_text, crate::specs::Alone::alone_status))]
 fn write_alone<W: Sink>(
     alloc: Global,
     problem: &Problem,

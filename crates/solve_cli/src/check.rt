@@ -108,8 +108,8 @@ fn write_none<W: Sink>(
     }
 }
 
-#[tactic(auto, unfolding(crate::specs::Check::check_text, crate::specs::Check::check_status))]
 /// Tests an answer, writes what comes of it, and answers the status.
+#[tactic(auto, unfolding(crate::specs::Check::check_text, crate::specs::Check::check_status))]
 fn write_check<W: Sink>(
     alloc: Global,
     problem: &Problem,
