@@ -1,5 +1,8 @@
 -- The texts of lists of items and options, from a place on.
-use Rattle.std.proofs.Common.{◌≡◌, ℕ, ◌+◌, ◌<◌, List, ◌∷◌, ◌++◌, length, get_or, drop, add-one, drop-cons, refl, take, ◌-◌, ◌≤◌, [], arith, suc, ap, sym, ◌∙◌, append-nil}
+use Rattle.std.proofs.Common.{◌≡◌, ℕ, ◌+◌, ◌<◌, List, ◌∷◌, ◌++◌, length, get_or, drop, add-one, drop-cons, refl, take, ◌-◌, ◌≤◌, [], arith, suc, ap, sym, ◌∙◌, append-nil, Option}
+use Rattle.std.specs.Io.KnownBytes.{Appends}
+use Rattle.dlx_reader.specs.Devices.{AppendsFront}
+use Rattle.dlx_reader.proofs.Written.{Going, going_on, going_fault}
 use Rattle.std.proofs.Math.Seq.{take-length}
 use Rattle.std.specs.List.{flat_map}
 use Rattle.std.proofs.lemmas.List.Elements.{All-drop, All-take}
@@ -18,6 +21,14 @@ options_split p (o ∷ os) h =
 -- each of the others is an option still
 pub others_are : (p : Problem) (os : List ℕ) → AreOptions p os → AreOptions p (take (length os - 1) (drop 1 os))
 others_are p os all = All-take (λ o. o < length p.options) (length os - 1) (drop 1 os) (All-drop (λ o. o < length p.options) 1 os all)
+
+-- the first option's line was written, and those of the others are left
+pub option_on : (p : Problem) (a b c : Option (List ℕ)) (os whole : List ℕ) → Going a b (flat_map (option_text p) os) whole → 1 ≤ length os → Appends b c (option_text p (get_or os 0 0)) → Going a c (flat_map (option_text p) (take (length os - 1) (drop 1 os))) whole
+option_on p a b c os whole going some piece = going_on a b c (option_text p (get_or os 0 0)) (flat_map (option_text p) (take (length os - 1) (drop 1 os))) whole (rw (options_split p os some) at going) piece
+
+-- a fault came in the first option's line
+pub option_fault : (p : Problem) (a b c : Option (List ℕ)) (os whole : List ℕ) → Going a b (flat_map (option_text p) os) whole → 1 ≤ length os → AppendsFront b c (option_text p (get_or os 0 0)) → AppendsFront a c whole
+option_fault p a b c os whole going some piece = going_fault a b c (option_text p (get_or os 0 0)) (flat_map (option_text p) (take (length os - 1) (drop 1 os))) whole (rw (options_split p os some) at going) piece
 
 pub names_step : (p : Problem) (is : List ℕ) (k : ℕ) → k < length is → names_after p (drop k is) ≡ (32 ∷ name_text p (get_or is k 0)) ++ names_after p (drop (k + 1) is)
 names_step p is k h = rw (add-one, drop-cons is k 0) refl

@@ -1,6 +1,6 @@
 //! `alone`: one thread searches a file's problem.
 
-ghost use Rattle.std.specs.Prelude.{◌≡◌, ◌-◌, ◌<◌, ◌≤◌, ◌^◌, IfOk, IfErr, IfSome};
+ghost use Rattle.std.specs.Prelude.{◌≡◌, ◌≢◌, ◌-◌, ◌<◌, ◌≤◌, ◌^◌, IfOk, IfErr, IfSome};
 ghost use Rattle.std.specs.Io.KnownBytes.{IsAtEnd};
 ghost use Rattle.cover_problem.specs.ExactCover.{in_order};
 ghost use Rattle.cover_problem.specs.Search.{Covers};
@@ -52,6 +52,7 @@ fn write_found<W: Sink>(
 }
 
 /// Searches the empty prefix, writes what comes of it, and answers the status.
+#[tactic(auto, unfolding(crate::specs::Alone::alone_text, crate::specs::Alone::alone_status))]
 fn write_alone<W: Sink>(
     alloc: Global,
     problem: &Problem,
@@ -90,7 +91,7 @@ pub fn alone_engine<R: Source, W: Sink>(
     requires sink { W.failed sink.old < 2 ^ 64 - 1 }
     ensures answered { IfOk result (λ end. IfSome (R.remaining source.old) (λ text.
         IsAnswered text fuel (W.contents sink.old) (W.contents sink.new) end.status end.ignored)) }
-    ensures read { IfOk result (λ _. IsAtEnd (R.remaining source.new)) }
+    ensures read { result ≢ Err EngineFault.Read → result ≢ Err EngineFault.Memory → IsAtEnd (R.remaining source.new) }
     ensures left { IfErr result (λ fault. IfSome (R.remaining source.old) (λ text.
         IsLeft text fuel (W.contents sink.old) (W.contents sink.new) fault)) }
     ensures read_fault { result ≡ Err EngineFault.Read → R.failed source.old < R.failed source.new }

@@ -108,8 +108,8 @@ fn write_none<W: Sink>(
     }
 }
 
-#[tactic(auto, unfolding(crate::specs::Check::check_text, crate::specs::Check::check_status))]
 /// Tests an answer, writes what comes of it, and answers the status.
+#[tactic(auto, unfolding(crate::specs::Check::check_text, crate::specs::Check::check_status))]
 fn write_check<W: Sink>(
     alloc: Global,
     problem: &Problem,
@@ -174,8 +174,10 @@ pub fn check_engine<R: Source, S: Source, W: Sink>(
     requires sink { W.failed sink.old < 2 ^ 64 - 1 }
     ensures checked { IfOk result (λ end. IfSome (R.remaining file.old) (λ text. IfSome (S.remaining answer.old) (λ given.
         IsChecked text given fuel (W.contents sink.old) (W.contents sink.new) end.status end.ignored))) }
-    ensures file_read { IfOk result (λ _. IsAtEnd (R.remaining file.new)) }
-    ensures answer_read { IfOk result (λ _. IsAtEnd (S.remaining answer.new)) }
+
+    // Both texts are read to their ends before either is tested, so a refusal of one says that the other can be read.
+    ensures file_read { result ≢ Err EngineFault.Read → result ≢ Err EngineFault.Memory → IsAtEnd (R.remaining file.new) }
+    ensures answer_read { result ≢ Err EngineFault.Read → result ≢ Err EngineFault.Memory → IsAtEnd (S.remaining answer.new) }
     ensures left { IfErr result (λ fault. IfSome (R.remaining file.old) (λ text. IfSome (S.remaining answer.old) (λ given.
         IsCheckLeft text given fuel (W.contents sink.old) (W.contents sink.new) fault))) }
     ensures read_fault { result ≡ Err EngineFault.Read →
