@@ -1,6 +1,6 @@
-ghost use Rattle.std.specs.Prelude.{◌≡◌, ◌<◌, ◌≤◌, [], length, Some, true, IfOk, IfErr};
+ghost use Rattle.std.specs.Prelude.{◌≡◌, ◌<◌, ◌≤◌, ℕ, List, [], length, Some, true, IfOk, IfErr};
 ghost use Rattle.cover_problem.specs.Prefix.{is_prefix, IsBarren, IsCoverOver};
-ghost use Rattle.cover_problem.specs.Search.{outcome};
+ghost use Rattle.cover_problem.specs.Search.{Covers, outcome};
 
 use crate::finding::Finding;
 use crate::outcome::Outcome;
@@ -55,12 +55,14 @@ impl<'a> Searcher<'a> {
         }
     }
 
-    /// Searches as `search` does, and copies out what it came to. At want of memory the prefix comes back.
+    /// Searches as `search` does, and copies out what it came to; `found` is the cover then, too. At want of memory the
+    /// prefix comes back.
     pub fn find(&mut self, prefix: Vec<u16>, fuel: u64) -> Result<Finding, Vec<u16>>
         requires prefix { is_prefix self.old.problem prefix.items ≡ true }
         requires fuel { 1 ≤ fuel }
         ensures problem { self.new.problem ≡ self.old.problem }
         ensures finding { IfOk result (λ finding. finding ≡ finding_by prefix.items fuel (outcome self.old.problem prefix.items fuel)) }
+        ensures found { (cover : List ℕ) → outcome self.old.problem prefix.items fuel ≡ Covers cover → self.new.found ≡ cover }
         ensures back { IfErr result (λ list. list.items ≡ prefix.items) }
     {
         let outcome = self.search(&prefix, fuel);

@@ -50,8 +50,8 @@ pub fn layout_of(alloc: Global, problem: &Problem) -> Result<Layout, AllocError>
     })
 }
 
-#[tactic(auto, unfolding(crate::specs::Table::column_list))]
 /// The column of each node.
+#[tactic(auto, unfolding(crate::specs::Table::column_list))]
 fn node_items(alloc: Global, problem: &Problem) -> Result<Vec<u16>, AllocError>
     ensures { IfOk result (λ list. list.items ≡ column_list problem.now) }
 {
@@ -64,8 +64,8 @@ fn node_items(alloc: Global, problem: &Problem) -> Result<Vec<u16>, AllocError>
     Ok(list)
 }
 
-#[tactic(auto, unfolding(crate::specs::Table::option_list))]
 /// The option of each node.
+#[tactic(auto, unfolding(crate::specs::Table::option_list))]
 fn node_options(alloc: Global, problem: &Problem) -> Result<Vec<u16>, AllocError>
     ensures { IfOk result (λ list. list.items ≡ option_list problem.now) }
 {
@@ -78,8 +78,8 @@ fn node_options(alloc: Global, problem: &Problem) -> Result<Vec<u16>, AllocError
     Ok(list)
 }
 
-#[tactic(auto, using(crate::proofs::Laid::range_push))]
 /// Appends the numbers below a bound.
+#[tactic(auto, using(crate::proofs::Laid::range_push))]
 fn push_range(list: &mut Vec<u16>, bound: u16) -> Result<(), AllocError>
     ensures { IfOk result (λ _. list.new.items ≡ list.old.items ++ range_with_len 0 bound) }
 {
@@ -89,8 +89,8 @@ fn push_range(list: &mut Vec<u16>, bound: u16) -> Result<(), AllocError>
     Ok(())
 }
 
-#[tactic(auto, using(crate::proofs::Laid::copies_push))]
 /// Appends so many copies of a number.
+#[tactic(auto, using(crate::proofs::Laid::copies_push))]
 fn push_copies(list: &mut Vec<u16>, number: u16, count: usize) -> Result<(), AllocError>
     ensures { IfOk result (λ _. list.new.items ≡ list.old.items ++ replicate count number) }
 {
@@ -100,8 +100,8 @@ fn push_copies(list: &mut Vec<u16>, number: u16, count: usize) -> Result<(), All
     Ok(())
 }
 
-#[tactic(auto, using(crate::proofs::Laid::items_push, crate::proofs::Laid::items_all_pushed))]
 /// Appends the items of each option.
+#[tactic(auto, using(crate::proofs::Laid::items_push, crate::proofs::Laid::items_all_pushed))]
 fn push_items(list: &mut Vec<u16>, problem: &Problem) -> Result<(), AllocError>
     ensures { IfOk result (λ _. list.new.items ≡ list.old.items ++ concat problem.now.options) }
 {
@@ -111,8 +111,8 @@ fn push_items(list: &mut Vec<u16>, problem: &Problem) -> Result<(), AllocError>
     Ok(())
 }
 
-#[tactic(auto, using(crate::proofs::Laid::options_push, crate::proofs::Laid::options_all_pushed))]
 /// Appends, for each item of each option, the number of the option.
+#[tactic(auto, using(crate::proofs::Laid::options_push, crate::proofs::Laid::options_all_pushed))]
 fn push_options(list: &mut Vec<u16>, problem: &Problem) -> Result<(), AllocError>
     ensures { IfOk result (λ _. list.new.items ≡ list.old.items ++ numbered 0 problem.now.options) }
 {
@@ -122,8 +122,8 @@ fn push_options(list: &mut Vec<u16>, problem: &Problem) -> Result<(), AllocError
     Ok(())
 }
 
-#[tactic(auto, using(crate::proofs::Laid::first_push, crate::proofs::Laid::first_all_pushed, crate::proofs::Laid::left_next, crate::proofs::Laid::left_none), unfolding(crate::specs::Table::first_list))]
 /// Where each option begins, and where it ends.
+#[tactic(auto, using(crate::proofs::Laid::first_push, crate::proofs::Laid::first_all_pushed, crate::proofs::Laid::left_next, crate::proofs::Laid::left_none), unfolding(crate::specs::Table::first_list))]
 fn first_nodes(alloc: Global, problem: &Problem) -> Result<Vec<u32>, AllocError>
     ensures { IfOk result (λ list. list.items ≡ first_list problem.now) }
 {

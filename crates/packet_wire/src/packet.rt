@@ -64,6 +64,7 @@ pub struct Packet {
     pub from: Site,
     /// The site that it is for.
     pub to: Site,
+    /// What it says.
     pub body: Body,
 }
 
