@@ -18,7 +18,7 @@ use Rattle.packet_wire.specs.declared.packet.Packet.{Packet}
 use Rattle.root_registry.specs.RegistryStep.{is_earlier_run}
 use Rattle.spawn_frame.specs.Aborts.{AbortsBelow}
 use Rattle.spawn_frame.specs.Splits.{split_into}
-use Rattle.spawn_frame.specs.Units.{Entry, redone, with_status}
+use Rattle.spawn_frame.specs.Units.{Entry, last_attempt, redone, with_status}
 use Rattle.spawn_frame.specs.declared.cause.Cause.TheVariants as causes
 use Rattle.spawn_frame.specs.declared.child_result.ChildResult.TheVariants.{Cover}
 use Rattle.spawn_frame.specs.declared.site.Site.{Site}
@@ -27,7 +27,7 @@ use Rattle.spawn_frame.specs.declared.unit.Unit.TheVariants.{Own}
 use Rattle.spawn_frame.specs.Tables.{root_entry}
 use Rattle.steal_return.specs.Members.{IsRedoable, is_lost_guest}
 use Rattle.steal_return.specs.Returns.{Enters, Refuses}
-use Rattle.steal_return.specs.Steals.{is_older, last_attempt}
+use Rattle.steal_return.specs.Steals.{is_older}
 
 pub counted : IsExactCover small (is_in cover)
 counted = record { in_range = in_range; primary = primary; others = others }

@@ -29,6 +29,7 @@ use Rattle.node_core.specs.declared.reply.Reply.{Reply}
 use Rattle.node_core.specs.declared.reply.Reply.TheVariants.{Taken, Ripe, Idle, Moved, Ignored}
 use Rattle.node_core.specs.Results.{Leaves, split_up}
 use Rattle.spawn_frame.specs.Splits.{with_result}
+use Rattle.spawn_frame.specs.Tables.{has_status}
 use Rattle.node_core.specs.Arrivals.{Answers, GiveStep, AcceptStep, RefuseStep, Denies, Gives}
 use Rattle.root_registry.specs.RegistryStep.{RootAnswers, RootSteal, RootHears, RegistryStep, root_result}
 use Rattle.node_core.specs.NodeStep.{HearStep, EventStep}
@@ -42,7 +43,7 @@ use Rattle.cover_problem.proofs.Outcomes.{barren_is_barren, spent_branches}
 use Rattle.cover_world.proofs.Frames.{shape, changed_shapes, mapped_shapes, gets_same, if_lost, dropped_guest}
 use Rattle.cover_world.proofs.Sound.{Sound, FrameOf, Barrens, Redoes, sound_gets, sound_alike, sound_redoes, sound_aborts, finish_barren}
 use Rattle.cover_world.proofs.Splitting.{sound_splits, sound_admits, sound_drops, lost_some}
-use Rattle.steal_return.specs.Members.{drop_lost, is_lost_guest, is_open_entry, redo_if, redo_lost}
+use Rattle.steal_return.specs.Members.{drop_lost, is_lost_guest, redo_if, redo_lost}
 use Rattle.steal_return.specs.Returns.{Enters, Holds, Judgement, Refuses, judged}
 use Rattle.steal_return.specs.Steals.{is_older}
 
@@ -238,9 +239,9 @@ module _ (problem : Problem) where
   lost_no_frame : (known : List ℕ) (old mid : View) → mid.guests ≡ drop_lost known old.guests → (u : WorkUnit) (d : Entry) → is_lost_guest known old.guests u ≡ true → unit_in mid u ≡ Some d → d.status ≡ Split → ⊥
   lost_no_frame known old mid g (Own k) d t at sp = true≢false (sym t)
   lost_no_frame known old mid g (Guest m b) d t at sp =
-      let p = and_parts (is_older known m.site) (is_open_entry (guest_in old.guests m b)) t in
+      let p = and_parts (is_older known m.site) (has_status is_open (guest_in old.guests m b)) t in
       let e = lost_some known m (guest_in old.guests m b) d (sym (dropped_guest known old.guests m b) ∙ ap (λ l. guest_in l m b) (sym g) ∙ at) in
-      let lost : (is_older known m.site && is_open e.0.status) ≡ true = and_from _ _ p.0 (ap is_open_entry (sym e.1) ∙ p.1) in
+      let lost : (is_older known m.site && is_open e.0.status) ≡ true = and_from _ _ p.0 (ap (has_status is_open) (sym e.1) ∙ p.1) in
       let s : Dropped ≡ Split = sym (ap (λ x. (if_lost x e.0).status) lost) ∙ ap (λ x. x.status) (sym e.2) ∙ sp in
       cc
 

@@ -18,7 +18,7 @@ ghost use Rattle.packet_wire.specs.declared.packet.Packet.{Packet};
 ghost use Rattle.root_registry.specs.RegistryStep.{IsAcceptable};
 ghost use Rattle.spawn_frame.specs.Aborts.{is_open};
 ghost use Rattle.spawn_frame.specs.Frames.{frame, frame_result};
-ghost use Rattle.spawn_frame.specs.Units.{Entry, guest_in};
+ghost use Rattle.spawn_frame.specs.Units.{Entry, guest_in, last_attempt};
 ghost use Rattle.spawn_frame.specs.declared.cause.Cause.TheVariants as causes;
 ghost use Rattle.spawn_frame.specs.declared.child_result.ChildResult.{ChildResult};
 ghost use Rattle.spawn_frame.specs.declared.site.Site.{Site};
@@ -26,7 +26,7 @@ ghost use Rattle.spawn_frame.specs.declared.status.Status.TheVariants.{Out, Spli
 ghost use Rattle.spawn_frame.specs.declared.unit.Job.{Job};
 ghost use Rattle.spawn_frame.specs.declared.unit.Unit.{Unit as WorkUnit};
 ghost use Rattle.steal_return.specs.Returns.{Enters, judged};
-ghost use Rattle.steal_return.specs.Steals.{is_older, last_attempt};
+ghost use Rattle.steal_return.specs.Steals.{is_older};
 
 /// A packet for another site, another run of the same node too, changes nothing and isn't answered.
 pub fn packet_for_another_site()

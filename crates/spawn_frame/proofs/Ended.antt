@@ -313,8 +313,8 @@ module _ (site : Site) (limit : ℕ) (own : List Child) (guests : List Guest) (i
       go (Some unit) e = some unit e (work_in own guests unit) refl
 
 -- the write of a status, once the frame has heard
-pub ended_write : (own heard : List Child) (parent : Option WorkUnit) (f g : Work → Work) (k : ℕ) (c : Child) → heard ≡ own_told parent f own → k < length own → c ≡ get_or heard k c
-    → slice_set heard k (with_work g c) ≡ change_child g (own_told parent f own) k
-ended_write own heard parent f g k c e h at =
+pub ended_write : (own heard : List Child) (parent : Option WorkUnit) (f g : Work → Work) (k : ℕ) (c : Child) (w : Work) → w ≡ g c.work → heard ≡ own_told parent f own → k < length own → c ≡ get_or heard k c
+    → slice_set heard k (record { parent = c.parent; work = w }) ≡ change_child g (own_told parent f own) k
+ended_write own heard parent f g k c w done e h at =
     let within : k < length heard = subst (λ n. k < n) (sym (ap length e ∙ told_length f own parent)) h in
-    child_set g heard k c within at ∙ ap (λ l. change_child g l k) e
+    ap (λ v. slice_set heard k (record { parent = c.parent; work = v })) done ∙ child_set g heard k c within at ∙ ap (λ l. change_child g l k) e

@@ -45,6 +45,10 @@ unit_of table (Guest name attempt) = guest_in table.guests name attempt
 abbrev pub with_status : Status → Entry → Entry
 with_status status entry = record { parent = entry.parent; prefix = entry.prefix; attempt = entry.attempt; status = status }
 
+-- the greatest number that a packet can tell
+abbrev pub last_attempt : ℕ
+last_attempt = 4294967295
+
 -- ready again, at the next attempt
 abbrev pub redone : Entry → Entry
 redone entry = record { parent = entry.parent; prefix = entry.prefix; attempt = suc entry.attempt; status = Ready }

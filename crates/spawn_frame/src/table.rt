@@ -9,7 +9,7 @@ ghost use Rattle.spawn_frame.specs.Splits.{split_into, with_result};
 ghost use Rattle.spawn_frame.specs.Tables.{attempt_in, empty_table, guest_key, has_status, is_after, is_here, is_out, longer_prefixes, may_end, new_guest, parent_heard, parent_in, prefix_in, root_table, GivesResult, HasParents, IsAscending, IsMadeBefore, IsSeen};
 ghost use Rattle.spawn_frame.specs.declared.site.ChildName.{ChildName};
 ghost use Rattle.spawn_frame.specs.declared.status.Status.{Status};
-ghost use Rattle.spawn_frame.specs.Units.{change_at, guest_in, insert_guest, redone, table_gets, table_guests, table_own, unit_of};
+ghost use Rattle.spawn_frame.specs.Units.{change_at, guest_in, insert_guest, last_attempt, redone, table_gets, table_guests, table_own, unit_of};
 
 use crate::building::{new_children, new_guest, new_root};
 use crate::child::Child;
@@ -191,6 +191,7 @@ impl Table {
     }
 
     /// Whether a frame is settled: a child of it has a cover, or all are empty. It costs a look for the unit.
+    #[tactic(auto, using(crate::proofs::Winners::heard_is))]
     pub fn heard(&self, unit: Unit) -> Heard
         requires { has_status is_split (unit_of self.now unit) ≡ true }
         ensures { result ≡ heard_by (frame_result (frame unit self.now.own)) }
@@ -260,7 +261,7 @@ impl Table {
     /// nothing.
     pub fn redo(&mut self, serial: u32)
         requires out { has_status is_out (slice_get self.old.own serial) ≡ true }
-        requires attempt { attempt_in (slice_get self.old.own serial) < 4294967295 }
+        requires attempt { attempt_in (slice_get self.old.own serial) < last_attempt }
         ensures { self.new ≡ table_own self.old (change_at redone self.old.own serial) }
     {
         self.own[serial as usize].work.redo();
@@ -324,7 +325,7 @@ impl Table {
             serial,
             &child_result,
         );
-        self.own[index].work.status = Status::Done(child_result);
+        self.own[index].work.end(child_result);
         heard
     }
 

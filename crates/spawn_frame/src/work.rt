@@ -23,7 +23,8 @@ pub struct Work {
 }
 
 impl Work {
-    ghost use Rattle.spawn_frame.specs.Works.{frame_says, heard_work, is_wanted, new_work, redone_work, split_work, with_heard, HearsChildren};
+    ghost use Rattle.spawn_frame.specs.Units.{last_attempt};
+    ghost use Rattle.spawn_frame.specs.Works.{frame_says, heard_work, is_wanted, new_work, redone_work, split_work, with_heard, with_work_status, HearsChildren};
 
     /// Work that nobody has taken up.
     pub fn new(prefix: Numbers, attempt: Attempt) -> Work
@@ -59,11 +60,18 @@ impl Work {
 
     /// Makes it ready again, at the next attempt.
     pub fn redo(&mut self)
-        requires { self.old.attempt < 4294967295 }
+        requires { self.old.attempt < last_attempt }
         ensures { self.new ≡ redone_work self.old }
     {
         self.attempt += 1;
         self.status = Status::Ready;
+    }
+
+    /// Makes it done, with its result.
+    pub fn end(&mut self, child_result: ChildResult)
+        ensures { self.new ≡ with_work_status (Status.Done child_result) self.old }
+    {
+        self.status = Status::Done(child_result);
     }
 
     /// Makes it a frame of so many children.

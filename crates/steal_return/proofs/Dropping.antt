@@ -12,7 +12,7 @@ use Rattle.spawn_frame.specs.declared.status.Status.TheVariants.{Dropped}
 use Rattle.spawn_frame.specs.declared.unit.Unit.{Unit as WorkUnit}
 use Rattle.spawn_frame.specs.declared.unit.Unit.TheVariants.{Guest, Own}
 use Rattle.steal_return.proofs.Order.{WalksOn, before, is_itself, key_path, other_guest, other_key, weaker}
-use Rattle.steal_return.specs.Members.{MayDrop, drop_if, drop_lost, dropped, is_lost, is_lost_guest, is_open_entry, lost_units}
+use Rattle.steal_return.specs.Members.{MayDrop, drop_if, drop_lost, dropped, is_lost, is_lost_guest, lost_units}
 use Rattle.steal_return.specs.Steals.{is_older}
 
 -- a unit is another than this guest
@@ -102,7 +102,7 @@ none_other known (g ∷ hs) n a o = go (is_lost known g) (none_other known hs n 
     go false on = on
 
 lost_one : (known : List ℕ) (gs : List GuestEntry) → IsAscending gs → (n : ChildName) (a : ℕ)
-    → is_among (lost_units known gs) (Guest n a) ≡ (is_older known n.site && is_open_entry (guest_in gs n a))
+    → is_among (lost_units known gs) (Guest n a) ≡ (is_older known n.site && has_status is_open (guest_in gs n a))
 lost_one known [] o n a = sym (and_false (is_older known n.site))
 lost_one known (g ∷ hs) o n a = go (is_guest n a g) refl (is_lost known g) refl (lost_one known hs o.1 n a)
   where
@@ -117,9 +117,9 @@ lost_one known (g ∷ hs) o n a = go (is_guest n a g) refl (is_lost known g) ref
     same t = ap (λ m. is_older known m.site && is_open g.entry.status) (key_path n a g t).0
 
     go : (b : Bool) → is_guest n a g ≡ b → (l : Bool) → is_lost known g ≡ l
-        → is_among (lost_units known hs) (Guest n a) ≡ (is_older known n.site && is_open_entry (guest_in hs n a))
+        → is_among (lost_units known hs) (Guest n a) ≡ (is_older known n.site && has_status is_open (guest_in hs n a))
         → is_among (map (λ x. Guest x.name x.entry.attempt) (cond l (g ∷ filter (is_lost known) hs) (filter (is_lost known) hs))) (Guest n a)
-        ≡ (is_older known n.site && is_open_entry (cond b (Some g.entry) (guest_in hs n a)))
+        ≡ (is_older known n.site && has_status is_open (cond b (Some g.entry) (guest_in hs n a)))
     go true t true l on = ap (λ c. c || is_among (lost_units known hs) (Guest n a)) t ∙ sym l ∙ same t
     go true t false l on = none_other known hs n a (others t) ∙ sym l ∙ same t
     go false t true l on = ap (λ c. c || is_among (lost_units known hs) (Guest n a)) t ∙ on

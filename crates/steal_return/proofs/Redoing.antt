@@ -3,12 +3,11 @@ use Rattle.std.proofs.Common.{◌≡◌, ℕ, zero, suc, ◌+◌, ◌<◌, Bool,
 use Rattle.std.proofs.lemmas.Bool.{leb-false, leb-true}
 use Rattle.std.proofs.lemmas.Option.{slice_get_within}
 use Rattle.spawn_frame.specs.Tables.{has_status}
-use Rattle.spawn_frame.specs.Units.{Entry, Table, change_at, redone, table_own}
+use Rattle.spawn_frame.specs.Units.{Entry, Table, change_at, last_attempt, redone, table_own}
 use Rattle.spawn_frame.specs.declared.site.Site.{Site}
 use Rattle.spawn_frame.specs.declared.status.Status.{Status}
 use Rattle.spawn_frame.specs.declared.status.Status.TheVariants.{Out, Ready}
 use Rattle.steal_return.specs.Members.{IsRedoable, is_out_to, is_spent_at, redo_if, redo_lost}
-use Rattle.steal_return.specs.Steals.{last_attempt}
 
 -- the children below n redone, and the others as they were
 abbrev pub redone_below : (Site → Bool) → ℕ → List Entry → List Entry

@@ -2,14 +2,14 @@
 use Rattle.std.specs.Prelude.{◌≡◌, ◌≢◌, ◌⊎◌, ℕ, suc, ◌<◌, max, Bool, true, false, ◌&&◌, if◌then◌else◌, length, List, [], ◌∷◌, filter, map, drop, Option, Some, None, slice_get, slice_index, nat_le, ◌==◌}
 use Rattle.spawn_frame.specs.Aborts.{AbortsBelow, Reached, is_open, reached}
 use Rattle.spawn_frame.specs.Tables.{has_status}
-use Rattle.spawn_frame.specs.Units.{Entry, GuestEntry, change_guest, guest_in, redone, table_guests, table_own, with_status}
+use Rattle.spawn_frame.specs.Units.{Entry, GuestEntry, change_guest, guest_in, last_attempt, redone, table_guests, table_own, with_status}
 use Rattle.spawn_frame.specs.declared.site.Site.{Site}
 use Rattle.spawn_frame.specs.declared.status.Status.{Status}
 use Rattle.spawn_frame.specs.declared.status.Status.TheVariants.{Dropped, Out}
 use Rattle.spawn_frame.specs.declared.unit.Unit.{Unit as WorkUnit}
 use Rattle.spawn_frame.specs.declared.unit.Unit.TheVariants.{Guest, Own}
 use Rattle.steal_return.specs.Ledger.{Ledger}
-use Rattle.steal_return.specs.Steals.{is_older, last_attempt}
+use Rattle.steal_return.specs.Steals.{is_older}
 
 -- the greater incarnation of each node but the own one
 abbrev pub learnt : ℕ → ℕ → List ℕ → List ℕ → List ℕ
@@ -52,13 +52,13 @@ abbrev pub drop_if : Bool → GuestEntry → GuestEntry
 drop_if true g = record { name = g.name; entry = with_status Dropped g.entry }
 drop_if false g = g
 
--- each open guest of a lost owner is dropped
-abbrev pub drop_lost : List ℕ → List GuestEntry → List GuestEntry
-drop_lost known guests = map (λ g. drop_if (is_older known g.name.site && is_open g.entry.status) g) guests
-
 -- an open guest of a lost owner
 abbrev pub is_lost : List ℕ → GuestEntry → Bool
 is_lost known g = is_older known g.name.site && is_open g.entry.status
+
+-- each open guest of a lost owner is dropped
+abbrev pub drop_lost : List ℕ → List GuestEntry → List GuestEntry
+drop_lost known guests = map (λ g. drop_if (is_lost known g) g) guests
 
 -- the lost guests, in order
 abbrev pub lost_units : List ℕ → List GuestEntry → List WorkUnit
@@ -77,15 +77,10 @@ MayDrop (Guest name attempt ∷ units) guests =
     (has_status is_open (guest_in guests name attempt) ≡ true) × MayDrop units (change_guest (with_status Dropped) guests name attempt)
 MayDrop (Own serial ∷ units) guests = MayDrop units guests
 
--- there, and not finished for good
-abbrev pub is_open_entry : Option Entry → Bool
-is_open_entry None = false
-is_open_entry (Some entry) = is_open entry.status
-
--- an open guest of an owner that has begun anew
+-- the same of a unit: a guest that is there and open, of a lost owner
 abbrev pub is_lost_guest : List ℕ → List GuestEntry → WorkUnit → Bool
 is_lost_guest known guests (Own serial) = false
-is_lost_guest known guests (Guest name attempt) = is_older known name.site && is_open_entry (guest_in guests name attempt)
+is_lost_guest known guests (Guest name attempt) = is_older known name.site && has_status is_open (guest_in guests name attempt)
 
 -- what a site of this node knows then: the registry has one run alone
 abbrev pub now_known : ℕ → List ℕ → List ℕ → List ℕ

@@ -3,7 +3,7 @@ use Rattle.std.specs.Prelude.{◌≡◌, ◌≢◌, ◌⊎◌, ℕ, ◌<◌, Boo
 use Rattle.std.specs.List.{position_from}
 use Rattle.spawn_frame.specs.Picks.{is_ready}
 use Rattle.spawn_frame.specs.Tables.{attempt_in, prefix_in}
-use Rattle.spawn_frame.specs.Units.{Entry, change_at, redone, with_status}
+use Rattle.spawn_frame.specs.Units.{Entry, change_at, last_attempt, redone, with_status}
 use Rattle.spawn_frame.specs.declared.site.Site.{Site}
 use Rattle.spawn_frame.specs.declared.status.Status.TheVariants.{Out, Ready}
 use Rattle.steal_return.specs.Ledger.{Ledger, ledger_own}
@@ -30,10 +30,6 @@ pub record GivesChild (old : Ledger) (thief : Site) (given : Given) (new : Ledge
   pub attempt : given.attempt ≡ entry.attempt
   pub prefix : given.prefix ≡ entry.prefix
   pub after : new ≡ ledger_own old (change_at (with_status (Out thief)) old.own given.serial)
-
--- the greatest number that a packet can tell
-abbrev pub last_attempt : ℕ
-last_attempt = 4294967295
 
 -- A child that is out is ready again at the next attempt.
 pub record RedoesChild (old : Ledger) (serial : ℕ) (new : Ledger) : Type 0 where

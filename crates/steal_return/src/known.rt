@@ -1,6 +1,6 @@
 //! The known incarnations, the registry's first.
 
-ghost use Rattle.std.specs.Prelude.{◌≡◌, ◌<◌, IfOk, length, slice_index};
+ghost use Rattle.std.specs.Prelude.{◌≡◌, ◌<◌, IfOk, length, max, slice_index};
 ghost use Rattle.steal_return.specs.Members.{now_known};
 ghost use Rattle.steal_return.specs.Steals.{is_older};
 
@@ -27,9 +27,16 @@ pub fn later_run(known: &[u32], own: u8, incarnations: &[u32], node: usize) -> u
         return before;
     }
     match incarnations.get(node - 1) {
-        Some(told) => before.max(*told),
+        Some(told) => later_of(before, *told),
         None => before,
     }
+}
+
+/// The later of two runs of a node.
+fn later_of(first: u32, second: u32) -> u32
+    ensures { result ≡ max first second }
+{
+    first.max(second)
 }
 
 /// Whether a later run of the site's node is known then.

@@ -6,13 +6,13 @@ ghost use Rattle.spawn_frame.specs.Frames.{frame, frame_result};
 ghost use Rattle.spawn_frame.specs.Picks.{is_split, ready_unit};
 ghost use Rattle.spawn_frame.specs.Splits.{split_into, with_result};
 ghost use Rattle.spawn_frame.specs.Tables.{attempt_in, has_status, is_here, is_out, longer_prefixes, may_end, parent_heard, prefix_in, IsSeen};
-ghost use Rattle.spawn_frame.specs.Units.{unit_of};
+ghost use Rattle.spawn_frame.specs.Units.{last_attempt, unit_of};
 ghost use Rattle.steal_return.specs.Finishing.{Appends, FinishesFrame};
 ghost use Rattle.steal_return.specs.Guests.{AdmitsGuest, DropsGuest, IsNotFinished, IsNotNew, IsNotOpen, SettlesGuest};
 ghost use Rattle.steal_return.specs.Ledger.{ledger_gets, ledger_table, opening_ledger, root_ledger};
 ghost use Rattle.steal_return.specs.Members.{now_known, Differs, IsAlike, IsSpent, LearnsMembers};
 ghost use Rattle.steal_return.specs.Returns.{judged, reply_to, returned};
-ghost use Rattle.steal_return.specs.Steals.{first_ready, is_older, last_attempt, GivesChild, GivesNothing, IsGiven, RedoesChild};
+ghost use Rattle.steal_return.specs.Steals.{first_ready, is_older, GivesChild, GivesNothing, IsGiven, RedoesChild};
 
 use crate::children::{LAST_ATTEMPT, first_lost, first_ready, is_redoable, redo_lost};
 use crate::given::Given;
@@ -151,10 +151,10 @@ impl Ledger {
         ensures err { OnErr result (self.new ≡ self.old) }
         ensures list { OnErr result (list.new.items ≡ list.old.items) }
     {
-        let child_result = self.frame_result(unit)?;
+        let came = self.frame_result(unit)?;
         let reach = Reach::below(self.alloc, &self.table, &[unit])?;
         list.reserve(reach.outs(&self.table))?;
-        self.table.set_result(unit, child_result);
+        self.table.set_result(unit, came);
         parents_decide();
         reach.abort(&mut self.table, list);
         Ok(())

@@ -1,7 +1,7 @@
 use Rattle.std.proofs.Common.{◌<◌, sym, subst, ◌∙◌, arith}
 use Rattle.std.proofs.lemmas.Option.{same_Some}
 use Rattle.cover_world.proofs.refusals.redo_of_no_use.Goals as goal
-use Rattle.steal_return.specs.Steals.{last_attempt}
+use Rattle.spawn_frame.specs.Units.{last_attempt}
 
 pub returns-clause-not_out : goal.returns-clause-not_out
 returns-clause-not_out c = λ problem view serial not_out reply out new step.

@@ -13,7 +13,7 @@ returns-then-node-eq0 c =
 pub returns-in-Some : goal.returns-in-Some
 returns-in-Some c =
     let told : c.in-Some.told.now ≡ get_or c.args.incarnations.now (c.args.node - 1) 0 = c.in-Some.ensures.lookup.4 (omega arith) 0 in
-    c.max.ensures ∙ ap (λ n. max (get_or c.args.known.now c.args.node 0) n) told
+    c.later_of.ensures ∙ ap (λ n. max (get_or c.args.known.now c.args.node 0) n) told
     ∙ known_other _ c.args.known.now _ c.args.node c.requires c.if-node-eq0.false c.if-node-own.false
 
 pub returns-in-None : goal.returns-in-None

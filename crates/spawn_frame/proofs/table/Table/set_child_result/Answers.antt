@@ -27,7 +27,7 @@ invariant_of-self c =
     let p = c.index.result.now.parent in
     let there = child_here may_end t.own.items c.args.serial c.index.result.now c.index.ensures (ap (λ v. has_status may_end (slice_get v.own c.args.serial)) c.self.view_is ∙ c.requires) in
     let heard = items_after t.own c.deref_mut.result.now c.tell_parent-heard.new.own (own_told p f) c.tell_parent-heard.auto.own c.deref_mut.ensures.len c.tell_parent-heard.ensures.own c.deref_mut.ensures.value in
-    let e = ended_write t.own.items _ p f (with_work_status (Done r)) c.args.serial c.index_mut.result.now heard (slice_get_within t.own.items c.args.serial there.child there.is) c.index_mut.ensures.value in
+    let e = ended_write t.own.items _ p f (with_work_status (Done r)) c.args.serial c.index_mut.result.now _ c.end.ensures heard (slice_get_within t.own.items c.args.serial there.child there.is) c.index_mut.ensures.value in
     let g = items_after t.guests c.deref_mut-2.result.now c.tell_parent-heard.new.guests (guests_told p f) c.tell_parent-heard.auto.guests c.deref_mut-2.ensures.len c.tell_parent-heard.ensures.guests c.deref_mut-2.ensures.value in
     subst (λ (q : List Child × List Guest). IsTable (table_of t.site t.names_limit q.0 q.1) q.0 q.1) (λ i. (sym e i, sym g i))
     (ended_kept t.site t.names_limit t.own.items t.guests.items c.self.invariant c.args.serial there r)
@@ -40,7 +40,7 @@ returns-clause-after c =
     let p = c.index.result.now.parent in
     let there = child_here may_end t.own.items c.args.serial c.index.result.now c.index.ensures (ap (λ v. has_status may_end (slice_get v.own c.args.serial)) c.self.view_is ∙ c.requires) in
     let heard = items_after t.own c.deref_mut.result.now c.tell_parent-heard.new.own (own_told p f) c.tell_parent-heard.auto.own c.deref_mut.ensures.len c.tell_parent-heard.ensures.own c.deref_mut.ensures.value in
-    let e = ended_write t.own.items _ p f (with_work_status (Done r)) c.args.serial c.index_mut.result.now heard (slice_get_within t.own.items c.args.serial there.child there.is) c.index_mut.ensures.value in
+    let e = ended_write t.own.items _ p f (with_work_status (Done r)) c.args.serial c.index_mut.result.now _ c.end.ensures heard (slice_get_within t.own.items c.args.serial there.child there.is) c.index_mut.ensures.value in
     let g = items_after t.guests c.deref_mut-2.result.now c.tell_parent-heard.new.guests (guests_told p f) c.tell_parent-heard.auto.guests c.deref_mut-2.ensures.len c.tell_parent-heard.ensures.guests c.deref_mut-2.ensures.value in
     (λ i. table_of t.site t.names_limit (e i) (g i))
     ∙ ended_view t.site t.names_limit t.own.items t.guests.items c.self.invariant c.args.serial there r
@@ -54,7 +54,7 @@ returns-clause-heard c =
     let p = c.index.result.now.parent in
     let there = child_here may_end t.own.items c.args.serial c.index.result.now c.index.ensures (ap (λ v. has_status may_end (slice_get v.own c.args.serial)) c.self.view_is ∙ c.requires) in
     let heard = items_after t.own c.deref_mut.result.now c.tell_parent-heard.new.own (own_told p f) c.tell_parent-heard.auto.own c.deref_mut.ensures.len c.tell_parent-heard.ensures.own c.deref_mut.ensures.value in
-    let e = ended_write t.own.items _ p f (with_work_status (Done r)) c.args.serial c.index_mut.result.now heard (slice_get_within t.own.items c.args.serial there.child there.is) c.index_mut.ensures.value in
+    let e = ended_write t.own.items _ p f (with_work_status (Done r)) c.args.serial c.index_mut.result.now _ c.end.ensures heard (slice_get_within t.own.items c.args.serial there.child there.is) c.index_mut.ensures.value in
     let g = items_after t.guests c.deref_mut-2.result.now c.tell_parent-heard.new.guests (guests_told p f) c.tell_parent-heard.auto.guests c.deref_mut-2.ensures.len c.tell_parent-heard.ensures.guests c.deref_mut-2.ensures.value in
     c.tell_parent-heard.ensures.heard
     ∙ (λ i. frame_says (option_map f (parent_work p (c.deref_mut.ensures.value i) (c.deref_mut-2.ensures.value i))))
