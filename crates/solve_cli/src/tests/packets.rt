@@ -126,12 +126,15 @@ fn each_packet_is_read_from_its_bytes(rt: HostRuntime) -> Result<(), Fail> {
     Ok(())
 }
 
+/// Whether it returns this cover of the root, at the first attempt.
+fn is_return_of(packet: &Packet, options: &[u16]) -> bool {
+    matches!(&packet.body, Body::Return(0, 1, ChildResult::Cover(read)) if read.as_slice() == options)
+}
+
 #[test]
 fn a_cover_is_read_in_its_order(rt: HostRuntime) -> Result<(), Fail> {
     let read = read_packet(rt.alloc(), RETURN_COVER)?;
-    assert!(rt;
-        matches!(read.body, Body::Return(0, 1, ChildResult::Cover(options)) if options.as_slice() == [3, 4, 0].as_slice())
-    );
+    assert!(rt; is_return_of(&read, &[3, 4, 0]));
     Ok(())
 }
 
@@ -262,9 +265,7 @@ fn longest_packet_is_read(rt: HostRuntime) -> Result<(), Fail> {
     let options = most_options(rt.alloc())?;
     let bytes = written(&rt, rt.alloc(), &returned(rt.alloc(), &options)?)?;
     let read = read_packet(rt.alloc(), &bytes[1..])?;
-    assert!(rt;
-        matches!(read.body, Body::Return(0, 1, ChildResult::Cover(read)) if read.as_slice() == options.as_slice())
-    );
+    assert!(rt; is_return_of(&read, &options));
     Ok(())
 }
 

@@ -261,28 +261,30 @@ fn guests_stand_in_order(rt: HostRuntime) -> Result<(), Fail> {
 
 #[test]
 fn a_finished_guest_settles(rt: HostRuntime) -> Result<(), Fail> {
-    let unit = Unit::Guest(name(2, 7), 1);
+    let guest = name(2, 7);
+    let unit = Unit::Guest(guest, 1);
     let mut table = Table::start(rt.alloc(), HERE, 0);
-    admit(&rt, &mut table, name(2, 7), 1, &[])?;
+    admit(&rt, &mut table, guest, 1, &[])?;
     assert_eq!(rt; taken(&mut table), Some(unit));
     let heard = end(&rt, &mut table, unit, cover(rt.alloc(), 1)?);
     assert_eq!(rt; heard, Heard::Open);
     assert_eq!(rt; told(rt.alloc(), &table, unit)?.as_str(), "1 F []");
     let is_finished = is_finished(&table, unit);
     assert!(rt; is_finished);
-    table.settle(name(2, 7), 1, ChildResult::Empty);
+    table.settle(guest, 1, ChildResult::Empty);
     assert_eq!(rt; told(rt.alloc(), &table, unit)?.as_str(), "1 T []");
     Ok(())
 }
 
 #[test]
 fn an_open_guest_is_dropped(rt: HostRuntime) -> Result<(), Fail> {
-    let unit = Unit::Guest(name(2, 8), 1);
+    let guest = name(2, 8);
+    let unit = Unit::Guest(guest, 1);
     let mut table = Table::start(rt.alloc(), HERE, 0);
-    admit(&rt, &mut table, name(2, 8), 1, &[])?;
+    admit(&rt, &mut table, guest, 1, &[])?;
     let is_open = is_open(&table, unit);
     assert!(rt; is_open);
-    table.drop_guest(name(2, 8), 1);
+    table.drop_guest(guest, 1);
     assert_eq!(rt; told(rt.alloc(), &table, unit)?.as_str(), "1 X []");
     Ok(())
 }
