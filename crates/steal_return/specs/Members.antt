@@ -77,7 +77,7 @@ MayDrop (Guest name attempt ∷ units) guests =
     (has_status is_open (guest_in guests name attempt) ≡ true) × MayDrop units (change_guest (with_status Dropped) guests name attempt)
 MayDrop (Own serial ∷ units) guests = MayDrop units guests
 
--- the same of a unit: a guest that is there and open, of a lost owner
+-- the unit is an open guest of a lost owner
 abbrev pub is_lost_guest : List ℕ → List GuestEntry → WorkUnit → Bool
 is_lost_guest known guests (Own serial) = false
 is_lost_guest known guests (Guest name attempt) = is_older known name.site && has_status is_open (guest_in guests name attempt)
