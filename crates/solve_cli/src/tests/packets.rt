@@ -263,8 +263,11 @@ fn longest_packet_is_written(rt: HostRuntime) -> Result<(), Fail> {
 #[test]
 fn longest_packet_is_read(rt: HostRuntime) -> Result<(), Fail> {
     let options = most_options(rt.alloc())?;
-    let bytes = written(&rt, rt.alloc(), &returned(rt.alloc(), &options)?)?;
-    let read = read_packet(rt.alloc(), &bytes[1..])?;
+    let packet = returned(rt.alloc(), &options)?;
+    assert!(rt; is_well_formed(&packet));
+    let mut bytes = Vec::new(rt.alloc());
+    write_packet(rt.alloc(), &packet, &mut bytes)?;
+    let read = read_packet(rt.alloc(), &bytes)?;
     assert!(rt; is_return_of(&read, &options));
     Ok(())
 }
