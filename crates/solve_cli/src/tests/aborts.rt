@@ -1,8 +1,8 @@
 //! Aborts in small tables; what is expected is worked out by hand from the rules.
 
-use super::units::{HERE, THIEF, is_here, is_ready, letter};
+use super::units::{HERE, THIEF, is_here, is_ready, is_split, letter};
 use abort_tree::abort_below;
-use spawn_frame::{ChildName, Out, Site, Status, Table, Unit};
+use spawn_frame::{ChildName, Out, Site, Table, Unit};
 use std::alloc::{AllocError, Global};
 use std::process::Abort;
 use std::test::Fail;
@@ -43,32 +43,38 @@ fn three_deep(rt: &impl Abort, alloc: Global) -> Result<Table, Fail> {
     Ok(table)
 }
 
-#[test]
-fn aborts_reach_all_below_and_no_other(rt: HostRuntime) -> Result<(), Fail> {
-    let alloc = rt.alloc();
-    let guest = Unit::Guest(ROOT, 1);
+/// An abort below the unit leaves these statuses, and a list that had the first child has it so many times.
+fn reaches<R: Abort>(
+    rt: &R,
+    alloc: Global,
+    unit: Unit,
+    letters_after: &str,
+    times: usize,
+) -> Result<(), Fail> {
     let out = Out {
         serial: 0,
         attempt: 1,
         thief: THIEF,
     };
-    for (unit, letters_after, outs) in [
-        (guest, "AAA", 1),
-        (Unit::Own(1), "OSA", 0),
-        (Unit::Own(2), "OSR", 0),
-        (Unit::Own(3), "OSR", 0),
-        (Unit::Guest(ROOT, 2), "OSR", 0),
+    let mut table = three_deep(rt, alloc)?;
+    let mut list = vec![in alloc; out]?;
+    abort_below(alloc, &mut table, unit, &mut list)?;
+    assert_eq!(rt; letters(alloc, &table)?.as_str(), letters_after);
+    assert!(rt; list.len() == times && list.iter().all(|each| *each == out));
+    assert!(rt; is_split(&table, Unit::Guest(ROOT, 1)));
+    Ok(())
+}
+
+#[test]
+fn aborts_reach_all_below_and_no_other(rt: HostRuntime) -> Result<(), Fail> {
+    for (unit, letters_after, times) in [
+        (Unit::Guest(ROOT, 1), "AAA", 2),
+        (Unit::Own(1), "OSA", 1),
+        (Unit::Own(2), "OSR", 1),
+        (Unit::Own(3), "OSR", 1),
+        (Unit::Guest(ROOT, 2), "OSR", 1),
     ] {
-        let mut table = three_deep(&rt, alloc)?;
-        let mut list = Vec::new(alloc);
-        list.push(out)?;
-        abort_below(alloc, &mut table, unit, &mut list)?;
-        assert_eq!(rt; letters(alloc, &table)?.as_str(), letters_after);
-        assert_eq!(rt; list.len(), 1 + outs);
-        assert!(rt; list.iter().all(|each| *each == out));
-        assert!(rt;
-            matches!(table.unit(guest), Some(view) if matches!(view.status, Status::Split))
-        );
+        reaches(&rt, rt.alloc(), unit, letters_after, times)?;
     }
     Ok(())
 }

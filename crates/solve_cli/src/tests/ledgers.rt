@@ -44,6 +44,18 @@ fn told_own(alloc: Global, ledger: &Ledger) -> Result<String, AllocError> {
     Ok(text)
 }
 
+/// The unit is told so.
+fn tells<R: Abort>(rt: &R, alloc: Global, ledger: &Ledger, unit: Unit, expected: &str) {
+    let told = told(alloc, ledger, unit).expect(rt, "memory");
+    assert_eq!(rt; told.as_str(), expected);
+}
+
+/// The own children are told so.
+fn tells_own<R: Abort>(rt: &R, alloc: Global, ledger: &Ledger, expected: &str) {
+    let told = told_own(alloc, ledger).expect(rt, "memory");
+    assert_eq!(rt; told.as_str(), expected);
+}
+
 /// Splits a unit that is here.
 fn spawn<R: Abort>(
     rt: &R,
@@ -75,6 +87,12 @@ fn given(alloc: Global, ledger: &mut Ledger, thief: Site) -> Result<String, Allo
     }
 }
 
+/// The thief is given this.
+fn gives<R: Abort>(rt: &R, alloc: Global, ledger: &mut Ledger, thief: Site, expected: &str) {
+    let told = given(alloc, ledger, thief).expect(rt, "memory");
+    assert_eq!(rt; told.as_str(), expected);
+}
+
 /// What is answered to a result that is returned: a cover of one option, or Empty.
 fn returned(
     alloc: Global,
@@ -94,6 +112,19 @@ fn returned(
         }
         ReturnReply::Refuse(cause) => format!(in alloc; "refuse {cause:?}"),
     }
+}
+
+/// A result that is returned is answered so.
+fn answers<R: Abort>(
+    rt: &R,
+    alloc: Global,
+    ledger: &mut Ledger,
+    from: Site,
+    child: (u32, u32, Option<u16>),
+    expected: &str,
+) {
+    let told = returned(alloc, ledger, from, child).expect(rt, "memory");
+    assert_eq!(rt; told.as_str(), expected);
 }
 
 /// Takes up a guest that is given, and splits it.
@@ -169,14 +200,12 @@ static RETURNS: [(u8, u32, (u32, u32, Option<u16>), &str); 23] = [
 #[test]
 fn returns_meet_every_status(rt: HostRuntime) -> Result<(), Fail> {
     let mut ledger = of_every_status(&rt, rt.alloc())?;
-    let before = told_own(rt.alloc(), &ledger)?;
-    assert_eq!(rt; before.as_str(), "A1A1O1O2R1D1D1H1S1H1");
+    tells_own(&rt, rt.alloc(), &ledger, "A1A1O1O2R1D1D1H1S1H1");
     for (node, incarnation, child, answer) in RETURNS.iter() {
-        let told = returned(rt.alloc(), &mut ledger, site(*node, *incarnation), *child)?;
-        assert_eq!(rt; told.as_str(), *answer);
+        let from = site(*node, *incarnation);
+        answers(&rt, rt.alloc(), &mut ledger, from, *child, answer);
     }
-    let after = told_own(rt.alloc(), &ledger)?;
-    assert_eq!(rt; after.as_str(), "A1A1D1D2R1D1D1H1S1H1");
+    tells_own(&rt, rt.alloc(), &ledger, "A1A1D1D2R1D1D1H1S1H1");
     Ok(())
 }
 
@@ -202,7 +231,7 @@ fn known_members_change_nothing(rt: HostRuntime) -> Result<(), Fail> {
     let mut outs = Vec::new(rt.alloc());
     assert_eq!(rt; ledger.learn_members(&[9, 1, 1, 5], &mut outs), Ok(false));
     assert!(rt; outs.is_empty());
-    assert_eq!(rt; told_own(rt.alloc(), &ledger)?.as_str(), "O1O1O1O1O1");
+    tells_own(&rt, rt.alloc(), &ledger, "O1O1O1O1O1");
     Ok(())
 }
 
@@ -217,7 +246,7 @@ fn with_node_2_anew<R: Abort>(rt: &R, alloc: Global) -> Result<(Ledger, Vec<Out>
 #[test]
 fn members_redo_drop_and_abort(rt: HostRuntime) -> Result<(), Fail> {
     let (ledger, outs) = with_node_2_anew(&rt, rt.alloc())?;
-    assert_eq!(rt; told_own(rt.alloc(), &ledger)?.as_str(), "A1A2A1R2O1");
+    tells_own(&rt, rt.alloc(), &ledger, "A1A2A1R2O1");
     assert!(rt; outs.iter().map(|out| out.serial).eq([0, 2]));
     assert!(rt;
         outs.iter()
@@ -225,7 +254,7 @@ fn members_redo_drop_and_abort(rt: HostRuntime) -> Result<(), Fail> {
     );
     for (node, serial, status) in [(2, 0, "X1"), (2, 7, "X1"), (0, 0, "S1")] {
         let unit = guest(site(node, 1), serial);
-        assert_eq!(rt; told(rt.alloc(), &ledger, unit)?.as_str(), status);
+        tells(&rt, rt.alloc(), &ledger, unit, status);
     }
     Ok(())
 }
@@ -245,14 +274,8 @@ fn the_greater_incarnation_is_known(rt: HostRuntime) -> Result<(), Fail> {
 #[test]
 fn an_earlier_run_gets_and_gives_nothing(rt: HostRuntime) -> Result<(), Fail> {
     let (mut ledger, _) = with_node_2_anew(&rt, rt.alloc())?;
-    assert_eq!(rt;
-        given(rt.alloc(), &mut ledger, site(2, 1))?.as_str(),
-        "nothing"
-    );
-    assert_eq!(rt;
-        given(rt.alloc(), &mut ledger, site(2, 2))?.as_str(),
-        "3 2 [7, 5]"
-    );
+    gives(&rt, rt.alloc(), &mut ledger, site(2, 1), "nothing");
+    gives(&rt, rt.alloc(), &mut ledger, site(2, 2), "3 2 [7, 5]");
     assert_eq!(rt; ledger.receive_give(site(2, 1), 9, 1, &[1]), Ok(false));
     assert_eq!(rt; ledger.receive_give(site(0, 1), 0, 1, &[]), Ok(false));
     Ok(())
@@ -287,10 +310,10 @@ fn finished<R: Abort>(rt: &R, alloc: Global) -> Result<(Ledger, Vec<Out>), Fail>
 #[test]
 fn a_frame_finishes(rt: HostRuntime) -> Result<(), Fail> {
     let (ledger, outs) = finished(&rt, rt.alloc())?;
-    assert_eq!(rt; told_own(rt.alloc(), &ledger)?.as_str(), "A1A1D1");
+    tells_own(&rt, rt.alloc(), &ledger, "A1A1D1");
     assert_eq!(rt; outs.len(), 1);
     let root = guest(site(0, 1), 0);
-    assert_eq!(rt; told(rt.alloc(), &ledger, root)?.as_str(), "F1");
+    tells(&rt, rt.alloc(), &ledger, root, "F1");
     Ok(())
 }
 
@@ -301,7 +324,7 @@ fn a_finished_guest_settles_once(rt: HostRuntime) -> Result<(), Fail> {
     assert!(rt; ledger.receive_accept(owner, 0, 1, cover(rt.alloc(), 5)?));
     assert!(rt; !ledger.receive_accept(owner, 0, 1, ChildResult::Empty));
     assert_eq!(rt; ledger.receive_refuse(owner, 0, 1, &mut outs), Ok(false));
-    assert_eq!(rt; told(rt.alloc(), &ledger, guest(owner, 0))?.as_str(), "T1");
+    tells(&rt, rt.alloc(), &ledger, guest(owner, 0), "T1");
     Ok(())
 }
 
@@ -317,17 +340,10 @@ static ROOT_RETURNS: [(u8, (u32, u32, Option<u16>), &str); 4] = [
 fn the_root_is_given_and_returned(rt: HostRuntime) -> Result<(), Fail> {
     let mut ledger = Ledger::with_root(rt.alloc(), 2)?;
     assert_eq!(rt; ledger.nodes(), 2);
-    assert_eq!(rt;
-        given(rt.alloc(), &mut ledger, site(1, 1))?.as_str(),
-        "0 1 []"
-    );
-    assert_eq!(rt;
-        given(rt.alloc(), &mut ledger, site(1, 1))?.as_str(),
-        "nothing"
-    );
+    gives(&rt, rt.alloc(), &mut ledger, site(1, 1), "0 1 []");
+    gives(&rt, rt.alloc(), &mut ledger, site(1, 1), "nothing");
     for (node, child, answer) in ROOT_RETURNS.iter() {
-        let told = returned(rt.alloc(), &mut ledger, site(*node, 1), *child)?;
-        assert_eq!(rt; told.as_str(), *answer);
+        answers(&rt, rt.alloc(), &mut ledger, site(*node, 1), *child, answer);
     }
     Ok(())
 }
@@ -338,13 +354,17 @@ fn a_root_that_is_redone_takes_no_earlier_result(rt: HostRuntime) -> Result<(), 
     assert_eq!(rt; ledger.redo(0), Err(RedoFault::NotOut));
     ledger.give(site(1, 1))?;
     assert_eq!(rt; ledger.redo(0), Ok(()));
-    let told = returned(rt.alloc(), &mut ledger, site(1, 1), (0, 1, None))?;
-    assert_eq!(rt; told.as_str(), "refuse Superseded");
+    let earlier = (0, 1, None);
+    answers(
+        &rt,
+        rt.alloc(),
+        &mut ledger,
+        site(1, 1),
+        earlier,
+        "refuse Superseded",
+    );
     assert_eq!(rt; ledger.redo(0), Err(RedoFault::NotOut));
     assert_eq!(rt; ledger.redo(1), Err(RedoFault::NotOut));
-    assert_eq!(rt;
-        given(rt.alloc(), &mut ledger, site(1, 1))?.as_str(),
-        "0 2 []"
-    );
+    gives(&rt, rt.alloc(), &mut ledger, site(1, 1), "0 2 []");
     Ok(())
 }

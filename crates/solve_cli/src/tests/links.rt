@@ -21,25 +21,26 @@ fn told(alloc: Global, links: &Links, item: u16) -> Result<String, AllocError> {
 }
 
 /// Each item, from 0 on, is told so.
-fn are_told<R: Abort>(
-    rt: &R,
-    alloc: Global,
-    links: &Links,
-    expected: &[&str],
-) -> Result<(), AllocError> {
+fn are_told<R: Abort>(rt: &R, alloc: Global, links: &Links, expected: &[&str]) {
     for (item, line) in (0..7u16).zip(expected) {
-        assert_eq!(rt; told(alloc, links, item)?.as_str(), *line, "item {item}");
+        let told = told(alloc, links, item).expect(rt, "memory");
+        assert_eq!(rt; told.as_str(), *line, "item {item}");
     }
-    Ok(())
 }
 
-/// A letter for each option: whether it is live.
+/// A letter for each option, x if it is live.
 fn live(alloc: Global, links: &Links) -> Result<String, AllocError> {
     let mut letters = String::new(alloc);
     for option in 0..links.problem().options() as u16 {
         letters.push(if links.is_live(option) { 'x' } else { '-' })?;
     }
     Ok(letters)
+}
+
+/// These options are live.
+fn are_live<R: Abort>(rt: &R, alloc: Global, links: &Links, expected: &str) {
+    let live = live(alloc, links).expect(rt, "memory");
+    assert_eq!(rt; live.as_str(), expected);
 }
 
 static BUILT: [&str; 7] = [
@@ -57,8 +58,8 @@ fn built_links_have_all_options(rt: HostRuntime) -> Result<(), Fail> {
     let problem = read_problem(rt.alloc(), LETTERS)?.problem;
     let links = Links::build(rt.alloc(), &problem)?;
     assert_eq!(rt; links.first_item(), Some(0));
-    assert_eq!(rt; live(rt.alloc(), &links)?.as_str(), "xxxxxx");
-    are_told(&rt, rt.alloc(), &links, &BUILT)?;
+    are_live(&rt, rt.alloc(), &links, "xxxxxx");
+    are_told(&rt, rt.alloc(), &links, &BUILT);
     Ok(())
 }
 
@@ -69,7 +70,7 @@ fn a_choice_covers_its_items(rt: HostRuntime) -> Result<(), Fail> {
     assert!(rt; problem.options() == 6 && links.is_live(3));
     links.choose(3);
     assert_eq!(rt; links.first_item(), Some(1));
-    assert_eq!(rt; live(rt.alloc(), &links)?.as_str(), "x---x-");
+    are_live(&rt, rt.alloc(), &links, "x---x-");
     let expected = [
         "",
         "1 [4] Some(2)",
@@ -79,7 +80,7 @@ fn a_choice_covers_its_items(rt: HostRuntime) -> Result<(), Fail> {
         "",
         "1 [4] None",
     ];
-    are_told(&rt, rt.alloc(), &links, &expected)?;
+    are_told(&rt, rt.alloc(), &links, &expected);
     Ok(())
 }
 
@@ -91,8 +92,8 @@ fn undo_gives_all_back(rt: HostRuntime) -> Result<(), Fail> {
     links.choose(3);
     assert_eq!(rt; links.undo(), 3);
     assert_eq!(rt; links.first_item(), Some(0));
-    assert_eq!(rt; live(rt.alloc(), &links)?.as_str(), "xxxxxx");
-    are_told(&rt, rt.alloc(), &links, &BUILT)?;
+    are_live(&rt, rt.alloc(), &links, "xxxxxx");
+    are_told(&rt, rt.alloc(), &links, &BUILT);
     Ok(())
 }
 
@@ -105,10 +106,10 @@ fn a_secondary_item_is_covered(rt: HostRuntime) -> Result<(), Fail> {
         rt.alloc(),
         &links,
         &["1 [0] Some(1)", "1 [1] None", "2 [0, 1] None"],
-    )?;
+    );
     assert!(rt; problem.options() == 2 && links.is_live(0));
     links.choose(0);
-    assert_eq!(rt; live(rt.alloc(), &links)?.as_str(), "--");
-    are_told(&rt, rt.alloc(), &links, &["", "0 [] None", ""])?;
+    are_live(&rt, rt.alloc(), &links, "--");
+    are_told(&rt, rt.alloc(), &links, &["", "0 [] None", ""]);
     Ok(())
 }

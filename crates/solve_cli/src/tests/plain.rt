@@ -2,7 +2,7 @@
 
 ghost use Rattle.std.specs.Prelude.{◌≤◌};
 
-use brancher::{Outcome, Searcher};
+use super::search::ends_so;
 use cover_problem::Problem;
 use dlx_reader::read_problem;
 use std::alloc::{AllocError, Global};
@@ -146,22 +146,8 @@ fn compare<R: Abort>(rt: &R, alloc: Global, text: &str) -> Result<(), Fail> {
     let options = options_of(alloc, &read.problem)?;
     let primary = read.problem.primary() as u16;
     let mut first = Vec::new(alloc);
-    let (has_cover, visits) = visit(alloc, &options, primary, &mut first, primary)?;
-    let mut searcher = Searcher::new(alloc, &read.problem)?;
-    if visits > 1 {
-        assert_eq!(rt; searcher.search(&[], visits - 1), Outcome::Spent, "{text}");
-    }
-    let outcome = searcher.search(&[], visits.max(1));
-    let expected = if has_cover {
-        Outcome::Cover
-    } else {
-        Outcome::Barren
-    };
-    assert_eq!(rt; outcome, expected, "{text}");
-    if has_cover {
-        assert_eq!(rt; searcher.found(), first.as_slice(), "{text}");
-    }
-    Ok(())
+    let (_, visits) = visit(alloc, &options, primary, &mut first, primary)?;
+    ends_so(rt, alloc, text, visits, &first)
 }
 
 #[test]

@@ -20,18 +20,18 @@ fn told(alloc: Global, table: &Table, unit: Unit) -> Result<String, AllocError> 
     format!(in alloc; "{} {letter} {prefix:?}", view.attempt)
 }
 
+/// The unit is told so.
+fn tells<R: Abort>(rt: &R, alloc: Global, table: &Table, unit: Unit, expected: &str) {
+    let told = told(alloc, table, unit).expect(rt, "memory");
+    assert_eq!(rt; told.as_str(), expected);
+}
+
 /// Admits a guest that isn't there.
-fn admit<R: Abort>(
-    rt: &R,
-    table: &mut Table,
-    name: ChildName,
-    attempt: Attempt,
-    prefix: &[u16],
-) -> Result<(), AllocError> {
+fn admit<R: Abort>(rt: &R, table: &mut Table, name: ChildName, attempt: Attempt, prefix: &[u16]) {
     let is_new = table.unit(Unit::Guest(name, attempt)).is_none();
     assert!(rt; is_new);
     assert!(rt; attempt > 0);
-    table.admit(name, attempt, prefix)
+    table.admit(name, attempt, prefix).expect(rt, "memory");
 }
 
 /// Splits a unit that is here.
@@ -64,7 +64,7 @@ fn with_a_frame<R: Abort>(rt: &R, alloc: Global) -> Result<Table, Fail> {
     let unit = Unit::Guest(name(0, 0), 1);
     let mut table = Table::start(alloc, HERE, 3);
     assert_eq!(rt; table.take(), None);
-    admit(rt, &mut table, name(0, 0), 1, &[])?;
+    admit(rt, &mut table, name(0, 0), 1, &[]);
     assert_eq!(rt; table.take(), Some(Job { unit, attempt: 1 }));
     assert_eq!(rt; spawn(rt, &mut table, unit, &[0, 1]), Ok(0));
     assert_eq!(rt; taken(&mut table), Some(Unit::Own(1)));
@@ -77,7 +77,7 @@ fn names_that_do_not_fit_are_refused(rt: HostRuntime) -> Result<(), Fail> {
     let refused = spawn(&rt, &mut table, Unit::Own(1), &[4, 5]);
     assert_eq!(rt; refused, Err(SpawnFault::NamesSpent));
     assert_eq!(rt; table.issued(), 2);
-    assert_eq!(rt; told(rt.alloc(), &table, Unit::Own(1))?.as_str(), "1 H [1]");
+    tells(&rt, rt.alloc(), &table, Unit::Own(1), "1 H [1]");
     Ok(())
 }
 
@@ -85,11 +85,8 @@ fn names_that_do_not_fit_are_refused(rt: HostRuntime) -> Result<(), Fail> {
 fn a_child_is_split(rt: HostRuntime) -> Result<(), Fail> {
     let mut table = with_a_frame(&rt, rt.alloc())?;
     assert_eq!(rt; spawn(&rt, &mut table, Unit::Own(1), &[4]), Ok(2));
-    assert_eq!(rt; told(rt.alloc(), &table, Unit::Own(1))?.as_str(), "1 S [1]");
-    assert_eq!(rt;
-        told(rt.alloc(), &table, Unit::Own(2))?.as_str(),
-        "1 R [1, 4]"
-    );
+    tells(&rt, rt.alloc(), &table, Unit::Own(1), "1 S [1]");
+    tells(&rt, rt.alloc(), &table, Unit::Own(2), "1 R [1, 4]");
     Ok(())
 }
 
@@ -99,9 +96,9 @@ fn a_ready_child_is_given(rt: HostRuntime) -> Result<(), Fail> {
     let is_ready = is_ready(&table, Unit::Own(0));
     assert!(rt; is_ready);
     table.give(0, THIEF);
-    assert_eq!(rt; told(rt.alloc(), &table, Unit::Own(0))?.as_str(), "1 O [0]");
+    tells(&rt, rt.alloc(), &table, Unit::Own(0), "1 O [0]");
     let guest = Unit::Guest(name(0, 0), 1);
-    assert_eq!(rt; told(rt.alloc(), &table, guest)?.as_str(), "1 S []");
+    tells(&rt, rt.alloc(), &table, guest, "1 S []");
     Ok(())
 }
 
@@ -109,7 +106,7 @@ fn a_ready_child_is_given(rt: HostRuntime) -> Result<(), Fail> {
 fn three_deep<R: Abort>(rt: &R, alloc: Global) -> Result<Table, Fail> {
     let guest = name(0, 0);
     let mut table = Table::start(alloc, HERE, 6);
-    admit(rt, &mut table, guest, 1, &[])?;
+    admit(rt, &mut table, guest, 1, &[]);
     let mut unit = Unit::Guest(guest, 1);
     for first in [0, 2, 4] {
         assert_eq!(rt; taken(&mut table), Some(unit));
@@ -141,10 +138,7 @@ fn outcome<R: Abort>(rt: &R, table: &Table, unit: Unit) -> (Heard, Option<u32>) 
 #[test]
 fn a_cover_settles_its_frame(rt: HostRuntime) -> Result<(), Fail> {
     let mut table = three_deep(&rt, rt.alloc())?;
-    assert_eq!(rt;
-        told(rt.alloc(), &table, Unit::Own(5))?.as_str(),
-        "1 R [9, 9, 9]"
-    );
+    tells(&rt, rt.alloc(), &table, Unit::Own(5), "1 R [9, 9, 9]");
     assert_eq!(rt; outcome(&rt, &table, Unit::Own(3)), (Heard::Open, None));
     assert_eq!(rt; table.ripe(), None);
     take_and_end(&rt, &mut table, 5, cover(rt.alloc(), 5)?, Heard::Settled);
@@ -190,10 +184,7 @@ fn an_aborted_child_is_not_empty(rt: HostRuntime) -> Result<(), Fail> {
     let is_open = is_open(&table, Unit::Own(4));
     assert!(rt; is_open);
     table.abort(4);
-    assert_eq!(rt;
-        told(rt.alloc(), &table, Unit::Own(4))?.as_str(),
-        "1 A [9, 9, 8]"
-    );
+    tells(&rt, rt.alloc(), &table, Unit::Own(4), "1 A [9, 9, 8]");
     take_and_end(&rt, &mut table, 5, ChildResult::Empty, Heard::Open);
     assert_eq!(rt; outcome(&rt, &table, Unit::Own(3)), (Heard::Open, None));
     Ok(())
@@ -205,7 +196,7 @@ fn the_root_takes_the_one_name(rt: HostRuntime) -> Result<(), Fail> {
     assert_eq!(rt; table.site(), site(0, 1));
     assert_eq!(rt; (table.names_limit(), table.issued()), (1, 1));
     assert_eq!(rt; table.parent(0), None);
-    assert_eq!(rt; told(rt.alloc(), &table, Unit::Own(0))?.as_str(), "1 R []");
+    tells(&rt, rt.alloc(), &table, Unit::Own(0), "1 R []");
     Ok(())
 }
 
@@ -215,7 +206,7 @@ fn with_the_root_anew<R: Abort>(rt: &R, alloc: Global) -> Result<Table, Fail> {
     let is_ready = is_ready(&table, Unit::Own(0));
     assert!(rt; is_ready);
     table.give(0, THIEF);
-    assert_eq!(rt; told(alloc, &table, Unit::Own(0))?.as_str(), "1 O []");
+    tells(rt, alloc, &table, Unit::Own(0), "1 O []");
     table.redo(0);
     Ok(table)
 }
@@ -223,11 +214,11 @@ fn with_the_root_anew<R: Abort>(rt: &R, alloc: Global) -> Result<Table, Fail> {
 #[test]
 fn the_root_is_given_and_ends_anew(rt: HostRuntime) -> Result<(), Fail> {
     let mut table = with_the_root_anew(&rt, rt.alloc())?;
-    assert_eq!(rt; told(rt.alloc(), &table, Unit::Own(0))?.as_str(), "2 R []");
+    tells(&rt, rt.alloc(), &table, Unit::Own(0), "2 R []");
     assert_eq!(rt; table.take().map(|job| job.attempt), Some(2));
     let heard = end(&rt, &mut table, Unit::Own(0), ChildResult::Empty);
     assert_eq!(rt; heard, Heard::Open);
-    assert_eq!(rt; told(rt.alloc(), &table, Unit::Own(0))?.as_str(), "2 D []");
+    tells(&rt, rt.alloc(), &table, Unit::Own(0), "2 D []");
     Ok(())
 }
 
@@ -247,14 +238,14 @@ fn guests(alloc: Global, table: &Table) -> Result<Vec<(u8, u32, Attempt)>, Alloc
 #[test]
 fn guests_stand_in_order(rt: HostRuntime) -> Result<(), Fail> {
     let mut table = Table::start(rt.alloc(), HERE, 0);
-    admit(&rt, &mut table, name(3, 0), 1, &[3])?;
-    admit(&rt, &mut table, name(2, 7), 2, &[2, 7])?;
-    admit(&rt, &mut table, name(2, 7), 1, &[])?;
+    admit(&rt, &mut table, name(3, 0), 1, &[3]);
+    admit(&rt, &mut table, name(2, 7), 2, &[2, 7]);
+    admit(&rt, &mut table, name(2, 7), 1, &[]);
     assert!(rt;
         guests(rt.alloc(), &table)?.as_slice() == [(2, 7, 1), (2, 7, 2), (3, 0, 1)].as_slice()
     );
     let later = Unit::Guest(name(2, 7), 2);
-    assert_eq!(rt; told(rt.alloc(), &table, later)?.as_str(), "2 R [2, 7]");
+    tells(&rt, rt.alloc(), &table, later, "2 R [2, 7]");
     assert_eq!(rt; taken(&mut table), Some(Unit::Guest(name(2, 7), 1)));
     Ok(())
 }
@@ -264,15 +255,15 @@ fn a_finished_guest_settles(rt: HostRuntime) -> Result<(), Fail> {
     let guest = name(2, 7);
     let unit = Unit::Guest(guest, 1);
     let mut table = Table::start(rt.alloc(), HERE, 0);
-    admit(&rt, &mut table, guest, 1, &[])?;
+    admit(&rt, &mut table, guest, 1, &[]);
     assert_eq!(rt; taken(&mut table), Some(unit));
     let heard = end(&rt, &mut table, unit, cover(rt.alloc(), 1)?);
     assert_eq!(rt; heard, Heard::Open);
-    assert_eq!(rt; told(rt.alloc(), &table, unit)?.as_str(), "1 F []");
+    tells(&rt, rt.alloc(), &table, unit, "1 F []");
     let is_finished = is_finished(&table, unit);
     assert!(rt; is_finished);
     table.settle(guest, 1, ChildResult::Empty);
-    assert_eq!(rt; told(rt.alloc(), &table, unit)?.as_str(), "1 T []");
+    tells(&rt, rt.alloc(), &table, unit, "1 T []");
     Ok(())
 }
 
@@ -281,11 +272,11 @@ fn an_open_guest_is_dropped(rt: HostRuntime) -> Result<(), Fail> {
     let guest = name(2, 8);
     let unit = Unit::Guest(guest, 1);
     let mut table = Table::start(rt.alloc(), HERE, 0);
-    admit(&rt, &mut table, guest, 1, &[])?;
+    admit(&rt, &mut table, guest, 1, &[]);
     let is_open = is_open(&table, unit);
     assert!(rt; is_open);
     table.drop_guest(guest, 1);
-    assert_eq!(rt; told(rt.alloc(), &table, unit)?.as_str(), "1 X []");
+    tells(&rt, rt.alloc(), &table, unit, "1 X []");
     Ok(())
 }
 
