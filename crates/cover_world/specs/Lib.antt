@@ -5,5 +5,6 @@ pub mod Plays
 pub mod Refusals
 pub mod Repeated
 pub mod Safety
+pub mod SaidAgain
 pub mod Stolen
 pub mod Worlds

@@ -1,5 +1,5 @@
 -- Runs that are told event by event, with their packets.
-use Rattle.std.specs.Prelude.{◌≡◌, ℕ, List, [], ◌∷◌, ◌++◌, Option, Some, None, option_map, slice_get}
+use Rattle.std.specs.Prelude.{◌≡◌, ℕ, Bool, List, [], ◌∷◌, ◌++◌, Option, Some, None, option_map, slice_get}
 use Rattle.cover_problem.specs.Problem.{Problem}
 use Rattle.cover_world.specs.Worlds.{Run, World, WorldEvent, WorldStep, go, stay}
 use Rattle.node_core.specs.SiteView.{View, unit_in}
@@ -39,6 +39,10 @@ entry_in world node unit = entry_at (slice_get world.sites node) unit
 -- the status of a unit at a node
 abbrev pub status_in : World → ℕ → WorkUnit → Option Status
 status_in world node unit = option_map (λ entry. entry.status) (entry_in world node unit)
+
+-- whether a node is over
+abbrev pub over_in : World → ℕ → Option Bool
+over_in world node = option_map (λ view. view.over) (slice_get world.sites node)
 
 -- ---- the sites of the runs of two nodes
 

@@ -1,12 +1,13 @@
-//! Four runs of two nodes, event by event with their packets: each function is a law, and does nothing.
+//! Five runs of two nodes, event by event with their packets: each function is a law, and does nothing.
 
-ghost use Rattle.std.specs.Prelude.{◌≡◌, ◌∷◌, [], Some};
+ghost use Rattle.std.specs.Prelude.{◌≡◌, ◌∷◌, [], Some, true};
 ghost use Rattle.cover_problem.specs.Examples.{bare, small};
 ghost use Rattle.cover_world.specs.Overtaken as overtaken;
 ghost use Rattle.cover_world.specs.Overtaken.{two_ways};
-ghost use Rattle.cover_world.specs.Plays.{IsRefused, Plays, entry_in, limits, root_guest, status_in};
+ghost use Rattle.cover_world.specs.Plays.{IsRefused, Plays, entry_in, limits, over_in, root_guest, status_in};
 ghost use Rattle.cover_world.specs.Repeated as repeated;
 ghost use Rattle.cover_world.specs.Safety.{published};
+ghost use Rattle.cover_world.specs.SaidAgain as said_again;
 ghost use Rattle.cover_world.specs.Stolen as stolen;
 ghost use Rattle.cover_world.specs.Worlds.{Acts, opening_world};
 ghost use Rattle.node_core.specs.declared.event.Event.TheVariants.{Deliver};
@@ -47,4 +48,11 @@ pub fn thief_begins_anew()
         (entry_in end 1 (Own 0) ≡ Some (record { parent = Some (root_guest 1); prefix = 1 ∷ []; attempt = 2; status = Ready }))
         × IsRefused small end (Acts 2 (Deliver stolen.p3))
         × IsRefused small end (Acts 2 (Deliver stolen.anew8))) }
+{}
+
+/// A greeting of an earlier run comes late, and no known incarnation falls. A root that is out is given out anew; it, its
+/// result and that the search is over are said again, and a node that asks for work then hears that it is over.
+pub fn said_again()
+    ensures run { Plays bare (opening_world 2 limits) said_again.events said_again.packets (λ end.
+        (published bare end ≡ Some Empty) × (over_in end 1 ≡ Some true)) }
 {}
