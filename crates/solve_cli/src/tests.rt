@@ -6,6 +6,7 @@ mod alone;
 mod answers;
 mod check;
 mod command_line;
+mod copies;
 mod ledgers;
 mod limits;
 mod links;

@@ -2,6 +2,7 @@
 
 ghost use Rattle.std.specs.Prelude.{◌≤◌};
 
+use super::limits::lines;
 use super::told::Told;
 use crate::alone::alone_engine;
 use crate::tell::{tell, tell_fault};
@@ -128,5 +129,21 @@ fn limits_items(rt: HostRuntime) -> Result<(), Fail> {
     assert!(rt; most.is("none\n", "", 1));
     let more = alone(alloc, item_line(alloc, 1001)?.as_str(), u64::MAX);
     assert!(rt; more.is("", "refused: TooManyItems line 1\n", 3));
+    Ok(())
+}
+
+#[test]
+fn limits_options(rt: HostRuntime) -> Result<(), Fail> {
+    let text = lines(rt.alloc(), "a", 20002)?;
+    let told = alone(rt.alloc(), text.as_str(), u64::MAX);
+    assert!(rt; told.is("", "refused: TooManyOptions line 20002\n", 3));
+    Ok(())
+}
+
+#[test]
+fn limits_nodes(rt: HostRuntime) -> Result<(), Fail> {
+    let text = lines(rt.alloc(), item_line(rt.alloc(), 1000)?.as_str(), 202)?;
+    let told = alone(rt.alloc(), text.as_str(), u64::MAX);
+    assert!(rt; told.is("", "refused: TooManyNodes line 202\n", 3));
     Ok(())
 }

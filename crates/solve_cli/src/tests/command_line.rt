@@ -1,10 +1,11 @@
 //! Command lines, and what is told of failing devices.
 
 use crate::alone::alone_engine;
+use crate::check::check_engine;
 use crate::command_line::{SettingsFault, settings};
 use crate::fault::EngineFault;
 use crate::settings::Mode;
-use crate::tell::tell_fault;
+use crate::tell::{tell, tell_fault};
 use dlx_reader::{CountedReader, CountedWriter};
 use std::alloc::Global;
 use std::io;
@@ -127,4 +128,26 @@ fn failing_devices(rt: HostRuntime) -> Result<(), Fail> {
     let told = b"cannot read\ncannot read\ncannot write\nout of memory\n";
     assert_eq!(rt; errors.as_slice(), told.as_slice());
     Ok(())
+}
+
+/// An answer that can't be read comes before a file that is refused, since both are read before either is tested.
+#[test]
+fn unreadable_answer(rt: HostRuntime) -> Result<(), Fail> {
+    let mut out = Vec::new(rt.alloc());
+    let mut file = CountedReader::new(b"a a\n".as_slice());
+    let mut answer = CountedReader::new(FailsTwice { reads: 0 });
+    let mut sink = CountedWriter::new(&mut out);
+    let ended = check_engine(rt.alloc(), 1, &mut file, &mut answer, &mut sink);
+    assert!(rt; matches!(ended, Err(EngineFault::Read)));
+    assert!(rt; out.is_empty());
+    Ok(())
+}
+
+#[test]
+fn statuses_stay_where_nothing_can_be_told(rt: HostRuntime) {
+    assert_eq!(rt; tell(1, 7, &mut CountedWriter::new(Closed)), 1);
+    assert_eq!(rt;
+        tell_fault(&EngineFault::Memory, &mut CountedWriter::new(Closed)),
+        5
+    );
 }

@@ -82,7 +82,7 @@ fn options(rt: HostRuntime) -> Result<(), Fail> {
 }
 
 /// A line so many times, the first as the item line.
-fn lines(alloc: Global, line: &str, count: u16) -> Result<String, AllocError> {
+pub fn lines(alloc: Global, line: &str, count: u16) -> Result<String, AllocError> {
     let mut text = String::new(alloc);
     for _ in 0..count {
         text.push_str(line)?;

@@ -107,7 +107,8 @@ fn is_behind_7(out: &[u8], bytes: &[u8]) -> bool {
 fn each_packet_is_written_behind_what_is_there(rt: HostRuntime) -> Result<(), Fail> {
     let alloc = rt.alloc();
     for (place, bytes) in SPELLINGS.iter().enumerate() {
-        let out = written(&rt, alloc, &packet_of(alloc, place)?)?;
+        let packet = packet_of(alloc, place)?.copy()?;
+        let out = written(&rt, alloc, &packet)?;
         assert!(rt; is_behind_7(&out, bytes), "{place}");
     }
     Ok(())
