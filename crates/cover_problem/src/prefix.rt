@@ -44,6 +44,7 @@ pub fn is_live(problem: &Problem, chosen: &[u16], option: u16) -> bool
     chosen.iter().all(|own| !clash(problem, *own, option))
 }
 
+/// Whether all of these are numbers of options.
 pub fn are_options(problem: &Problem, numbers: &[u16]) -> bool
     ensures test { result ≡ are_options problem.now numbers.now }
     ensures each { IsTrue result ↔ AreOptions problem.now numbers.now }
