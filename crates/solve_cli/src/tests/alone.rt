@@ -7,8 +7,7 @@ use super::told::Told;
 use crate::alone::alone_engine;
 use crate::tell::{tell, tell_fault};
 use dlx_reader::{CountedReader, CountedWriter};
-use std::alloc::Global;
-use std::test::Fail;
+use std::alloc::{AllocError, Global};
 
 /// What `alone` tells of a problem.
 fn alone(alloc: Global, text: &str, fuel: u64) -> Told
@@ -108,7 +107,7 @@ fn longest_name(rt: HostRuntime) {
 }
 
 /// An item line of so many names, each of them three letters.
-fn item_line(alloc: Global, count: usize) -> Result<String, Fail> {
+fn item_line(alloc: Global, count: usize) -> Result<String, AllocError> {
     let mut line = String::new(alloc);
     for place in 0..count.min(2000) {
         let letters = [
@@ -123,27 +122,39 @@ fn item_line(alloc: Global, count: usize) -> Result<String, Fail> {
 }
 
 #[test]
-fn limits_items(rt: HostRuntime) -> Result<(), Fail> {
+fn limits_items(rt: HostRuntime) {
     let alloc = rt.alloc();
-    let most = alone(alloc, item_line(alloc, 1000)?.as_str(), u64::MAX);
+    let most = alone(
+        alloc,
+        item_line(alloc, 1000).expect(&rt, "it succeeds").as_str(),
+        u64::MAX,
+    );
     assert!(rt; most.is("none\n", "", 1));
-    let more = alone(alloc, item_line(alloc, 1001)?.as_str(), u64::MAX);
+    let more = alone(
+        alloc,
+        item_line(alloc, 1001).expect(&rt, "it succeeds").as_str(),
+        u64::MAX,
+    );
     assert!(rt; more.is("", "refused: TooManyItems line 1\n", 3));
-    Ok(())
 }
 
 #[test]
-fn limits_options(rt: HostRuntime) -> Result<(), Fail> {
-    let text = lines(rt.alloc(), "a", 20002)?;
+fn limits_options(rt: HostRuntime) {
+    let text = lines(rt.alloc(), "a", 20002).expect(&rt, "it succeeds");
     let told = alone(rt.alloc(), text.as_str(), u64::MAX);
     assert!(rt; told.is("", "refused: TooManyOptions line 20002\n", 3));
-    Ok(())
 }
 
 #[test]
-fn limits_nodes(rt: HostRuntime) -> Result<(), Fail> {
-    let text = lines(rt.alloc(), item_line(rt.alloc(), 1000)?.as_str(), 202)?;
+fn limits_nodes(rt: HostRuntime) {
+    let text = lines(
+        rt.alloc(),
+        item_line(rt.alloc(), 1000)
+            .expect(&rt, "it succeeds")
+            .as_str(),
+        202,
+    )
+    .expect(&rt, "it succeeds");
     let told = alone(rt.alloc(), text.as_str(), u64::MAX);
     assert!(rt; told.is("", "refused: TooManyNodes line 202\n", 3));
-    Ok(())
 }

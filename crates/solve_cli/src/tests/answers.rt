@@ -7,7 +7,6 @@ use std::alloc::{AllocError, Global};
 use std::io;
 use std::io::Write;
 use std::process::Abort;
-use std::test::Fail;
 
 /// Options 4 and 6 are equal, and option 7 has the items of option 3 in another order.
 const FILE: &str = "a b c d e f g\nc e\na d g\nb c f\na d f\nb g\nd e g\nb g\nf d a\n";
@@ -80,8 +79,8 @@ fn problem(alloc: Global, text: &str) -> Result<Problem, ReadFault> {
 }
 
 #[test]
-fn covers_are_read(rt: HostRuntime) -> Result<(), Fail> {
-    let problem = problem(rt.alloc(), FILE)?;
+fn covers_are_read(rt: HostRuntime) {
+    let problem = problem(rt.alloc(), FILE).expect(&rt, "it succeeds");
     for (text, cover) in &COVERS {
         let read = read_answer(rt.alloc(), text.as_bytes(), &problem);
         assert!(rt;
@@ -89,44 +88,42 @@ fn covers_are_read(rt: HostRuntime) -> Result<(), Fail> {
             "{text:?}"
         );
     }
-    Ok(())
 }
 
 #[test]
-fn no_cover_is_read(rt: HostRuntime) -> Result<(), Fail> {
-    let problem = problem(rt.alloc(), FILE)?;
+fn no_cover_is_read(rt: HostRuntime) {
+    let problem = problem(rt.alloc(), FILE).expect(&rt, "it succeeds");
     for text in &NONES {
         let read = read_answer(rt.alloc(), text.as_bytes(), &problem);
         assert!(rt; matches!(&read, Ok(Answer::NoCover)), "{text:?}");
     }
-    Ok(())
 }
 
 #[test]
-fn other_texts_are_refused(rt: HostRuntime) -> Result<(), Fail> {
-    let problem = problem(rt.alloc(), FILE)?;
+fn other_texts_are_refused(rt: HostRuntime) {
+    let problem = problem(rt.alloc(), FILE).expect(&rt, "it succeeds");
     for (text, fault) in &FAULTS {
         let read = read_answer(rt.alloc(), text.as_bytes(), &problem);
         assert!(rt; matches!(&read, Err(told) if told == fault), "{text:?}");
     }
-    Ok(())
 }
 
 #[test]
-fn long_answers_are_read(rt: HostRuntime) -> Result<(), Fail> {
+fn long_answers_are_read(rt: HostRuntime) {
     let alloc = rt.alloc();
-    let mut file = Vec::from_slice(alloc, b"a\n")?;
-    let mut text = Vec::from_slice(alloc, b"cover 1500\n")?;
+    let mut file = Vec::from_slice(alloc, b"a\n").expect(&rt, "it succeeds");
+    let mut text = Vec::from_slice(alloc, b"cover 1500\n").expect(&rt, "it succeeds");
     for _ in 0..1500 {
-        file.extend_from_slice(b"a\n")?;
-        text.extend_from_slice(b"a\n")?;
+        file.extend_from_slice(b"a\n").expect(&rt, "it succeeds");
+        text.extend_from_slice(b"a\n").expect(&rt, "it succeeds");
     }
-    let problem = read_problem(alloc, &file)?.problem;
+    let problem = read_problem(alloc, &file)
+        .expect(&rt, "it succeeds")
+        .problem;
     let read = read_answer(alloc, &text, &problem);
     assert!(rt;
         matches!(&read, Ok(Answer::Cover(options)) if options.as_slice().iter().copied().eq(0..1500))
     );
-    Ok(())
 }
 
 /// A writer that takes one byte a call, until a call fails.
@@ -168,13 +165,8 @@ impl Sink for Narrow {
 }
 
 /// The writer after the cover c e / a d f / b g was written to it, and whether that succeeded.
-fn written<R: Abort>(
-    rt: &R,
-    alloc: Global,
-    problem: &Problem,
-    calls: u64,
-) -> Result<(Narrow, bool), AllocError> {
-    let answer = Numbers::from_vec([0u16, 3, 4].to_vec(alloc)?);
+fn written<R: Abort>(rt: &R, alloc: Global, problem: &Problem, calls: u64) -> (Narrow, bool) {
+    let answer = Numbers::from_vec([0u16, 3, 4].to_vec(alloc).expect(rt, "it succeeds"));
     assert!(rt; in_file_order(problem, answer.as_slice()));
     let mut sink = Narrow {
         bytes: Vec::new(alloc),
@@ -182,21 +174,20 @@ fn written<R: Abort>(
         failures: 0,
     };
     let written = write_answer(problem, &Answer::Cover(answer), &mut sink);
-    Ok((sink, written.is_ok()))
+    (sink, written.is_ok())
 }
 
 #[test]
-fn each_write_fails_once(rt: HostRuntime) -> Result<(), Fail> {
+fn each_write_fails_once(rt: HostRuntime) {
     let alloc = rt.alloc();
     let text = b"cover 3\nc e\na d f\nb g\n";
-    let problem = problem(alloc, FILE)?;
+    let problem = problem(alloc, FILE).expect(&rt, "it succeeds");
     for calls in 0..23u64 {
-        let (sink, is_written) = written(&rt, alloc, &problem, calls)?;
-        assert_eq!(rt; is_written, calls == 22);
-        assert_eq!(rt; sink.failures(), u64::from(calls < 22));
+        let (sink, is_written) = written(&rt, alloc, &problem, calls);
+        assert!(rt; is_written == (calls == 22));
+        assert!(rt; sink.failures() == u64::from(calls < 22));
         assert!(rt; sink.bytes.as_slice() == &text[..calls as usize]);
     }
-    Ok(())
 }
 
 /// A writer that takes nothing.
@@ -240,9 +231,9 @@ fn failed_reads_are_counted(rt: HostRuntime) {
 fn a_source_is_read_to_its_end(rt: HostRuntime) {
     let mut buffer = [0; 4];
     let mut source = CountedReader::new(b"none\n".as_slice());
-    assert_eq!(rt; source.fetch(&mut buffer), Ok(4));
+    assert!(rt; source.fetch(&mut buffer) == Ok(4));
     assert!(rt; buffer == *b"none");
-    assert_eq!(rt; source.fetch(&mut buffer), Ok(1));
-    assert_eq!(rt; source.fetch(&mut buffer), Ok(0));
-    assert_eq!(rt; source.failures(), 0);
+    assert!(rt; source.fetch(&mut buffer) == Ok(1));
+    assert!(rt; source.fetch(&mut buffer) == Ok(0));
+    assert!(rt; source.failures() == 0);
 }

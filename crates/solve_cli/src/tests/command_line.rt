@@ -22,15 +22,14 @@ fn status_of(alloc: Global, words: &[&str]) -> u8 {
 }
 
 #[test]
-fn reads_words(rt: HostRuntime) -> Result<(), Fail> {
-    let alone = settings(rt.alloc(), &["solve_cli", "alone", "a.dlx"]).map_err(|_| "alone")?;
+fn reads_words(rt: HostRuntime) {
+    let alone = settings(rt.alloc(), &["solve_cli", "alone", "a.dlx"]).expect(&rt, "it succeeds");
     assert!(rt; alone.mode == Mode::Alone && alone.file == "a.dlx");
     assert!(rt; alone.answer.is_none() && alone.fuel == u64::MAX);
     let words = ["solve_cli", "check", "--fuel", "0007", "a.dlx", "b.txt"];
-    let check = settings(rt.alloc(), words.as_slice()).map_err(|_| "check")?;
+    let check = settings(rt.alloc(), words.as_slice()).expect(&rt, "it succeeds");
     assert!(rt; check.mode == Mode::Check && check.file == "a.dlx");
     assert!(rt; check.answer == Some("b.txt") && check.fuel == 7);
-    Ok(())
 }
 
 /// Each with the status.
@@ -68,7 +67,7 @@ static WORDS: [(&[&str], u8); 19] = [
 #[test]
 fn refuses_words(rt: HostRuntime) {
     for (words, status) in WORDS.iter() {
-        assert_eq!(rt; status_of(rt.alloc(), words), *status);
+        assert!(rt; status_of(rt.alloc(), words) == *status);
     }
 }
 
@@ -106,33 +105,29 @@ impl Write for Closed {
 }
 
 #[test]
-fn failing_devices(rt: HostRuntime) -> Result<(), Fail> {
+fn failing_devices(rt: HostRuntime) {
     let alloc = rt.alloc();
     let mut out = Vec::new(alloc);
     let mut errors = Vec::new(alloc);
     for reads in [0u8, 1] {
         let mut source = CountedReader::new(FailsTwice { reads });
         let ended = alone_engine(alloc, 1, &mut source, &mut CountedWriter::new(&mut out));
-        let fault = ended.err().ok_or("a failing reader")?;
-        assert_eq!(rt; tell_fault(&fault, &mut CountedWriter::new(&mut errors)), 3);
+        let fault = ended.err().expect(&rt, "a failing reader");
+        assert!(rt; tell_fault(&fault, &mut CountedWriter::new(&mut errors)) == 3);
     }
     let mut source = CountedReader::new(b"a\n".as_slice());
     let ended = alone_engine(alloc, 1, &mut source, &mut CountedWriter::new(Closed));
-    let fault = ended.err().ok_or("a closed writer")?;
-    assert_eq!(rt; tell_fault(&fault, &mut CountedWriter::new(&mut errors)), 3);
-    assert_eq!(rt;
-        tell_fault(&EngineFault::Memory, &mut CountedWriter::new(&mut errors)),
-        5
-    );
+    let fault = ended.err().expect(&rt, "a closed writer");
+    assert!(rt; tell_fault(&fault, &mut CountedWriter::new(&mut errors)) == 3);
+    assert!(rt; tell_fault(&EngineFault::Memory, &mut CountedWriter::new(&mut errors)) == 5);
     assert!(rt; out.is_empty());
     let told = b"cannot read\ncannot read\ncannot write\nout of memory\n";
-    assert_eq!(rt; errors.as_slice(), told.as_slice());
-    Ok(())
+    assert!(rt; errors.as_slice() == told.as_slice());
 }
 
 /// An answer that can't be read comes before a file that is refused, since both are read before either is tested.
 #[test]
-fn unreadable_answer(rt: HostRuntime) -> Result<(), Fail> {
+fn unreadable_answer(rt: HostRuntime) {
     let mut out = Vec::new(rt.alloc());
     let mut file = CountedReader::new(b"a a\n".as_slice());
     let mut answer = CountedReader::new(FailsTwice { reads: 0 });
@@ -140,14 +135,10 @@ fn unreadable_answer(rt: HostRuntime) -> Result<(), Fail> {
     let ended = check_engine(rt.alloc(), 1, &mut file, &mut answer, &mut sink);
     assert!(rt; matches!(ended, Err(EngineFault::Read)));
     assert!(rt; out.is_empty());
-    Ok(())
 }
 
 #[test]
 fn statuses_stay_where_nothing_can_be_told(rt: HostRuntime) {
-    assert_eq!(rt; tell(1, 7, &mut CountedWriter::new(Closed)), 1);
-    assert_eq!(rt;
-        tell_fault(&EngineFault::Memory, &mut CountedWriter::new(Closed)),
-        5
-    );
+    assert!(rt; tell(1, 7, &mut CountedWriter::new(Closed)) == 1);
+    assert!(rt; tell_fault(&EngineFault::Memory, &mut CountedWriter::new(Closed)) == 5);
 }

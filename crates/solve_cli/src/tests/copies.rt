@@ -8,7 +8,6 @@ use node_core::{Event, Reply};
 use packet_wire::{Body, Incarnations, Packet};
 use spawn_frame::{ChildResult, Job, Status, Unit};
 use std::alloc::{AllocError, Global};
-use std::test::Fail;
 
 const JOB: Job = Job {
     unit: Unit::Own(3),
@@ -16,26 +15,29 @@ const JOB: Job = Job {
 };
 
 #[test]
-fn a_problem(rt: HostRuntime) -> Result<(), Fail> {
-    let copy = read_problem(rt.alloc(), b"a b | x\nb x\na\n")?
+fn a_problem(rt: HostRuntime) {
+    let copy = read_problem(rt.alloc(), b"a b | x\nb x\na\n")
+        .expect(&rt, "it succeeds")
         .problem
-        .copy()?;
+        .copy()
+        .expect(&rt, "it succeeds");
     assert!(rt; copy.items() == 3 && copy.primary() == 2 && copy.options() == 2);
     assert!(rt; copy.name(2) == b"x".as_slice() && copy.option(0) == [1, 2].as_slice());
-    Ok(())
 }
 
 #[test]
-fn a_result_and_a_status(rt: HostRuntime) -> Result<(), Fail> {
-    let result = cover(rt.alloc(), 7)?.copy()?;
+fn a_result_and_a_status(rt: HostRuntime) {
+    let result = cover(rt.alloc(), 7)
+        .expect(&rt, "it succeeds")
+        .copy()
+        .expect(&rt, "it succeeds");
     assert!(rt;
         matches!(&result, ChildResult::Cover(options) if options.as_slice() == [7].as_slice())
     );
-    let status = Status::Done(result).copy()?;
+    let status = Status::Done(result).copy().expect(&rt, "it succeeds");
     assert!(rt;
         matches!(&status, Status::Done(ChildResult::Cover(options)) if options.as_slice() == [7].as_slice())
     );
-    Ok(())
 }
 
 /// The incarnations that the registry tells node 1.
@@ -53,34 +55,37 @@ fn is_members(packet: &Packet) -> bool {
 }
 
 #[test]
-fn an_event(rt: HostRuntime) -> Result<(), Fail> {
-    let delivered = Event::Deliver(members(rt.alloc())?).copy()?;
+fn an_event(rt: HostRuntime) {
+    let delivered = Event::Deliver(members(rt.alloc()).expect(&rt, "it succeeds"))
+        .copy()
+        .expect(&rt, "it succeeds");
     assert!(rt; matches!(&delivered, Event::Deliver(packet) if is_members(packet)));
-    let again = Event::Again.copy()?;
+    let again = Event::Again.copy().expect(&rt, "it succeeds");
     assert!(rt; matches!(&again, Event::Again));
-    Ok(())
 }
 
 #[test]
-fn a_post(rt: HostRuntime) -> Result<(), Fail> {
-    let problem = read_problem(rt.alloc(), b"a\na\n")?.problem;
-    let mut searcher = Searcher::new(rt.alloc(), &problem)?;
+fn a_post(rt: HostRuntime) {
+    let problem = read_problem(rt.alloc(), b"a\na\n")
+        .expect(&rt, "it succeeds")
+        .problem;
+    let mut searcher = Searcher::new(rt.alloc(), &problem).expect(&rt, "it succeeds");
     let finding = searcher
         .find(Vec::new(rt.alloc()), 9)
-        .map_err(|_| "memory")?;
-    let post = Event::Post(JOB, finding).copy()?;
+        .expect(&rt, "it succeeds");
+    let post = Event::Post(JOB, finding).copy().expect(&rt, "it succeeds");
     assert!(rt;
         matches!(&post, Event::Post(job, finding) if *job == JOB && finding.cover() == [0].as_slice())
     );
-    Ok(())
 }
 
 #[test]
-fn a_reply(rt: HostRuntime) -> Result<(), Fail> {
-    let prefix = Numbers::from_vec(vec![in rt.alloc(); 5u16, 4]?);
-    let reply = Reply::Taken(JOB, prefix.copy()?).copy()?;
+fn a_reply(rt: HostRuntime) {
+    let prefix = Numbers::from_vec(vec![in rt.alloc(); 5u16, 4].expect(&rt, "it succeeds"));
+    let reply = Reply::Taken(JOB, prefix.copy().expect(&rt, "it succeeds"))
+        .copy()
+        .expect(&rt, "it succeeds");
     assert!(rt;
         matches!(&reply, Reply::Taken(job, prefix) if *job == JOB && prefix.as_slice() == [5, 4].as_slice())
     );
-    Ok(())
 }

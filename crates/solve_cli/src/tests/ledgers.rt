@@ -11,7 +11,6 @@ use abort_tree::Out;
 use spawn_frame::{ChildName, ChildResult, Heard, Site, SpawnFault, Status, Table, Unit};
 use std::alloc::{AllocError, Global};
 use std::process::Abort;
-use std::test::Fail;
 use steal_return::*;
 
 /// A guest at its first attempt.
@@ -47,13 +46,13 @@ fn told_own(alloc: Global, ledger: &Ledger) -> Result<String, AllocError> {
 /// The unit is told so.
 fn tells<R: Abort>(rt: &R, alloc: Global, ledger: &Ledger, unit: Unit, expected: &str) {
     let told = told(alloc, ledger, unit).expect(rt, "memory");
-    assert_eq!(rt; told.as_str(), expected);
+    assert!(rt; told.as_str() == expected);
 }
 
 /// The own children are told so.
 fn tells_own<R: Abort>(rt: &R, alloc: Global, ledger: &Ledger, expected: &str) {
     let told = told_own(alloc, ledger).expect(rt, "memory");
-    assert_eq!(rt; told.as_str(), expected);
+    assert!(rt; told.as_str() == expected);
 }
 
 /// Splits a unit that is here.
@@ -90,7 +89,7 @@ fn given(alloc: Global, ledger: &mut Ledger, thief: Site) -> Result<String, Allo
 /// The thief is given this.
 fn gives<R: Abort>(rt: &R, alloc: Global, ledger: &mut Ledger, thief: Site, expected: &str) {
     let told = given(alloc, ledger, thief).expect(rt, "memory");
-    assert_eq!(rt; told.as_str(), expected);
+    assert!(rt; told.as_str() == expected);
 }
 
 /// What is answered to a result that is returned: a cover of one option, or Empty.
@@ -124,50 +123,48 @@ fn answers<R: Abort>(
     expected: &str,
 ) {
     let told = returned(alloc, ledger, from, child).expect(rt, "memory");
-    assert_eq!(rt; told.as_str(), expected);
+    assert!(rt; told.as_str() == expected);
 }
 
 /// Takes up a guest that is given, and splits it.
-fn split_guest<R: Abort>(
-    rt: &R,
-    ledger: &mut Ledger,
-    owner: Site,
-    serial: u32,
-    options: &[u16],
-) -> Result<(), Fail> {
-    assert_eq!(rt; ledger.receive_give(owner, serial, 1, &[7]), Ok(true));
+fn split_guest<R: Abort>(rt: &R, ledger: &mut Ledger, owner: Site, serial: u32, options: &[u16]) {
+    assert!(rt; ledger.receive_give(owner, serial, 1, &[7]) == Ok(true));
     ledger.take();
-    spawn(rt, ledger, guest(owner, serial), options)?;
-    Ok(())
+    spawn(rt, ledger, guest(owner, serial), options).expect(rt, "it succeeds");
 }
 
 /// Own children 0 and 1 aborted, 2 to 7 ready and 8 here, below a guest of the registry.
-fn with_some_aborted<R: Abort>(rt: &R, alloc: Global) -> Result<Ledger, Fail> {
-    let mut ledger = Ledger::start(alloc, HERE, 3, 20)?;
-    split_guest(rt, &mut ledger, site(3, 1), 5, &[20, 21])?;
+fn with_some_aborted<R: Abort>(rt: &R, alloc: Global) -> Ledger {
+    let mut ledger = Ledger::start(alloc, HERE, 3, 20).expect(rt, "it succeeds");
+    split_guest(rt, &mut ledger, site(3, 1), 5, &[20, 21]);
     let dropped = ledger.receive_refuse(site(3, 1), 5, 1, &mut Vec::new(alloc));
-    assert_eq!(rt; dropped, Ok(true));
-    split_guest(rt, &mut ledger, site(0, 1), 0, &[0, 1, 2, 3, 4, 5, 6])?;
+    assert!(rt; dropped == Ok(true));
+    split_guest(rt, &mut ledger, site(0, 1), 0, &[0, 1, 2, 3, 4, 5, 6]);
     ledger.take();
-    Ok(ledger)
+    ledger
 }
 
 /// Own children of every status: 0 and 1 aborted, 2 out to node 2, 3 out to node 3 at the second attempt, 4 ready,
 /// 5 done with Empty, 6 done with a cover, 7 here, 8 split, 9 here.
-fn of_every_status<R: Abort>(rt: &R, alloc: Global) -> Result<Ledger, Fail> {
-    let mut ledger = with_some_aborted(rt, alloc)?;
-    spawn(rt, &mut ledger, Unit::Own(8), &[10])?;
+fn of_every_status<R: Abort>(rt: &R, alloc: Global) -> Ledger {
+    let mut ledger = with_some_aborted(rt, alloc);
+    spawn(rt, &mut ledger, Unit::Own(8), &[10]).expect(rt, "it succeeds");
     for _ in 0..4 {
         ledger.take();
     }
-    end(rt, &mut ledger, Unit::Own(6), cover(alloc, 9)?);
+    end(
+        rt,
+        &mut ledger,
+        Unit::Own(6),
+        cover(alloc, 9).expect(rt, "it succeeds"),
+    );
     end(rt, &mut ledger, Unit::Own(5), ChildResult::Empty);
     for node in [2, 3] {
-        ledger.give(site(node, 1))?;
+        ledger.give(site(node, 1)).expect(rt, "it succeeds");
     }
-    assert_eq!(rt; ledger.redo(3), Ok(()));
-    ledger.give(site(3, 1))?;
-    Ok(ledger)
+    assert!(rt; ledger.redo(3) == Ok(()));
+    ledger.give(site(3, 1)).expect(rt, "it succeeds");
+    ledger
 }
 
 /// The sender's node and incarnation; the serial, the attempt and the result; what is answered.
@@ -198,54 +195,52 @@ static RETURNS: [(u8, u32, (u32, u32, Option<u16>), &str); 23] = [
 ];
 
 #[test]
-fn returns_meet_every_status(rt: HostRuntime) -> Result<(), Fail> {
-    let mut ledger = of_every_status(&rt, rt.alloc())?;
+fn returns_meet_every_status(rt: HostRuntime) {
+    let mut ledger = of_every_status(&rt, rt.alloc());
     tells_own(&rt, rt.alloc(), &ledger, "A1A1O1O2R1D1D1H1S1H1");
     for (node, incarnation, child, answer) in RETURNS.iter() {
         let from = site(*node, *incarnation);
         answers(&rt, rt.alloc(), &mut ledger, from, *child, answer);
     }
     tells_own(&rt, rt.alloc(), &ledger, "A1A1D1D2R1D1D1H1S1H1");
-    Ok(())
 }
 
 /// Below a guest of node 2: 0 and 2 out to node 3, 1 out to node 2. Below the root: 3 out to node 2, 4 out to node 3.
 /// Another guest of node 2 is ready.
-fn with_many_out<R: Abort>(rt: &R, alloc: Global) -> Result<Ledger, Fail> {
-    let mut ledger = Ledger::start(alloc, HERE, 3, 20)?;
-    split_guest(rt, &mut ledger, site(2, 1), 0, &[2, 3, 4])?;
+fn with_many_out<R: Abort>(rt: &R, alloc: Global) -> Ledger {
+    let mut ledger = Ledger::start(alloc, HERE, 3, 20).expect(rt, "it succeeds");
+    split_guest(rt, &mut ledger, site(2, 1), 0, &[2, 3, 4]);
     for node in [3, 2, 3] {
-        ledger.give(site(node, 1))?;
+        ledger.give(site(node, 1)).expect(rt, "it succeeds");
     }
-    split_guest(rt, &mut ledger, site(0, 1), 0, &[5, 6])?;
+    split_guest(rt, &mut ledger, site(0, 1), 0, &[5, 6]);
     for node in [2, 3] {
-        ledger.give(site(node, 1))?;
+        ledger.give(site(node, 1)).expect(rt, "it succeeds");
     }
-    assert_eq!(rt; ledger.receive_give(site(2, 1), 7, 1, &[8]), Ok(true));
-    Ok(ledger)
+    assert!(rt; ledger.receive_give(site(2, 1), 7, 1, &[8]) == Ok(true));
+    ledger
 }
 
 #[test]
-fn known_members_change_nothing(rt: HostRuntime) -> Result<(), Fail> {
-    let mut ledger = with_many_out(&rt, rt.alloc())?;
+fn known_members_change_nothing(rt: HostRuntime) {
+    let mut ledger = with_many_out(&rt, rt.alloc());
     let mut outs = Vec::new(rt.alloc());
-    assert_eq!(rt; ledger.learn_members(&[9, 1, 1, 5], &mut outs), Ok(false));
+    assert!(rt; ledger.learn_members(&[9, 1, 1, 5], &mut outs) == Ok(false));
     assert!(rt; outs.is_empty());
     tells_own(&rt, rt.alloc(), &ledger, "O1O1O1O1O1");
-    Ok(())
 }
 
 /// The same ledger, once it has learnt that node 2 began anew, and the aborts that this reaches.
-fn with_node_2_anew<R: Abort>(rt: &R, alloc: Global) -> Result<(Ledger, Vec<Out>), Fail> {
-    let mut ledger = with_many_out(rt, alloc)?;
+fn with_node_2_anew<R: Abort>(rt: &R, alloc: Global) -> (Ledger, Vec<Out>) {
+    let mut ledger = with_many_out(rt, alloc);
     let mut outs = Vec::new(alloc);
-    assert_eq!(rt; ledger.learn_members(&[1, 2, 1], &mut outs), Ok(true));
-    Ok((ledger, outs))
+    assert!(rt; ledger.learn_members(&[1, 2, 1], &mut outs) == Ok(true));
+    (ledger, outs)
 }
 
 #[test]
-fn members_redo_drop_and_abort(rt: HostRuntime) -> Result<(), Fail> {
-    let (ledger, outs) = with_node_2_anew(&rt, rt.alloc())?;
+fn members_redo_drop_and_abort(rt: HostRuntime) {
+    let (ledger, outs) = with_node_2_anew(&rt, rt.alloc());
     tells_own(&rt, rt.alloc(), &ledger, "A1A2A1R2O1");
     assert!(rt; outs.iter().map(|out| out.serial).eq([0, 2]));
     assert!(rt;
@@ -256,29 +251,26 @@ fn members_redo_drop_and_abort(rt: HostRuntime) -> Result<(), Fail> {
         let unit = guest(site(node, 1), serial);
         tells(&rt, rt.alloc(), &ledger, unit, status);
     }
-    Ok(())
 }
 
 #[test]
-fn the_greater_incarnation_is_known(rt: HostRuntime) -> Result<(), Fail> {
-    let (mut ledger, mut outs) = with_node_2_anew(&rt, rt.alloc())?;
-    assert_eq!(rt; ledger.learn_members(&[1, 2, 1], &mut outs), Ok(false));
-    assert_eq!(rt; outs.len(), 2);
+fn the_greater_incarnation_is_known(rt: HostRuntime) {
+    let (mut ledger, mut outs) = with_node_2_anew(&rt, rt.alloc());
+    assert!(rt; ledger.learn_members(&[1, 2, 1], &mut outs) == Ok(false));
+    assert!(rt; outs.len() == 2);
     for (node, incarnation) in [(1, 1), (2, 2), (3, 1)] {
         assert!(rt; node <= ledger.nodes());
-        assert_eq!(rt; ledger.known(node), incarnation);
+        assert!(rt; ledger.known(node) == incarnation);
     }
-    Ok(())
 }
 
 #[test]
-fn an_earlier_run_gets_and_gives_nothing(rt: HostRuntime) -> Result<(), Fail> {
-    let (mut ledger, _) = with_node_2_anew(&rt, rt.alloc())?;
+fn an_earlier_run_gets_and_gives_nothing(rt: HostRuntime) {
+    let (mut ledger, _) = with_node_2_anew(&rt, rt.alloc());
     gives(&rt, rt.alloc(), &mut ledger, site(2, 1), "nothing");
     gives(&rt, rt.alloc(), &mut ledger, site(2, 2), "3 2 [7, 5]");
-    assert_eq!(rt; ledger.receive_give(site(2, 1), 9, 1, &[1]), Ok(false));
-    assert_eq!(rt; ledger.receive_give(site(0, 1), 0, 1, &[]), Ok(false));
-    Ok(())
+    assert!(rt; ledger.receive_give(site(2, 1), 9, 1, &[1]) == Ok(false));
+    assert!(rt; ledger.receive_give(site(0, 1), 0, 1, &[]) == Ok(false));
 }
 
 /// Whether it is a frame that is settled.
@@ -293,39 +285,44 @@ fn is_settled(table: &Table, unit: Unit) -> bool
 }
 
 /// A guest of the registry that has finished as its third child's cover, and the aborts that this reaches.
-fn finished<R: Abort>(rt: &R, alloc: Global) -> Result<(Ledger, Vec<Out>), Fail> {
-    let mut ledger = Ledger::start(alloc, HERE, 3, 20)?;
-    split_guest(rt, &mut ledger, site(0, 1), 0, &[0, 1, 2])?;
-    ledger.give(site(2, 1))?;
+fn finished<R: Abort>(rt: &R, alloc: Global) -> (Ledger, Vec<Out>) {
+    let mut ledger = Ledger::start(alloc, HERE, 3, 20).expect(rt, "it succeeds");
+    split_guest(rt, &mut ledger, site(0, 1), 0, &[0, 1, 2]);
+    ledger.give(site(2, 1)).expect(rt, "it succeeds");
     ledger.take();
-    end(rt, &mut ledger, Unit::Own(2), cover(alloc, 4)?);
+    end(
+        rt,
+        &mut ledger,
+        Unit::Own(2),
+        cover(alloc, 4).expect(rt, "it succeeds"),
+    );
     let mut outs = Vec::new(alloc);
     let root = guest(site(0, 1), 0);
     let is_settled = is_settled(ledger.table(), root);
     assert!(rt; is_settled);
-    ledger.finish(root, &mut outs)?;
-    Ok((ledger, outs))
+    ledger.finish(root, &mut outs).expect(rt, "it succeeds");
+    (ledger, outs)
 }
 
 #[test]
-fn a_frame_finishes(rt: HostRuntime) -> Result<(), Fail> {
-    let (ledger, outs) = finished(&rt, rt.alloc())?;
+fn a_frame_finishes(rt: HostRuntime) {
+    let (ledger, outs) = finished(&rt, rt.alloc());
     tells_own(&rt, rt.alloc(), &ledger, "A1A1D1");
-    assert_eq!(rt; outs.len(), 1);
+    assert!(rt; outs.len() == 1);
     let root = guest(site(0, 1), 0);
     tells(&rt, rt.alloc(), &ledger, root, "F1");
-    Ok(())
 }
 
 #[test]
-fn a_finished_guest_settles_once(rt: HostRuntime) -> Result<(), Fail> {
-    let (mut ledger, mut outs) = finished(&rt, rt.alloc())?;
+fn a_finished_guest_settles_once(rt: HostRuntime) {
+    let (mut ledger, mut outs) = finished(&rt, rt.alloc());
     let owner = site(0, 1);
-    assert!(rt; ledger.receive_accept(owner, 0, 1, cover(rt.alloc(), 5)?));
+    assert!(rt;
+        ledger.receive_accept(owner, 0, 1, cover(rt.alloc(), 5).expect(&rt, "it succeeds"))
+    );
     assert!(rt; !ledger.receive_accept(owner, 0, 1, ChildResult::Empty));
-    assert_eq!(rt; ledger.receive_refuse(owner, 0, 1, &mut outs), Ok(false));
+    assert!(rt; ledger.receive_refuse(owner, 0, 1, &mut outs) == Ok(false));
     tells(&rt, rt.alloc(), &ledger, guest(owner, 0), "T1");
-    Ok(())
 }
 
 /// The same of the root, given to the first node: the sender's node, the attempt and the result; what is answered.
@@ -337,23 +334,22 @@ static ROOT_RETURNS: [(u8, (u32, u32, Option<u16>), &str); 4] = [
 ];
 
 #[test]
-fn the_root_is_given_and_returned(rt: HostRuntime) -> Result<(), Fail> {
-    let mut ledger = Ledger::with_root(rt.alloc(), 2)?;
-    assert_eq!(rt; ledger.nodes(), 2);
+fn the_root_is_given_and_returned(rt: HostRuntime) {
+    let mut ledger = Ledger::with_root(rt.alloc(), 2).expect(&rt, "it succeeds");
+    assert!(rt; ledger.nodes() == 2);
     gives(&rt, rt.alloc(), &mut ledger, site(1, 1), "0 1 []");
     gives(&rt, rt.alloc(), &mut ledger, site(1, 1), "nothing");
     for (node, child, answer) in ROOT_RETURNS.iter() {
         answers(&rt, rt.alloc(), &mut ledger, site(*node, 1), *child, answer);
     }
-    Ok(())
 }
 
 #[test]
-fn a_root_that_is_redone_takes_no_earlier_result(rt: HostRuntime) -> Result<(), Fail> {
-    let mut ledger = Ledger::with_root(rt.alloc(), 2)?;
-    assert_eq!(rt; ledger.redo(0), Err(RedoFault::NotOut));
-    ledger.give(site(1, 1))?;
-    assert_eq!(rt; ledger.redo(0), Ok(()));
+fn a_root_that_is_redone_takes_no_earlier_result(rt: HostRuntime) {
+    let mut ledger = Ledger::with_root(rt.alloc(), 2).expect(&rt, "it succeeds");
+    assert!(rt; ledger.redo(0) == Err(RedoFault::NotOut));
+    ledger.give(site(1, 1)).expect(&rt, "it succeeds");
+    assert!(rt; ledger.redo(0) == Ok(()));
     let earlier = (0, 1, None);
     answers(
         &rt,
@@ -363,8 +359,7 @@ fn a_root_that_is_redone_takes_no_earlier_result(rt: HostRuntime) -> Result<(), 
         earlier,
         "refuse Superseded",
     );
-    assert_eq!(rt; ledger.redo(0), Err(RedoFault::NotOut));
-    assert_eq!(rt; ledger.redo(1), Err(RedoFault::NotOut));
+    assert!(rt; ledger.redo(0) == Err(RedoFault::NotOut));
+    assert!(rt; ledger.redo(1) == Err(RedoFault::NotOut));
     gives(&rt, rt.alloc(), &mut ledger, site(1, 1), "0 2 []");
-    Ok(())
 }

@@ -6,7 +6,6 @@ use dlx_reader::ReadFault::{
 use dlx_reader::{ReadFault, read_problem};
 use std::alloc::{AllocError, Global};
 use std::process::Abort;
-use std::test::Fail;
 
 /// So many names.
 fn names(alloc: Global, count: u16) -> Result<String, AllocError> {
@@ -33,19 +32,27 @@ fn full_line(alloc: Global, more: &str) -> Result<String, AllocError> {
 }
 
 #[test]
-fn items(rt: HostRuntime) -> Result<(), Fail> {
+fn items(rt: HostRuntime) {
     let alloc = rt.alloc();
-    assert_eq!(rt;
-        read_problem(alloc, full_line(alloc, "")?.as_bytes())?
-            .problem
-            .items(),
-        1000
+    assert!(rt;
+        read_problem(
+            alloc,
+            full_line(alloc, "").expect(&rt, "it succeeds").as_bytes()
+        )
+        .expect(&rt, "it succeeds")
+        .problem
+        .items()
+            == 1000
     );
-    assert_eq!(rt;
-        read_problem(alloc, full_line(alloc, "|")?.as_bytes())?
-            .problem
-            .items(),
-        1000
+    assert!(rt;
+        read_problem(
+            alloc,
+            full_line(alloc, "|").expect(&rt, "it succeeds").as_bytes()
+        )
+        .expect(&rt, "it succeeds")
+        .problem
+        .items()
+            == 1000
     );
     for (more, fault) in [
         ("m", TooManyItems(1)),
@@ -56,29 +63,26 @@ fn items(rt: HostRuntime) -> Result<(), Fail> {
         ("|n999", DuplicateItem(1)),
         ("m:", IllegalByte(1)),
     ] {
-        let text = full_line(alloc, more)?;
-        assert_eq!(rt;
-            read_problem(alloc, text.as_bytes()).err(),
-            Some(fault),
+        let text = full_line(alloc, more).expect(&rt, "it succeeds");
+        assert!(rt;
+            read_problem(alloc, text.as_bytes()).err() == Some(fault),
             "{more:?}"
         );
     }
-    Ok(())
 }
 
 #[test]
-fn options(rt: HostRuntime) -> Result<(), Fail> {
+fn options(rt: HostRuntime) {
     let alloc = rt.alloc();
-    let mut text = String::from_str(alloc, "a | x\n")?;
-    repeat(&mut text, "a\n", 20000)?;
-    repeat(&mut text, "x\n", 3)?;
-    let read = read_problem(alloc, text.as_bytes())?;
-    assert_eq!(rt; read.problem.options(), 20000);
-    assert_eq!(rt; read.ignored, 3);
-    text.push_str("\na x")?;
+    let mut text = String::from_str(alloc, "a | x\n").expect(&rt, "it succeeds");
+    repeat(&mut text, "a\n", 20000).expect(&rt, "it succeeds");
+    repeat(&mut text, "x\n", 3).expect(&rt, "it succeeds");
+    let read = read_problem(alloc, text.as_bytes()).expect(&rt, "it succeeds");
+    assert!(rt; read.problem.options() == 20000);
+    assert!(rt; read.ignored == 3);
+    text.push_str("\na x").expect(&rt, "it succeeds");
     let fault = read_problem(alloc, text.as_bytes()).err();
-    assert_eq!(rt; fault, Some(TooManyOptions(20006)));
-    Ok(())
+    assert!(rt; fault == Some(TooManyOptions(20006)));
 }
 
 /// A line so many times, the first as the item line.
@@ -92,31 +96,34 @@ pub fn lines(alloc: Global, line: &str, count: u16) -> Result<String, AllocError
 }
 
 /// A text has so many options, and with a further line this fault.
-fn ends_with<R: Abort>(
-    rt: &R,
-    text: &mut String,
-    alloc: Global,
-    count: usize,
-    fault: ReadFault,
-) -> Result<(), Fail> {
-    let read = read_problem(alloc, text.as_bytes())?;
-    assert_eq!(rt; read.problem.options(), count);
-    text.push_str("n0\n")?;
-    assert_eq!(rt; read_problem(alloc, text.as_bytes()).err(), Some(fault));
-    Ok(())
+fn ends_with<R: Abort>(rt: &R, text: &mut String, alloc: Global, count: usize, fault: ReadFault) {
+    let read = read_problem(alloc, text.as_bytes()).expect(rt, "it succeeds");
+    assert!(rt; read.problem.options() == count);
+    text.push_str("n0\n").expect(rt, "it succeeds");
+    assert!(rt; read_problem(alloc, text.as_bytes()).err() == Some(fault));
 }
 
 #[test]
-fn occurrences(rt: HostRuntime) -> Result<(), Fail> {
+fn occurrences(rt: HostRuntime) {
     let alloc = rt.alloc();
-    let mut text = lines(alloc, names(alloc, 1000)?.as_str(), 201)?;
-    ends_with(&rt, &mut text, alloc, 200, TooManyNodes(202))
+    let mut text = lines(
+        alloc,
+        names(alloc, 1000).expect(&rt, "it succeeds").as_str(),
+        201,
+    )
+    .expect(&rt, "it succeeds");
+    ends_with(&rt, &mut text, alloc, 200, TooManyNodes(202));
 }
 
 /// Both limits at one option: that of the options counts.
 #[test]
-fn both(rt: HostRuntime) -> Result<(), Fail> {
+fn both(rt: HostRuntime) {
     let alloc = rt.alloc();
-    let mut text = lines(alloc, names(alloc, 10)?.as_str(), 20001)?;
-    ends_with(&rt, &mut text, alloc, 20000, TooManyOptions(20002))
+    let mut text = lines(
+        alloc,
+        names(alloc, 10).expect(&rt, "it succeeds").as_str(),
+        20001,
+    )
+    .expect(&rt, "it succeeds");
+    ends_with(&rt, &mut text, alloc, 20000, TooManyOptions(20002));
 }

@@ -4,7 +4,6 @@ use dancing_links::Links;
 use dlx_reader::read_problem;
 use std::alloc::{AllocError, Global};
 use std::process::Abort;
-use std::test::Fail;
 
 const LETTERS: &[u8] = b"a b c d e f g\nc e\na d g\nb c f\na d f\nb g\nd e g\n";
 
@@ -24,7 +23,7 @@ fn told(alloc: Global, links: &Links, item: u16) -> Result<String, AllocError> {
 fn are_told<R: Abort>(rt: &R, alloc: Global, links: &Links, expected: &[&str]) {
     for (item, line) in (0..7u16).zip(expected) {
         let told = told(alloc, links, item).expect(rt, "memory");
-        assert_eq!(rt; told.as_str(), *line, "item {item}");
+        assert!(rt; told.as_str() == *line, "item {item}");
     }
 }
 
@@ -40,7 +39,7 @@ fn live(alloc: Global, links: &Links) -> Result<String, AllocError> {
 /// These options are live.
 fn are_live<R: Abort>(rt: &R, alloc: Global, links: &Links, expected: &str) {
     let live = live(alloc, links).expect(rt, "memory");
-    assert_eq!(rt; live.as_str(), expected);
+    assert!(rt; live.as_str() == expected);
 }
 
 static BUILT: [&str; 7] = [
@@ -54,22 +53,25 @@ static BUILT: [&str; 7] = [
 ];
 
 #[test]
-fn built_links_have_all_options(rt: HostRuntime) -> Result<(), Fail> {
-    let problem = read_problem(rt.alloc(), LETTERS)?.problem;
-    let links = Links::build(rt.alloc(), &problem)?;
-    assert_eq!(rt; links.first_item(), Some(0));
+fn built_links_have_all_options(rt: HostRuntime) {
+    let problem = read_problem(rt.alloc(), LETTERS)
+        .expect(&rt, "it succeeds")
+        .problem;
+    let links = Links::build(rt.alloc(), &problem).expect(&rt, "it succeeds");
+    assert!(rt; links.first_item() == Some(0));
     are_live(&rt, rt.alloc(), &links, "xxxxxx");
     are_told(&rt, rt.alloc(), &links, &BUILT);
-    Ok(())
 }
 
 #[test]
-fn a_choice_covers_its_items(rt: HostRuntime) -> Result<(), Fail> {
-    let problem = read_problem(rt.alloc(), LETTERS)?.problem;
-    let mut links = Links::build(rt.alloc(), &problem)?;
+fn a_choice_covers_its_items(rt: HostRuntime) {
+    let problem = read_problem(rt.alloc(), LETTERS)
+        .expect(&rt, "it succeeds")
+        .problem;
+    let mut links = Links::build(rt.alloc(), &problem).expect(&rt, "it succeeds");
     assert!(rt; problem.options() == 6 && links.is_live(3));
     links.choose(3);
-    assert_eq!(rt; links.first_item(), Some(1));
+    assert!(rt; links.first_item() == Some(1));
     are_live(&rt, rt.alloc(), &links, "x---x-");
     let expected = [
         "",
@@ -81,26 +83,28 @@ fn a_choice_covers_its_items(rt: HostRuntime) -> Result<(), Fail> {
         "1 [4] None",
     ];
     are_told(&rt, rt.alloc(), &links, &expected);
-    Ok(())
 }
 
 #[test]
-fn undo_gives_all_back(rt: HostRuntime) -> Result<(), Fail> {
-    let problem = read_problem(rt.alloc(), LETTERS)?.problem;
-    let mut links = Links::build(rt.alloc(), &problem)?;
+fn undo_gives_all_back(rt: HostRuntime) {
+    let problem = read_problem(rt.alloc(), LETTERS)
+        .expect(&rt, "it succeeds")
+        .problem;
+    let mut links = Links::build(rt.alloc(), &problem).expect(&rt, "it succeeds");
     assert!(rt; problem.options() == 6 && links.is_live(3));
     links.choose(3);
-    assert_eq!(rt; links.undo(), 3);
-    assert_eq!(rt; links.first_item(), Some(0));
+    assert!(rt; links.undo() == 3);
+    assert!(rt; links.first_item() == Some(0));
     are_live(&rt, rt.alloc(), &links, "xxxxxx");
     are_told(&rt, rt.alloc(), &links, &BUILT);
-    Ok(())
 }
 
 #[test]
-fn a_secondary_item_is_covered(rt: HostRuntime) -> Result<(), Fail> {
-    let problem = read_problem(rt.alloc(), SHARED)?.problem;
-    let mut links = Links::build(rt.alloc(), &problem)?;
+fn a_secondary_item_is_covered(rt: HostRuntime) {
+    let problem = read_problem(rt.alloc(), SHARED)
+        .expect(&rt, "it succeeds")
+        .problem;
+    let mut links = Links::build(rt.alloc(), &problem).expect(&rt, "it succeeds");
     are_told(
         &rt,
         rt.alloc(),
@@ -111,5 +115,4 @@ fn a_secondary_item_is_covered(rt: HostRuntime) -> Result<(), Fail> {
     links.choose(0);
     are_live(&rt, rt.alloc(), &links, "--");
     are_told(&rt, rt.alloc(), &links, &["", "0 [] None", ""]);
-    Ok(())
 }

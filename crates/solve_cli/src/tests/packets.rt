@@ -6,7 +6,6 @@ use packet_wire::*;
 use spawn_frame::{Cause, ChildResult, Site};
 use std::alloc::{AllocError, Global};
 use std::process::Abort;
-use std::test::Fail;
 
 /// Of each kind one packet, as bytes. Those that name a child name the root.
 const GIVE: &[u8] = b"CN\x01\x04\0\0\0\0\x01\x02\0\0\0\x01\0\0\0\0\0\0\0\x01\0\0";
@@ -91,11 +90,11 @@ fn packet_of(alloc: Global, place: usize) -> Result<Packet, AllocError> {
 }
 
 /// A list with the packet written behind a byte 7.
-fn written<R: Abort>(rt: &R, alloc: Global, packet: &Packet) -> Result<Vec<u8>, AllocError> {
+fn written<R: Abort>(rt: &R, alloc: Global, packet: &Packet) -> Vec<u8> {
     assert!(rt; is_well_formed(packet));
-    let mut out = vec![in alloc; 7u8]?;
-    write_packet(alloc, packet, &mut out)?;
-    Ok(out)
+    let mut out = vec![in alloc; 7u8].expect(rt, "it succeeds");
+    write_packet(alloc, packet, &mut out).expect(rt, "it succeeds");
+    out
 }
 
 /// Whether these bytes stand behind the 7, and no others.
@@ -104,27 +103,28 @@ fn is_behind_7(out: &[u8], bytes: &[u8]) -> bool {
 }
 
 #[test]
-fn each_packet_is_written_behind_what_is_there(rt: HostRuntime) -> Result<(), Fail> {
+fn each_packet_is_written_behind_what_is_there(rt: HostRuntime) {
     let alloc = rt.alloc();
     for (place, bytes) in SPELLINGS.iter().enumerate() {
-        let packet = packet_of(alloc, place)?.copy()?;
-        let out = written(&rt, alloc, &packet)?;
+        let packet = packet_of(alloc, place)
+            .expect(&rt, "it succeeds")
+            .copy()
+            .expect(&rt, "it succeeds");
+        let out = written(&rt, alloc, &packet);
         assert!(rt; is_behind_7(&out, bytes), "{place}");
     }
-    Ok(())
 }
 
 #[test]
-fn each_packet_is_read_from_its_bytes(rt: HostRuntime) -> Result<(), Fail> {
+fn each_packet_is_read_from_its_bytes(rt: HostRuntime) {
     let alloc = rt.alloc();
     for (place, bytes) in SPELLINGS.iter().enumerate() {
-        let packet = packet_of(alloc, place)?;
-        let read = read_packet(alloc, bytes)?;
+        let packet = packet_of(alloc, place).expect(&rt, "it succeeds");
+        let read = read_packet(alloc, bytes).expect(&rt, "it succeeds");
         assert!(rt; read.from == packet.from && read.to == packet.to, "{place}");
-        let again = written(&rt, alloc, &read)?;
+        let again = written(&rt, alloc, &read);
         assert!(rt; is_behind_7(&again, bytes), "{place}");
     }
-    Ok(())
 }
 
 /// Whether it returns this cover of the root, at the first attempt.
@@ -133,47 +133,44 @@ fn is_return_of(packet: &Packet, options: &[u16]) -> bool {
 }
 
 #[test]
-fn a_cover_is_read_in_its_order(rt: HostRuntime) -> Result<(), Fail> {
-    let read = read_packet(rt.alloc(), RETURN_COVER)?;
+fn a_cover_is_read_in_its_order(rt: HostRuntime) {
+    let read = read_packet(rt.alloc(), RETURN_COVER).expect(&rt, "it succeeds");
     assert!(rt; is_return_of(&read, &[3, 4, 0]));
-    Ok(())
 }
 
 #[test]
-fn beginnings_are_short(rt: HostRuntime) -> Result<(), Fail> {
+fn beginnings_are_short(rt: HostRuntime) {
     let alloc = rt.alloc();
     for bytes in &SPELLINGS {
         for end in 0..bytes.len() {
             let fault = read_packet(alloc, &bytes[..end]).err();
-            assert_eq!(rt; fault, Some(Short), "{bytes:?} {end}");
+            assert!(rt; fault == Some(Short), "{bytes:?} {end}");
         }
-        let mut longer = Vec::from_slice(alloc, bytes)?;
-        longer.push(0)?;
+        let mut longer = Vec::from_slice(alloc, bytes).expect(&rt, "it succeeds");
+        longer.push(0).expect(&rt, "it succeeds");
         let fault = read_packet(alloc, &longer).err();
-        assert_eq!(rt; fault, Some(WireFault::Trailing), "{bytes:?}");
+        assert!(rt; fault == Some(WireFault::Trailing), "{bytes:?}");
     }
-    Ok(())
 }
 
 /// Bytes with another byte give a fault, or a packet that is spelled so.
 #[test]
-fn changed_bytes_are_read_as_they_are(rt: HostRuntime) -> Result<(), Fail> {
+fn changed_bytes_are_read_as_they_are(rt: HostRuntime) {
     let alloc = rt.alloc();
     for bytes in &SPELLINGS {
-        let mut changed = Vec::from_slice(alloc, bytes)?;
+        let mut changed = Vec::from_slice(alloc, bytes).expect(&rt, "it succeeds");
         for place in 0..bytes.len() {
             for more in 1..=255 {
                 changed[place] = bytes[place].wrapping_add(more);
                 if let Ok(packet) = read_packet(alloc, &changed) {
                     let mut out = Vec::new(alloc);
-                    write_packet(alloc, &packet, &mut out)?;
-                    assert_eq!(rt; out.as_slice(), changed.as_slice());
+                    write_packet(alloc, &packet, &mut out).expect(&rt, "it succeeds");
+                    assert!(rt; out.as_slice() == changed.as_slice());
                 }
             }
             changed[place] = bytes[place];
         }
     }
-    Ok(())
 }
 
 static FIRST_FAULTS: [(&[u8], WireFault); 24] = [
@@ -233,7 +230,7 @@ static FIRST_FAULTS: [(&[u8], WireFault); 24] = [
 fn the_first_fault_is_told(rt: HostRuntime) {
     for (bytes, fault) in FIRST_FAULTS.iter() {
         let found = read_packet(rt.alloc(), bytes).err();
-        assert_eq!(rt; found, Some(*fault), "{bytes:?}");
+        assert!(rt; found == Some(*fault), "{bytes:?}");
     }
 }
 
@@ -252,31 +249,32 @@ fn most_options(alloc: Global) -> Result<Vec<u16>, AllocError> {
 }
 
 #[test]
-fn longest_packet_is_written(rt: HostRuntime) -> Result<(), Fail> {
-    let options = most_options(rt.alloc())?;
-    let bytes = written(&rt, rt.alloc(), &returned(rt.alloc(), &options)?)?;
-    assert_eq!(rt; bytes.len(), 2026);
-    assert_eq!(rt; &bytes[23..28], b"\x01\x03\xe8\x4a\x38".as_slice());
-    assert_eq!(rt; &bytes[2024..], b"\x4e\x1f".as_slice());
-    Ok(())
+fn longest_packet_is_written(rt: HostRuntime) {
+    let options = most_options(rt.alloc()).expect(&rt, "it succeeds");
+    let bytes = written(
+        &rt,
+        rt.alloc(),
+        &returned(rt.alloc(), &options).expect(&rt, "it succeeds"),
+    );
+    assert!(rt; bytes.len() == 2026);
+    assert!(rt; &bytes[23..28] == b"\x01\x03\xe8\x4a\x38".as_slice());
+    assert!(rt; &bytes[2024..] == b"\x4e\x1f".as_slice());
 }
 
 #[test]
-fn longest_packet_is_read(rt: HostRuntime) -> Result<(), Fail> {
-    let options = most_options(rt.alloc())?;
-    let packet = returned(rt.alloc(), &options)?;
+fn longest_packet_is_read(rt: HostRuntime) {
+    let options = most_options(rt.alloc()).expect(&rt, "it succeeds");
+    let packet = returned(rt.alloc(), &options).expect(&rt, "it succeeds");
     assert!(rt; is_well_formed(&packet));
     let mut bytes = Vec::new(rt.alloc());
-    write_packet(rt.alloc(), &packet, &mut bytes)?;
-    let read = read_packet(rt.alloc(), &bytes)?;
+    write_packet(rt.alloc(), &packet, &mut bytes).expect(&rt, "it succeeds");
+    let read = read_packet(rt.alloc(), &bytes).expect(&rt, "it succeeds");
     assert!(rt; is_return_of(&read, &options));
-    Ok(())
 }
 
 #[test]
-fn longer_list_is_not_well_formed(rt: HostRuntime) -> Result<(), Fail> {
-    let mut options = most_options(rt.alloc())?;
-    options.push(0)?;
-    assert!(rt; !is_well_formed(&returned(rt.alloc(), &options)?));
-    Ok(())
+fn longer_list_is_not_well_formed(rt: HostRuntime) {
+    let mut options = most_options(rt.alloc()).expect(&rt, "it succeeds");
+    options.push(0).expect(&rt, "it succeeds");
+    assert!(rt; !is_well_formed(&returned(rt.alloc(), &options).expect(&rt, "it succeeds")));
 }

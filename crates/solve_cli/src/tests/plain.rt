@@ -7,7 +7,6 @@ use cover_problem::Problem;
 use dlx_reader::read_problem;
 use std::alloc::{AllocError, Global};
 use std::process::Abort;
-use std::test::Fail;
 
 /// The items of each option.
 fn options_of(alloc: Global, problem: &Problem) -> Result<Vec<&[u16]>, AllocError> {
@@ -141,21 +140,23 @@ fn random_text(alloc: Global, state: &mut u64) -> Result<String, AllocError> {
 }
 
 /// Searches one problem both ways: outcome, found list and the visits at the edge.
-fn compare<R: Abort>(rt: &R, alloc: Global, text: &str) -> Result<(), Fail> {
-    let read = read_problem(alloc, text.as_bytes())?;
-    let options = options_of(alloc, &read.problem)?;
+fn compare<R: Abort>(rt: &R, alloc: Global, text: &str) {
+    let read = read_problem(alloc, text.as_bytes()).expect(rt, "it succeeds");
+    let options = options_of(alloc, &read.problem).expect(rt, "it succeeds");
     let primary = read.problem.primary() as u16;
     let mut first = Vec::new(alloc);
-    let (_, visits) = visit(alloc, &options, primary, &mut first, primary)?;
-    ends_so(rt, alloc, text, visits, &first)
+    let (_, visits) = visit(alloc, &options, primary, &mut first, primary).expect(
+        rt,
+        "it succeeds",
+    );
+    ends_so(rt, alloc, text, visits, &first);
 }
 
 #[test]
-fn links_search_as_the_plain_program(rt: HostRuntime) -> Result<(), Fail> {
+fn links_search_as_the_plain_program(rt: HostRuntime) {
     let mut state = 88172645463325252u64;
     for _ in 0..600 {
-        let text = random_text(rt.alloc(), &mut state)?;
-        compare(&rt, rt.alloc(), text.as_str())?;
+        let text = random_text(rt.alloc(), &mut state).expect(&rt, "it succeeds");
+        compare(&rt, rt.alloc(), text.as_str());
     }
-    Ok(())
 }

@@ -6,7 +6,6 @@ use dlx_reader::ReadFault::{
 };
 use dlx_reader::{Read, read_problem};
 use std::alloc::{AllocError, Global};
-use std::test::Fail;
 
 /// 32 bytes, and one more.
 const LONGEST: &str = "aaaaaaaaaabbbbbbbbbbccccccccccdd";
@@ -106,7 +105,7 @@ static FAULTS: [(&str, ReadFault); 75] = [
 fn faults(rt: HostRuntime) {
     for (text, fault) in FAULTS.iter() {
         let found = read_problem(rt.alloc(), text.as_bytes()).err();
-        assert_eq!(rt; found, Some(*fault), "{text:?}");
+        assert!(rt; found == Some(*fault), "{text:?}");
     }
 }
 
@@ -159,26 +158,23 @@ static PROBLEMS: [(&str, &str); 18] = [
 ];
 
 #[test]
-fn problems(rt: HostRuntime) -> Result<(), Fail> {
+fn problems(rt: HostRuntime) {
     let alloc = rt.alloc();
     for (text, problem) in PROBLEMS.iter() {
-        let read = read_problem(alloc, text.as_bytes())?;
-        assert_eq!(rt;
-            shown(alloc, &read)?.as_slice(),
-            problem.as_bytes(),
+        let read = read_problem(alloc, text.as_bytes()).expect(&rt, "it succeeds");
+        assert!(rt;
+            shown(alloc, &read).expect(&rt, "it succeeds").as_slice() == problem.as_bytes(),
             "{text:?}"
         );
     }
-    Ok(())
 }
 
 #[test]
-fn bytes_above_127(rt: HostRuntime) -> Result<(), Fail> {
+fn bytes_above_127(rt: HostRuntime) {
     let alloc = rt.alloc();
-    let read = read_problem(alloc, b"\x80\xff | \xfe\n\xfe \x80\xff\n")?;
-    assert_eq!(rt;
-        shown(alloc, &read)?.as_slice(),
-        b"\x80\xff \xfe / 1 / 1 0, / 0".as_slice()
+    let read = read_problem(alloc, b"\x80\xff | \xfe\n\xfe \x80\xff\n").expect(&rt, "it succeeds");
+    assert!(rt;
+        shown(alloc, &read).expect(&rt, "it succeeds").as_slice()
+            == b"\x80\xff \xfe / 1 / 1 0, / 0".as_slice()
     );
-    Ok(())
 }

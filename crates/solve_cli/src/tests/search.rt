@@ -8,7 +8,6 @@ use dancing_links::Links;
 use dlx_reader::read_problem;
 use std::alloc::{AllocError, Global};
 use std::process::Abort;
-use std::test::Fail;
 
 /// What a search comes to that finds this first; no cover is an empty list.
 fn outcome_of(first: &[u16]) -> Outcome {
@@ -20,15 +19,9 @@ fn outcome_of(first: &[u16]) -> Outcome {
 }
 
 /// The search of the empty prefix takes so many visits, and finds this first.
-pub fn ends_so<R: Abort>(
-    rt: &R,
-    alloc: Global,
-    text: &str,
-    visits: u64,
-    first: &[u16],
-) -> Result<(), Fail> {
-    let read = read_problem(alloc, text.as_bytes())?;
-    let mut searcher = Searcher::new(alloc, &read.problem)?;
+pub fn ends_so<R: Abort>(rt: &R, alloc: Global, text: &str, visits: u64, first: &[u16]) {
+    let read = read_problem(alloc, text.as_bytes()).expect(rt, "it succeeds");
+    let mut searcher = Searcher::new(alloc, &read.problem).expect(rt, "it succeeds");
     if visits > 1 {
         let less = searcher.search(&[], visits - 1);
         assert!(rt; less == Outcome::Spent, "{text}");
@@ -36,7 +29,6 @@ pub fn ends_so<R: Abort>(
     let enough = searcher.search(&[], visits.max(1));
     assert!(rt; enough == outcome_of(first), "{text}");
     assert!(rt; first.is_empty() || searcher.found() == first, "{text}");
-    Ok(())
 }
 
 /// A problem, the visits of its empty prefix, and what is found first.
@@ -150,36 +142,33 @@ static SEARCHES: [(&str, u64, &[u16]); 30] = [
 ];
 
 #[test]
-fn searches_agree(rt: HostRuntime) -> Result<(), Fail> {
+fn searches_agree(rt: HostRuntime) {
     for (text, visits, first) in SEARCHES.iter() {
-        ends_so(&rt, rt.alloc(), text, *visits, first)?;
+        ends_so(&rt, rt.alloc(), text, *visits, first);
     }
-    Ok(())
 }
 
 const LETTERS: &[u8] = b"a b c d e f g\nc e\na d g\nb c f\na d f\nb g\nd e g\n";
 
 /// Searches a prefix, and gives back what is found; no cover is an empty list.
-fn search_below<R: Abort>(
-    rt: &R,
-    alloc: Global,
-    prefix: &[u16],
-    fuel: u64,
-) -> Result<(Outcome, Vec<u16>), Fail>
+fn search_below<R: Abort>(rt: &R, alloc: Global, prefix: &[u16], fuel: u64) -> (Outcome, Vec<u16>)
     requires { 1 ≤ fuel }
 {
-    let read = read_problem(alloc, LETTERS)?;
+    let read = read_problem(alloc, LETTERS).expect(rt, "it succeeds");
     assert!(rt; is_prefix(&read.problem, prefix));
-    let mut searcher = Searcher::new(alloc, &read.problem)?;
+    let mut searcher = Searcher::new(alloc, &read.problem).expect(rt, "it succeeds");
     let outcome = searcher.search(prefix, fuel);
     if outcome != Outcome::Cover {
-        return Ok((outcome, Vec::new(alloc)));
+        return (outcome, Vec::new(alloc));
     }
-    Ok((outcome, Vec::from_slice(alloc, searcher.found())?))
+    (
+        outcome,
+        Vec::from_slice(alloc, searcher.found()).expect(rt, "it succeeds"),
+    )
 }
 
 #[test]
-fn prefixes_are_searched(rt: HostRuntime) -> Result<(), Fail> {
+fn prefixes_are_searched(rt: HostRuntime) {
     for (prefix, fuel, outcome, found) in [
         ([].as_slice(), 6u64, Outcome::Cover, [3, 4, 0].as_slice()),
         ([].as_slice(), 5, Outcome::Spent, [].as_slice()),
@@ -191,11 +180,10 @@ fn prefixes_are_searched(rt: HostRuntime) -> Result<(), Fail> {
         ),
         ([1].as_slice(), 9, Outcome::Barren, [].as_slice()),
     ] {
-        let ended = search_below(&rt, rt.alloc(), prefix, fuel.max(1))?;
-        assert_eq!(rt; ended.0, outcome);
-        assert_eq!(rt; ended.1.as_slice(), found);
+        let ended = search_below(&rt, rt.alloc(), prefix, fuel.max(1));
+        assert!(rt; ended.0 == outcome);
+        assert!(rt; ended.1.as_slice() == found);
     }
-    Ok(())
 }
 
 /// The branch, and its children in a list that begins with 9.
@@ -209,36 +197,33 @@ fn branch_of(alloc: Global, links: &Links) -> Result<(Branch, Vec<u16>), AllocEr
 }
 
 #[test]
-fn links_branch(rt: HostRuntime) -> Result<(), Fail> {
-    let read = read_problem(rt.alloc(), LETTERS)?;
-    let mut links = Links::build(rt.alloc(), &read.problem)?;
+fn links_branch(rt: HostRuntime) {
+    let read = read_problem(rt.alloc(), LETTERS).expect(&rt, "it succeeds");
+    let mut links = Links::build(rt.alloc(), &read.problem).expect(&rt, "it succeeds");
     assert!(rt; read.problem.options() == 6 && links.is_live(3));
     links.choose(3);
-    let (branch, list) = branch_of(rt.alloc(), &links)?;
-    assert_eq!(rt; branch, Branch::Item(1));
-    assert_eq!(rt; list.as_slice(), [9, 4].as_slice());
-    Ok(())
+    let (branch, list) = branch_of(rt.alloc(), &links).expect(&rt, "it succeeds");
+    assert!(rt; branch == Branch::Item(1));
+    assert!(rt; list.as_slice() == [9, 4].as_slice());
 }
 
 #[test]
-fn findings_are_copied_out(rt: HostRuntime) -> Result<(), Fail> {
+fn findings_are_copied_out(rt: HostRuntime) {
     let alloc = rt.alloc();
-    let read = read_problem(alloc, LETTERS)?;
-    let mut searcher = Searcher::new(alloc, &read.problem)?;
-    let found = searcher.find(Vec::new(alloc), 6).map_err(|_| "memory")?;
+    let read = read_problem(alloc, LETTERS).expect(&rt, "it succeeds");
+    let mut searcher = Searcher::new(alloc, &read.problem).expect(&rt, "it succeeds");
+    let found = searcher.find(Vec::new(alloc), 6).expect(&rt, "it succeeds");
     assert!(rt; found.prefix().is_empty() && found.fuel() == 6);
     assert!(rt; found.outcome() == Outcome::Cover && found.cover() == [3, 4, 0].as_slice());
     assert!(rt; searcher.found() == [3, 4, 0].as_slice());
-    Ok(())
 }
 
 #[test]
-fn a_spent_finding_is_copied(rt: HostRuntime) -> Result<(), Fail> {
-    let read = read_problem(rt.alloc(), LETTERS)?;
-    let mut searcher = Searcher::new(rt.alloc(), &read.problem)?;
+fn a_spent_finding_is_copied(rt: HostRuntime) {
+    let read = read_problem(rt.alloc(), LETTERS).expect(&rt, "it succeeds");
+    let mut searcher = Searcher::new(rt.alloc(), &read.problem).expect(&rt, "it succeeds");
     let spent = searcher
         .find(Vec::new(rt.alloc()), 5)
-        .map_err(|_| "memory")?;
-    assert!(rt; spent.copy()?.outcome() == Outcome::Spent);
-    Ok(())
+        .expect(&rt, "it succeeds");
+    assert!(rt; spent.copy().expect(&rt, "it succeeds").outcome() == Outcome::Spent);
 }
