@@ -11,10 +11,10 @@ use Rattle.node_core.specs.declared.event.Event.TheVariants.{Again, Ask, Deliver
 use Rattle.node_core.specs.declared.reply.Reply.TheVariants.{Moved, Taken}
 use Rattle.root_registry.specs.RegistryStep.{is_earlier_run}
 use Rattle.spawn_frame.specs.Tables.{root_entry}
+use Rattle.spawn_frame.specs.Units.{last_attempt}
 use Rattle.spawn_frame.specs.declared.site.Site.{Site}
 use Rattle.steal_return.specs.Members.{IsRedoable}
 use Rattle.steal_return.specs.Returns.{Enters}
-use Rattle.steal_return.specs.Steals.{last_attempt}
 
 pub redoable : (lost : Site → Bool) → IsRedoable lost (root_entry ∷ [])
 redoable lost k entry thief is out gone = each_of_one (λ c. c.attempt < last_attempt) root_entry (omega arith) k entry is
