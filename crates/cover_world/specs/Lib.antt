@@ -1,5 +1,6 @@
 pub mod Coverage
 pub mod Determined
+pub mod LaterRuns
 pub mod Overtaken
 pub mod Plays
 pub mod Refusals

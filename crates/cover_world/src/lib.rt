@@ -11,4 +11,6 @@ pub use refusals::{
     packet_for_another_site, redo_of_no_use, registry_does_no_work, stale_job, superseded_return,
     unsettled_frame, wrong_cover,
 };
-pub use runs::{late_result, overtaken_result, repeated_result, said_again, thief_begins_anew};
+pub use runs::{
+    late_result, later_runs, overtaken_result, repeated_result, said_again, thief_begins_anew,
+};

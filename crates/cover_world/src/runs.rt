@@ -1,7 +1,8 @@
-//! Five runs of two nodes, event by event with their packets: each function is a law, and does nothing.
+//! Six runs of two nodes, event by event with their packets: each function is a law, and does nothing.
 
-ghost use Rattle.std.specs.Prelude.{◌≡◌, ◌∷◌, [], Some, true};
+ghost use Rattle.std.specs.Prelude.{◌≡◌, ◌∷◌, [], None, Some, true};
 ghost use Rattle.cover_problem.specs.Examples.{bare, small};
+ghost use Rattle.cover_world.specs.LaterRuns as later_runs;
 ghost use Rattle.cover_world.specs.Overtaken as overtaken;
 ghost use Rattle.cover_world.specs.Overtaken.{two_ways};
 ghost use Rattle.cover_world.specs.Plays.{IsRefused, Plays, entry_in, limits, over_in, root_guest, status_in};
@@ -55,4 +56,11 @@ pub fn thief_begins_anew()
 pub fn said_again()
     ensures run { Plays bare (opening_world 2 limits) said_again.events said_again.packets (λ end.
         (published bare end ≡ Some Empty) × (over_in end 1 ≡ Some true)) }
+{}
+
+/// A node begins anew while the root is out to another one: the root stays out there. The thief is told of the node's later
+/// run and asks that run for work. Then the thief begins anew, and the root is ready again at the next attempt.
+pub fn later_runs()
+    ensures run { Plays bare (opening_world 2 limits) later_runs.events later_runs.packets (λ end.
+        entry_in end 0 (Own 0) ≡ Some (record { parent = None; prefix = []; attempt = 2; status = Ready })) }
 {}
