@@ -1,5 +1,5 @@
 -- A new guest at its place in the order.
-use Rattle.std.proofs.Common.{◌≡◌, ℕ, suc, ◌+◌, Bool, true, false, cond, not, ◌==◌, nat_lt, List, [], ◌∷◌, map, length, insert, position, unwrap_or, Option, Some, None, is_some, IsSome, slice_get, refl, sym, ap, subst, ◌∙◌, ⊎_elim, arith}
+use Rattle.std.proofs.Common.{◌≡◌, ℕ, suc, ◌+◌, ◌≤◌, Bool, true, false, cond, not, ◌==◌, nat_lt, List, [], ◌∷◌, map, length, insert, position, unwrap_or, Option, Some, None, is_some, IsSome, slice_get, refl, sym, ap, subst, ◌∙◌, ⊎_elim, arith}
 use Rattle.std.specs.List.{AllByRecursion, position_or_len}
 use Rattle.std.proofs.lemmas.List.Sums.{prefix_len-le-length}
 use Rattle.std.proofs.lemmas.Option.{none-some}
@@ -8,7 +8,7 @@ use Rattle.spawn_frame.specs.Frames.{is_unit}
 use Rattle.spawn_frame.specs.Names.{guest_before, same_name}
 use Rattle.spawn_frame.specs.Tables.{HasParents, IsAscending}
 use Rattle.spawn_frame.specs.Units.{Entry, GuestEntry, Table, guest_in, insert_guest, is_guest, unit_of}
-use Rattle.spawn_frame.specs.Works.{IsFrame, IsTable, child_entry, fresh_guest, guest_entry, has_child, table_of}
+use Rattle.spawn_frame.specs.Works.{IsUnit, IsTable, child_entry, fresh_guest, guest_entry, has_child, table_of}
 use Rattle.spawn_frame.specs.declared.child.Child.{Child}
 use Rattle.spawn_frame.specs.declared.guest.Guest.{Guest}
 use Rattle.spawn_frame.specs.declared.site.ChildName.{ChildName}
@@ -146,8 +146,8 @@ none_there table unit h e = false_from_ne_true (has_child unit table.own) (λ t.
 -- ---- the table
 
 pub put_kept : (site : Site) (limit : ℕ) (own : List Child) (guests : List Guest) → IsTable (table_of site limit own guests) own guests → (name : ChildName) (attempt : ℕ) (prefix : List ℕ)
-    → guest_in (map guest_entry guests) name attempt ≡ None → IsTable (table_of site limit own (put_guest (fresh_guest name attempt prefix) guests)) own (put_guest (fresh_guest name attempt prefix) guests)
-put_kept site limit own guests h name attempt prefix absent =
+    → guest_in (map guest_entry guests) name attempt ≡ None → 1 ≤ attempt → IsTable (table_of site limit own (put_guest (fresh_guest name attempt prefix) guests)) own (put_guest (fresh_guest name attempt prefix) guests)
+put_kept site limit own guests h name attempt prefix absent from =
     let new = fresh_guest name attempt prefix in
     let view = put_view new guests in
     record {
@@ -155,9 +155,9 @@ put_kept site limit own guests h name attempt prefix absent =
       names = h.names;
       ascending = subst IsAscending (sym view) (ascending_inserted (guest_entry new) (map guest_entry guests) absent h.ascending);
       parents = record { lower = h.parents.lower; there = λ k c unit at p. there unit (h.parents.there k c unit at p) };
-      own_frames = h.own_frames;
-      guest_frames = each_put (λ g. IsFrame (units.Guest g.name g.work.attempt) g.work (map child_entry own)) new guests
-          (record { whole = λ t. none_there (table_of site limit own guests) (units.Guest name attempt) h.parents absent; split = λ s. absurd (cc) }) h.guest_frames;
+      own_units = h.own_units;
+      guest_units = each_put (λ g. IsUnit (units.Guest g.name g.work.attempt) g.work (map child_entry own)) new guests
+          (record { attempt = from; status = refl; whole = λ t. none_there (table_of site limit own guests) (units.Guest name attempt) h.parents absent; split = λ s. absurd (cc) }) h.guest_units;
     }
   where
     there : (unit : WorkUnit) → IsSome (unit_of (table_of site limit own guests) unit) → IsSome (unit_of (table_of site limit own (put_guest (fresh_guest name attempt prefix) guests)) unit)

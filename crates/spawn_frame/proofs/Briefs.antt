@@ -5,7 +5,7 @@ use Rattle.std.proofs.lemmas.Option.{same_Some}
 use Rattle.spawn_frame.specs.Frames.{cover_of, is_unit}
 use Rattle.spawn_frame.specs.Inlets.{children_left, frame_hearing, frame_winner, is_done, winner_from}
 use Rattle.spawn_frame.specs.Units.{Entry, change_at}
-use Rattle.spawn_frame.specs.Works.{IsFrame, has_child}
+use Rattle.spawn_frame.specs.Works.{IsUnit, has_child}
 use Rattle.spawn_frame.specs.declared.unit.Unit.{Unit as WorkUnit}
 use Rattle.spawn_frame.specs.declared.work.Work.{Work}
 
@@ -59,8 +59,10 @@ pub same_child : (unit : WorkUnit) (old new : List Entry) → briefs new ≡ bri
 same_child unit old new e = child_is unit new ∙ ap (child_by unit) e ∙ sym (child_is unit old)
 
 -- a frame stays in step where it sees the same
-pub same_frame : (unit : WorkUnit) (w : Work) (old new : List Entry) → briefs new ≡ briefs old → IsFrame unit w old → IsFrame unit w new
+pub same_frame : (unit : WorkUnit) (w : Work) (old new : List Entry) → briefs new ≡ briefs old → IsUnit unit w old → IsUnit unit w new
 same_frame unit w old new e h = record {
+  attempt = h.attempt;
+  status = h.status;
   whole = λ t. same_child unit old new e ∙ h.whole t;
   split = λ s. h.split s ∙ ap Some (sym (same_hearing unit old new e));
 }

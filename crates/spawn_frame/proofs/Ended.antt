@@ -9,7 +9,7 @@ use Rattle.spawn_frame.specs.Names.{guest_before, same_name}
 use Rattle.spawn_frame.specs.Picks.{is_split}
 use Rattle.spawn_frame.specs.Tables.{HasParents, IsAscending, has_status, heard_at, may_end, parent_heard, parent_in}
 use Rattle.spawn_frame.specs.Units.{Entry, Table, change_at, is_guest, table_gets, unit_of, with_status}
-use Rattle.spawn_frame.specs.Works.{HearsFrom, IsFrame, IsTable, change_child, change_work, child_entry, frame_says, guest_entry, guests_told, has_child, heard_work, inlet_after, own_told, parent_work, table_of, with_heard, with_work_status, work_in}
+use Rattle.spawn_frame.specs.Works.{HearsFrom, IsUnit, IsTable, change_child, change_work, child_entry, frame_says, guest_entry, guests_told, has_child, heard_work, inlet_after, own_told, parent_work, table_of, with_heard, with_work_status, work_in}
 use Rattle.spawn_frame.specs.declared.child.Child.{Child}
 use Rattle.spawn_frame.specs.declared.child_result.ChildResult.{ChildResult}
 use Rattle.spawn_frame.specs.declared.guest.Guest.{Guest}
@@ -107,10 +107,12 @@ module _ (es : List Entry) (k : ℕ) (c : Entry) (at : slice_get es k ≡ Some c
   abbrev new : List Entry
   new = change_at (with_status (Done result)) es k
 
-  frame_told : (unit : WorkUnit) (w : Work) → c.parent ≡ Some unit → IsFrame unit w es → IsFrame unit (with_heard k result w) new
+  frame_told : (unit : WorkUnit) (w : Work) → c.parent ≡ Some unit → IsUnit unit w es → IsUnit unit (with_heard k result w) new
   frame_told unit w p h =
       let child : is_unit c.parent unit ≡ true = parent_self c.parent unit p in
       record {
+        attempt = h.attempt;
+        status = h.status;
         whole = λ t. absurd (both_ways (has_child unit es) (h.whole t) (child_there unit es k c at child));
         split = λ s.
             ap (λ b. cond b (inlet_after k result w.inlet) w.inlet) (ap is_split s)
@@ -118,15 +120,17 @@ module _ (es : List Entry) (k : ℕ) (c : Entry) (at : slice_get es k ≡ Some c
             ∙ ap Some (sym (hearing_once_done unit result es k c at child undone));
       }
 
-  frame_untold : (unit : WorkUnit) (w : Work) → is_unit c.parent unit ≡ false → IsFrame unit w es → IsFrame unit w new
+  frame_untold : (unit : WorkUnit) (w : Work) → is_unit c.parent unit ≡ false → IsUnit unit w es → IsUnit unit w new
   frame_untold unit w p h = record {
+    attempt = h.attempt;
+    status = h.status;
     whole = λ t. child_once_done unit (Done result) es k ∙ h.whole t;
     split = λ s. h.split s ∙ ap Some (sym (hearing_of_others unit result es k c at p));
   }
 
   -- a child that is done is no frame
-  frame_done : (unit : WorkUnit) (w : Work) → IsFrame unit (with_work_status (Done result) w) new
-  frame_done unit w = record { whole = λ t. absurd (false≢true t); split = λ s. absurd (cc) }
+  frame_done : (j : ℕ) (w : Work) → 1 ≤ w.attempt → IsUnit (units.Own j) (with_work_status (Done result) w) new
+  frame_done j w from = record { attempt = from; status = refl; whole = λ t. absurd (false≢true t); split = λ s. absurd (cc) }
 
 -- ---- guests, of which one hears
 
@@ -194,46 +198,46 @@ module _ (site : Site) (limit : ℕ) (own : List Child) (guests : List Guest) (i
   pub ended_view : table_of site limit own_ended guests_ended ≡ table_gets (table_of site limit own guests) (units.Own k) (Done result)
   ended_view = λ i. record { site = site; limit = limit; own = entries_ended i; guests = guests_same i }
 
-  untold : (unit : WorkUnit) (w : Work) → is_unit parent unit ≡ false → IsFrame unit w es → IsFrame unit w (change_at (with_status (Done result)) es k)
+  untold : (unit : WorkUnit) (w : Work) → is_unit parent unit ≡ false → IsUnit unit w es → IsUnit unit w (change_at (with_status (Done result)) es k)
   untold unit w p h = frame_untold es k (child_entry there.child) entry_at undone result unit w p h
 
-  told : (unit : WorkUnit) (w : Work) → parent ≡ Some unit → IsFrame unit w es → IsFrame unit (hears w) (change_at (with_status (Done result)) es k)
+  told : (unit : WorkUnit) (w : Work) → parent ≡ Some unit → IsUnit unit w es → IsUnit unit (hears w) (change_at (with_status (Done result)) es k)
   told unit w p h = frame_told es k (child_entry there.child) entry_at undone result unit w p h
 
-  own_heard : (p : Option WorkUnit) → parent ≡ p → (j : ℕ) (d : Child) → slice_get (own_told p hears own) j ≡ Some d → IsFrame (units.Own j) d.work (change_at (with_status (Done result)) es k)
-  own_heard None e j d at = untold (units.Own j) d.work (ap (λ q. is_unit q (units.Own j)) e) (is_table.own_frames j d at)
-  own_heard (Some (units.Guest n a)) e j d at = untold (units.Own j) d.work (ap (λ q. is_unit q (units.Own j)) e) (is_table.own_frames j d at)
+  own_heard : (p : Option WorkUnit) → parent ≡ p → (j : ℕ) (d : Child) → slice_get (own_told p hears own) j ≡ Some d → IsUnit (units.Own j) d.work (change_at (with_status (Done result)) es k)
+  own_heard None e j d at = untold (units.Own j) d.work (ap (λ q. is_unit q (units.Own j)) e) (is_table.own_units j d at)
+  own_heard (Some (units.Guest n a)) e j d at = untold (units.Own j) d.work (ap (λ q. is_unit q (units.Own j)) e) (is_table.own_units j d at)
   own_heard (Some (units.Own m)) e j d at =
       let b = child_before hears own m j d at in
       ⊎_elim
       (λ (h : (j ≡ m) × (d ≡ with_work hears b.child)).
-      subst (λ x. IsFrame (units.Own j) x.work (change_at (with_status (Done result)) es k)) (sym h.1)
-      (told (units.Own j) b.child.work (e ∙ ap (λ i. Some (units.Own i)) (sym h.0)) (is_table.own_frames j b.child b.is)))
+      subst (λ x. IsUnit (units.Own j) x.work (change_at (with_status (Done result)) es k)) (sym h.1)
+      (told (units.Own j) b.child.work (e ∙ ap (λ i. Some (units.Own i)) (sym h.0)) (is_table.own_units j b.child b.is)))
       (λ (h : (j ≡ m → ⊥) × (d ≡ b.child)).
-      subst (λ x. IsFrame (units.Own j) x.work (change_at (with_status (Done result)) es k)) (sym h.1)
-      (untold (units.Own j) b.child.work (ap (λ q. is_unit q (units.Own j)) e ∙ ne_eqb m j (λ q. h.0 (sym q))) (is_table.own_frames j b.child b.is)))
+      subst (λ x. IsUnit (units.Own j) x.work (change_at (with_status (Done result)) es k)) (sym h.1)
+      (untold (units.Own j) b.child.work (ap (λ q. is_unit q (units.Own j)) e ∙ ne_eqb m j (λ q. h.0 (sym q))) (is_table.own_units j b.child b.is)))
       b.became
 
-  own_frame : (j : ℕ) (d : Child) → slice_get own_ended j ≡ Some d → IsFrame (units.Own j) d.work (change_at (with_status (Done result)) es k)
+  own_frame : (j : ℕ) (d : Child) → slice_get own_ended j ≡ Some d → IsUnit (units.Own j) d.work (change_at (with_status (Done result)) es k)
   own_frame j d at =
       let b = child_before (with_work_status (Done result)) (own_told parent hears own) k j d at in
       ⊎_elim
       (λ (h : (j ≡ k) × (d ≡ with_work (with_work_status (Done result)) b.child)).
-      subst (λ x. IsFrame (units.Own j) x.work (change_at (with_status (Done result)) es k)) (sym h.1)
-      (frame_done es k (child_entry there.child) entry_at undone result (units.Own j) b.child.work))
+      subst (λ x. IsUnit (units.Own j) x.work (change_at (with_status (Done result)) es k)) (sym h.1)
+      (frame_done es k (child_entry there.child) entry_at undone result j b.child.work (own_heard parent refl j b.child b.is).attempt))
       (λ (h : (j ≡ k → ⊥) × (d ≡ b.child)).
-      subst (λ x. IsFrame (units.Own j) x.work (change_at (with_status (Done result)) es k)) (sym h.1) (own_heard parent refl j b.child b.is))
+      subst (λ x. IsUnit (units.Own j) x.work (change_at (with_status (Done result)) es k)) (sym h.1) (own_heard parent refl j b.child b.is))
       b.became
 
-  guest_heard : (p : Option WorkUnit) → parent ≡ p → AllByRecursion (λ g. IsFrame (units.Guest g.name g.work.attempt) g.work (change_at (with_status (Done result)) es k)) (guests_told p hears guests)
+  guest_heard : (p : Option WorkUnit) → parent ≡ p → AllByRecursion (λ g. IsUnit (units.Guest g.name g.work.attempt) g.work (change_at (with_status (Done result)) es k)) (guests_told p hears guests)
   guest_heard None e =
-      each_weaker (λ g. IsFrame (units.Guest g.name g.work.attempt) g.work es) (λ g. IsFrame (units.Guest g.name g.work.attempt) g.work (change_at (with_status (Done result)) es k))
-      (λ g h. untold (units.Guest g.name g.work.attempt) g.work (ap (λ q. is_unit q (units.Guest g.name g.work.attempt)) e) h) guests is_table.guest_frames
+      each_weaker (λ g. IsUnit (units.Guest g.name g.work.attempt) g.work es) (λ g. IsUnit (units.Guest g.name g.work.attempt) g.work (change_at (with_status (Done result)) es k))
+      (λ g h. untold (units.Guest g.name g.work.attempt) g.work (ap (λ q. is_unit q (units.Guest g.name g.work.attempt)) e) h) guests is_table.guest_units
   guest_heard (Some (units.Own j)) e =
-      each_weaker (λ g. IsFrame (units.Guest g.name g.work.attempt) g.work es) (λ g. IsFrame (units.Guest g.name g.work.attempt) g.work (change_at (with_status (Done result)) es k))
-      (λ g h. untold (units.Guest g.name g.work.attempt) g.work (ap (λ q. is_unit q (units.Guest g.name g.work.attempt)) e) h) guests is_table.guest_frames
+      each_weaker (λ g. IsUnit (units.Guest g.name g.work.attempt) g.work es) (λ g. IsUnit (units.Guest g.name g.work.attempt) g.work (change_at (with_status (Done result)) es k))
+      (λ g h. untold (units.Guest g.name g.work.attempt) g.work (ap (λ q. is_unit q (units.Guest g.name g.work.attempt)) e) h) guests is_table.guest_units
   guest_heard (Some (units.Guest n a)) e =
-      each_told (λ g. IsFrame (units.Guest g.name g.work.attempt) g.work es) (λ g. IsFrame (units.Guest g.name g.work.attempt) g.work (change_at (with_status (Done result)) es k))
+      each_told (λ g. IsUnit (units.Guest g.name g.work.attempt) g.work es) (λ g. IsUnit (units.Guest g.name g.work.attempt) g.work (change_at (with_status (Done result)) es k))
       hears n a
       (λ g t h.
       let parts = and_parts (same_name g.name n) (g.work.attempt == a) t in
@@ -241,7 +245,7 @@ module _ (site : Site) (limit : ℕ) (own : List Child) (guests : List Guest) (i
       let attempt : g.work.attempt ≡ a = eqb-true g.work.attempt a parts.1 in
       told (units.Guest g.name g.work.attempt) g.work (e ∙ (λ i. Some (units.Guest (sym name i) (sym attempt i)))) h)
       (λ g t h. untold (units.Guest g.name g.work.attempt) g.work (ap (λ q. is_unit q (units.Guest g.name g.work.attempt)) e ∙ other_key n a g t) h)
-      guests is_table.ascending is_table.guest_frames
+      guests is_table.ascending is_table.guest_units
     where
       other_key : (n : ChildName) (a : ℕ) (g : Guest) → is_guest n a (guest_entry g) ≡ false → (same_name n g.name && a == g.work.attempt) ≡ false
       other_key n a g t = false_from_ne_true (same_name n g.name && a == g.work.attempt) (λ s.
@@ -267,8 +271,8 @@ module _ (site : Site) (limit : ℕ) (own : List Child) (guests : List Guest) (i
     names = subst (λ n. n ≤ limit) (sym (length_changed (with_work_status (Done result)) (own_told parent hears own) k ∙ told_length hears own parent)) is_table.names;
     ascending = subst IsAscending (sym guests_same) is_table.ascending;
     parents = subst HasParents (sym ended_view) parents_ended;
-    own_frames = λ j d at. subst (λ l. IsFrame (units.Own j) d.work l) (sym entries_ended) (own_frame j d at);
-    guest_frames = subst (λ l. AllByRecursion (λ g. IsFrame (units.Guest g.name g.work.attempt) g.work l) guests_ended) (sym entries_ended) (guest_heard parent refl);
+    own_units = λ j d at. subst (λ l. IsUnit (units.Own j) d.work l) (sym entries_ended) (own_frame j d at);
+    guest_units = subst (λ l. AllByRecursion (λ g. IsUnit (units.Guest g.name g.work.attempt) g.work l) guests_ended) (sym entries_ended) (guest_heard parent refl);
   }
 
   -- ---- what the frame hears
@@ -297,7 +301,7 @@ module _ (site : Site) (limit : ℕ) (own : List Child) (guests : List Guest) (i
       ended : Table
       ended = table_gets (table_of site limit own guests) (units.Own k) (Done result)
 
-      says : (unit : WorkUnit) (w : Work) → parent ≡ Some unit → IsFrame unit w es → (b : Bool) → is_split w.status ≡ b → cond b (heard_work (hears w).inlet) said.Open ≡ cond b (heard_by (frame_result (frame unit ended.own))) said.Open
+      says : (unit : WorkUnit) (w : Work) → parent ≡ Some unit → IsUnit unit w es → (b : Bool) → is_split w.status ≡ b → cond b (heard_work (hears w).inlet) said.Open ≡ cond b (heard_by (frame_result (frame unit ended.own))) said.Open
       says unit w e h true s = ap heard_work ((told unit w e h).split (split_path w.status s)) ∙ same_heard unit ended.own
       says unit w e h false s = refl
 

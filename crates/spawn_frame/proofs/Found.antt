@@ -7,9 +7,9 @@ use Rattle.spawn_frame.specs.Frames.{frame, frame_result}
 use Rattle.spawn_frame.specs.Inlets.{heard_by}
 use Rattle.spawn_frame.specs.Names.{same_name}
 use Rattle.spawn_frame.specs.Picks.{either_unit, first_guest, is_ready, is_split, last_own}
-use Rattle.spawn_frame.specs.Tables.{IsMadeBefore}
+use Rattle.spawn_frame.specs.Tables.{AllLawful, IsLawful, IsMadeBefore}
 use Rattle.spawn_frame.specs.Units.{Entry, is_guest, unit_of}
-use Rattle.spawn_frame.specs.Works.{IsFrame, IsTable, IsWork, child_entry, child_work, entry_of, first_wanted, guest_entry, guest_work, heard_work, is_settled, is_wanted, last_wanted, table_of, wanted_unit, work_in}
+use Rattle.spawn_frame.specs.Works.{IsUnit, IsTable, IsWork, child_entry, child_work, entry_of, first_wanted, guest_entry, guest_work, heard_work, is_settled, is_wanted, last_wanted, table_of, wanted_unit, work_in}
 use Rattle.spawn_frame.specs.declared.child.Child.{Child}
 use Rattle.spawn_frame.specs.declared.guest.Guest.{Guest}
 use Rattle.spawn_frame.specs.declared.site.ChildName.{ChildName}
@@ -27,19 +27,19 @@ use Rattle.spawn_frame.proofs.Sames.{name_path}
 
 -- ---- one unit
 
-guest_frame : (es : List Entry) (gs : List Guest) (n : ChildName) (a : ℕ) (w : Work) → AllByRecursion (λ g. IsFrame (units.Guest g.name g.work.attempt) g.work es) gs
-    → guest_work gs n a ≡ Some w → IsFrame (units.Guest n a) w es
+guest_frame : (es : List Entry) (gs : List Guest) (n : ChildName) (a : ℕ) (w : Work) → AllByRecursion (λ g. IsUnit (units.Guest g.name g.work.attempt) g.work es) gs
+    → guest_work gs n a ≡ Some w → IsUnit (units.Guest n a) w es
 guest_frame es [] n a w p e = absurd (none-some w e)
 guest_frame es (g ∷ gs) n a w p e = go (is_guest n a (guest_entry g)) refl e (λ q. guest_frame es gs n a w p.1 q)
   where
-    go : (t : Bool) → is_guest n a (guest_entry g) ≡ t → cond t (Some g.work) (guest_work gs n a) ≡ Some w → (guest_work gs n a ≡ Some w → IsFrame (units.Guest n a) w es) → IsFrame (units.Guest n a) w es
+    go : (t : Bool) → is_guest n a (guest_entry g) ≡ t → cond t (Some g.work) (guest_work gs n a) ≡ Some w → (guest_work gs n a ≡ Some w → IsUnit (units.Guest n a) w es) → IsUnit (units.Guest n a) w es
     go true t q later =
         let parts = and_parts (same_name g.name n) (g.work.attempt == a) t in
         let name : g.name ≡ n = name_path g.name n parts.0 in
         let attempt : g.work.attempt ≡ a = eqb-true g.work.attempt a parts.1 in
         let work : g.work ≡ w = same_Some g.work w q in
-        subst (λ (x : Work). IsFrame (units.Guest n a) x es) work
-        (subst (λ (k : ChildName × ℕ). IsFrame (units.Guest k.0 k.1) g.work es) (λ i. (name i, attempt i)) p.0)
+        subst (λ (x : Work). IsUnit (units.Guest n a) x es) work
+        (subst (λ (k : ChildName × ℕ). IsUnit (units.Guest k.0 k.1) g.work es) (λ i. (name i, attempt i)) p.0)
     go false t q later = later q
 
 module _ (site : Site) (limit : ℕ) (own : List Child) (guests : List Guest) where
@@ -56,12 +56,12 @@ module _ (site : Site) (limit : ℕ) (own : List Child) (guests : List Guest) wh
           record {
             parent = c.parent;
             is = slice_get-map child_entry own k ∙ ap (option_map child_entry) at ∙ ap (λ x. Some (entry_of c.parent x)) same;
-            in_step = subst (λ x. IsFrame (units.Own k) x (map child_entry own)) same (h.own_frames k c at);
+            in_step = subst (λ x. IsUnit (units.Own k) x (map child_entry own)) same (h.own_units k c at);
           }
   unit_work h (units.Guest n a) w e = record {
     parent = None;
     is = guest_at guests n a ∙ ap (option_map (λ x. entry_of None x)) e;
-    in_step = guest_frame (map child_entry own) guests n a w h.guest_frames e;
+    in_step = guest_frame (map child_entry own) guests n a w h.guest_units e;
   }
 
   pub unit_none : (unit : WorkUnit) → work_in own guests unit ≡ None → unit_of (table_of site limit own guests) unit ≡ None
@@ -71,6 +71,17 @@ module _ (site : Site) (limit : ℕ) (own : List Child) (guests : List Guest) wh
       go None q = refl
       go (Some c) q = absurd (none-some c.work (sym q))
   unit_none (units.Guest n a) e = guest_at guests n a ∙ ap (option_map (λ x. entry_of None x)) e
+
+-- each unit of a table is at an attempt from 1, with a status of its kind
+pub each_lawful : (site : Site) (limit : ℕ) (own : List Child) (guests : List Guest) → IsTable (table_of site limit own guests) own guests → AllLawful (table_of site limit own guests)
+each_lawful site limit own guests h unit entry e = go (work_in own guests unit) refl
+  where
+    go : (o : Option Work) → work_in own guests unit ≡ o → IsLawful unit entry
+    go None at = absurd (none-some entry (sym (unit_none site limit own guests unit at) ∙ e))
+    go (Some w) at =
+        let is_work = unit_work site limit own guests h unit w at in
+        subst (λ c. IsLawful unit c) (same_Some (entry_of is_work.parent w) entry (sym is_work.is ∙ e))
+        (record { attempt = is_work.in_step.attempt; status = is_work.in_step.status })
 
 -- ---- the unit that is looked for
 
@@ -94,7 +105,7 @@ settled_is_some None = refl
 settled_is_some (Some r) = refl
 
 -- a frame whose inlet is in step is settled where it gives a result
-ripe_is : (unit : WorkUnit) (w : Work) (own : List Entry) → IsFrame unit w own → is_wanted wants.Ripe w ≡ (is_split w.status && is_some (frame_result (frame unit own)))
+ripe_is : (unit : WorkUnit) (w : Work) (own : List Entry) → IsUnit unit w own → is_wanted wants.Ripe w ≡ (is_split w.status && is_some (frame_result (frame unit own)))
 ripe_is unit w own h = go w.status refl
   where
     go : (s : Status) → w.status ≡ s → (is_split s && is_settled (heard_work w.inlet)) ≡ (is_split s && is_some (frame_result (frame unit own)))
@@ -117,13 +128,13 @@ pub wanted_is : (site : Site) (limit : ℕ) (own : List Child) (guests : List Gu
 wanted_is site limit own guests h wants.Ready =
     let test : WorkUnit → Entry → Bool = λ unit entry. is_ready entry.status in
     let last = last_is wants.Ready test own 0 (λ i c at. refl) in
-    let first = first_is wants.Ready test guests (each_implied (λ g. IsFrame (units.Guest g.name g.work.attempt) g.work (map child_entry own)) (λ g. is_wanted wants.Ready g.work ≡ is_ready g.work.status) (λ g p. refl) guests h.guest_frames) in
+    let first = first_is wants.Ready test guests (each_implied (λ g. IsUnit (units.Guest g.name g.work.attempt) g.work (map child_entry own)) (λ g. is_wanted wants.Ready g.work ≡ is_ready g.work.status) (λ g p. refl) guests h.guest_units) in
     λ i. either_unit (last i) (first i)
 wanted_is site limit own guests h wants.Ripe =
     let es : List Entry = map child_entry own in
     let test : WorkUnit → Entry → Bool = λ unit entry. is_split entry.status && is_some (frame_result (frame unit es)) in
-    let last = last_is wants.Ripe test own 0 (λ i c at. ripe_is (units.Own i) c.work es (h.own_frames i c at) ∙ ap (λ k. test (units.Own k) (child_entry c)) (omega arith)) in
-    let first = first_is wants.Ripe test guests (each_implied (λ g. IsFrame (units.Guest g.name g.work.attempt) g.work es) (λ g. is_wanted wants.Ripe g.work ≡ test (units.Guest g.name g.work.attempt) (entry_of None g.work)) (λ g p. ripe_is (units.Guest g.name g.work.attempt) g.work es p) guests h.guest_frames) in
+    let last = last_is wants.Ripe test own 0 (λ i c at. ripe_is (units.Own i) c.work es (h.own_units i c at) ∙ ap (λ k. test (units.Own k) (child_entry c)) (omega arith)) in
+    let first = first_is wants.Ripe test guests (each_implied (λ g. IsUnit (units.Guest g.name g.work.attempt) g.work es) (λ g. is_wanted wants.Ripe g.work ≡ test (units.Guest g.name g.work.attempt) (entry_of None g.work)) (λ g p. ripe_is (units.Guest g.name g.work.attempt) g.work es p) guests h.guest_units) in
     λ i. either_unit (last i) (first i)
 
 -- ---- parents

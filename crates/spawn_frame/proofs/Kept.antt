@@ -5,7 +5,7 @@ use Rattle.std.proofs.lemmas.Option.{same_Some, none-some}
 use Rattle.spawn_frame.specs.Names.{guest_before, same_name}
 use Rattle.spawn_frame.specs.Tables.{HasParents, IsAscending, guest_key}
 use Rattle.spawn_frame.specs.Units.{Entry, GuestEntry, Table, guest_in, is_guest, unit_of}
-use Rattle.spawn_frame.specs.Works.{IsFrame, IsTable, change_child, change_work, child_entry, entry_of, guest_entry, guest_work, table_of}
+use Rattle.spawn_frame.specs.Works.{IsUnit, IsTable, change_child, change_work, child_entry, entry_of, guest_entry, guest_work, table_of}
 use Rattle.spawn_frame.specs.declared.child.Child.{Child}
 use Rattle.spawn_frame.specs.declared.guest.Guest.{Guest}
 use Rattle.spawn_frame.specs.declared.site.ChildName.{ChildName}
@@ -127,7 +127,7 @@ each_weaker P Q f (g ∷ gs) p = (f g p.0, each_weaker P Q f gs p.1)
 -- ---- tables
 
 module _ (site : Site) (limit : ℕ) (own : List Child) (guests : List Guest) (is_table : IsTable (table_of site limit own guests) own guests) where
-  pub own_kept : (f : Work → Work) (k : ℕ) (c : Child) → slice_get own k ≡ Some c → (IsFrame (units.Own k) c.work (map child_entry own) → IsFrame (units.Own k) (f c.work) (map child_entry own))
+  pub own_kept : (f : Work → Work) (k : ℕ) (c : Child) → slice_get own k ≡ Some c → (IsUnit (units.Own k) c.work (map child_entry own) → IsUnit (units.Own k) (f c.work) (map child_entry own))
       → brief (entry_of c.parent (f c.work)) ≡ brief (child_entry c) → IsTable (table_of site limit (change_child f own k) guests) (change_child f own k) guests
   own_kept f k c at frame same =
       let e : briefs (map child_entry (change_child f own k)) ≡ briefs (map child_entry own) = child_briefs f own k c at same in
@@ -138,19 +138,19 @@ module _ (site : Site) (limit : ℕ) (own : List Child) (guests : List Guest) (i
         names = subst (λ n. n ≤ limit) (sym (length_changed f own k)) is_table.names;
         ascending = is_table.ascending;
         parents = parents_kept (table_of site limit own guests) (table_of site limit (change_child f own k) guests) is_table.parents e there;
-        own_frames = λ j d at'. let b = child_before f own k j d at' in
+        own_units = λ j d at'. let b = child_before f own k j d at' in
             ⊎_elim
             (λ (h : (j ≡ k) × (d ≡ with_work f b.child)).
             let one : b.child ≡ c = same_Some b.child c (sym b.is ∙ ap (slice_get own) h.0 ∙ at) in
             same_frame (units.Own j) d.work old new e
-            (subst (λ x. IsFrame (units.Own j) x.work old) (sym h.1)
-            (subst (λ x. IsFrame (units.Own j) (f x.work) old) (sym one)
-            (subst (λ i. IsFrame (units.Own i) (f c.work) old) (sym h.0) (frame (is_table.own_frames k c at))))))
+            (subst (λ x. IsUnit (units.Own j) x.work old) (sym h.1)
+            (subst (λ x. IsUnit (units.Own j) (f x.work) old) (sym one)
+            (subst (λ i. IsUnit (units.Own i) (f c.work) old) (sym h.0) (frame (is_table.own_units k c at))))))
             (λ (h : (j ≡ k → ⊥) × (d ≡ b.child)).
-            same_frame (units.Own j) d.work old new e (subst (λ x. IsFrame (units.Own j) x.work old) (sym h.1) (is_table.own_frames j b.child b.is)))
+            same_frame (units.Own j) d.work old new e (subst (λ x. IsUnit (units.Own j) x.work old) (sym h.1) (is_table.own_units j b.child b.is)))
             b.became;
-        guest_frames = each_weaker (λ g. IsFrame (units.Guest g.name g.work.attempt) g.work old) (λ g. IsFrame (units.Guest g.name g.work.attempt) g.work new)
-            (λ g h. same_frame (units.Guest g.name g.work.attempt) g.work old new e h) guests is_table.guest_frames;
+        guest_units = each_weaker (λ g. IsUnit (units.Guest g.name g.work.attempt) g.work old) (λ g. IsUnit (units.Guest g.name g.work.attempt) g.work new)
+            (λ g h. same_frame (units.Guest g.name g.work.attempt) g.work old new e h) guests is_table.guest_units;
       }
     where
       there : (unit : WorkUnit) → IsSome (unit_of (table_of site limit own guests) unit) → IsSome (unit_of (table_of site limit (change_child f own k) guests) unit)
@@ -158,22 +158,22 @@ module _ (site : Site) (limit : ℕ) (own : List Child) (guests : List Guest) (i
       there (units.Guest n a) h = h
 
   pub guests_kept : (f : Work → Work) → ((w : Work) → (f w).attempt ≡ w.attempt) → (n : ChildName) (a : ℕ) (w : Work) → guest_work guests n a ≡ Some w
-      → ((unit : WorkUnit) → IsFrame unit w (map child_entry own) → IsFrame unit (f w) (map child_entry own)) → IsTable (table_of site limit own (change_work f guests n a)) own (change_work f guests n a)
+      → ((m : ChildName) (b : ℕ) → IsUnit (units.Guest m b) w (map child_entry own) → IsUnit (units.Guest m b) (f w) (map child_entry own)) → IsTable (table_of site limit own (change_work f guests n a)) own (change_work f guests n a)
   guests_kept f same n a w at frame = record {
     small = is_table.small;
     names = is_table.names;
     ascending = ascending_kept (map guest_entry guests) (map guest_entry (change_work f guests n a)) (keys_kept f same guests n a) is_table.ascending;
     parents = parents_kept (table_of site limit own guests) (table_of site limit own (change_work f guests n a)) is_table.parents refl there;
-    own_frames = is_table.own_frames;
-    guest_frames = each_changed (λ g. IsFrame (units.Guest g.name g.work.attempt) g.work (map child_entry own)) f guests n a w at changed is_table.guest_frames;
+    own_units = is_table.own_units;
+    guest_units = each_changed (λ g. IsUnit (units.Guest g.name g.work.attempt) g.work (map child_entry own)) f guests n a w at changed is_table.guest_units;
   }
     where
       there : (unit : WorkUnit) → IsSome (unit_of (table_of site limit own guests) unit) → IsSome (unit_of (table_of site limit own (change_work f guests n a)) unit)
       there (units.Own j) h = h
       there (units.Guest m b) h = guest_there f same guests n m a b ∙ h
 
-      changed : (g : Guest) → g.work ≡ w → IsFrame (units.Guest g.name g.work.attempt) g.work (map child_entry own) → IsFrame (units.Guest g.name (f g.work).attempt) (f g.work) (map child_entry own)
+      changed : (g : Guest) → g.work ≡ w → IsUnit (units.Guest g.name g.work.attempt) g.work (map child_entry own) → IsUnit (units.Guest g.name (f g.work).attempt) (f g.work) (map child_entry own)
       changed g e h =
-          subst (λ b. IsFrame (units.Guest g.name b) (f g.work) (map child_entry own)) (sym (same g.work))
-          (subst (λ x. IsFrame (units.Guest g.name g.work.attempt) (f x) (map child_entry own)) (sym e)
-          (frame (units.Guest g.name g.work.attempt) (subst (λ x. IsFrame (units.Guest g.name g.work.attempt) x (map child_entry own)) e h)))
+          subst (λ b. IsUnit (units.Guest g.name b) (f g.work) (map child_entry own)) (sym (same g.work))
+          (subst (λ x. IsUnit (units.Guest g.name g.work.attempt) (f x) (map child_entry own)) (sym e)
+          (frame g.name g.work.attempt (subst (λ x. IsUnit (units.Guest g.name g.work.attempt) x (map child_entry own)) e h)))

@@ -8,9 +8,9 @@ use Rattle.spawn_frame.specs.Frames.{cover_of}
 use Rattle.spawn_frame.specs.Inlets.{is_done}
 use Rattle.spawn_frame.specs.Names.{same_name, same_unit}
 use Rattle.spawn_frame.specs.Splits.{new_child, split_into}
-use Rattle.spawn_frame.specs.Tables.{HasParents, IsAscending, is_here}
+use Rattle.spawn_frame.specs.Tables.{HasParents, IsAscending, is_here, suits}
 use Rattle.spawn_frame.specs.Units.{Entry, guest_in, is_guest, table_gets, table_own, unit_of, with_status}
-use Rattle.spawn_frame.specs.Works.{IsFrame, IsTable, IsWork, change_child, change_work, child_entry, child_work, fresh_child, guest_entry, guests_after, has_child, is_whole, new_work, own_after, split_work, table_of, work_in}
+use Rattle.spawn_frame.specs.Works.{IsUnit, IsTable, IsWork, change_child, change_work, child_entry, child_work, fresh_child, guest_entry, guests_after, has_child, is_whole, new_work, own_after, split_work, table_of, work_in}
 use Rattle.spawn_frame.specs.declared.child.Child.{Child}
 use Rattle.spawn_frame.specs.declared.guest.Guest.{Guest}
 use Rattle.spawn_frame.specs.declared.site.Site.{Site}
@@ -27,6 +27,11 @@ use Rattle.spawn_frame.proofs.Kept.{ascending_kept, child_briefs, each_weaker, g
 use Rattle.spawn_frame.proofs.Lookups.{child_before, child_view, guest_view, with_work}
 use Rattle.spawn_frame.proofs.Sames.{name_path, parent_path, same_name_self}
 use Rattle.spawn_frame.proofs.Spawned.{child_append, child_of_other, entries_new, hearing_append, hearing_new, news}
+
+-- any unit may be split
+split_suits : (unit : WorkUnit) → suits unit Split ≡ true
+split_suits (units.Own serial) = refl
+split_suits (units.Guest name attempt) = refl
 
 -- ---- lists with others behind them
 
@@ -150,24 +155,30 @@ module _ (site : Site) (limit : ℕ) (own : List Child) (guests : List Guest) (i
   entries_are : map child_entry own_split ≡ entries
   entries_are = ap (map child_entry) own_is ∙ map-append child_entry front kids ∙ ap (λ l. map child_entry front ++ l) (entries_new unit ps)
 
-  untold : (v : WorkUnit) (x : Work) → same_unit unit v ≡ false → IsFrame v x es → IsFrame v x entries
+  untold : (v : WorkUnit) (x : Work) → same_unit unit v ≡ false → IsUnit v x es → IsUnit v x entries
   untold v x d h =
       let f = same_frame v x es (map child_entry front) front_briefs h in
       let other = child_of_other unit v ps d in
       record {
+        attempt = h.attempt;
+        status = h.status;
         whole = λ t. child_append v (map child_entry front) (news unit ps) (f.whole t) other;
         split = λ s. f.split s ∙ ap Some (sym (hearing_append v (map child_entry front) (news unit ps) other));
       }
 
-  told : (x : Work) → IsFrame unit (becomes x) entries
-  told x = record {
+  told : (x : Work) → 1 ≤ x.attempt → IsUnit unit (becomes x) entries
+  told x from = record {
+    attempt = from;
+    status = split_suits unit;
     whole = λ t. absurd (false≢true t);
     split = λ s. ap Some (sym (hearing_new unit (map child_entry front) ps (same_child unit es (map child_entry front) front_briefs ∙ childless)));
   }
 
   -- a child that is made has no children yet
-  fresh : (j : ℕ) (p : List ℕ) → length own ≤ j → IsFrame (units.Own j) (new_work p 1) entries
+  fresh : (j : ℕ) (p : List ℕ) → length own ≤ j → IsUnit (units.Own j) (new_work p 1) entries
   fresh j p l = record {
+    attempt = omega arith;
+    status = refl;
     whole = λ t. child_append (units.Own j) (map child_entry front) (news unit ps) (same_child (units.Own j) es (map child_entry front) front_briefs ∙ none) (child_of_other unit (units.Own j) ps (other unit refl));
     split = λ s. absurd (cc);
   }
@@ -183,41 +194,41 @@ module _ (site : Site) (limit : ℕ) (own : List Child) (guests : List Guest) (i
       other (units.Own k) e = let below = own_below k e in ne_eqb k j (omega (arith, l, below))
       other (units.Guest n a) e = refl
 
-  own_front : (u : WorkUnit) → unit ≡ u → (j : ℕ) (d : Child) → slice_get (own_after u becomes own) j ≡ Some d → IsFrame (units.Own j) d.work entries
-  own_front (units.Guest n a) e j d at = untold (units.Own j) d.work (ap (λ u. same_unit u (units.Own j)) e) (is_table.own_frames j d at)
+  own_front : (u : WorkUnit) → unit ≡ u → (j : ℕ) (d : Child) → slice_get (own_after u becomes own) j ≡ Some d → IsUnit (units.Own j) d.work entries
+  own_front (units.Guest n a) e j d at = untold (units.Own j) d.work (ap (λ u. same_unit u (units.Own j)) e) (is_table.own_units j d at)
   own_front (units.Own k) e j d at =
       let b = child_before becomes own k j d at in
       ⊎_elim
       (λ (h : (j ≡ k) × (d ≡ with_work becomes b.child)).
-      subst (λ x. IsFrame (units.Own j) x.work entries) (sym h.1)
-      (subst (λ u. IsFrame u (becomes b.child.work) entries) (e ∙ ap units.Own (sym h.0)) (told b.child.work)))
+      subst (λ x. IsUnit (units.Own j) x.work entries) (sym h.1)
+      (subst (λ u. IsUnit u (becomes b.child.work) entries) (e ∙ ap units.Own (sym h.0)) (told b.child.work (is_table.own_units j b.child b.is).attempt)))
       (λ (h : (j ≡ k → ⊥) × (d ≡ b.child)).
-      subst (λ x. IsFrame (units.Own j) x.work entries) (sym h.1)
-      (untold (units.Own j) b.child.work (ap (λ u. same_unit u (units.Own j)) e ∙ ne_eqb k j (λ q. h.0 (sym q))) (is_table.own_frames j b.child b.is)))
+      subst (λ x. IsUnit (units.Own j) x.work entries) (sym h.1)
+      (untold (units.Own j) b.child.work (ap (λ u. same_unit u (units.Own j)) e ∙ ne_eqb k j (λ q. h.0 (sym q))) (is_table.own_units j b.child b.is)))
       b.became
 
-  own_frame : (j : ℕ) (d : Child) → slice_get (front ++ kids) j ≡ Some d → IsFrame (units.Own j) d.work entries
+  own_frame : (j : ℕ) (d : Child) → slice_get (front ++ kids) j ≡ Some d → IsUnit (units.Own j) d.work entries
   own_frame j d at = ⊎_elim
       (λ (h : slice_get front j ≡ Some d). own_front unit refl j d h)
       (λ (h : (i : ℕ) × (length front ≤ j) × (slice_get kids i ≡ Some d)).
       let p = new_at unit ps h.0 d h.2 in
-      subst (λ x. IsFrame (units.Own j) x.work entries) (sym p.1) (fresh j p.0 (subst (λ n. n ≤ j) front_length h.1)))
+      subst (λ x. IsUnit (units.Own j) x.work entries) (sym p.1) (fresh j p.0 (subst (λ n. n ≤ j) front_length h.1)))
       (front_or_behind front kids j d at)
 
-  guest_frame : (u : WorkUnit) → unit ≡ u → AllByRecursion (λ g. IsFrame (units.Guest g.name g.work.attempt) g.work entries) (guests_after u becomes guests)
+  guest_frame : (u : WorkUnit) → unit ≡ u → AllByRecursion (λ g. IsUnit (units.Guest g.name g.work.attempt) g.work entries) (guests_after u becomes guests)
   guest_frame (units.Own k) e =
-      each_weaker (λ g. IsFrame (units.Guest g.name g.work.attempt) g.work es) (λ g. IsFrame (units.Guest g.name g.work.attempt) g.work entries)
-      (λ g h. untold (units.Guest g.name g.work.attempt) g.work (ap (λ u. same_unit u (units.Guest g.name g.work.attempt)) e) h) guests is_table.guest_frames
+      each_weaker (λ g. IsUnit (units.Guest g.name g.work.attempt) g.work es) (λ g. IsUnit (units.Guest g.name g.work.attempt) g.work entries)
+      (λ g h. untold (units.Guest g.name g.work.attempt) g.work (ap (λ u. same_unit u (units.Guest g.name g.work.attempt)) e) h) guests is_table.guest_units
   guest_frame (units.Guest n a) e =
-      each_told (λ g. IsFrame (units.Guest g.name g.work.attempt) g.work es) (λ g. IsFrame (units.Guest g.name g.work.attempt) g.work entries)
+      each_told (λ g. IsUnit (units.Guest g.name g.work.attempt) g.work es) (λ g. IsUnit (units.Guest g.name g.work.attempt) g.work entries)
       becomes n a
       (λ g t h.
       let parts = and_parts (same_name g.name n) (g.work.attempt == a) t in
       let name : g.name ≡ n = name_path g.name n parts.0 in
       let attempt : g.work.attempt ≡ a = eqb-true g.work.attempt a parts.1 in
-      subst (λ u. IsFrame u (becomes g.work) entries) (e ∙ (λ i. units.Guest (sym name i) (sym attempt i))) (told g.work))
+      subst (λ u. IsUnit u (becomes g.work) entries) (e ∙ (λ i. units.Guest (sym name i) (sym attempt i))) (told g.work h.attempt))
       (λ g t h. untold (units.Guest g.name g.work.attempt) g.work (ap (λ u. same_unit u (units.Guest g.name g.work.attempt)) e ∙ other_key g t) h)
-      guests is_table.ascending is_table.guest_frames
+      guests is_table.ascending is_table.guest_units
     where
       other_key : (g : Guest) → is_guest n a (guest_entry g) ≡ false → (same_name n g.name && a == g.work.attempt) ≡ false
       other_key g t = false_from_ne_true (same_name n g.name && a == g.work.attempt) (λ s.
@@ -280,6 +291,6 @@ module _ (site : Site) (limit : ℕ) (own : List Child) (guests : List Guest) (i
     names = subst (λ n. n ≤ limit) (sym (ap length own_is ∙ length-append front kids ∙ (λ i. front_length i + length-map ps (fresh_child unit) i))) fits;
     ascending = ascending_split unit;
     parents = parents_split;
-    own_frames = λ j d at. subst (λ l. IsFrame (units.Own j) d.work l) (sym entries_are) (own_frame j d (ap (λ l. slice_get l j) (sym own_is) ∙ at));
-    guest_frames = subst (λ l. AllByRecursion (λ g. IsFrame (units.Guest g.name g.work.attempt) g.work l) guests_split) (sym entries_are) (guest_frame unit refl);
+    own_units = λ j d at. subst (λ l. IsUnit (units.Own j) d.work l) (sym entries_are) (own_frame j d (ap (λ l. slice_get l j) (sym own_is) ∙ at));
+    guest_units = subst (λ l. AllByRecursion (λ g. IsUnit (units.Guest g.name g.work.attempt) g.work l) guests_split) (sym entries_are) (guest_frame unit refl);
   }

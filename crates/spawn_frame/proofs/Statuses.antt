@@ -1,13 +1,13 @@
 -- Units that get another status of which no frame hears.
-use Rattle.std.proofs.Common.{◌≡◌, ℕ, Bool, true, not, ◌||◌, List, map, option_map, Option, Some, None, is_some, slice_get, get_or, refl, sym, ap, ◌∙◌, ⊎_elim}
+use Rattle.std.proofs.Common.{◌≡◌, ℕ, Bool, true, not, ◌&&◌, ◌||◌, List, map, option_map, Option, Some, None, is_some, slice_get, get_or, refl, sym, ap, ◌∙◌, ⊎_elim}
 use Rattle.std.proofs.lemmas.Option.{same_Some, slice_get-map, slice_get_within}
 use Rattle.std.proofs.lemmas.Bool.{and_parts, not-true, or_parts, or_cases, both_ways, false≢true}
 use Rattle.spawn_frame.specs.Frames.{cover_of}
 use Rattle.spawn_frame.specs.Inlets.{is_done}
 use Rattle.spawn_frame.specs.Picks.{is_split}
-use Rattle.spawn_frame.specs.Tables.{has_status}
+use Rattle.spawn_frame.specs.Tables.{has_status, suits}
 use Rattle.spawn_frame.specs.Units.{Entry, guest_in, table_gets, table_guests, table_own, unit_of, with_status}
-use Rattle.spawn_frame.specs.Works.{IsFrame, IsTable, child_entry, child_work, entry_of, guest_entry, guest_work, guests_after, is_whole, keeps_frame, may_become, own_after, table_of, with_work_status, work_in}
+use Rattle.spawn_frame.specs.Works.{IsUnit, IsTable, child_entry, child_work, entry_of, guest_entry, guest_work, guests_after, is_whole, keeps_frame, may_become, own_after, table_of, with_work_status, work_in}
 use Rattle.spawn_frame.specs.declared.child.Child.{Child}
 use Rattle.spawn_frame.specs.declared.guest.Guest.{Guest}
 use Rattle.spawn_frame.specs.declared.site.ChildName.{ChildName}
@@ -49,10 +49,12 @@ guest_with_status test guests name attempt h = go (guest_work guests name attemp
     go (Some w) e t = record { work = w; is = e; passes = t }
 
 -- a frame stays in step under a status that keeps it
-pub frame_becomes : (status : Status) (unit : WorkUnit) (w : Work) (own : List Entry) → keeps_frame status w.status ≡ true → IsFrame unit w own → IsFrame unit (with_work_status status w) own
-frame_becomes status unit w own k h =
+pub frame_becomes : (status : Status) (unit : WorkUnit) (w : Work) (own : List Entry) → suits unit status ≡ true → keeps_frame status w.status ≡ true → IsUnit unit w own → IsUnit unit (with_work_status status w) own
+frame_becomes status unit w own fits k h =
     let p = and_parts (not (is_split status)) (not (is_whole status) || is_whole w.status) k in
     record {
+      attempt = h.attempt;
+      status = fits;
       whole = λ t. h.whole (⊎_elim (λ (n : not (is_whole status) ≡ true). absurd (both_ways (is_whole status) (not-true (is_whole status) n) t)) (λ (o : is_whole w.status ≡ true). o) (or_cases (not (is_whole status)) (is_whole w.status) p.1));
       split = λ s. absurd (both_ways (is_split status) (not-true (is_split status) p.0) (ap is_split s));
     }
@@ -69,11 +71,13 @@ pub status_kept : (site : Site) (limit : ℕ) (own : List Child) (guests : List 
     → IsTable (table_of site limit (own_after unit (with_work_status status) own) (guests_after unit (with_work_status status) guests)) (own_after unit (with_work_status status) own) (guests_after unit (with_work_status status) guests)
 status_kept site limit own guests h (units.Own k) status t =
     let c = child_with (may_become (units.Own k) status) own k t in
-    let p = and_parts (not (is_done status || is_done c.child.work.status)) (keeps_frame status c.child.work.status) c.passes in
-    own_kept site limit own guests h (with_work_status status) k c.child c.is (frame_becomes status (units.Own k) c.child.work (map child_entry own) p.1) (undone_brief c.child.parent c.child.work status p.0)
+    let fits = and_parts (suits (units.Own k) status) (not (is_done status || is_done c.child.work.status) && keeps_frame status c.child.work.status) c.passes in
+    let p = and_parts (not (is_done status || is_done c.child.work.status)) (keeps_frame status c.child.work.status) fits.1 in
+    own_kept site limit own guests h (with_work_status status) k c.child c.is (frame_becomes status (units.Own k) c.child.work (map child_entry own) fits.0 p.1) (undone_brief c.child.parent c.child.work status p.0)
 status_kept site limit own guests h (units.Guest name attempt) status t =
-    let g = guest_with_status (keeps_frame status) guests name attempt t in
-    guests_kept site limit own guests h (with_work_status status) (λ w. refl) name attempt g.work g.is (λ unit. frame_becomes status unit g.work (map child_entry own) g.passes)
+    let g = guest_with_status (may_become (units.Guest name attempt) status) guests name attempt t in
+    let fits = and_parts (suits (units.Guest name attempt) status) (keeps_frame status g.work.status) g.passes in
+    guests_kept site limit own guests h (with_work_status status) (λ w. refl) name attempt g.work g.is (λ m b. frame_becomes status (units.Guest m b) g.work (map child_entry own) fits.0 fits.1)
 
 pub status_view : (site : Site) (limit : ℕ) (own : List Child) (guests : List Guest) (unit : WorkUnit) (status : Status)
     → table_of site limit (own_after unit (with_work_status status) own) (guests_after unit (with_work_status status) guests) ≡ table_gets (table_of site limit own guests) unit status

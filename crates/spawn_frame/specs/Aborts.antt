@@ -2,7 +2,6 @@
 use Rattle.std.specs.Prelude.{◌≡◌, ◌⊎◌, ℕ, suc, Bool, true, false, length, List, [], ◌∷◌, ◌++◌, Some, slice_get}
 use Rattle.spawn_frame.specs.Units.{Entry, with_status}
 use Rattle.spawn_frame.specs.declared.out.Out.{Out as WasOut}
-use Rattle.spawn_frame.specs.declared.site.Site.{Site}
 use Rattle.spawn_frame.specs.declared.status.Status.{Status}
 use Rattle.spawn_frame.specs.declared.status.Status.TheVariants.{Aborted, Finished, Here, Out, Ready, Split}
 use Rattle.spawn_frame.specs.declared.unit.Unit.{Unit as WorkUnit}

@@ -1,5 +1,5 @@
 -- What the calls of a table ask for and answer.
-use Rattle.std.specs.Prelude.{◌≡◌, ℕ, ◌<◌, IsSome, Bool, true, false, if◌then◌else◌, List, [], ◌∷◌, ◌++◌, map, Option, Some, None, slice_get}
+use Rattle.std.specs.Prelude.{◌≡◌, ℕ, ◌<◌, ◌≤◌, IsSome, Bool, true, false, if◌then◌else◌, List, [], ◌∷◌, ◌++◌, map, Option, Some, None, slice_get}
 use Rattle.std.specs.List.{AllByRecursion}
 use Rattle.spawn_frame.specs.Frames.{frame, frame_result, is_unit}
 use Rattle.spawn_frame.specs.Inlets.{heard_by}
@@ -12,7 +12,7 @@ use Rattle.spawn_frame.specs.declared.heard.Heard.TheVariants.{Open}
 use Rattle.spawn_frame.specs.declared.site.ChildName.{ChildName}
 use Rattle.spawn_frame.specs.declared.site.Site.{Site}
 use Rattle.spawn_frame.specs.declared.status.Status.{Status}
-use Rattle.spawn_frame.specs.declared.status.Status.TheVariants.{Done, Here, Out, Ready, Split}
+use Rattle.spawn_frame.specs.declared.status.Status.TheVariants.{Aborted, Done, Dropped, Finished, Here, Out, Ready, Settled, Split}
 use Rattle.spawn_frame.specs.declared.unit.Unit.{Unit as WorkUnit}
 use Rattle.spawn_frame.specs.declared.unit.Unit.TheVariants.{Guest, Own}
 
@@ -37,6 +37,26 @@ is_here _ = false
 abbrev pub is_out : Status → Bool
 is_out (Out thief) = true
 is_out _ = false
+
+-- a status that goes with the kind of unit: a guest is never out, done or aborted, an own child never finished, settled or dropped
+abbrev pub suits : WorkUnit → Status → Bool
+suits (Own serial) (Finished result) = false
+suits (Own serial) (Settled result) = false
+suits (Own serial) Dropped = false
+suits (Own serial) _ = true
+suits (Guest name attempt) (Out thief) = false
+suits (Guest name attempt) (Done result) = false
+suits (Guest name attempt) Aborted = false
+suits (Guest name attempt) _ = true
+
+-- A unit as it may be: at an attempt from 1, with a status of its kind.
+pub record IsLawful (unit : WorkUnit) (entry : Entry) : Type 0 where
+  pub attempt : 1 ≤ entry.attempt
+  pub status : suits unit entry.status ≡ true
+
+-- each unit of the table is so
+abbrev pub AllLawful : Table → Type 0
+AllLawful table = (unit : WorkUnit) (entry : Entry) → unit_of table unit ≡ Some entry → IsLawful unit entry
 
 -- its result may come: it is worked on, here or by a thief, or it is a frame
 abbrev pub may_end : Status → Bool

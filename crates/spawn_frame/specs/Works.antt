@@ -4,7 +4,7 @@ use Rattle.std.specs.List.{AllByRecursion, list_any}
 use Rattle.spawn_frame.specs.Frames.{is_unit}
 use Rattle.spawn_frame.specs.Inlets.{Hearing, frame_hearing, heard_of, hearing_of, is_done, new_hearing}
 use Rattle.spawn_frame.specs.Picks.{either_unit, is_ready, is_split, ready_unit, ripe_unit}
-use Rattle.spawn_frame.specs.Tables.{HasParents, IsAscending}
+use Rattle.spawn_frame.specs.Tables.{HasParents, IsAscending, suits}
 use Rattle.spawn_frame.specs.Units.{Entry, GuestEntry, Table, is_guest, unit_of}
 use Rattle.spawn_frame.specs.declared.child.Child.{Child}
 use Rattle.spawn_frame.specs.declared.child_result.ChildResult.{ChildResult}
@@ -48,19 +48,23 @@ is_whole _ = false
 abbrev pub has_child : WorkUnit → List Entry → Bool
 has_child unit own = list_any (λ c. is_unit c.parent unit) own
 
--- A unit that was never split has no children, and the inlet of one that is split is in step with them.
-pub record IsFrame (unit : WorkUnit) (w : Work) (own : List Entry) : Type 0 where
+-- What is true of each unit: its attempt is at least 1, its status is of its kind, it has no children before it is split, and the
+-- inlet of one that is split is in step with them.
+pub record IsUnit (unit : WorkUnit) (w : Work) (own : List Entry) : Type 0 where
+  pub attempt : 1 ≤ w.attempt
+  pub status : suits unit w.status ≡ true
   pub whole : is_whole w.status ≡ true → has_child unit own ≡ false
   pub split : w.status ≡ Split → w.inlet ≡ Some (frame_hearing unit own)
 
--- What is true of every table: no more names than the limit, guests in order, parents before their children, inlets in step.
+-- What is true of every table: no more names than the limit, guests in order, parents before their children, and what is true of
+-- each unit.
 pub record IsTable (table : Table) (own : List Child) (guests : List Guest) : Type 0 where
   pub small : table.limit < 2 ^ 32
   pub names : length own ≤ table.limit
   pub ascending : IsAscending table.guests
   pub parents : HasParents table
-  pub own_frames : (k : ℕ) (c : Child) → slice_get own k ≡ Some c → IsFrame (units.Own k) c.work table.own
-  pub guest_frames : AllByRecursion (λ g. IsFrame (units.Guest g.name g.work.attempt) g.work table.own) guests
+  pub own_units : (k : ℕ) (c : Child) → slice_get own k ≡ Some c → IsUnit (units.Own k) c.work table.own
+  pub guest_units : AllByRecursion (λ g. IsUnit (units.Guest g.name g.work.attempt) g.work table.own) guests
 
 -- work that nobody has taken up
 abbrev pub new_work : List ℕ → ℕ → Work
@@ -197,7 +201,7 @@ wanted_unit wants.Ripe table = ripe_unit table
 pub record IsWork (table : Table) (unit : WorkUnit) (w : Work) : Type 0 where
   pub parent : Option WorkUnit
   pub is : unit_of table unit ≡ Some (entry_of parent w)
-  pub in_step : IsFrame unit w table.own
+  pub in_step : IsUnit unit w table.own
 
 -- the root of the search
 abbrev pub root_child : Child
@@ -215,7 +219,7 @@ fresh_guest name attempt prefix = record { name = name; work = new_work prefix a
 abbrev pub keeps_frame : Status → Status → Bool
 keeps_frame new old = not (is_split new) && (not (is_whole new) || is_whole old)
 
--- a status that a unit may get with no frame hearing of it: an own child isn't done before or after
+-- a status of its kind that a unit may get with no frame hearing of it: an own child isn't done before or after
 abbrev pub may_become : WorkUnit → Status → Status → Bool
-may_become (units.Own serial) new old = not (is_done new || is_done old) && keeps_frame new old
-may_become (units.Guest name attempt) new old = keeps_frame new old
+may_become (units.Own serial) new old = suits (units.Own serial) new && (not (is_done new || is_done old) && keeps_frame new old)
+may_become (units.Guest name attempt) new old = suits (units.Guest name attempt) new && keeps_frame new old

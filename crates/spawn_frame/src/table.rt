@@ -6,7 +6,7 @@ ghost use Rattle.spawn_frame.specs.Frames.{frame, frame_result};
 ghost use Rattle.spawn_frame.specs.Inlets.{frame_winner, heard_by};
 ghost use Rattle.spawn_frame.specs.Picks.{is_finished, is_ready, is_split, ready_unit, ripe_unit};
 ghost use Rattle.spawn_frame.specs.Splits.{split_into, with_result};
-ghost use Rattle.spawn_frame.specs.Tables.{attempt_in, empty_table, guest_key, has_status, is_after, is_here, is_out, longer_prefixes, may_end, new_guest, parent_heard, parent_in, prefix_in, root_table, GivesResult, HasParents, IsAscending, IsMadeBefore, IsSeen};
+ghost use Rattle.spawn_frame.specs.Tables.{attempt_in, empty_table, guest_key, has_status, is_after, is_here, is_out, longer_prefixes, may_end, new_guest, parent_heard, parent_in, prefix_in, root_table, AllLawful, GivesResult, HasParents, IsAscending, IsMadeBefore, IsSeen};
 ghost use Rattle.spawn_frame.specs.declared.site.ChildName.{ChildName};
 ghost use Rattle.spawn_frame.specs.declared.status.Status.{Status};
 ghost use Rattle.spawn_frame.specs.Units.{change_at, guest_in, insert_guest, last_attempt, redone, table_gets, table_guests, table_own, unit_of};
@@ -129,11 +129,14 @@ impl Table {
         self.names_limit
     }
 
-    /// How many children the site has named: the serials are the numbers below.
+    /// How many children the site has named: the serials are the numbers below. The other clauses say what is true of
+    /// every table.
     pub fn issued(&self) -> u32
         ensures issued { result ≡ length self.now.own }
         ensures within { length self.now.own ≤ self.now.limit }
         ensures parents { HasParents self.now }
+        ensures ascending { IsAscending self.now.guests }
+        ensures lawful { AllLawful self.now }
     {
         self.own.len() as u32
     }

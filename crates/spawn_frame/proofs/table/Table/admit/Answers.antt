@@ -17,7 +17,7 @@ invariant_of-self-2 c =
     let put = c.in_ok-insert.ensures.items ∙ (λ i. insert t.guests.items (place i) (c.in_ok-guest.ensures i)) ∙ put_is new t.guests.items in
     subst (λ guests. IsTable (table_of t.site t.names_limit t.own.items guests) t.own.items guests) (sym put)
     (put_kept t.site t.names_limit t.own.items t.guests.items c.self.invariant c.args.name c.args.attempt c.args.prefix.now
-    (ap (λ v. guest_in v.guests c.args.name c.args.attempt) c.self.view_is ∙ c.requires.absent))
+    (ap (λ v. guest_in v.guests c.args.name c.args.attempt) c.self.view_is ∙ c.requires.absent) c.requires.attempt)
 
 pub returns-clause-ok : goal.returns-clause-ok
 returns-clause-ok c =
