@@ -8,3 +8,4 @@ pub mod Marking
 pub mod Order
 pub mod Redoing
 pub mod Scans
+pub mod Outrun

@@ -1,5 +1,5 @@
 -- A site's units of work, with what it knows of the other sites.
-use Rattle.std.specs.Prelude.{◌≡◌, ℕ, suc, ◌≤◌, List, length, replicate}
+use Rattle.std.specs.Prelude.{ℕ, suc, List, replicate}
 use Rattle.spawn_frame.specs.Tables.{empty_table, root_table}
 use Rattle.spawn_frame.specs.Units.{Entry, GuestEntry, Table, table_gets, table_guests, table_own}
 use Rattle.spawn_frame.specs.declared.site.Site.{Site}
@@ -36,8 +36,3 @@ opening_ledger site nodes limit = record { table = empty_table site limit; nodes
 -- the registry that begins, with the root alone
 abbrev pub root_ledger : ℕ → Ledger
 root_ledger nodes = record { table = root_table; nodes = nodes; known = replicate (suc nodes) 1 }
-
--- What is true of every ledger: one incarnation is known of the registry and of each node, of which the site is one.
-pub record IsLedger (ledger : Ledger) : Type 0 where
-  pub each : length ledger.known ≡ suc ledger.nodes
-  pub within : ledger.site.node ≤ ledger.nodes

@@ -1,5 +1,6 @@
 pub mod Finishing
 pub mod Guests
+pub mod Invariant
 pub mod Ledger
 pub mod Members
 pub mod Returns

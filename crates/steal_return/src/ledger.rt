@@ -9,6 +9,7 @@ ghost use Rattle.spawn_frame.specs.Tables.{attempt_in, has_status, is_here, is_o
 ghost use Rattle.spawn_frame.specs.Units.{last_attempt, unit_of};
 ghost use Rattle.steal_return.specs.Finishing.{Appends, FinishesFrame};
 ghost use Rattle.steal_return.specs.Guests.{AdmitsGuest, DropsGuest, IsNotFinished, IsNotNew, IsNotOpen, SettlesGuest};
+ghost use Rattle.steal_return.specs.Invariant.{IsLedger};
 ghost use Rattle.steal_return.specs.Ledger.{ledger_gets, ledger_table, opening_ledger, root_ledger};
 ghost use Rattle.steal_return.specs.Members.{now_known, Differs, IsAlike, IsSpent, LearnsMembers};
 ghost use Rattle.steal_return.specs.Returns.{judged, reply_to, returned};
@@ -39,7 +40,8 @@ pub struct Ledger {
 }
 
 impl Model for Ledger {
-    ghost use Rattle.steal_return.specs.Ledger.{IsLedger, Ledger as SeenLedger};
+    ghost use Rattle.steal_return.specs.Invariant.{IsLedger};
+    ghost use Rattle.steal_return.specs.Ledger.{Ledger as SeenLedger};
 
     ghost Value = { SeenLedger };
 
@@ -89,9 +91,10 @@ impl Ledger {
         })
     }
 
-    /// The units of work.
+    /// The units of work. The other clause says what is true of every ledger.
     pub fn table(&self) -> &Table
-        ensures { result.now ≡ self.now.table }
+        ensures table { result.now ≡ self.now.table }
+        ensures ledger { IsLedger self.now }
     {
         &self.table
     }

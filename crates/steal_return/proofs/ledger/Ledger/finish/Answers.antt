@@ -1,3 +1,4 @@
+use Rattle.steal_return.proofs.Outrun.{aborts, ends}
 use Rattle.std.proofs.Common.{◌≤◌, length, sym, ap, subst, ◌∙◌, arith}
 use Rattle.abort_tree.specs.Below.{outs_from}
 use Rattle.spawn_frame.specs.Splits.{with_result}
@@ -29,3 +30,8 @@ returns-clause-ok c = (
       (parents_gets c.self.inside.table c.args.unit (with_result c.args.unit c.in_ok-came.came) ∙ ap (λ t. parents t.own) (sym c.set_result.ensures.after))
       c.in_ok-reach.ensures)),
 )
+
+pub invariant_of-self : goal.invariant_of-self
+invariant_of-self c =
+    aborts _ (ends _ c.self.invariant c.args.unit c.in_ok-came.came c.set_result.new.self c.set_result.ensures.after)
+    c.in_ok-reach.reach c.abort.new.table c.abort.ensures.table

@@ -1,3 +1,6 @@
+use Rattle.steal_return.proofs.Outrun.{gets}
+use Rattle.spawn_frame.specs.declared.status.Status.TheVariants.{Out}
+use Rattle.spawn_frame.specs.declared.unit.Unit.TheVariants.{Own}
 use Rattle.std.proofs.Common.{refl, sym, ap, ◌∙◌}
 use Rattle.steal_return.proofs.Giving.{first_is_there, gives_child, gives_nothing}
 use Rattle.steal_return.proofs.Scans.{found_first}
@@ -21,3 +24,9 @@ returns-clause-gives c =
     gives_child _ c.args.self.now c.self.view_is c.args.thief c.in-Some.serial _ c.give.new.self
     (ap (λ k. Rattle.steal_return.specs.Steals.is_older k c.args.thief) (sym c.deref.ensures.value) ∙ sym c.if-is_older.ensures)
     (sym c.in-Some.ensures) c.in_ok-given.ensures c.give.ensures
+
+pub invariant_of-self : goal.invariant_of-self
+invariant_of-self c =
+    gets _ c.self.invariant (Own c.in-Some.serial) (Out c.args.thief)
+    (ap (λ k. Rattle.steal_return.specs.Steals.is_older k c.args.thief) (sym c.deref.ensures.value) ∙ sym c.if-is_older.ensures)
+    c.give.new.self c.give.ensures

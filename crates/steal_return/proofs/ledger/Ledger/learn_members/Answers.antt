@@ -6,6 +6,7 @@ use Rattle.steal_return.proofs.Finishes.{appended}
 use Rattle.steal_return.proofs.Learning.{known_length}
 use Rattle.steal_return.proofs.Learns.{learns_members, moves, on_false, on_true, parents_same, redone_no_more, rests}
 use Rattle.steal_return.proofs.Marking.{no_more_reached, parents}
+use Rattle.steal_return.proofs.Outrun.{learns}
 use Rattle.steal_return.proofs.ledger.Ledger.learn_members.Goals as goal
 use Rattle.steal_return.proofs.ledger.Ledger.learn_members.Goals.{After-drop-lost-2}
 use Rattle.steal_return.specs.Members.{Differs, IsAlike, IsRedoable, MayDrop, dropped, lost_units, now_known, redo_lost}
@@ -68,6 +69,8 @@ invariant_of-self c =
     record {
       each = ap length (known_is c) ∙ known_length c.self.inside.table.site.node c.self.inside.known.items c.args.incarnations.now some ∙ c.self.invariant.each;
       within = subst (λ s. s.node ≤ c.self.inside.nodes) (sym site) c.self.invariant.within;
+      none_outrun = learns c.in_ok-known.known.items c.self.inside.table c.redo_lost.new.table c.drop_guests.new.table c.abort.new.table _ c.in_ok-reach.reach
+          (redoes c) (drops c) c.abort.ensures.table;
     }
 
 pub returns-clause-learns : goal.returns-clause-learns

@@ -1,3 +1,6 @@
+use Rattle.steal_return.proofs.Outrun.{aborts, gets}
+use Rattle.spawn_frame.specs.declared.status.Status.TheVariants.{Dropped}
+use Rattle.std.proofs.Common.{refl}
 use Rattle.std.proofs.Common.{sym, subst, ◌∙◌}
 use Rattle.abort_tree.specs.Below.{MarksBelow, is_among}
 use Rattle.spawn_frame.specs.declared.unit.Unit.TheVariants.{Guest}
@@ -16,3 +19,9 @@ returns-clause-dropped c = (
       (subst (λ t. MarksBelow (is_among (Guest (record { site = c.args.from; serial = c.args.serial }) c.args.attempt ∷ [])) t.own c.in_ok-reach.reach) (sym c.drop_guest.ensures)
       c.in_ok-reach.ensures)),
 )
+
+pub invariant_of-self : goal.invariant_of-self
+invariant_of-self c =
+    aborts _
+    (gets _ c.self.invariant (Guest (record { site = c.args.from; serial = c.args.serial }) c.args.attempt) Dropped refl c.drop_guest.new.self c.drop_guest.ensures)
+    c.in_ok-reach.reach c.abort.new.table c.abort.ensures.table
