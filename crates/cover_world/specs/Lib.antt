@@ -8,4 +8,5 @@ pub mod Repeated
 pub mod Safety
 pub mod SaidAgain
 pub mod Stolen
+pub mod Thieves
 pub mod Worlds

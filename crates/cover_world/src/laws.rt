@@ -5,9 +5,10 @@ ghost use Rattle.cover_problem.specs.Problem.{Problem};
 ghost use Rattle.cover_world.specs.Coverage.{AllCovered};
 ghost use Rattle.cover_world.specs.Determined.{SameStep, may_choose};
 ghost use Rattle.cover_world.specs.Safety.{Safe};
+ghost use Rattle.cover_world.specs.Thieves.{CallsOff, PutsOut};
 ghost use Rattle.cover_world.specs.Worlds.{World, Run, opening_world};
 ghost use Rattle.node_core.specs.NodeStep.{NodeStep};
-ghost use Rattle.node_core.specs.SiteView.{View};
+ghost use Rattle.node_core.specs.SiteView.{View, abort_packet};
 ghost use Rattle.node_core.specs.declared.event.Event.{Event};
 ghost use Rattle.node_core.specs.declared.reply.Reply.{Reply};
 ghost use Rattle.packet_wire.specs.declared.packet.Packet.{Packet};
@@ -15,6 +16,7 @@ ghost use Rattle.root_registry.specs.RegistryStep.{RegistryStep};
 ghost use Rattle.spawn_frame.specs.Aborts.{IsBelow};
 ghost use Rattle.spawn_frame.specs.Names.{same_unit};
 ghost use Rattle.spawn_frame.specs.Units.{Entry};
+ghost use Rattle.spawn_frame.specs.declared.site.Site.{Site};
 ghost use Rattle.spawn_frame.specs.declared.unit.Unit.{Unit as WorkUnit};
 ghost use Rattle.spawn_frame.specs.declared.unit.Unit.TheVariants.{Own};
 
@@ -45,4 +47,11 @@ pub fn step_is_determined()
         (out other_out : List Packet) (new other_new : View) → may_choose event ≡ false →
         RegistryStep problem old event reply out new → RegistryStep problem old event other_reply other_out other_new →
         SameStep reply other_reply out other_out new other_new }
+{}
+
+/// Where an own child that is out is aborted, its thief is told so in the same step, whatever the event is.
+pub fn thieves_are_told()
+    ensures { (problem : Problem) (old new : View) (event : Event) (reply : Reply) (out : List Packet) (serial : ℕ)
+        (entry : Entry) (thief : Site) → CallsOff old new serial entry thief → NodeStep problem old event reply out new →
+        PutsOut out (abort_packet old.site (record { serial = serial; attempt = entry.attempt; thief = thief })) }
 {}

@@ -5,7 +5,7 @@ mod laws;
 mod refusals;
 mod runs;
 
-pub use laws::{below_goes_on, safe_over_every_run, step_is_determined};
+pub use laws::{below_goes_on, safe_over_every_run, step_is_determined, thieves_are_told};
 pub use refusals::{
     finding_without_fuel, names_spent, no_prefix_given, no_such_victim, node_that_is_over,
     packet_for_another_site, redo_of_no_use, registry_does_no_work, stale_job, superseded_return,
