@@ -8,8 +8,8 @@ use Rattle.cover_world.specs.Thieves.{CallsOff, PutsOut}
 use Rattle.node_core.specs.Arrivals.{AcceptStep, Drops, GiveStep, RefuseStep, ReturnStep}
 use Rattle.node_core.specs.Membership.{MembersStep}
 use Rattle.node_core.specs.NodeStep.{EventStep, HearStep}
-use Rattle.node_core.specs.Results.{FinishStep, Leaves, return_packets}
-use Rattle.node_core.specs.SiteView.{View, abort_packet, abort_packets, unit_gets}
+use Rattle.node_core.specs.Results.{FinishStep, Leaves, return_packets, split_up}
+use Rattle.node_core.specs.SiteView.{View, abort_packet, abort_packets, unit_gets, unit_in}
 use Rattle.node_core.specs.Taking.{TakeStep}
 use Rattle.node_core.specs.declared.event.Event.{Event}
 use Rattle.node_core.specs.declared.event.Event.TheVariants.{Again, Ask, Deliver, Finish, Greet, Post, Redo, Take}
@@ -140,7 +140,7 @@ module _ (problem : Problem) (old new : View) (serial : ℕ) (entry : Entry) (th
       subst (λ l. PutsOut l packet) (sym (h.sends ∙ ap (λ outs. abort_packets old.site outs ++ return_packets old.site unit h.result) h.finishes.reaches))
       (told.0, front_at (abort_packets old.site (reached 0 mid h.own)) (return_packets old.site unit h.result) packet told.0 told.1)
     where
-      stays : (u : WorkUnit) (frame : Entry) → Rattle.node_core.specs.SiteView.unit_in old u ≡ Some frame → frame.status ≡ Split → (result : ChildResult)
+      stays : (u : WorkUnit) (frame : Entry) → unit_in old u ≡ Some frame → frame.status ≡ Split → (result : ChildResult)
           → slice_get (unit_gets old u (with_result u result)).own serial ≡ Some entry
       stays (Own k) frame is split result = other_stays (with_status (Done result)) old.own k serial entry calls_off.is (λ e.
           let same : entry ≡ frame = same_Some entry frame (sym calls_off.is ∙ ap (slice_get old.own) e ∙ is) in
@@ -192,7 +192,7 @@ module _ (problem : Problem) (old new : View) (serial : ℕ) (entry : Entry) (th
   leaves_told unit prefix Barren out h = quiet_view out _ h.0 (quiet_gets old unit _ (result_is_none unit _))
   leaves_told unit prefix Spent out h = quiet_view out _ h.0 (split unit)
     where
-      split : (u : WorkUnit) → Quiet old.own (Rattle.node_core.specs.Results.split_up problem old u prefix).own
+      split : (u : WorkUnit) → Quiet old.own (split_up problem old u prefix).own
       split (Own k) = quiet_append old.own _ _ (quiet_gets old (Own k) Split (λ e. cc)) (news_open (Own k) _)
       split (Guest name attempt) = quiet_append old.own _ _ (quiet_same old.own) (news_open (Guest name attempt) _)
 

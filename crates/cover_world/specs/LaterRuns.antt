@@ -1,16 +1,10 @@
 -- A run in which nodes begin anew while the root is out: first a node that hasn't got it, and then the thief.
 use Rattle.std.specs.Prelude.{List, [], ◌∷◌}
-use Rattle.cover_world.specs.Plays.{site0, site1}
-use Rattle.cover_world.specs.SaidAgain.{begun}
+use Rattle.cover_world.specs.Plays.{site0, site1, site1_again, site2_again}
 use Rattle.cover_world.specs.Worlds.{Acts, Restarts, WorldEvent}
 use Rattle.node_core.specs.declared.event.Event.TheVariants.{Again, Ask, Deliver, Greet}
 use Rattle.packet_wire.specs.declared.packet.Body.TheVariants.{Give, Hello, Members, NoWork, Steal}
 use Rattle.packet_wire.specs.declared.packet.Packet.{Packet}
-use Rattle.spawn_frame.specs.declared.site.Site.{Site}
-
--- the first node in its second run
-abbrev pub thief_begun : Site
-thief_begun = record { node = 1; incarnation = 2 }
 
 -- the first node asks for work
 abbrev pub p0 : Packet
@@ -22,7 +16,7 @@ p1 = record { from = site0; to = site1; body = Give 0 1 [] }
 
 -- the second node greets in its second run
 abbrev pub p2 : Packet
-p2 = record { from = begun; to = site0; body = Hello }
+p2 = record { from = site2_again; to = site0; body = Hello }
 
 -- the first node is told of that run
 abbrev pub p3 : Packet
@@ -30,27 +24,27 @@ p3 = record { from = site0; to = site1; body = Members (1 ∷ 2 ∷ []) }
 
 -- and so is the second
 abbrev pub p4 : Packet
-p4 = record { from = site0; to = begun; body = Members (1 ∷ 2 ∷ []) }
+p4 = record { from = site0; to = site2_again; body = Members (1 ∷ 2 ∷ []) }
 
 -- the first node asks the second for work, in the run that it was told of
 abbrev pub p5 : Packet
-p5 = record { from = site1; to = begun; body = Steal }
+p5 = record { from = site1; to = site2_again; body = Steal }
 
 -- which has none
 abbrev pub p6 : Packet
-p6 = record { from = begun; to = site1; body = NoWork }
+p6 = record { from = site2_again; to = site1; body = NoWork }
 
 -- the first node greets in its second run
 abbrev pub p7 : Packet
-p7 = record { from = thief_begun; to = site0; body = Hello }
+p7 = record { from = site1_again; to = site0; body = Hello }
 
 -- it is told which runs are known now
 abbrev pub p8 : Packet
-p8 = record { from = site0; to = thief_begun; body = Members (2 ∷ 2 ∷ []) }
+p8 = record { from = site0; to = site1_again; body = Members (2 ∷ 2 ∷ []) }
 
 -- and so is the second node
 abbrev pub p9 : Packet
-p9 = record { from = site0; to = begun; body = Members (2 ∷ 2 ∷ []) }
+p9 = record { from = site0; to = site2_again; body = Members (2 ∷ 2 ∷ []) }
 
 -- all packets, in the order of sending
 abbrev pub packets : List Packet

@@ -58,6 +58,14 @@ site1 = record { node = 1; incarnation = 1 }
 abbrev pub site2 : Site
 site2 = record { node = 2; incarnation = 1 }
 
+-- the first node in its second run
+abbrev pub site1_again : Site
+site1_again = record { node = 1; incarnation = 2 }
+
+-- the second node in its second run
+abbrev pub site2_again : Site
+site2_again = record { node = 2; incarnation = 2 }
+
 -- a limit on names for each of two nodes
 abbrev pub limits : List ℕ
 limits = 9 ∷ 9 ∷ []

@@ -1,17 +1,12 @@
 -- A run in which packets come late and are said again, up to a node that hears that the search is over.
 use Rattle.std.specs.Prelude.{List, [], ◌∷◌}
 use Rattle.cover_problem.specs.Search.{Barren}
-use Rattle.cover_world.specs.Plays.{root_guest, site0, site1, site2}
+use Rattle.cover_world.specs.Plays.{root_guest, site0, site1, site2, site2_again}
 use Rattle.cover_world.specs.Worlds.{Acts, Restarts, WorldEvent}
 use Rattle.node_core.specs.declared.event.Event.TheVariants.{Again, Ask, Deliver, Greet, Post, Redo, Take}
 use Rattle.packet_wire.specs.declared.packet.Body.TheVariants.{Accept, Give, Hello, Members, Over, Return, Steal}
 use Rattle.packet_wire.specs.declared.packet.Packet.{Packet}
 use Rattle.spawn_frame.specs.declared.child_result.ChildResult.TheVariants.{Empty}
-use Rattle.spawn_frame.specs.declared.site.Site.{Site}
-
--- the second node in its second run
-abbrev pub begun : Site
-begun = record { node = 2; incarnation = 2 }
 
 -- the second node greets in its first run
 abbrev pub p0 : Packet
@@ -19,7 +14,7 @@ p0 = record { from = site2; to = site0; body = Hello }
 
 -- and in its second
 abbrev pub p1 : Packet
-p1 = record { from = begun; to = site0; body = Hello }
+p1 = record { from = site2_again; to = site0; body = Hello }
 
 -- the first node is told which runs are known, also when the earlier greeting comes late
 abbrev pub p2 : Packet
@@ -27,7 +22,7 @@ p2 = record { from = site0; to = site1; body = Members (1 ∷ 2 ∷ []) }
 
 -- and so is the second
 abbrev pub p3 : Packet
-p3 = record { from = site0; to = begun; body = Members (1 ∷ 2 ∷ []) }
+p3 = record { from = site0; to = site2_again; body = Members (1 ∷ 2 ∷ []) }
 
 -- the first node asks for work
 abbrev pub p4 : Packet
@@ -55,7 +50,7 @@ p9 = record { from = site0; to = site1; body = Over }
 
 -- the same to the second node, in the run that is known
 abbrev pub p10 : Packet
-p10 = record { from = site0; to = begun; body = Over }
+p10 = record { from = site0; to = site2_again; body = Over }
 
 -- all packets, in the order of sending
 abbrev pub packets : List Packet

@@ -1,14 +1,13 @@
 -- A run in which the first node splits the root and the second node steals a child of it, and then two ends of that run.
 use Rattle.std.specs.Prelude.{ℕ, List, [], ◌∷◌, ◌++◌}
 use Rattle.cover_problem.specs.Search.{Barren, Covers, Spent}
-use Rattle.cover_world.specs.Plays.{root_guest, site0, site1, site2}
+use Rattle.cover_world.specs.Plays.{root_guest, site0, site1, site2, site2_again}
 use Rattle.cover_world.specs.Worlds.{Acts, Restarts, WorldEvent}
 use Rattle.node_core.specs.declared.event.Event.TheVariants.{Ask, Deliver, Finish, Greet, Post, Take}
 use Rattle.packet_wire.specs.declared.packet.Body.TheVariants.{Abort, Accept, Give, Hello, Members, Over, Refuse, Return, Steal}
 use Rattle.packet_wire.specs.declared.packet.Packet.{Packet}
 use Rattle.spawn_frame.specs.declared.cause.Cause.TheVariants as causes
 use Rattle.spawn_frame.specs.declared.child_result.ChildResult.TheVariants.{Cover, Empty}
-use Rattle.spawn_frame.specs.declared.site.Site.{Site}
 use Rattle.spawn_frame.specs.declared.unit.Unit.{Unit as WorkUnit}
 use Rattle.spawn_frame.specs.declared.unit.Unit.TheVariants.{Guest, Own}
 
@@ -105,11 +104,7 @@ late_events =
 
 -- ---- another end: the thief begins anew before its result comes
 
--- the second node in its second run
-abbrev pub site2_again : Site
-site2_again = record { node = 2; incarnation = 2 }
-
--- which greets the registry
+-- the second node greets in its second run
 abbrev pub anew5 : Packet
 anew5 = record { from = site2_again; to = site0; body = Hello }
 
