@@ -1,10 +1,17 @@
 -- A text gives one answer or one fault, and not both.
-use Rattle.std.proofs.Common.{◌≡◌, ◌≢◌, ℕ, List, [], ◌∷◌, length, Ok, Err, Result, IfOk, IfErr, refl, sym, ◌∙◌, ap, inl, inr, codes, arith, length-append}
+use Rattle.std.proofs.Common.{◌≡◌, ◌≢◌, ◌<◌, ℕ, List, get_or, [], ◌∷◌, length, Ok, Err, Result, IfOk, IfErr, refl, sym, ◌∙◌, ap, inl, inr, codes, arith, length-append, subst}
+use Rattle.std.specs.Result.{MatchResult, IsOkAnd}
 use Rattle.std.specs.Str.Parse.{digits_value}
 use Rattle.cover_problem.specs.Problem.{Problem}
 use Rattle.cover_problem.specs.declared.answer.Answer.{Answer}
 use Rattle.cover_problem.specs.declared.answer.Answer.TheVariants.{Cover, NoCover}
-use Rattle.dlx_reader.specs.Answers.{IsHead, IsNoneHead, IsCoverHead, IsAnswerOf, IsFaultOf, IsReadOf, IsFirstUnknown, head_words, further_lines}
+use Rattle.dlx_reader.specs.Answers.{IsHead, IsNoneHead, IsCoverHead, IsAnswerOf, IsFaultOf, IsReadOf, IsFirstUnknown, AreOptionsOf, worded_lines, head_words, further_lines}
+use Rattle.dlx_reader.specs.AnswerLines.{lines_seen}
+use Rattle.dlx_reader.specs.Lines.{lines_of}
+use Rattle.dlx_reader.specs.declared.lines.Line.{Line}
+use Rattle.dlx_reader.specs.AnswerSteps.{IsHeadOf, IsHeadFault, lines_after}
+use Rattle.dlx_reader.specs.declared.answer_head.Head.{Head}
+use Rattle.dlx_reader.specs.declared.answer_head.Head.TheVariants as heads
 use Rattle.dlx_reader.specs.declared.answer_fault.AnswerFault.{AnswerFault}
 use Rattle.dlx_reader.specs.declared.answer_fault.AnswerFault.TheVariants.{BadHead, WrongCount, UnknownOption, Memory}
 use Rattle.dlx_reader.proofs.AnswerOptions.{AreOptionsOf-same, unknown_has_none, unknown_same}
@@ -32,7 +39,40 @@ head_of_answer : (text : List ℕ) (p : Problem) (a : Answer) → IsAnswerOf tex
 head_of_answer text p NoCover is = inl (is.0, ap length is.1)
 head_of_answer text p (Cover options) is = inr is.0
 
+-- the words of a head say how many lines follow it
+pub head_says : (words : List (List ℕ)) (head : Head) → IsHeadOf words head → IsHead words (lines_after head)
+head_says words heads.NoCover is = inl (is, refl)
+head_says words (heads.Cover count) is = inr is
+
+pub count_fault : (words : List (List ℕ)) (head : Head) (further : ℕ) → IsHeadOf words head → lines_after head ≢ further → IsHeadFault words further WrongCount
+count_fault words head further is other = (lines_after head, head_says words head is, λ same. other (sym same))
+
 -- ---- answers and faults
+
+pub head_fault : (text : List ℕ) (p : Problem) (words : List (List ℕ)) (further : ℕ) (fault : AnswerFault) → head_words text ≡ words → length (further_lines text) ≡ further → IsHeadFault words further fault → IsFaultOf text p fault
+head_fault text p words further BadHead is long none = λ count head. none count (subst (λ (ws : List (List ℕ)). IsHead ws count) is head)
+head_fault text p words further WrongCount is long wrong = (wrong.0, subst (λ (ws : List (List ℕ)). IsHead ws wrong.0) (sym is) wrong.1, λ same. wrong.2 (sym long ∙ same))
+head_fault text p words further (UnknownOption n) is long wrong = absurd wrong
+head_fault text p words further Memory is long wrong = absurd wrong
+
+no_head : (count : ℕ) → IsHead [] count → ⊥
+no_head count (inl none) = let clash : [] ≡ codes "none" ∷ [] = none.0 in cc
+no_head count (inr cover) = let clash : [] ≡ codes "cover" ∷ cover.0 ∷ [] = cover.1 in cc
+
+pub no_lines : (text : List ℕ) (lines : List Line) → lines_seen lines ≡ worded_lines 1 (lines_of text) → length lines < 1 → (count : ℕ) → IsHead (head_words text) count → ⊥
+no_lines text [] is few count head =
+    let none : head_words text ≡ [] = ap (λ (ls : List (ℕ × List (List ℕ))). (get_or ls 0 (0, [])).1) (sym is) in
+    no_head count (subst (λ (ws : List (List ℕ)). IsHead ws count) none head)
+no_lines text (line ∷ lines) is few count head = absurd (omega arith)
+
+pub cover_answer : (text : List ℕ) (p : Problem) (words : List (List ℕ)) (further : List (ℕ × List (List ℕ))) (count : ℕ) (options : List ℕ) → head_words text ≡ words → further_lines text ≡ further → IsCoverHead words count → count ≡ length further → AreOptionsOf p further options → IsAnswerOf text p (Cover options)
+cover_answer text p words further count options is are head long by = rw (is, are, ← long) (head, by)
+
+-- the options that were read, seen as an answer
+pub cover_read : (text : List ℕ) (p : Problem) (words : List (List ℕ)) (further : List (ℕ × List (List ℕ))) (count : ℕ) (r : Result (List ℕ) AnswerFault) (q : Result Answer AnswerFault) → head_words text ≡ words → further_lines text ≡ further → IsCoverHead words count → count ≡ length further → IfOk r (AreOptionsOf p further) → MatchResult r (λ options. IsOkAnd q (λ answer. answer ≡ Cover options)) (λ e. q ≡ Err e) → IfOk q (IsAnswerOf text p)
+cover_read text p words further count (Ok options) (Ok answer) is are head long by same = rw same (cover_answer text p words further count options is are head long by)
+cover_read text p words further count (Ok options) (Err e) is are head long by same = tt
+cover_read text p words further count (Err e) q is are head long by same = rw same tt
 
 answer_same : (text : List ℕ) (p : Problem) (a b : Answer) → IsAnswerOf text p a → IsAnswerOf text p b → a ≡ b
 answer_same text p NoCover NoCover is as' = refl

@@ -12,6 +12,7 @@ pub mod Determined
 pub mod Differing
 pub mod FirstFaults
 pub mod Firsts
+pub mod Further
 pub mod ItemLines
 pub mod Lawful
 pub mod NameBytes

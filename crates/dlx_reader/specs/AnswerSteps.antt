@@ -1,9 +1,9 @@
 -- What a reader of an answer knows on its way.
-use Rattle.std.specs.Prelude.{◌≡◌, ℕ, ◌<◌, ◌≤◌, List, length, Bool, false, slice_index_or}
+use Rattle.std.specs.Prelude.{◌≡◌, ◌≢◌, ℕ, ◌<◌, ◌≤◌, List, length, Bool, false, slice_index_or}
 use Rattle.cover_problem.specs.Problem.{Problem}
 use Rattle.cover_problem.specs.Numbers.{is_in}
-use Rattle.dlx_reader.specs.Writing.{names_of}
-use Rattle.dlx_reader.specs.Answers.{IsNoneHead, IsCoverHead, IsCount, IsFirstUnknown}
+use Rattle.dlx_reader.specs.Writing.{option_names}
+use Rattle.dlx_reader.specs.Answers.{IsHead, IsNoneHead, IsCoverHead, IsCount, IsFirstUnknown}
 use Rattle.dlx_reader.specs.declared.answer_fault.AnswerFault.{AnswerFault}
 use Rattle.dlx_reader.specs.declared.answer_fault.AnswerFault.TheVariants.{BadHead, WrongCount, UnknownOption, Memory}
 use Rattle.dlx_reader.specs.declared.answer_head.Head.{Head}
@@ -17,7 +17,7 @@ AreFlags flags used = (option : ℕ) → option < length flags → slice_index_o
 pub record IsUnflagged (problem : Problem) (flags : List Bool) (words : List (List ℕ)) (option : ℕ) : Type 0 where
   pub in_range : option < length flags
   pub unused : slice_index_or flags option false ≡ false
-  pub named : names_of problem option ≡ words
+  pub named : option_names problem option ≡ words
 
 -- and the lowest of these
 pub record IsLowestUnflagged (problem : Problem) (flags : List Bool) (words : List (List ℕ)) (option : ℕ) : Type 0 where
@@ -38,6 +38,17 @@ IsHeadOf words (Cover count) = IsCoverHead words count
 abbrev pub lines_after : Head → ℕ
 lines_after NoCover = 0
 lines_after (Cover count) = count
+
+-- the head that words are, where so many lines follow
+abbrev pub IsHeadBefore : List (List ℕ) → ℕ → Head → Type 0
+IsHeadBefore words further head = IsHeadOf words head × (lines_after head ≡ further)
+
+-- the faults that come with the first line, where so many lines follow
+abbrev pub IsHeadFault : List (List ℕ) → ℕ → AnswerFault → Type 0
+IsHeadFault words further BadHead = (count : ℕ) → IsHead words count → ⊥
+IsHeadFault words further WrongCount = (count : ℕ) × IsHead words count × (further ≢ count)
+IsHeadFault words further (UnknownOption number) = ⊥
+IsHeadFault words further Memory = ⊥
 
 -- the faults that come with the options' lines
 abbrev pub IsOptionFault : Problem → List (ℕ × List (List ℕ)) → AnswerFault → Type 0

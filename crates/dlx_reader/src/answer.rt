@@ -4,13 +4,13 @@ ghost use Rattle.dlx_reader.specs.Lines.{texts_of};
 ghost use Rattle.std.specs.Prelude.{◌≡◌, ◌≢◌, ℕ, ◌<◌, length, IfSome, IfNone, IfOk, IfErr, ◌↔◌, IsTrue, Result};
 ghost use Rattle.cover_problem.specs.declared.answer.Answer.{Answer as AnswerValue};
 ghost use Rattle.dlx_reader.specs.declared.answer_fault.AnswerFault.{AnswerFault as Fault};
-ghost use Rattle.dlx_reader.specs.Writing.{names_of};
+ghost use Rattle.dlx_reader.specs.Writing.{option_names};
 ghost use Rattle.dlx_reader.specs.Answers.{AreOptionsOf, IsFirstUnknown, IsAnswerOf, IsFaultOf, IsReadOf};
 ghost use Rattle.dlx_reader.specs.AnswerLines.{lines_seen};
 ghost use Rattle.dlx_reader.specs.AnswerSteps.{IsUnflagged, IsLowestUnflagged, IsOptionFault};
 
 use crate::answer_fault::AnswerFault;
-use crate::answer_head::{Head, head_of};
+use crate::answer_head::{Head, head_before};
 use crate::answer_lines::answer_lines;
 use crate::lines::Line;
 use cover_problem::{Answer, Numbers, Problem};
@@ -19,7 +19,7 @@ use std::alloc::Global;
 /// Whether the names of the option, in its order, are the words.
 fn has_names(problem: &Problem, option: u16, words: &[&[u8]]) -> bool
     requires { option < length problem.now.options }
-    ensures { IsTrue result ↔ (names_of problem.now option ≡ texts_of words.now) }
+    ensures { IsTrue result ↔ (option_names problem.now option ≡ texts_of words.now) }
 {
     let items = problem.option(option);
     if items.len() != words.len() {
@@ -66,6 +66,21 @@ fn options_of(alloc: Global, lines: &[Line], problem: &Problem) -> Result<Number
     Ok(Numbers::from_vec(options))
 }
 
+/// The answer of the text, or its fault.
+fn answer_of(alloc: Global, text: &[u8], problem: &Problem) -> Result<Answer, AnswerFault>
+    ensures answer { IfOk result (IsAnswerOf text.now problem.now) }
+    ensures fault { IfErr result (λ fault. fault ≢ AnswerFault.Memory → IsFaultOf text.now problem.now fault) }
+{
+    let lines = answer_lines(alloc, text)?;
+    let [first, further @ ..] = lines.as_slice() else {
+        return Err(AnswerFault::BadHead);
+    };
+    match head_before(&first.words, further.len())? {
+        Head::NoCover => Ok(Answer::NoCover),
+        Head::Cover(_) => options_of(alloc, further, problem).map(Answer::Cover),
+    }
+}
+
 /// The answer that a text gives for a problem.
 ///
 /// Lines and words are those of problem files, but there are no comments. The first line that isn't blank is `none`,
@@ -83,14 +98,5 @@ pub fn read_answer(alloc: Global, text: &[u8], problem: &Problem) -> Result<Answ
     ensures only { (read : Result AnswerValue Fault) → IsReadOf text.now problem.now read →
         result ≢ Err AnswerFault.Memory → result ≡ read }
 {
-    let lines = answer_lines(alloc, text)?;
-    let [first, further @ ..] = lines.as_slice() else {
-        return Err(AnswerFault::BadHead);
-    };
-    match head_of(&first.words) {
-        None => Err(AnswerFault::BadHead),
-        Some(head) if head.lines() != further.len() => Err(AnswerFault::WrongCount),
-        Some(Head::NoCover) => Ok(Answer::NoCover),
-        Some(Head::Cover(_)) => options_of(alloc, further, problem).map(Answer::Cover),
-    }
+    answer_of(alloc, text, problem)
 }

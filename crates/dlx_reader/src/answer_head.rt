@@ -1,13 +1,15 @@
 ghost use Rattle.dlx_reader.specs.Lines.{texts_of};
-ghost use Rattle.std.specs.Prelude.{◌≡◌, ◌≤◌, ℕ, length, IfSome, IfNone, true, ◌↔◌, IsTrue};
+ghost use Rattle.std.specs.Prelude.{◌≡◌, ◌≤◌, ℕ, length, IfSome, IfNone, IfOk, IfErr, true, ◌↔◌, IsTrue};
 ghost use Rattle.std.specs.List.{list_all};
 ghost use Rattle.std.specs.Char.{is_ascii_digit};
 ghost use Rattle.std.specs.Str.Parse.{digits_value};
 ghost use Rattle.dlx_reader.specs.Answers.{IsCount, IsHead};
-ghost use Rattle.dlx_reader.specs.AnswerSteps.{IsHeadOf, IsCoverOf};
+ghost use Rattle.dlx_reader.specs.AnswerSteps.{IsHeadOf, IsCoverOf, IsHeadBefore, IsHeadFault};
+
+use crate::answer_fault::AnswerFault;
 
 /// What the first line of an answer says.
-#[derive(Clone, Copy, Debug, PartialEq, Eq)]
+#[derive(Clone, Copy)]
 pub enum Head {
     /// There is none.
     NoCover,
@@ -19,7 +21,7 @@ impl Head {
     ghost use Rattle.dlx_reader.specs.AnswerSteps.{lines_after};
 
     /// How many lines follow that aren't blank.
-    pub fn lines(self) -> usize
+    fn lines(self) -> usize
         ensures { result ≡ lines_after self }
     {
         match self {
@@ -69,7 +71,7 @@ fn cover_head(digits: &[u8]) -> Option<Head>
 }
 
 /// The head that these words are, if they are one.
-pub fn head_of(words: &[&[u8]]) -> Option<Head>
+fn head_of(words: &[&[u8]]) -> Option<Head>
     ensures head { IfSome result (IsHeadOf (texts_of words.now)) }
     ensures none { IfNone result ((count : ℕ) → IsHead (texts_of words.now) count → ⊥) }
 {
@@ -77,5 +79,19 @@ pub fn head_of(words: &[&[u8]]) -> Option<Head>
         [word] if *word == b"none".as_slice() => Some(Head::NoCover),
         [word, digits] if *word == b"cover".as_slice() => cover_head(digits),
         _ => None,
+    }
+}
+
+/// The head that these words are, where as many lines follow as it says.
+///
+/// The fault is `BadHead` where they are no head, and else `WrongCount`.
+pub fn head_before(words: &[&[u8]], further: usize) -> Result<Head, AnswerFault>
+    ensures head { IfOk result (IsHeadBefore (texts_of words.now) further) }
+    ensures fault { IfErr result (IsHeadFault (texts_of words.now) further) }
+{
+    match head_of(words) {
+        None => Err(AnswerFault::BadHead),
+        Some(head) if head.lines() != further => Err(AnswerFault::WrongCount),
+        Some(head) => Ok(head),
     }
 }

@@ -83,7 +83,6 @@ fn write_option<W: Sink>(problem: &Problem, option: u16, sink: &mut W) -> Result
 }
 
 /// Writes the lines of the options.
-#[tactic(auto, using(crate::proofs::AnswerTexts::option_on, crate::proofs::AnswerTexts::others_are))]
 fn write_options<W: Sink>(
     problem: &Problem,
     options: &[u16],

@@ -3,4 +3,5 @@ pub mod Fields
 pub mod Forms
 pub mod Lengths
 pub mod Loop
+pub mod Numbers
 pub mod Whole

@@ -73,7 +73,7 @@ packet_takes bytes x fits e =
     let spelled : Takes bytes (spelling (packet_made p.a p.b)) x.1 = subst (λ (k : Kind). Takes bytes (header_text k p.a.from p.a.to ++ body_text p.b) x.1) (sym p.second.0) p.takes in
     subst (λ (q : Packet). Takes bytes (spelling q) x.1 × (is_well_formed q ≡ true)) p.made (spelled, well_formed_of p.a p.b p.first p.second)
 
-header_of : (p : Packet) → is_well_formed p ≡ true → IsHeader (header_made (kind_of p.body) p.from p.to) × (is_body p.body ≡ true)
+pub header_of : (p : Packet) → is_well_formed p ≡ true → IsHeader (header_made (kind_of p.body) p.from p.to) × (is_body p.body ≡ true)
 header_of p ok =
     let a = and_both (is_site p.from) _ ok in
     let b = and_both (is_site p.to) _ a.1 in

@@ -42,14 +42,14 @@ abbrev pub SpellsFuel : Option Text → ℕ → Type 0
 SpellsFuel given fuel = (text : Text) × (given ≡ Some text) × Spells text fuel × (1 ≤ fuel)
 
 -- a check has the answer that was given, and no other mode has one
-abbrev pub IsAnswerOf : Mode → Option Text → Option Text → Type 0
-IsAnswerOf modes.Alone answer given = answer ≡ None
-IsAnswerOf modes.Check answer given = (text : Text) × (given ≡ Some text) × (answer ≡ Some text)
+abbrev pub IsAnswerFile : Mode → Option Text → Option Text → Type 0
+IsAnswerFile modes.Alone answer given = answer ≡ None
+IsAnswerFile modes.Check answer given = (text : Text) × (given ≡ Some text) × (answer ≡ Some text)
 
 -- The subcommand that clap's definition of a simple command's matches gives for the words, with its values.
 pub record AreMet (met : Option (Text × List Row)) (mode : Mode) (file : Text) (answer : Option Text) (fuel : ℕ) : Type 0 where
   pub rows : List Row
   pub subcommand : met ≡ Some (mode_word mode, rows)
   pub file_given : first_of (codes "file") rows ≡ Some file
-  pub answer_given : IsAnswerOf mode answer (first_of (codes "answer") rows)
+  pub answer_given : IsAnswerFile mode answer (first_of (codes "answer") rows)
   pub fuel_given : SpellsFuel (first_of (codes "fuel") rows) fuel

@@ -4,7 +4,7 @@ ghost use Rattle.std.specs.Prelude.{◌≡◌, ◌≤◌, ◌<◌, ◌^◌, Some
 ghost use Rattle.std.specs.Str.Parse.{IsNumeral, digits_value};
 ghost use Rattle.clap.specs.Words.{Row, app_of, first_of, first_value, found_of, rule_of, subcommand_of};
 ghost use Rattle.clap.specs.declared.builder.command.Command.TheViews.{out-Command};
-ghost use Rattle.solve_cli.specs.CommandLine.{AreMet, IsAnswerOf, Spells, SpellsFuel, alone_app, check_app, file_rule, greatest_fuel_rule, solver_app, mode_word};
+ghost use Rattle.solve_cli.specs.CommandLine.{AreMet, IsAnswerFile, Spells, SpellsFuel, alone_app, check_app, file_rule, greatest_fuel_rule, solver_app, mode_word};
 
 use crate::settings::{Mode, Settings};
 use clap::error::ErrorKind;
@@ -118,7 +118,7 @@ fn fault_of(error: Error) -> SettingsFault {
 fn spelled<'a>(name: &'a str, inner: &ArgMatches<'a>) -> Option<Settings<'a>>
     ensures mode { IfSome result (λ s. mode_word s.mode ≡ name.now) }
     ensures file { IfSome result (λ s. first_value (found_of inner.now) (codes "file") ≡ Some s.file.now) }
-    ensures answer { IfSome result (λ s. IsAnswerOf s.mode (option_map (λ answer. answer.now) s.answer) (first_value (found_of inner.now) (codes "answer"))) }
+    ensures answer { IfSome result (λ s. IsAnswerFile s.mode (option_map (λ answer. answer.now) s.answer) (first_value (found_of inner.now) (codes "answer"))) }
     ensures fuel { IfSome result (λ s. SpellsFuel (first_value (found_of inner.now) (codes "fuel")) s.fuel) }
 {
     let mode = mode_of(name)?;

@@ -2,7 +2,7 @@ use Rattle.std.proofs.Common.{◌≡◌, ◌∙◌, ap, refl, sym, subst, codes,
 use Rattle.clap.specs.Words.{App, Text, app_of, is_simple, subcommand_of, subcommand_rows_of, found_of, rows_of}
 use Rattle.clap.proofs.OnLiterals.{clap_on_literals}
 use Rattle.clap.proofs.WalkLemmas.{first_value-rows}
-use Rattle.solve_cli.specs.CommandLine.{solver_app, IsAnswerOf, SpellsFuel}
+use Rattle.solve_cli.specs.CommandLine.{solver_app, IsAnswerFile, SpellsFuel}
 use Rattle.solve_cli.proofs.Pairs.{met_pair}
 use Rattle.solve_cli.proofs.command_line.settings.Goals as goal
 
@@ -19,7 +19,7 @@ returns-in-Some-spelled c =
     let s = c.in-Some-spelled.ensures in
     let f = found_of c.in-Some.inner.now in
     let pair : subcommand_rows_of m ≡ Some (c.in-Some.name.now, rows_of f) = met_pair _ _ _ c.in-Some.name.now (rows_of f) c.in-Some.ensures.name c.in-Some.ensures.rows in
-    let Answered : Option Text → Type 0 = λ given. IsAnswerOf c.in-Some-spelled.settings.mode (option_map (λ a. a.now) c.in-Some-spelled.settings.answer) given in
+    let Answered : Option Text → Type 0 = λ given. IsAnswerFile c.in-Some-spelled.settings.mode (option_map (λ a. a.now) c.in-Some-spelled.settings.answer) given in
     let Fuelled : Option Text → Type 0 = λ given. SpellsFuel given c.in-Some-spelled.settings.fuel in
     record {
       rows = rows_of f;
