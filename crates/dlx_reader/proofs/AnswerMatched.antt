@@ -11,7 +11,7 @@ use Rattle.std.specs.List.Sorted.{IsStrictlyIncreasing}
 use Rattle.cover_problem.specs.Problem.{Problem, IsProblem, items_of}
 use Rattle.cover_problem.specs.Numbers.{is_in}
 use Rattle.cover_problem.specs.Prefix.{InFileOrder}
-use Rattle.dlx_reader.specs.Writing.{option_names}
+use Rattle.dlx_reader.specs.Writing.{item_names}
 use Rattle.dlx_reader.specs.Answers.{AreOptionsOf}
 use Rattle.dlx_reader.proofs.AnswerOptions.{AreOptionsOf-none, AreOptionsOf-more}
 use Rattle.dlx_reader.proofs.AnswerFree.{lowest_of}
@@ -21,15 +21,15 @@ use Rattle.dlx_reader.proofs.NameBytes.{same_items}
 
 -- the lines of options, each with its names
 abbrev pub lines_named : Problem → List ℕ → List (ℕ × List (List ℕ))
-lines_named p os = enumerate_from 2 (map (option_names p) os)
+lines_named p os = enumerate_from 2 (map (item_names p) os)
 
 length-lines_named : (p : Problem) (os : List ℕ) → length (lines_named p os) ≡ length os
-length-lines_named p os = length-enumerate_from 2 (map (option_names p) os) ∙ length-map os (option_names p)
+length-lines_named p os = length-enumerate_from 2 (map (item_names p) os) ∙ length-map os (item_names p)
 
-line_named : (p : Problem) (os : List ℕ) (i : ℕ) → i < length os → get_or (lines_named p os) i (0, []) ≡ (2 + i, option_names p (get_or os i 0))
+line_named : (p : Problem) (os : List ℕ) (i : ℕ) → i < length os → get_or (lines_named p os) i (0, []) ≡ (2 + i, item_names p (get_or os i 0))
 line_named p os i inside =
-    let mapped : i < length (map (option_names p) os) = omega (arith, length-map os (option_names p)) in
-    get_or-enumerate_from 2 (map (option_names p) os) i (0, []) mapped ∙ ap (λ names. (2 + i, names)) (get_or-map (option_names p) os i 0 [] inside)
+    let mapped : i < length (map (item_names p) os) = omega (arith, length-map os (item_names p)) in
+    get_or-enumerate_from 2 (map (item_names p) os) i (0, []) mapped ∙ ap (λ names. (2 + i, names)) (get_or-map (item_names p) os i 0 [] inside)
 
 -- an option that stands for another: it is no higher, and has the same items
 record StandsFor (p : Problem) (found option : ℕ) : Type 0 where
@@ -57,13 +57,13 @@ matched_more : (p : Problem) (os : List ℕ) (n : ℕ) → IsProblem p → InFil
 matched_more p os n is ordered inside m =
     let option = get_or os n 0 in
     let in_range : get_or os n 0 < length p.options = ordered.0 n 0 inside in
-    let lowest = lowest_of p m.found (option_names p option) option (record { in_range = in_range; unused = next_is_unused p os n ordered.1 inside m; named = refl }) in
+    let lowest = lowest_of p m.found (item_names p option) option (record { in_range = in_range; unused = next_is_unused p os n ordered.1 inside m; named = refl }) in
     let stands : StandsFor p lowest.0 option = record { lower = lowest.1; same = same_items p lowest.0 option is lowest.2.free.in_range in_range lowest.2.free.named } in
     let line : n < length (lines_named p os) = omega (arith, length-lines_named p os) in
     let more = m.found ++ lowest.0 ∷ [] in
     record {
       found = more;
-      options = AreOptionsOf-more p (lines_named p os) n (2 + n, option_names p option) m.found more lowest.0 line (line_named p os n inside) refl m.options lowest.2;
+      options = AreOptionsOf-more p (lines_named p os) n (2 + n, item_names p option) m.found more lowest.0 line (line_named p os n inside) refl m.options lowest.2;
       long = omega (arith, m.long, length-append m.found (lowest.0 ∷ []));
       each = λ k h.
           elim (cases_lt k n) [

@@ -10,7 +10,7 @@ use Rattle.std.specs.Cmp.Lexicographic.{pointwise}
 use Rattle.cover_problem.specs.Problem.{Problem, IsProblem, items_of, forbidden, is_name, names_differ}
 use Rattle.cover_problem.specs.Numbers.{is_in, some_below}
 use Rattle.dlx_reader.specs.Lines.{is_white}
-use Rattle.dlx_reader.specs.Writing.{name_text, option_names}
+use Rattle.dlx_reader.specs.Writing.{name_text, item_names}
 
 -- a byte that is neither white space nor the end of a line
 pub record IsPlain (byte : ℕ) : Type 0 where
@@ -59,7 +59,7 @@ items_named p o is inside =
     All-weaker (λ i. nat_lt i (length p.names) ≡ true) (λ i. i < length p.names) (λ i. ltb-true i (length p.names)) (items_of p o) (All-from_test (λ i. nat_lt i (length p.names)) (items_of p o) (is.each_named o [] inside))
 
 -- the names of an option are words
-pub names_words : (p : Problem) (o : ℕ) → IsProblem p → o < length p.options → All IsWord (option_names p o)
+pub names_words : (p : Problem) (o : ℕ) → IsProblem p → o < length p.options → All IsWord (item_names p o)
 names_words p o is inside =
     All-map IsWord (name_text p) (items_of p o)
     (All-weaker (λ i. i < length p.names) (λ i. IsWord (name_text p i)) (λ i below. word_from_name (name_text p i) (is.each_name i [] below)) (items_of p o) (items_named p o is inside))
@@ -105,5 +105,5 @@ items_injective p (i ∷ is) (j ∷ js) differ all_i all_j same =
     cc
 
 -- options with the same names have the same items
-pub same_items : (p : Problem) (o k : ℕ) → IsProblem p → o < length p.options → k < length p.options → option_names p o ≡ option_names p k → items_of p o ≡ items_of p k
+pub same_items : (p : Problem) (o k : ℕ) → IsProblem p → o < length p.options → k < length p.options → item_names p o ≡ item_names p k → items_of p o ≡ items_of p k
 same_items p o k is in_o in_k same = items_injective p (items_of p o) (items_of p k) is.distinct_names (items_named p o is in_o) (items_named p k is in_k) same

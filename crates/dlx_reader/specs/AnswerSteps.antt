@@ -2,7 +2,7 @@
 use Rattle.std.specs.Prelude.{◌≡◌, ◌≢◌, ℕ, ◌<◌, ◌≤◌, List, length, Bool, false, slice_index_or}
 use Rattle.cover_problem.specs.Problem.{Problem}
 use Rattle.cover_problem.specs.Numbers.{is_in}
-use Rattle.dlx_reader.specs.Writing.{option_names}
+use Rattle.dlx_reader.specs.Writing.{item_names}
 use Rattle.dlx_reader.specs.Answers.{IsHead, IsNoneHead, IsCoverHead, IsCount, IsFirstUnknown}
 use Rattle.dlx_reader.specs.declared.answer_fault.AnswerFault.{AnswerFault}
 use Rattle.dlx_reader.specs.declared.answer_fault.AnswerFault.TheVariants.{BadHead, WrongCount, UnknownOption, Memory}
@@ -17,7 +17,7 @@ AreFlags flags used = (option : ℕ) → option < length flags → slice_index_o
 pub record IsUnflagged (problem : Problem) (flags : List Bool) (words : List (List ℕ)) (option : ℕ) : Type 0 where
   pub in_range : option < length flags
   pub unused : slice_index_or flags option false ≡ false
-  pub named : option_names problem option ≡ words
+  pub named : item_names problem option ≡ words
 
 -- and the lowest of these
 pub record IsLowestUnflagged (problem : Problem) (flags : List Bool) (words : List (List ℕ)) (option : ℕ) : Type 0 where

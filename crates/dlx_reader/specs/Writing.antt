@@ -12,8 +12,8 @@ abbrev pub name_text : Problem → ℕ → List ℕ
 name_text problem item = slice_index_or problem.names item []
 
 -- the names of an option's items, in its order
-abbrev pub option_names : Problem → ℕ → List (List ℕ)
-option_names problem option = map (name_text problem) (items_of problem option)
+abbrev pub item_names : Problem → ℕ → List (List ℕ)
+item_names problem option = map (name_text problem) (items_of problem option)
 
 -- the names of items, with one space between
 abbrev pub items_text : Problem → List ℕ → List ℕ

@@ -4,7 +4,7 @@ ghost use Rattle.dlx_reader.specs.Lines.{texts_of};
 ghost use Rattle.std.specs.Prelude.{◌≡◌, ◌≢◌, ℕ, ◌<◌, length, IfSome, IfNone, IfOk, IfErr, ◌↔◌, IsTrue, Result};
 ghost use Rattle.cover_problem.specs.declared.answer.Answer.{Answer as AnswerValue};
 ghost use Rattle.dlx_reader.specs.declared.answer_fault.AnswerFault.{AnswerFault as Fault};
-ghost use Rattle.dlx_reader.specs.Writing.{option_names};
+ghost use Rattle.dlx_reader.specs.Writing.{item_names};
 ghost use Rattle.dlx_reader.specs.Answers.{AreOptionsOf, IsFirstUnknown, IsAnswerOf, IsFaultOf, IsReadOf};
 ghost use Rattle.dlx_reader.specs.AnswerLines.{lines_seen};
 ghost use Rattle.dlx_reader.specs.AnswerSteps.{IsUnflagged, IsLowestUnflagged, IsOptionFault};
@@ -19,7 +19,7 @@ use std::alloc::Global;
 /// Whether the names of the option, in its order, are the words.
 fn has_names(problem: &Problem, option: u16, words: &[&[u8]]) -> bool
     requires { option < length problem.now.options }
-    ensures { IsTrue result ↔ (option_names problem.now option ≡ texts_of words.now) }
+    ensures { IsTrue result ↔ (item_names problem.now option ≡ texts_of words.now) }
 {
     let items = problem.option(option);
     if items.len() != words.len() {
