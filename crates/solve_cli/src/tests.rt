@@ -15,5 +15,6 @@ mod plain;
 mod reading;
 mod search;
 mod tables;
+mod texts;
 mod told;
 mod units;

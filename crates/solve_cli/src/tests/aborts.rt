@@ -1,71 +1,87 @@
 //! Aborts in small tables; what is expected is worked out by hand from the rules.
 
-use super::units::{HERE, THIEF, is_here, is_ready, is_split, letter};
+use super::units::{HERE, ROOT, THIEF, is_here, is_ready, is_split, letter};
 use abort_tree::abort_below;
-use spawn_frame::{ChildName, Out, Site, Table, Unit};
-use std::alloc::{AllocError, Global};
+use spawn_frame::Unit::{Guest, Own};
+use spawn_frame::{Out, Table, Unit};
+use std::alloc::Global;
 use std::process::Abort;
 
-const ROOT: ChildName = ChildName {
-    site: Site {
-        node: 0,
-        incarnation: 1,
-    },
-    serial: 0,
-};
-
 /// A letter for the status of each own child, by serial.
-fn letters(alloc: Global, table: &Table) -> Result<String, AllocError> {
+fn letters<R: Abort>(rt: &R, alloc: Global, table: &Table) -> String {
     let mut letters = String::new(alloc);
     for serial in 0..table.issued() {
-        letters.push(match table.unit(Unit::Own(serial)) {
+        let letter = match table.unit(Own(serial)) {
             Some(view) => letter(view.status),
             None => '-',
-        })?;
+        };
+        letters.push(letter).expect(rt, "memory");
     }
-    Ok(letters)
+    letters
+}
+
+/// Takes up a unit and splits it by these options.
+fn split<R: Abort>(rt: &R, table: &mut Table, unit: Unit, options: &[u16]) {
+    table.take();
+    assert!(rt; is_here(table, unit));
+    assert!(rt; !options.is_empty());
+    table.spawn(unit, options).expect(rt, "memory");
 }
 
 /// A guest with children 0 and 1, and below 1 the child 2; 0 is out.
-fn three_deep(rt: &impl Abort, alloc: Global) -> Table {
-    let guest = Unit::Guest(ROOT, 1);
+fn three_deep<R: Abort>(rt: &R, alloc: Global) -> Table {
     let mut table = Table::start(alloc, HERE, 4);
-    table.admit(ROOT, 1, &[]).expect(rt, "it succeeds");
-    table.take();
-    assert!(rt; is_here(&table, guest));
-    table.spawn(guest, &[0, 1]).expect(rt, "it succeeds");
-    table.take();
-    assert!(rt; is_here(&table, Unit::Own(1)));
-    table.spawn(Unit::Own(1), &[4]).expect(rt, "it succeeds");
-    assert!(rt; is_ready(&table, Unit::Own(0)));
+    assert!(rt; table.unit(Guest(ROOT, 1)).is_none());
+    table.admit(ROOT, 1, &[]).expect(rt, "memory");
+    split(rt, &mut table, Guest(ROOT, 1), &[0, 1]);
+    split(rt, &mut table, Own(1), &[4]);
+    assert!(rt; is_ready(&table, Own(0)));
     table.give(0, THIEF);
     table
 }
 
-/// An abort below the unit leaves these statuses, and a list that had the first child has it so many times.
-fn reaches<R: Abort>(rt: &R, alloc: Global, unit: Unit, letters_after: &str, times: usize) {
-    let out = Out {
-        serial: 0,
-        attempt: 1,
-        thief: THIEF,
-    };
-    let mut table = three_deep(rt, alloc);
-    let mut list = vec![in alloc; out].expect(rt, "it succeeds");
-    abort_below(alloc, &mut table, unit, &mut list).expect(rt, "it succeeds");
-    assert!(rt; letters(alloc, &table).expect(rt, "it succeeds").as_str() == letters_after);
-    assert!(rt; list.len() == times && list.iter().all(|each| *each == out));
-    assert!(rt; is_split(&table, Unit::Guest(ROOT, 1)));
+/// The first child, which is out.
+const OUT: Out = Out {
+    serial: 0,
+    attempt: 1,
+    thief: THIEF,
+};
+
+/// Whether the own children and the list are so, and the guest is a frame still.
+fn is_left<R: Abort>(
+    rt: &R,
+    alloc: Global,
+    (table, list): (&Table, &[Out]),
+    (letters_after, outs): (&str, &[Out]),
+) -> bool {
+    letters(rt, alloc, table).as_str() == letters_after
+        && list == outs
+        && is_split(table, Guest(ROOT, 1))
 }
+
+/// Whether an abort below the unit leaves these statuses, and a list that had the first child is this then.
+fn reaches<R: Abort>(rt: &R, alloc: Global, unit: Unit, after: (&str, &[Out])) -> bool {
+    let mut table = three_deep(rt, alloc);
+    let mut list = vec![in alloc; OUT].expect(rt, "memory");
+    abort_below(alloc, &mut table, unit, &mut list).expect(rt, "memory");
+    is_left(rt, alloc, (&table, &list), after)
+}
+
+/// The unit, what it leaves of the others, and the list.
+static ABORTS: [(Unit, &str, &[Out]); 5] = [
+    (Guest(ROOT, 1), "AAA", &[OUT, OUT]),
+    (Own(1), "OSA", &[OUT]),
+    (Own(2), "OSR", &[OUT]),
+    (Own(3), "OSR", &[OUT]),
+    (Guest(ROOT, 2), "OSR", &[OUT]),
+];
 
 #[test]
 fn aborts_reach_all_below_and_no_other(rt: HostRuntime) {
-    for (unit, letters_after, times) in [
-        (Unit::Guest(ROOT, 1), "AAA", 2),
-        (Unit::Own(1), "OSA", 1),
-        (Unit::Own(2), "OSR", 1),
-        (Unit::Own(3), "OSR", 1),
-        (Unit::Guest(ROOT, 2), "OSR", 1),
-    ] {
-        reaches(&rt, rt.alloc(), unit, letters_after, times);
+    for (unit, letters_after, outs) in ABORTS.iter() {
+        assert!(rt;
+            reaches(&rt, rt.alloc(), *unit, (letters_after, outs)),
+            "{unit:?}"
+        );
     }
 }

@@ -2,12 +2,14 @@
 
 ghost use Rattle.std.specs.Prelude.{◌≤◌};
 
-use super::limits::lines;
+use super::limits::{lines, names};
+use super::texts::{LETTERS, NO_COVER};
 use super::told::Told;
 use crate::alone::alone_engine;
 use crate::tell::{tell, tell_fault};
 use dlx_reader::{CountedReader, CountedWriter};
-use std::alloc::{AllocError, Global};
+use std::alloc::Global;
+use std::process::Abort;
 
 /// What `alone` tells of a problem.
 fn alone(alloc: Global, text: &str, fuel: u64) -> Told
@@ -29,27 +31,13 @@ fn alone(alloc: Global, text: &str, fuel: u64) -> Told
     }
 }
 
-const LETTERS: &str = "a b c d e f g\nc e\na d g\nb c f\na d f\nb g\nd e g\n";
-
 /// Each with the fuel, what is written to both outputs, and the status.
 static ANSWERS: [(&str, u64, &str, &str, u8); 15] = [
     (LETTERS, u64::MAX, "cover 3\nc e\na d f\nb g\n", "", 0),
     (LETTERS, 6, "cover 3\nc e\na d f\nb g\n", "", 0),
     (LETTERS, 5, "no answer\n", "", 4),
-    (
-        "a b c d e f g\nc e\na d g\nb c f\na d f\nd e g\n",
-        3,
-        "none\n",
-        "",
-        1,
-    ),
-    (
-        "a b c d e f g\nc e\na d g\nb c f\na d f\nd e g\n",
-        2,
-        "no answer\n",
-        "",
-        4,
-    ),
+    (NO_COVER, 3, "none\n", "", 1),
+    (NO_COVER, 2, "no answer\n", "", 4),
     ("a b | x\na x\nb x\n", u64::MAX, "none\n", "", 1),
     (
         "a b | x\na x\nb x\nb\n",
@@ -68,11 +56,23 @@ static ANSWERS: [(&str, u64, &str, &str, u8); 15] = [
     ("a b\nb\na\n", u64::MAX, "cover 2\nb\na\n", "", 0),
 ];
 
+/// `alone` tells this of a problem.
+fn tells<R: Abort>(
+    rt: &R,
+    alloc: Global,
+    (text, fuel): (&str, u64),
+    (out, errors, status): (&str, &str, u8),
+) {
+    assert!(rt;
+        alone(alloc, text, fuel.max(1)).is(out, errors, status),
+        "{text}"
+    );
+}
+
 #[test]
 fn answers(rt: HostRuntime) {
     for (text, fuel, out, errors, status) in ANSWERS.iter() {
-        let told = alone(rt.alloc(), text, (*fuel).max(1));
-        assert!(rt; told.is(out, errors, *status), "{text}");
+        tells(&rt, rt.alloc(), (text, *fuel), (out, errors, *status));
     }
 }
 
@@ -92,69 +92,53 @@ static REFUSALS: [(&str, &str); 10] = [
     ("a\na a\n", "refused: DuplicateInOption line 2\n"),
 ];
 
+/// `alone` refuses a text so.
+fn is_refused<R: Abort>(rt: &R, alloc: Global, text: &str, errors: &str) {
+    tells(rt, alloc, (text, u64::MAX), ("", errors, 3));
+}
+
 #[test]
 fn refuses(rt: HostRuntime) {
     for (text, errors) in REFUSALS.iter() {
-        let told = alone(rt.alloc(), text, u64::MAX);
-        assert!(rt; told.is("", errors, 3), "{text}");
+        is_refused(&rt, rt.alloc(), text, errors);
     }
 }
 
 #[test]
 fn longest_name(rt: HostRuntime) {
-    let told = alone(rt.alloc(), "aaaaaaaabbbbbbbbccccccccdddddddd\n", u64::MAX);
-    assert!(rt; told.is("none\n", "", 1));
-}
-
-/// An item line of so many names, each of them three letters.
-fn item_line(alloc: Global, count: usize) -> Result<String, AllocError> {
-    let mut line = String::new(alloc);
-    for place in 0..count.min(2000) {
-        let letters = [
-            b'a', b'b', b'c', b'd', b'e', b'f', b'g', b'h', b'i', b'j', b'k', b'l', b'm',
-        ];
-        for digit in [place / 169 % 13, place / 13 % 13, place % 13] {
-            line.push(char::from(letters[digit]))?;
-        }
-        line.push(' ')?;
-    }
-    Ok(line)
+    let text = "aaaaaaaabbbbbbbbccccccccdddddddd\n";
+    tells(&rt, rt.alloc(), (text, u64::MAX), ("none\n", "", 1));
 }
 
 #[test]
 fn limits_items(rt: HostRuntime) {
-    let alloc = rt.alloc();
-    let most = alone(
-        alloc,
-        item_line(alloc, 1000).expect(&rt, "it succeeds").as_str(),
-        u64::MAX,
+    let most = names(&rt, rt.alloc(), 1000);
+    tells(
+        &rt,
+        rt.alloc(),
+        (most.as_str(), u64::MAX),
+        ("none\n", "", 1),
     );
-    assert!(rt; most.is("none\n", "", 1));
-    let more = alone(
-        alloc,
-        item_line(alloc, 1001).expect(&rt, "it succeeds").as_str(),
-        u64::MAX,
+    let more = names(&rt, rt.alloc(), 1001);
+    is_refused(
+        &rt,
+        rt.alloc(),
+        more.as_str(),
+        "refused: TooManyItems line 1\n",
     );
-    assert!(rt; more.is("", "refused: TooManyItems line 1\n", 3));
 }
 
 #[test]
 fn limits_options(rt: HostRuntime) {
-    let text = lines(rt.alloc(), "a", 20002).expect(&rt, "it succeeds");
-    let told = alone(rt.alloc(), text.as_str(), u64::MAX);
-    assert!(rt; told.is("", "refused: TooManyOptions line 20002\n", 3));
+    let text = lines(&rt, rt.alloc(), "a", 20002);
+    let errors = "refused: TooManyOptions line 20002\n";
+    is_refused(&rt, rt.alloc(), text.as_str(), errors);
 }
 
 #[test]
 fn limits_nodes(rt: HostRuntime) {
-    let text = lines(
-        rt.alloc(),
-        item_line(rt.alloc(), 1000)
-            .expect(&rt, "it succeeds")
-            .as_str(),
-        202,
-    )
-    .expect(&rt, "it succeeds");
-    let told = alone(rt.alloc(), text.as_str(), u64::MAX);
-    assert!(rt; told.is("", "refused: TooManyNodes line 202\n", 3));
+    let line = names(&rt, rt.alloc(), 1000);
+    let text = lines(&rt, rt.alloc(), line.as_str(), 202);
+    let errors = "refused: TooManyNodes line 202\n";
+    is_refused(&rt, rt.alloc(), text.as_str(), errors);
 }

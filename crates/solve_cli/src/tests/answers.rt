@@ -1,9 +1,10 @@
 //! Answers for small problems, each worked out by hand from the rules of the format.
 
+use super::texts::problem_of;
 use cover_problem::{Answer, Numbers, Problem, in_file_order};
 use dlx_reader::AnswerFault::{BadHead, UnknownOption, WrongCount};
 use dlx_reader::*;
-use std::alloc::{AllocError, Global};
+use std::alloc::Global;
 use std::io;
 use std::io::Write;
 use std::process::Abort;
@@ -11,119 +12,119 @@ use std::process::Abort;
 /// Options 4 and 6 are equal, and option 7 has the items of option 3 in another order.
 const FILE: &str = "a b c d e f g\nc e\na d g\nb c f\na d f\nb g\nd e g\nb g\nf d a\n";
 
-static COVERS: [(&str, &[u16]); 11] = [
-    ("cover 3\nc e\na d f\nb g\n", &[0, 3, 4]),
-    ("cover 3\r\nc e\r\na d f\r\nb g\r\n", &[0, 3, 4]),
+/// A text, with its cover or none, or its fault.
+static ANSWERS: [(&str, Result<Option<&[u16]>, AnswerFault>); 48] = [
+    ("cover 3\nc e\na d f\nb g\n", Ok(Some(&[0, 3, 4]))),
+    ("cover 3\r\nc e\r\na d f\r\nb g\r\n", Ok(Some(&[0, 3, 4]))),
     (
         "\n \n\tcover\u{b}3\n\nc e\n\u{c}\na  d f\n b g \n\n",
-        &[0, 3, 4],
+        Ok(Some(&[0, 3, 4])),
     ),
     // The order of the lines, and of a line's names.
-    ("cover 00003\nb g\nc e\na d f", &[4, 0, 3]),
-    ("cover 2\nf d a\na d f\n", &[7, 3]),
-    ("cover 0\n", &[]),
-    ("cover 00000", &[]),
+    ("cover 00003\nb g\nc e\na d f", Ok(Some(&[4, 0, 3]))),
+    ("cover 2\nf d a\na d f\n", Ok(Some(&[7, 3]))),
+    ("cover 0\n", Ok(Some(&[]))),
+    ("cover 00000", Ok(Some(&[]))),
     // Of equal options the lowest that no earlier line has.
-    ("cover 1\nb g\n", &[4]),
-    ("cover 2\nb g\nb g\n", &[4, 6]),
-    ("cover 3\nb g\nd e g\nb g\n", &[4, 5, 6]),
-    ("cover 2\nc e\nb g\n", &[0, 4]),
-];
-
-static NONES: [&str; 3] = ["none\n", "none", "\n\r\n none\t\n\n"];
-
-static FAULTS: [(&str, AnswerFault); 34] = [
+    ("cover 1\nb g\n", Ok(Some(&[4]))),
+    ("cover 2\nb g\nb g\n", Ok(Some(&[4, 6]))),
+    ("cover 3\nb g\nd e g\nb g\n", Ok(Some(&[4, 5, 6]))),
+    ("cover 2\nc e\nb g\n", Ok(Some(&[0, 4]))),
+    // No cover.
+    ("none\n", Ok(None)),
+    ("none", Ok(None)),
+    ("\n\r\n none\t\n\n", Ok(None)),
     // No head, or none where it should stand.
-    ("", BadHead),
-    ("\n \t\r\n", BadHead),
-    ("| note\nnone\n", BadHead),
-    ("c e\ncover 1\n", BadHead),
-    ("None\n", BadHead),
-    ("none none\n", BadHead),
-    ("none 0\n", BadHead),
-    ("cover\nc e\n", BadHead),
-    ("cover1\nc e\n", BadHead),
-    ("cover 1 1\nc e\n", BadHead),
+    ("", Err(BadHead)),
+    ("\n \t\r\n", Err(BadHead)),
+    ("| note\nnone\n", Err(BadHead)),
+    ("c e\ncover 1\n", Err(BadHead)),
+    ("None\n", Err(BadHead)),
+    ("none none\n", Err(BadHead)),
+    ("none 0\n", Err(BadHead)),
+    ("cover\nc e\n", Err(BadHead)),
+    ("cover1\nc e\n", Err(BadHead)),
+    ("cover 1 1\nc e\n", Err(BadHead)),
     // Six digits, a sign, another byte.
-    ("cover 000000\n", BadHead),
-    ("cover 000001\nc e\n", BadHead),
-    ("cover +1\nc e\n", BadHead),
-    ("cover -0\n", BadHead),
-    ("cover 1x\nc e\n", BadHead),
-    ("cover x\nx\n", BadHead),
+    ("cover 000000\n", Err(BadHead)),
+    ("cover 000001\nc e\n", Err(BadHead)),
+    ("cover +1\nc e\n", Err(BadHead)),
+    ("cover -0\n", Err(BadHead)),
+    ("cover 1x\nc e\n", Err(BadHead)),
+    ("cover x\nx\n", Err(BadHead)),
     // Lines that aren't blank are counted, whatever they are.
-    ("none\nc e\n", WrongCount),
-    ("cover 3\nc e\n", WrongCount),
-    ("cover 2\nx\n", WrongCount),
-    ("cover 1\nc e\na d f\n", WrongCount),
-    ("cover 1\n| note\nc e\n", WrongCount),
-    ("cover 99999\n", WrongCount),
-    ("cover 0\nc e\n", WrongCount),
+    ("none\nc e\n", Err(WrongCount)),
+    ("cover 3\nc e\n", Err(WrongCount)),
+    ("cover 2\nx\n", Err(WrongCount)),
+    ("cover 1\nc e\na d f\n", Err(WrongCount)),
+    ("cover 1\n| note\nc e\n", Err(WrongCount)),
+    ("cover 99999\n", Err(WrongCount)),
+    ("cover 0\nc e\n", Err(WrongCount)),
     // No option has these names in this order.
-    ("cover 1\n| note\n", UnknownOption(2)),
-    ("cover 1\ne c\n", UnknownOption(2)),
-    ("cover 1\na d\n", UnknownOption(2)),
-    ("cover 1\na d f g\n", UnknownOption(2)),
-    ("cover 1\nc\0e\n", UnknownOption(2)),
-    ("cover 1\nnone\n", UnknownOption(2)),
-    ("cover 2\nx\ny\n", UnknownOption(2)),
-    ("\ncover 2\n\nc e\n\nx\n", UnknownOption(6)),
+    ("cover 1\n| note\n", Err(UnknownOption(2))),
+    ("cover 1\ne c\n", Err(UnknownOption(2))),
+    ("cover 1\na d\n", Err(UnknownOption(2))),
+    ("cover 1\na d f g\n", Err(UnknownOption(2))),
+    ("cover 1\nc\0e\n", Err(UnknownOption(2))),
+    ("cover 1\nnone\n", Err(UnknownOption(2))),
+    ("cover 2\nx\ny\n", Err(UnknownOption(2))),
+    ("\ncover 2\n\nc e\n\nx\n", Err(UnknownOption(6))),
     // Each such option is that of an earlier line.
-    ("cover 3\nb g\nb g\nb g\n", UnknownOption(4)),
-    ("cover 3\nc e\nc e\nb g\n", UnknownOption(3)),
-    ("cover 2\nf d a\nf d a\n", UnknownOption(3)),
+    ("cover 3\nb g\nb g\nb g\n", Err(UnknownOption(4))),
+    ("cover 3\nc e\nc e\nb g\n", Err(UnknownOption(3))),
+    ("cover 2\nf d a\nf d a\n", Err(UnknownOption(3))),
 ];
 
-fn problem(alloc: Global, text: &str) -> Result<Problem, ReadFault> {
-    Ok(read_problem(alloc, text.as_bytes())?.problem)
+/// Whether this cover is expected.
+fn is_cover(options: &Numbers, expected: Result<Option<&[u16]>, AnswerFault>) -> bool {
+    matches!(expected, Ok(Some(cover)) if options.as_slice() == cover)
 }
 
-#[test]
-fn covers_are_read(rt: HostRuntime) {
-    let problem = problem(rt.alloc(), FILE).expect(&rt, "it succeeds");
-    for (text, cover) in &COVERS {
-        let read = read_answer(rt.alloc(), text.as_bytes(), &problem);
-        assert!(rt;
-            matches!(&read, Ok(Answer::Cover(options)) if options.as_slice() == *cover),
-            "{text:?}"
-        );
+/// Whether a text is read as this.
+fn reads(
+    alloc: Global,
+    problem: &Problem,
+    text: &str,
+    expected: Result<Option<&[u16]>, AnswerFault>,
+) -> bool {
+    match &read_answer(alloc, text.as_bytes(), problem) {
+        Ok(Answer::Cover(options)) => is_cover(options, expected),
+        Ok(Answer::NoCover) => matches!(expected, Ok(None)),
+        Err(fault) => matches!(expected, Err(told) if told == *fault),
     }
 }
 
 #[test]
-fn no_cover_is_read(rt: HostRuntime) {
-    let problem = problem(rt.alloc(), FILE).expect(&rt, "it succeeds");
-    for text in &NONES {
-        let read = read_answer(rt.alloc(), text.as_bytes(), &problem);
-        assert!(rt; matches!(&read, Ok(Answer::NoCover)), "{text:?}");
+fn answers_are_read_or_refused(rt: HostRuntime) {
+    let problem = problem_of(&rt, rt.alloc(), FILE);
+    for (text, expected) in ANSWERS.iter() {
+        assert!(rt; reads(rt.alloc(), &problem, text, *expected), "{text:?}");
     }
 }
 
-#[test]
-fn other_texts_are_refused(rt: HostRuntime) {
-    let problem = problem(rt.alloc(), FILE).expect(&rt, "it succeeds");
-    for (text, fault) in &FAULTS {
-        let read = read_answer(rt.alloc(), text.as_bytes(), &problem);
-        assert!(rt; matches!(&read, Err(told) if told == fault), "{text:?}");
+/// A line so many times, behind a head.
+fn repeated<R: Abort>(rt: &R, alloc: Global, head: &str, line: &str, count: u16) -> String {
+    let mut text = String::from_str(alloc, head).expect(rt, "memory");
+    for _ in 0..count {
+        text.push_str(line).expect(rt, "memory");
+    }
+    text
+}
+
+/// Whether a text is read as the cover of the first options, so many.
+fn reads_first(alloc: Global, problem: &Problem, text: &str, count: u16) -> bool {
+    match &read_answer(alloc, text.as_bytes(), problem) {
+        Ok(Answer::Cover(options)) => options.as_slice().iter().copied().eq(0..count),
+        _ => false,
     }
 }
 
 #[test]
 fn long_answers_are_read(rt: HostRuntime) {
-    let alloc = rt.alloc();
-    let mut file = Vec::from_slice(alloc, b"a\n").expect(&rt, "it succeeds");
-    let mut text = Vec::from_slice(alloc, b"cover 1500\n").expect(&rt, "it succeeds");
-    for _ in 0..1500 {
-        file.extend_from_slice(b"a\n").expect(&rt, "it succeeds");
-        text.extend_from_slice(b"a\n").expect(&rt, "it succeeds");
-    }
-    let problem = read_problem(alloc, &file)
-        .expect(&rt, "it succeeds")
-        .problem;
-    let read = read_answer(alloc, &text, &problem);
-    assert!(rt;
-        matches!(&read, Ok(Answer::Cover(options)) if options.as_slice().iter().copied().eq(0..1500))
-    );
+    let file = repeated(&rt, rt.alloc(), "a\n", "a\n", 1500);
+    let text = repeated(&rt, rt.alloc(), "cover 1500\n", "a\n", 1500);
+    let problem = problem_of(&rt, rt.alloc(), file.as_str());
+    assert!(rt; reads_first(rt.alloc(), &problem, text.as_str(), 1500));
 }
 
 /// A writer that takes one byte a call, until a call fails.
@@ -164,29 +165,40 @@ impl Sink for Narrow {
     }
 }
 
-/// The writer after the cover c e / a d f / b g was written to it, and whether that succeeded.
-fn written<R: Abort>(rt: &R, alloc: Global, problem: &Problem, calls: u64) -> (Narrow, bool) {
-    let answer = Numbers::from_vec([0u16, 3, 4].to_vec(alloc).expect(rt, "it succeeds"));
-    assert!(rt; in_file_order(problem, answer.as_slice()));
+/// Whether the cover c e / a d f / b g is written to such a writer.
+fn is_written<R: Abort>(rt: &R, alloc: Global, problem: &Problem, sink: &mut Narrow) -> bool {
+    let cover = Numbers::from_vec(vec![in alloc; 0u16, 3, 4].expect(rt, "memory"));
+    assert!(rt; in_file_order(problem, cover.as_slice()));
+    assert!(rt; sink.failures == 0);
+    write_answer(problem, &Answer::Cover(cover), sink).is_ok()
+}
+
+/// The text of the cover.
+const TEXT: &[u8] = b"cover 3\nc e\na d f\nb g\n";
+
+/// Whether that many bytes stand there, and a failure is counted where they aren't all.
+fn is_left(sink: &Narrow, calls: usize) -> bool {
+    sink.bytes.as_slice() == &TEXT[..calls.min(TEXT.len())]
+        && sink.failures() == u64::from(calls < TEXT.len())
+}
+
+/// A write at each call but so many fails.
+fn fails_after<R: Abort>(rt: &R, alloc: Global, problem: &Problem, calls: usize) {
     let mut sink = Narrow {
         bytes: Vec::new(alloc),
-        calls_left: calls,
+        calls_left: calls as u64,
         failures: 0,
     };
-    let written = write_answer(problem, &Answer::Cover(answer), &mut sink);
-    (sink, written.is_ok())
+    let is_written = is_written(rt, alloc, problem, &mut sink);
+    assert!(rt; is_written == (calls == TEXT.len()));
+    assert!(rt; is_left(&sink, calls));
 }
 
 #[test]
 fn each_write_fails_once(rt: HostRuntime) {
-    let alloc = rt.alloc();
-    let text = b"cover 3\nc e\na d f\nb g\n";
-    let problem = problem(alloc, FILE).expect(&rt, "it succeeds");
-    for calls in 0..23u64 {
-        let (sink, is_written) = written(&rt, alloc, &problem, calls);
-        assert!(rt; is_written == (calls == 22));
-        assert!(rt; sink.failures() == u64::from(calls < 22));
-        assert!(rt; sink.bytes.as_slice() == &text[..calls as usize]);
+    let problem = problem_of(&rt, rt.alloc(), FILE);
+    for calls in 0..TEXT.len() + 1 {
+        fails_after(&rt, rt.alloc(), &problem, calls);
     }
 }
 
@@ -227,13 +239,18 @@ fn failed_reads_are_counted(rt: HostRuntime) {
     assert!(rt; broken.fetch(&mut [0; 4]).is_err() && broken.failures() == 1);
 }
 
-#[test]
-fn a_source_is_read_to_its_end(rt: HostRuntime) {
+/// Whether five bytes are read in two pieces, and then none.
+fn is_read_to_its_end() -> bool {
     let mut buffer = [0; 4];
     let mut source = CountedReader::new(b"none\n".as_slice());
-    assert!(rt; source.fetch(&mut buffer) == Ok(4));
-    assert!(rt; buffer == *b"none");
-    assert!(rt; source.fetch(&mut buffer) == Ok(1));
-    assert!(rt; source.fetch(&mut buffer) == Ok(0));
-    assert!(rt; source.failures() == 0);
+    source.fetch(&mut buffer) == Ok(4)
+        && buffer == *b"none"
+        && source.fetch(&mut buffer) == Ok(1)
+        && source.fetch(&mut buffer) == Ok(0)
+        && source.failures() == 0
+}
+
+#[test]
+fn a_source_is_read_to_its_end(rt: HostRuntime) {
+    assert!(rt; is_read_to_its_end());
 }

@@ -2,11 +2,13 @@
 
 ghost use Rattle.std.specs.Prelude.{◌≤◌};
 
+use super::texts::{LETTERS, NO_COVER};
 use super::told::Told;
 use crate::check::check_engine;
 use crate::tell::{tell, tell_fault};
 use dlx_reader::{CountedReader, CountedWriter};
 use std::alloc::Global;
+use std::process::Abort;
 
 /// What `check` tells of an answer to a problem.
 fn check(alloc: Global, text: &str, answer: &str, fuel: u64) -> Told
@@ -34,10 +36,6 @@ fn check(alloc: Global, text: &str, answer: &str, fuel: u64) -> Told
         status,
     }
 }
-
-const LETTERS: &str = "a b c d e f g\nc e\na d g\nb c f\na d f\nb g\nd e g\n";
-
-const NO_COVER: &str = "a b c d e f g\nc e\na d g\nb c f\na d f\nd e g\n";
 
 const SECONDARY: &str = "a b | x y\na x\nb x\nb\ny\n";
 
@@ -153,11 +151,26 @@ static VERDICTS: [(&str, &str, u64, &str, &str, u8); 24] = [
     ("a\n", "cover 0\n", 1, "wrong: Uncovered a\n", "", 1),
 ];
 
+/// `check` tells this of an answer to a problem.
+fn tells<R: Abort>(
+    rt: &R,
+    alloc: Global,
+    (text, answer, fuel): (&str, &str, u64),
+    (out, errors, status): (&str, &str, u8),
+) {
+    let told = check(alloc, text, answer, fuel.max(1));
+    assert!(rt; told.is(out, errors, status), "{answer}");
+}
+
 #[test]
 fn verdicts(rt: HostRuntime) {
     for (text, answer, fuel, out, errors, status) in VERDICTS.iter() {
-        let told = check(rt.alloc(), text, answer, (*fuel).max(1));
-        assert!(rt; told.is(out, errors, *status), "{answer}");
+        tells(
+            &rt,
+            rt.alloc(),
+            (text, answer, *fuel),
+            (out, errors, *status),
+        );
     }
 }
 
@@ -206,7 +219,6 @@ static REFUSALS: [(&str, &str, &str); 15] = [
 #[test]
 fn refusals(rt: HostRuntime) {
     for (text, answer, errors) in REFUSALS.iter() {
-        let told = check(rt.alloc(), text, answer, u64::MAX);
-        assert!(rt; told.is("", errors, 3), "{answer}");
+        tells(&rt, rt.alloc(), (text, answer, u64::MAX), ("", errors, 3));
     }
 }

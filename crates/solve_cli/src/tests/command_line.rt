@@ -1,5 +1,6 @@
 //! Command lines, and what is told of failing devices.
 
+use super::told::Told;
 use crate::alone::alone_engine;
 use crate::check::check_engine;
 use crate::command_line::{SettingsFault, settings};
@@ -10,7 +11,7 @@ use dlx_reader::{CountedReader, CountedWriter};
 use std::alloc::Global;
 use std::io;
 use std::io::{Read, Write};
-use std::test::Fail;
+use std::process::Abort;
 
 /// The status that a command line ends with before anything is read: 2, or 0 for help; 9 where it is lawful.
 fn status_of(alloc: Global, words: &[&str]) -> u8 {
@@ -21,15 +22,33 @@ fn status_of(alloc: Global, words: &[&str]) -> u8 {
     }
 }
 
+/// Whether the words are read so.
+fn is_read<R: Abort>(
+    rt: &R,
+    alloc: Global,
+    words: &[&str],
+    (mode, file): (Mode, &str),
+    (answer, fuel): (Option<&str>, u64),
+) -> bool {
+    let settings = settings(alloc, words).expect(rt, "lawful words");
+    settings.mode == mode
+        && settings.file == file
+        && settings.answer == answer
+        && settings.fuel == fuel
+}
+
 #[test]
 fn reads_words(rt: HostRuntime) {
-    let alone = settings(rt.alloc(), &["solve_cli", "alone", "a.dlx"]).expect(&rt, "it succeeds");
-    assert!(rt; alone.mode == Mode::Alone && alone.file == "a.dlx");
-    assert!(rt; alone.answer.is_none() && alone.fuel == u64::MAX);
-    let words = ["solve_cli", "check", "--fuel", "0007", "a.dlx", "b.txt"];
-    let check = settings(rt.alloc(), words.as_slice()).expect(&rt, "it succeeds");
-    assert!(rt; check.mode == Mode::Check && check.file == "a.dlx");
-    assert!(rt; check.answer == Some("b.txt") && check.fuel == 7);
+    let words = ["solve_cli", "alone", "a.dlx"].as_slice();
+    let lacks = (None, u64::MAX);
+    assert!(rt; is_read(&rt, rt.alloc(), words, (Mode::Alone, "a.dlx"), lacks));
+}
+
+#[test]
+fn reads_all_words(rt: HostRuntime) {
+    let words = ["solve_cli", "check", "--fuel", "0007", "a.dlx", "b.txt"].as_slice();
+    let rest = (Some("b.txt"), 7);
+    assert!(rt; is_read(&rt, rt.alloc(), words, (Mode::Check, "a.dlx"), rest));
 }
 
 /// Each with the status.
@@ -104,37 +123,60 @@ impl Write for Closed {
     }
 }
 
-#[test]
-fn failing_devices(rt: HostRuntime) {
-    let alloc = rt.alloc();
-    let mut out = Vec::new(alloc);
+/// What is told of a fault: the status, and the text.
+fn told(alloc: Global, fault: &EngineFault) -> Told {
     let mut errors = Vec::new(alloc);
-    for reads in [0u8, 1] {
-        let mut source = CountedReader::new(FailsTwice { reads });
-        let ended = alone_engine(alloc, 1, &mut source, &mut CountedWriter::new(&mut out));
-        let fault = ended.err().expect(&rt, "a failing reader");
-        assert!(rt; tell_fault(&fault, &mut CountedWriter::new(&mut errors)) == 3);
+    let status = tell_fault(fault, &mut CountedWriter::new(&mut errors));
+    Told {
+        out: Vec::new(alloc),
+        errors,
+        status,
     }
-    let mut source = CountedReader::new(b"a\n".as_slice());
-    let ended = alone_engine(alloc, 1, &mut source, &mut CountedWriter::new(Closed));
-    let fault = ended.err().expect(&rt, "a closed writer");
-    assert!(rt; tell_fault(&fault, &mut CountedWriter::new(&mut errors)) == 3);
-    assert!(rt; tell_fault(&EngineFault::Memory, &mut CountedWriter::new(&mut errors)) == 5);
-    assert!(rt; out.is_empty());
-    let told = b"cannot read\ncannot read\ncannot write\nout of memory\n";
-    assert!(rt; errors.as_slice() == told.as_slice());
 }
 
-/// An answer that can't be read comes before a file that is refused, since both are read before either is tested.
+/// Whether this is told of a reader after so many reads, and nothing is written.
+fn tells_of_a_reader<R: Abort>(rt: &R, alloc: Global, reads: u8) -> bool {
+    let mut out = Vec::new(alloc);
+    let mut source = CountedReader::new(FailsTwice { reads });
+    let ended = alone_engine(alloc, 1, &mut source, &mut CountedWriter::new(&mut out));
+    let fault = ended.err().expect(rt, "a failing reader");
+    out.is_empty() && told(alloc, &fault).is("", "cannot read\n", 3)
+}
+
 #[test]
-fn unreadable_answer(rt: HostRuntime) {
-    let mut out = Vec::new(rt.alloc());
+fn failing_readers(rt: HostRuntime) {
+    for reads in [0u8, 1] {
+        assert!(rt; tells_of_a_reader(&rt, rt.alloc(), reads));
+    }
+}
+
+#[test]
+fn a_closed_writer(rt: HostRuntime) {
+    let mut source = CountedReader::new(b"a\n".as_slice());
+    let ended = alone_engine(rt.alloc(), 1, &mut source, &mut CountedWriter::new(Closed));
+    let fault = ended.err().expect(&rt, "a closed writer");
+    assert!(rt; told(rt.alloc(), &fault).is("", "cannot write\n", 3));
+}
+
+#[test]
+fn want_of_memory(rt: HostRuntime) {
+    assert!(rt; told(rt.alloc(), &EngineFault::Memory).is("", "out of memory\n", 5));
+}
+
+/// Whether an answer that can't be read is told, where the file is refused too, and nothing is written.
+fn is_unreadable(alloc: Global) -> bool {
+    let mut out = Vec::new(alloc);
     let mut file = CountedReader::new(b"a a\n".as_slice());
     let mut answer = CountedReader::new(FailsTwice { reads: 0 });
     let mut sink = CountedWriter::new(&mut out);
-    let ended = check_engine(rt.alloc(), 1, &mut file, &mut answer, &mut sink);
-    assert!(rt; matches!(ended, Err(EngineFault::Read)));
-    assert!(rt; out.is_empty());
+    let ended = check_engine(alloc, 1, &mut file, &mut answer, &mut sink);
+    matches!(ended, Err(EngineFault::Read)) && out.is_empty()
+}
+
+/// It comes before a file that is refused, since both are read before either is tested.
+#[test]
+fn unreadable_answer(rt: HostRuntime) {
+    assert!(rt; is_unreadable(rt.alloc()));
 }
 
 #[test]

@@ -1,4 +1,4 @@
-//! Ledgers of several units; what is expected is worked out by hand from the rules.
+//! Ledgers of several units, as scripts of calls; what is expected is worked out by hand from the rules.
 
 ghost use Rattle.std.specs.Prelude.{◌≡◌, IsSome, true};
 ghost use Rattle.spawn_frame.specs.Frames.{frame, frame_result};
@@ -6,25 +6,104 @@ ghost use Rattle.spawn_frame.specs.Picks.{is_split};
 ghost use Rattle.spawn_frame.specs.Tables.{has_status};
 ghost use Rattle.spawn_frame.specs.Units.{unit_of};
 
-use super::units::{HERE, cover, is_here, letter, may_end, site};
+use super::units::{Came, HERE, ROOT, has_come, is_here, is_result, letter, may_end, result_of};
 use abort_tree::Out;
-use spawn_frame::{ChildName, ChildResult, Heard, Site, SpawnFault, Status, Table, Unit};
+use spawn_frame::Cause::{Aborted, Superseded, Unknown};
+use spawn_frame::Heard::{Open, Settled};
+use spawn_frame::Unit::{Guest, Own};
+use spawn_frame::{Cause, ChildName, Heard, Job, Site, Status, Table, Unit};
 use std::alloc::{AllocError, Global};
 use std::process::Abort;
 use steal_return::*;
 
-/// A guest at its first attempt.
-fn guest(owner: Site, serial: u32) -> Unit {
-    let name = ChildName {
-        site: owner,
-        serial,
-    };
-    Unit::Guest(name, 1)
+/// A call of a ledger with what it answers, or what the ledger shows then.
+enum Step {
+    /// A child is given to this site, at the first attempt with the prefix [7]; whether it becomes a guest.
+    Receive(ChildName, bool),
+    /// The unit that is taken up, at its first attempt.
+    Take(Unit),
+    /// A unit is split by these options; the first child's serial.
+    Split(Unit, &'static [u16], u32),
+    /// A unit comes to this; what its frame says then.
+    End(Unit, Came, Heard),
+    /// A thief is given the serial, the attempt and the prefix; or nothing.
+    Give(Site, Option<(u32, u32, &'static [u16])>),
+    /// An own child is given out anew.
+    Redo(u32, Result<(), RedoFault>),
+    /// A site returns a serial, an attempt and a result: the result that is accepted, or why it is refused.
+    Return(Site, (u32, u32, Came), Result<Came, Cause>),
+    /// Incarnations are learnt; whether anything changes.
+    Learn(&'static [u32], bool),
+    /// A guest's owner accepts this result; whether the guest settles.
+    Accept(ChildName, Came, bool),
+    /// A guest's owner refuses its result, or aborts it; whether it is dropped.
+    Refuse(ChildName, bool),
+    /// A settled frame finishes.
+    Finish(Unit),
+    /// A letter for the status of each own child, by serial, and its attempt.
+    Children(&'static str),
+    /// The same of one unit.
+    Shows(Unit, &'static str),
+    /// A unit has come to this.
+    HasCome(Unit, Came),
+    /// All that the aborts of the script reached.
+    Outs(&'static [Out]),
+    /// The known incarnation of a node.
+    Known(u8, u32),
 }
 
+use self::Step::*;
+
+const NODE_1: Site = Site {
+    node: 1,
+    incarnation: 1,
+};
+
+const NODE_2: Site = Site {
+    node: 2,
+    incarnation: 1,
+};
+
+const NODE_3: Site = Site {
+    node: 3,
+    incarnation: 1,
+};
+
+/// Later runs of the nodes.
+const NODE_1_ANEW: Site = Site {
+    node: 1,
+    incarnation: 2,
+};
+
+const NODE_2_ANEW: Site = Site {
+    node: 2,
+    incarnation: 2,
+};
+
+const NODE_3_ANEW: Site = Site {
+    node: 3,
+    incarnation: 2,
+};
+
+/// Children of the other nodes.
+const OF_2: ChildName = ChildName {
+    site: NODE_2,
+    serial: 0,
+};
+
+const LATER_OF_2: ChildName = ChildName {
+    site: NODE_2,
+    serial: 7,
+};
+
+const OF_3: ChildName = ChildName {
+    site: NODE_3,
+    serial: 5,
+};
+
 /// A letter for a unit's status, and its attempt.
-fn told(alloc: Global, ledger: &Ledger, unit: Unit) -> Result<String, AllocError> {
-    match ledger.table().unit(unit) {
+fn told(alloc: Global, table: &Table, unit: Unit) -> Result<String, AllocError> {
+    match table.unit(unit) {
         Some(view) => {
             let letter = letter(view.status);
             format!(in alloc; "{letter}{}", view.attempt)
@@ -33,244 +112,74 @@ fn told(alloc: Global, ledger: &Ledger, unit: Unit) -> Result<String, AllocError
     }
 }
 
-/// The same of each own child, by serial.
-fn told_own(alloc: Global, ledger: &Ledger) -> Result<String, AllocError> {
+/// Whether a unit is told so.
+fn shows<R: Abort>(rt: &R, alloc: Global, table: &Table, unit: Unit, expected: &str) -> bool {
+    told(alloc, table, unit).expect(rt, "memory").as_str() == expected
+}
+
+/// Whether the own children are told so, one after another.
+fn shows_children<R: Abort>(rt: &R, alloc: Global, table: &Table, expected: &str) -> bool {
     let mut text = String::new(alloc);
-    for serial in 0..ledger.table().issued() {
-        let own = told(alloc, ledger, Unit::Own(serial))?;
-        text.push_str(own.as_str())?;
+    for serial in 0..table.issued() {
+        let child = told(alloc, table, Own(serial)).expect(rt, "memory");
+        text.push_str(child.as_str()).expect(rt, "memory");
     }
-    Ok(text)
+    text.as_str() == expected
 }
 
-/// The unit is told so.
-fn tells<R: Abort>(rt: &R, alloc: Global, ledger: &Ledger, unit: Unit, expected: &str) {
-    let told = told(alloc, ledger, unit).expect(rt, "memory");
-    assert!(rt; told.as_str() == expected);
-}
-
-/// The own children are told so.
-fn tells_own<R: Abort>(rt: &R, alloc: Global, ledger: &Ledger, expected: &str) {
-    let told = told_own(alloc, ledger).expect(rt, "memory");
-    assert!(rt; told.as_str() == expected);
-}
-
-/// Splits a unit that is here.
-fn spawn<R: Abort>(
-    rt: &R,
-    ledger: &mut Ledger,
-    unit: Unit,
-    options: &[u16],
-) -> Result<u32, SpawnFault> {
-    let is_here = is_here(ledger.table(), unit);
-    assert!(rt; is_here);
+/// Whether a unit, which is here, is split so.
+fn splits<R: Abort>(rt: &R, ledger: &mut Ledger, unit: Unit, options: &[u16], first: u32) -> bool {
+    assert!(rt; is_here(ledger.table(), unit));
     assert!(rt; !options.is_empty());
-    ledger.spawn(unit, options)
+    ledger.spawn(unit, options) == Ok(first)
 }
 
-/// Ends a unit that is worked on.
-fn end<R: Abort>(rt: &R, ledger: &mut Ledger, unit: Unit, child_result: ChildResult) -> Heard {
-    let may_end = may_end(ledger.table(), unit);
-    assert!(rt; may_end);
-    ledger.set_result(unit, child_result)
+/// What the frame says of a unit, which is worked on, once it comes to this.
+fn ended<R: Abort>(rt: &R, alloc: Global, ledger: &mut Ledger, unit: Unit, option: Came) -> Heard {
+    let result = result_of(rt, alloc, option);
+    assert!(rt; may_end(ledger.table(), unit));
+    ledger.set_result(unit, result)
 }
 
-/// The serial, attempt and prefix that a thief is given.
-fn given(alloc: Global, ledger: &mut Ledger, thief: Site) -> Result<String, AllocError> {
-    match ledger.give(thief)? {
-        Some(given) => {
-            let prefix = given.prefix.as_slice();
-            format!(in alloc; "{} {} {prefix:?}", given.serial, given.attempt)
-        }
-        None => format!(in alloc; "nothing"),
-    }
+/// Whether this is given.
+fn is_given(given: &Given, (serial, attempt, prefix): (u32, u32, &[u16])) -> bool {
+    given.serial == serial && given.attempt == attempt && given.prefix.as_slice() == prefix
 }
 
-/// The thief is given this.
-fn gives<R: Abort>(rt: &R, alloc: Global, ledger: &mut Ledger, thief: Site, expected: &str) {
-    let told = given(alloc, ledger, thief).expect(rt, "memory");
-    assert!(rt; told.as_str() == expected);
-}
-
-/// What is answered to a result that is returned: a cover of one option, or Empty.
-fn returned(
-    alloc: Global,
+/// Whether a thief is given this.
+fn gives<R: Abort>(
+    rt: &R,
     ledger: &mut Ledger,
-    from: Site,
-    (serial, attempt, option): (u32, u32, Option<u16>),
-) -> Result<String, AllocError> {
-    let child_result = match option {
-        Some(option) => cover(alloc, option)?,
-        None => ChildResult::Empty,
-    };
-    match ledger.receive_return(from, serial, attempt, &child_result)? {
-        ReturnReply::Accept(ChildResult::Empty) => format!(in alloc; "accept empty"),
-        ReturnReply::Accept(ChildResult::Cover(options)) => {
-            let options = options.as_slice();
-            format!(in alloc; "accept {options:?}")
-        }
-        ReturnReply::Refuse(cause) => format!(in alloc; "refuse {cause:?}"),
+    thief: Site,
+    expected: Option<(u32, u32, &[u16])>,
+) -> bool {
+    match &ledger.give(thief).expect(rt, "memory") {
+        Some(given) => matches!(expected, Some(expected) if is_given(given, expected)),
+        None => expected.is_none(),
     }
 }
 
-/// A result that is returned is answered so.
-fn answers<R: Abort>(
+/// Whether this is answered.
+fn is_answer(reply: &ReturnReply, answer: Result<Came, Cause>) -> bool {
+    match (reply, answer) {
+        (ReturnReply::Accept(result), Ok(came)) => is_result(result, came),
+        (ReturnReply::Refuse(cause), Err(expected)) => *cause == expected,
+        _ => false,
+    }
+}
+
+/// What is answered to a result that a site returns.
+fn replied<R: Abort>(
     rt: &R,
     alloc: Global,
     ledger: &mut Ledger,
     from: Site,
-    child: (u32, u32, Option<u16>),
-    expected: &str,
-) {
-    let told = returned(alloc, ledger, from, child).expect(rt, "memory");
-    assert!(rt; told.as_str() == expected);
-}
-
-/// Takes up a guest that is given, and splits it.
-fn split_guest<R: Abort>(rt: &R, ledger: &mut Ledger, owner: Site, serial: u32, options: &[u16]) {
-    assert!(rt; ledger.receive_give(owner, serial, 1, &[7]) == Ok(true));
-    ledger.take();
-    spawn(rt, ledger, guest(owner, serial), options).expect(rt, "it succeeds");
-}
-
-/// Own children 0 and 1 aborted, 2 to 7 ready and 8 here, below a guest of the registry.
-fn with_some_aborted<R: Abort>(rt: &R, alloc: Global) -> Ledger {
-    let mut ledger = Ledger::start(alloc, HERE, 3, 20).expect(rt, "it succeeds");
-    split_guest(rt, &mut ledger, site(3, 1), 5, &[20, 21]);
-    let dropped = ledger.receive_refuse(site(3, 1), 5, 1, &mut Vec::new(alloc));
-    assert!(rt; dropped == Ok(true));
-    split_guest(rt, &mut ledger, site(0, 1), 0, &[0, 1, 2, 3, 4, 5, 6]);
-    ledger.take();
+    (serial, attempt, option): (u32, u32, Came),
+) -> ReturnReply {
+    let result = result_of(rt, alloc, option);
     ledger
-}
-
-/// Own children of every status: 0 and 1 aborted, 2 out to node 2, 3 out to node 3 at the second attempt, 4 ready,
-/// 5 done with Empty, 6 done with a cover, 7 here, 8 split, 9 here.
-fn of_every_status<R: Abort>(rt: &R, alloc: Global) -> Ledger {
-    let mut ledger = with_some_aborted(rt, alloc);
-    spawn(rt, &mut ledger, Unit::Own(8), &[10]).expect(rt, "it succeeds");
-    for _ in 0..4 {
-        ledger.take();
-    }
-    end(
-        rt,
-        &mut ledger,
-        Unit::Own(6),
-        cover(alloc, 9).expect(rt, "it succeeds"),
-    );
-    end(rt, &mut ledger, Unit::Own(5), ChildResult::Empty);
-    for node in [2, 3] {
-        ledger.give(site(node, 1)).expect(rt, "it succeeds");
-    }
-    assert!(rt; ledger.redo(3) == Ok(()));
-    ledger.give(site(3, 1)).expect(rt, "it succeeds");
-    ledger
-}
-
-/// The sender's node and incarnation; the serial, the attempt and the result; what is answered.
-static RETURNS: [(u8, u32, (u32, u32, Option<u16>), &str); 23] = [
-    (2, 1, (10, 1, None), "refuse Unknown"),
-    (2, 1, (0, 1, Some(3)), "refuse Aborted"),
-    (2, 1, (0, 2, Some(3)), "refuse Unknown"),
-    (2, 1, (4, 1, None), "refuse Superseded"),
-    (2, 1, (4, 2, None), "refuse Unknown"),
-    (2, 1, (7, 1, None), "refuse Superseded"),
-    (2, 1, (7, 2, None), "refuse Unknown"),
-    (2, 1, (8, 1, Some(3)), "refuse Superseded"),
-    (2, 1, (8, 2, Some(3)), "refuse Unknown"),
-    (2, 1, (6, 1, None), "accept [9]"),
-    (3, 2, (6, 1, Some(3)), "accept [9]"),
-    (2, 1, (6, 2, Some(9)), "refuse Unknown"),
-    (2, 1, (5, 1, Some(3)), "accept empty"),
-    (2, 1, (5, 2, None), "refuse Unknown"),
-    (3, 1, (3, 1, Some(3)), "refuse Superseded"),
-    (2, 1, (3, 1, None), "refuse Superseded"),
-    (2, 1, (3, 2, None), "refuse Superseded"),
-    (3, 2, (3, 2, None), "refuse Superseded"),
-    (3, 1, (3, 3, Some(7)), "refuse Unknown"),
-    (3, 1, (3, 2, Some(7)), "accept [7]"),
-    (3, 1, (3, 1, None), "accept [7]"),
-    (2, 1, (2, 1, None), "accept empty"),
-    (2, 1, (2, 1, Some(7)), "accept empty"),
-];
-
-#[test]
-fn returns_meet_every_status(rt: HostRuntime) {
-    let mut ledger = of_every_status(&rt, rt.alloc());
-    tells_own(&rt, rt.alloc(), &ledger, "A1A1O1O2R1D1D1H1S1H1");
-    for (node, incarnation, child, answer) in RETURNS.iter() {
-        let from = site(*node, *incarnation);
-        answers(&rt, rt.alloc(), &mut ledger, from, *child, answer);
-    }
-    tells_own(&rt, rt.alloc(), &ledger, "A1A1D1D2R1D1D1H1S1H1");
-}
-
-/// Below a guest of node 2: 0 and 2 out to node 3, 1 out to node 2. Below the root: 3 out to node 2, 4 out to node 3.
-/// Another guest of node 2 is ready.
-fn with_many_out<R: Abort>(rt: &R, alloc: Global) -> Ledger {
-    let mut ledger = Ledger::start(alloc, HERE, 3, 20).expect(rt, "it succeeds");
-    split_guest(rt, &mut ledger, site(2, 1), 0, &[2, 3, 4]);
-    for node in [3, 2, 3] {
-        ledger.give(site(node, 1)).expect(rt, "it succeeds");
-    }
-    split_guest(rt, &mut ledger, site(0, 1), 0, &[5, 6]);
-    for node in [2, 3] {
-        ledger.give(site(node, 1)).expect(rt, "it succeeds");
-    }
-    assert!(rt; ledger.receive_give(site(2, 1), 7, 1, &[8]) == Ok(true));
-    ledger
-}
-
-#[test]
-fn known_members_change_nothing(rt: HostRuntime) {
-    let mut ledger = with_many_out(&rt, rt.alloc());
-    let mut outs = Vec::new(rt.alloc());
-    assert!(rt; ledger.learn_members(&[9, 1, 1, 5], &mut outs) == Ok(false));
-    assert!(rt; outs.is_empty());
-    tells_own(&rt, rt.alloc(), &ledger, "O1O1O1O1O1");
-}
-
-/// The same ledger, once it has learnt that node 2 began anew, and the aborts that this reaches.
-fn with_node_2_anew<R: Abort>(rt: &R, alloc: Global) -> (Ledger, Vec<Out>) {
-    let mut ledger = with_many_out(rt, alloc);
-    let mut outs = Vec::new(alloc);
-    assert!(rt; ledger.learn_members(&[1, 2, 1], &mut outs) == Ok(true));
-    (ledger, outs)
-}
-
-#[test]
-fn members_redo_drop_and_abort(rt: HostRuntime) {
-    let (ledger, outs) = with_node_2_anew(&rt, rt.alloc());
-    tells_own(&rt, rt.alloc(), &ledger, "A1A2A1R2O1");
-    assert!(rt; outs.iter().map(|out| out.serial).eq([0, 2]));
-    assert!(rt;
-        outs.iter()
-            .all(|out| out.attempt == 1 && out.thief == site(3, 1))
-    );
-    for (node, serial, status) in [(2, 0, "X1"), (2, 7, "X1"), (0, 0, "S1")] {
-        let unit = guest(site(node, 1), serial);
-        tells(&rt, rt.alloc(), &ledger, unit, status);
-    }
-}
-
-#[test]
-fn the_greater_incarnation_is_known(rt: HostRuntime) {
-    let (mut ledger, mut outs) = with_node_2_anew(&rt, rt.alloc());
-    assert!(rt; ledger.learn_members(&[1, 2, 1], &mut outs) == Ok(false));
-    assert!(rt; outs.len() == 2);
-    for (node, incarnation) in [(1, 1), (2, 2), (3, 1)] {
-        assert!(rt; node <= ledger.nodes());
-        assert!(rt; ledger.known(node) == incarnation);
-    }
-}
-
-#[test]
-fn an_earlier_run_gets_and_gives_nothing(rt: HostRuntime) {
-    let (mut ledger, _) = with_node_2_anew(&rt, rt.alloc());
-    gives(&rt, rt.alloc(), &mut ledger, site(2, 1), "nothing");
-    gives(&rt, rt.alloc(), &mut ledger, site(2, 2), "3 2 [7, 5]");
-    assert!(rt; ledger.receive_give(site(2, 1), 9, 1, &[1]) == Ok(false));
-    assert!(rt; ledger.receive_give(site(0, 1), 0, 1, &[]) == Ok(false));
+        .receive_return(from, serial, attempt, &result)
+        .expect(rt, "memory")
 }
 
 /// Whether it is a frame that is settled.
@@ -279,87 +188,331 @@ fn is_settled(table: &Table, unit: Unit) -> bool
     ensures settled { result ≡ true → IsSome (frame_result (frame unit table.now.own)) }
 {
     match table.unit(unit) {
-        Some(view) => matches!(view.status, Status::Split) && table.heard(unit) == Heard::Settled,
+        Some(view) => matches!(view.status, Status::Split) && table.heard(unit) == Settled,
         None => false,
     }
 }
 
-/// A guest of the registry that has finished as its third child's cover, and the aborts that this reaches.
-fn finished<R: Abort>(rt: &R, alloc: Global) -> (Ledger, Vec<Out>) {
-    let mut ledger = Ledger::start(alloc, HERE, 3, 20).expect(rt, "it succeeds");
-    split_guest(rt, &mut ledger, site(0, 1), 0, &[0, 1, 2]);
-    ledger.give(site(2, 1)).expect(rt, "it succeeds");
-    ledger.take();
-    end(
-        rt,
-        &mut ledger,
-        Unit::Own(2),
-        cover(alloc, 4).expect(rt, "it succeeds"),
-    );
+/// Whether a frame, which is settled, finishes.
+fn finishes<R: Abort>(rt: &R, ledger: &mut Ledger, unit: Unit, outs: &mut Vec<Out>) -> bool {
+    assert!(rt; is_settled(ledger.table(), unit));
+    ledger.finish(unit, outs).is_ok()
+}
+
+/// Whether a node's run is known so.
+fn knows(ledger: &Ledger, node: u8, incarnation: u32) -> bool {
+    node <= ledger.nodes() && ledger.known(node) == incarnation
+}
+
+/// Whether the ledger shows what a step says.
+fn is_shown<R: Abort>(rt: &R, alloc: Global, ledger: &Ledger, outs: &[Out], step: &Step) -> bool {
+    match *step {
+        Children(expected) => shows_children(rt, alloc, ledger.table(), expected),
+        Shows(unit, expected) => shows(rt, alloc, ledger.table(), unit, expected),
+        HasCome(unit, came) => has_come(ledger.table(), unit, came),
+        Outs(expected) => outs == expected,
+        Known(node, incarnation) => knows(ledger, node, incarnation),
+        _ => false,
+    }
+}
+
+/// Whether a step of one unit, own or given away, goes as it says; else the ledger is to show what it says.
+fn is_done<R: Abort>(
+    rt: &R,
+    alloc: Global,
+    ledger: &mut Ledger,
+    outs: &mut Vec<Out>,
+    step: &Step,
+) -> bool {
+    match *step {
+        Take(unit) => ledger.take() == Some(Job { unit, attempt: 1 }),
+        Split(unit, options, first) => splits(rt, ledger, unit, options, first),
+        End(unit, came, heard) => ended(rt, alloc, ledger, unit, came) == heard,
+        Finish(unit) => finishes(rt, ledger, unit, outs),
+        Give(thief, given) => gives(rt, ledger, thief, given),
+        Redo(serial, answer) => ledger.redo(serial) == answer,
+        _ => is_shown(rt, alloc, ledger, outs, step),
+    }
+}
+
+/// Whether a step goes as it says.
+fn goes<R: Abort>(
+    rt: &R,
+    alloc: Global,
+    ledger: &mut Ledger,
+    outs: &mut Vec<Out>,
+    step: &Step,
+) -> bool {
+    match *step {
+        Receive(ChildName { site, serial }, is_new) => {
+            ledger.receive_give(site, serial, 1, &[7]) == Ok(is_new)
+        }
+        Return(from, child, answer) => is_answer(&replied(rt, alloc, ledger, from, child), answer),
+        Learn(incarnations, moves) => ledger.learn_members(incarnations, outs) == Ok(moves),
+        Accept(ChildName { site, serial }, option, settles) => {
+            ledger.receive_accept(site, serial, 1, result_of(rt, alloc, option)) == settles
+        }
+        Refuse(ChildName { site, serial }, drops) => {
+            ledger.receive_refuse(site, serial, 1, outs) == Ok(drops)
+        }
+        _ => is_done(rt, alloc, ledger, outs, step),
+    }
+}
+
+/// Takes these steps, one after another.
+fn run<R: Abort>(rt: &R, alloc: Global, mut ledger: Ledger, steps: &[Step]) {
     let mut outs = Vec::new(alloc);
-    let root = guest(site(0, 1), 0);
-    let is_settled = is_settled(ledger.table(), root);
-    assert!(rt; is_settled);
-    ledger.finish(root, &mut outs).expect(rt, "it succeeds");
-    (ledger, outs)
+    for (place, step) in steps.iter().enumerate() {
+        assert!(rt;
+            goes(rt, alloc, &mut ledger, &mut outs, step),
+            "step {place}"
+        );
+    }
 }
+
+/// Takes these steps in a ledger of the first of three nodes.
+fn run_node<R: Abort>(rt: &R, alloc: Global, steps: &[Step]) {
+    let ledger = Ledger::start(alloc, HERE, 3, 20).expect(rt, "memory");
+    run(rt, alloc, ledger, steps);
+}
+
+/// Takes these steps in the registry's ledger, over two nodes.
+fn run_registry<R: Abort>(rt: &R, alloc: Global, steps: &[Step]) {
+    let ledger = Ledger::with_root(alloc, 2).expect(rt, "memory");
+    assert!(rt; ledger.nodes() == 2);
+    run(rt, alloc, ledger, steps);
+}
+
+static RETURNS: &[Step] = &[
+    // Own children of every status: 0 and 1 aborted, 2 out to node 2, 3 out to node 3 at the second attempt, 4 ready,
+    // 5 done with Empty, 6 done with a cover, 7 here, 8 split, 9 here.
+    Receive(OF_3, true),
+    Take(Guest(OF_3, 1)),
+    Split(Guest(OF_3, 1), &[20, 21], 0),
+    Refuse(OF_3, true),
+    Receive(ROOT, true),
+    Take(Guest(ROOT, 1)),
+    Split(Guest(ROOT, 1), &[0, 1, 2, 3, 4, 5, 6], 2),
+    Take(Own(8)),
+    Split(Own(8), &[10], 9),
+    Take(Own(9)),
+    Take(Own(7)),
+    Take(Own(6)),
+    Take(Own(5)),
+    End(Own(6), Some(9), Settled),
+    End(Own(5), None, Settled),
+    Give(NODE_2, Some((2, 1, &[7, 0]))),
+    Give(NODE_3, Some((3, 1, &[7, 1]))),
+    Redo(3, Ok(())),
+    Give(NODE_3, Some((3, 2, &[7, 1]))),
+    Children("A1A1O1O2R1D1D1H1S1H1"),
+    // A Return for each.
+    Return(NODE_2, (10, 1, None), Err(Unknown)),
+    Return(NODE_2, (0, 1, Some(3)), Err(Aborted)),
+    Return(NODE_2, (0, 2, Some(3)), Err(Unknown)),
+    Return(NODE_2, (4, 1, None), Err(Superseded)),
+    Return(NODE_2, (4, 2, None), Err(Unknown)),
+    Return(NODE_2, (7, 1, None), Err(Superseded)),
+    Return(NODE_2, (7, 2, None), Err(Unknown)),
+    Return(NODE_2, (8, 1, Some(3)), Err(Superseded)),
+    Return(NODE_2, (8, 2, Some(3)), Err(Unknown)),
+    Return(NODE_2, (6, 1, None), Ok(Some(9))),
+    Return(NODE_3_ANEW, (6, 1, Some(3)), Ok(Some(9))),
+    Return(NODE_2, (6, 2, Some(9)), Err(Unknown)),
+    Return(NODE_2, (5, 1, Some(3)), Ok(None)),
+    Return(NODE_2, (5, 2, None), Err(Unknown)),
+    Return(NODE_3, (3, 1, Some(3)), Err(Superseded)),
+    Return(NODE_2, (3, 1, None), Err(Superseded)),
+    Return(NODE_2, (3, 2, None), Err(Superseded)),
+    Return(NODE_3_ANEW, (3, 2, None), Err(Superseded)),
+    Return(NODE_3, (3, 3, Some(7)), Err(Unknown)),
+    Return(NODE_3, (3, 2, Some(7)), Ok(Some(7))),
+    Return(NODE_3, (3, 1, None), Ok(Some(7))),
+    Return(NODE_2, (2, 1, None), Ok(None)),
+    Return(NODE_2, (2, 1, Some(7)), Ok(None)),
+    Children("A1A1D1D2R1D1D1H1S1H1"),
+];
 
 #[test]
-fn a_frame_finishes(rt: HostRuntime) {
-    let (ledger, outs) = finished(&rt, rt.alloc());
-    tells_own(&rt, rt.alloc(), &ledger, "A1A1D1");
-    assert!(rt; outs.len() == 1);
-    let root = guest(site(0, 1), 0);
-    tells(&rt, rt.alloc(), &ledger, root, "F1");
+fn returns_meet_every_status(rt: HostRuntime) {
+    run_node(&rt, rt.alloc(), RETURNS);
 }
+
+static MEMBERS: &[Step] = &[
+    // Below a guest of node 2: 0 and 2 out to node 3, 1 out to node 2. Below the root: 3 out to node 2, 4 out to node 3.
+    // Another guest of node 2 is ready.
+    Receive(OF_2, true),
+    Take(Guest(OF_2, 1)),
+    Split(Guest(OF_2, 1), &[2, 3, 4], 0),
+    Give(NODE_3, Some((0, 1, &[7, 2]))),
+    Give(NODE_2, Some((1, 1, &[7, 3]))),
+    Give(NODE_3, Some((2, 1, &[7, 4]))),
+    Receive(ROOT, true),
+    Take(Guest(ROOT, 1)),
+    Split(Guest(ROOT, 1), &[5, 6], 3),
+    Give(NODE_2, Some((3, 1, &[7, 5]))),
+    Give(NODE_3, Some((4, 1, &[7, 6]))),
+    Receive(LATER_OF_2, true),
+    // Known members change nothing, nor do the own node's and those beyond the nodes that there are.
+    Learn(&[9, 1, 1, 5], false),
+    Outs(&[]),
+    Children("O1O1O1O1O1"),
+    // Node 2 began anew: what is out to it is redone, its guests are dropped, and what is below them is aborted.
+    Learn(&[1, 2, 1], true),
+    Children("A1A2A1R2O1"),
+    Outs(OUT_TO_3),
+    Shows(Guest(OF_2, 1), "X1"),
+    Shows(Guest(LATER_OF_2, 1), "X1"),
+    Shows(Guest(ROOT, 1), "S1"),
+    // The greater incarnation is known from then on.
+    Learn(&[1, 2, 1], false),
+    Outs(OUT_TO_3),
+    Known(1, 1),
+    Known(2, 2),
+    Known(3, 1),
+    // An earlier run gets and gives nothing, and a guest comes once.
+    Give(NODE_2, None),
+    Give(NODE_2_ANEW, Some((3, 2, &[7, 5]))),
+    Receive(OF_2, false),
+    Receive(ROOT, false),
+];
+
+/// The first and the third child of the guest of node 2.
+const OUT_TO_3: &[Out] = &[
+    Out {
+        serial: 0,
+        attempt: 1,
+        thief: NODE_3,
+    },
+    Out {
+        serial: 2,
+        attempt: 1,
+        thief: NODE_3,
+    },
+];
 
 #[test]
-fn a_finished_guest_settles_once(rt: HostRuntime) {
-    let (mut ledger, mut outs) = finished(&rt, rt.alloc());
-    let owner = site(0, 1);
-    assert!(rt;
-        ledger.receive_accept(owner, 0, 1, cover(rt.alloc(), 5).expect(&rt, "it succeeds"))
-    );
-    assert!(rt; !ledger.receive_accept(owner, 0, 1, ChildResult::Empty));
-    assert!(rt; ledger.receive_refuse(owner, 0, 1, &mut outs) == Ok(false));
-    tells(&rt, rt.alloc(), &ledger, guest(owner, 0), "T1");
+fn members_redo_drop_and_abort(rt: HostRuntime) {
+    run_node(&rt, rt.alloc(), MEMBERS);
 }
 
-/// The same of the root, given to the first node: the sender's node, the attempt and the result; what is answered.
-static ROOT_RETURNS: [(u8, (u32, u32, Option<u16>), &str); 4] = [
-    (1, (0, 2, None), "refuse Unknown"),
-    (2, (0, 1, None), "refuse Superseded"),
-    (1, (0, 1, None), "accept empty"),
-    (1, (0, 1, Some(7)), "accept empty"),
+/// The first child, out to node 2.
+const OUT_TO_2: &[Out] = &[Out {
+    serial: 0,
+    attempt: 1,
+    thief: NODE_2,
+}];
+
+static FINISHED: &[Step] = &[
+    Receive(ROOT, true),
+    Take(Guest(ROOT, 1)),
+    Split(Guest(ROOT, 1), &[0, 1, 2], 0),
+    Give(NODE_2, Some((0, 1, &[7, 0]))),
+    Take(Own(2)),
+    End(Own(2), Some(4), Settled),
+    Finish(Guest(ROOT, 1)),
+    Children("A1A1D1"),
+    Outs(OUT_TO_2),
+    Shows(Guest(ROOT, 1), "F1"),
+    HasCome(Guest(ROOT, 1), Some(4)),
+    // It settles once, on what its owner accepted.
+    Accept(ROOT, Some(5), true),
+    Accept(ROOT, None, false),
+    Refuse(ROOT, false),
+    Shows(Guest(ROOT, 1), "T1"),
+    HasCome(Guest(ROOT, 1), Some(5)),
+    Outs(OUT_TO_2),
+];
+
+#[test]
+fn a_frame_finishes_and_settles_once(rt: HostRuntime) {
+    run_node(&rt, rt.alloc(), FINISHED);
+}
+
+static EMPTIES: &[Step] = &[
+    Receive(ROOT, true),
+    Take(Guest(ROOT, 1)),
+    Split(Guest(ROOT, 1), &[0, 1], 0),
+    Take(Own(1)),
+    End(Own(1), None, Open),
+    Give(NODE_2, Some((0, 1, &[7, 0]))),
+    Return(NODE_2, (0, 1, None), Ok(None)),
+    Finish(Guest(ROOT, 1)),
+    Children("D1D1"),
+    Outs(&[]),
+    Shows(Guest(ROOT, 1), "F1"),
+    HasCome(Guest(ROOT, 1), None),
+];
+
+#[test]
+fn a_frame_of_empties_finishes_as_empty(rt: HostRuntime) {
+    run_node(&rt, rt.alloc(), EMPTIES);
+}
+
+static REFUSED: &[Step] = &[
+    Receive(ROOT, true),
+    Take(Guest(ROOT, 1)),
+    Split(Guest(ROOT, 1), &[0, 1, 2], 0),
+    Give(NODE_2, Some((0, 1, &[7, 0]))),
+    Take(Own(2)),
+    Refuse(ROOT, true),
+    Children("A1A1A1"),
+    Outs(OUT_TO_2),
+    Shows(Guest(ROOT, 1), "X1"),
+    Refuse(ROOT, false),
+    Outs(OUT_TO_2),
+];
+
+#[test]
+fn an_abort_lists_what_is_out_below(rt: HostRuntime) {
+    run_node(&rt, rt.alloc(), REFUSED);
+}
+
+static ROOT_RETURNS: &[Step] = &[
+    Give(NODE_1, Some((0, 1, &[]))),
+    Give(NODE_1, None),
+    Return(NODE_1, (0, 2, None), Err(Unknown)),
+    Return(NODE_2, (0, 1, None), Err(Superseded)),
+    Return(NODE_1, (0, 1, None), Ok(None)),
+    Return(NODE_1, (0, 1, Some(7)), Ok(None)),
 ];
 
 #[test]
 fn the_root_is_given_and_returned(rt: HostRuntime) {
-    let mut ledger = Ledger::with_root(rt.alloc(), 2).expect(&rt, "it succeeds");
-    assert!(rt; ledger.nodes() == 2);
-    gives(&rt, rt.alloc(), &mut ledger, site(1, 1), "0 1 []");
-    gives(&rt, rt.alloc(), &mut ledger, site(1, 1), "nothing");
-    for (node, child, answer) in ROOT_RETURNS.iter() {
-        answers(&rt, rt.alloc(), &mut ledger, site(*node, 1), *child, answer);
-    }
+    run_registry(&rt, rt.alloc(), ROOT_RETURNS);
 }
+
+static ROOT_REDONE: &[Step] = &[
+    Redo(0, Err(RedoFault::NotOut)),
+    Give(NODE_1, Some((0, 1, &[]))),
+    Redo(0, Ok(())),
+    Return(NODE_1, (0, 1, None), Err(Superseded)),
+    Redo(0, Err(RedoFault::NotOut)),
+    Redo(1, Err(RedoFault::NotOut)),
+    Give(NODE_1, Some((0, 2, &[]))),
+];
 
 #[test]
 fn a_root_that_is_redone_takes_no_earlier_result(rt: HostRuntime) {
-    let mut ledger = Ledger::with_root(rt.alloc(), 2).expect(&rt, "it succeeds");
-    assert!(rt; ledger.redo(0) == Err(RedoFault::NotOut));
-    ledger.give(site(1, 1)).expect(&rt, "it succeeds");
-    assert!(rt; ledger.redo(0) == Ok(()));
-    let earlier = (0, 1, None);
-    answers(
-        &rt,
-        rt.alloc(),
-        &mut ledger,
-        site(1, 1),
-        earlier,
-        "refuse Superseded",
-    );
-    assert!(rt; ledger.redo(0) == Err(RedoFault::NotOut));
-    assert!(rt; ledger.redo(1) == Err(RedoFault::NotOut));
-    gives(&rt, rt.alloc(), &mut ledger, site(1, 1), "0 2 []");
+    run_registry(&rt, rt.alloc(), ROOT_REDONE);
+}
+
+static ROOT_LOST: &[Step] = &[
+    Give(NODE_1, Some((0, 1, &[]))),
+    Learn(&[1, 1], false),
+    Learn(&[2, 1], true),
+    Children("R2"),
+    Outs(&[]),
+    Known(0, 1),
+    Known(1, 2),
+    Known(2, 1),
+    Give(NODE_1, None),
+    Give(NODE_1_ANEW, Some((0, 2, &[]))),
+    Return(NODE_1, (0, 1, Some(7)), Err(Superseded)),
+    Return(NODE_1_ANEW, (0, 2, Some(7)), Ok(Some(7))),
+];
+
+#[test]
+fn the_root_is_redone_once_its_thief_began_anew(rt: HostRuntime) {
+    run_registry(&rt, rt.alloc(), ROOT_LOST);
 }

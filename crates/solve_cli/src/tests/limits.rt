@@ -4,126 +4,113 @@ use dlx_reader::ReadFault::{
     DuplicateItem, IllegalByte, TooManyItems, TooManyNodes, TooManyOptions,
 };
 use dlx_reader::{ReadFault, read_problem};
-use std::alloc::{AllocError, Global};
+use std::alloc::Global;
 use std::process::Abort;
 
 /// So many names.
-fn names(alloc: Global, count: u16) -> Result<String, AllocError> {
+pub fn names<R: Abort>(rt: &R, alloc: Global, count: u16) -> String {
     let mut text = String::new(alloc);
     for item in 0..count {
-        write!(text, "n{item} ")?;
+        write!(text, "n{item} ").expect(rt, "memory");
     }
-    Ok(text)
+    text
 }
 
 /// So many times a line.
-fn repeat(text: &mut String, line: &str, count: u16) -> Result<(), AllocError> {
+fn repeat<R: Abort>(rt: &R, text: &mut String, line: &str, count: u16) {
     for _ in 0..count {
-        text.push_str(line)?;
+        text.push_str(line).expect(rt, "memory");
     }
-    Ok(())
 }
 
-/// An item line of 1,000 names, with this after them.
-fn full_line(alloc: Global, more: &str) -> Result<String, AllocError> {
-    let mut text = names(alloc, 1000)?;
-    text.push_str(more)?;
-    Ok(text)
+/// A line so many times, the first as the item line.
+pub fn lines<R: Abort>(rt: &R, alloc: Global, line: &str, count: u16) -> String {
+    let mut text = String::new(alloc);
+    for _ in 0..count {
+        text.push_str(line).expect(rt, "memory");
+        text.push('\n').expect(rt, "memory");
+    }
+    text
+}
+
+/// How many items the problem of a text has, or its fault.
+fn items_of(alloc: Global, text: &str) -> Result<usize, ReadFault> {
+    match read_problem(alloc, text.as_bytes()) {
+        Ok(read) => Ok(read.problem.items()),
+        Err(fault) => Err(fault),
+    }
+}
+
+/// What stands behind 1,000 names; how many items that makes, or the fault.
+static ITEM_LINES: [(&str, Result<usize, ReadFault>); 9] = [
+    ("", Ok(1000)),
+    ("|", Ok(1000)),
+    ("m", Err(TooManyItems(1))),
+    ("|m", Err(TooManyItems(1))),
+    ("| m", Err(TooManyItems(1))),
+    ("m n0", Err(TooManyItems(1))),
+    ("n0 m", Err(DuplicateItem(1))),
+    ("|n999", Err(DuplicateItem(1))),
+    ("m:", Err(IllegalByte(1))),
+];
+
+/// 1,000 names with this behind them are read so.
+fn reads<R: Abort>(rt: &R, alloc: Global, more: &str, read: Result<usize, ReadFault>) {
+    let mut text = names(rt, alloc, 1000);
+    text.push_str(more).expect(rt, "memory");
+    assert!(rt; items_of(alloc, text.as_str()) == read, "{more:?}");
 }
 
 #[test]
 fn items(rt: HostRuntime) {
-    let alloc = rt.alloc();
-    assert!(rt;
-        read_problem(
-            alloc,
-            full_line(alloc, "").expect(&rt, "it succeeds").as_bytes()
-        )
-        .expect(&rt, "it succeeds")
-        .problem
-        .items()
-            == 1000
-    );
-    assert!(rt;
-        read_problem(
-            alloc,
-            full_line(alloc, "|").expect(&rt, "it succeeds").as_bytes()
-        )
-        .expect(&rt, "it succeeds")
-        .problem
-        .items()
-            == 1000
-    );
-    for (more, fault) in [
-        ("m", TooManyItems(1)),
-        ("|m", TooManyItems(1)),
-        ("| m", TooManyItems(1)),
-        ("m n0", TooManyItems(1)),
-        ("n0 m", DuplicateItem(1)),
-        ("|n999", DuplicateItem(1)),
-        ("m:", IllegalByte(1)),
-    ] {
-        let text = full_line(alloc, more).expect(&rt, "it succeeds");
-        assert!(rt;
-            read_problem(alloc, text.as_bytes()).err() == Some(fault),
-            "{more:?}"
-        );
+    for (more, read) in ITEM_LINES.iter() {
+        reads(&rt, rt.alloc(), more, *read);
     }
+}
+
+/// How many options of a text are kept and how many ignored, or its fault.
+fn options_of(alloc: Global, text: &str) -> Result<(usize, usize), ReadFault> {
+    match read_problem(alloc, text.as_bytes()) {
+        Ok(read) => Ok((read.problem.options(), read.ignored)),
+        Err(fault) => Err(fault),
+    }
+}
+
+/// A text has so many options, kept and ignored, and with a further line this fault.
+fn ends_with<R: Abort>(
+    rt: &R,
+    alloc: Global,
+    text: &mut String,
+    counts: (usize, usize),
+    (more, fault): (&str, ReadFault),
+) {
+    assert!(rt; options_of(alloc, text.as_str()) == Ok(counts));
+    text.push_str(more).expect(rt, "memory");
+    assert!(rt; options_of(alloc, text.as_str()) == Err(fault));
 }
 
 #[test]
 fn options(rt: HostRuntime) {
-    let alloc = rt.alloc();
-    let mut text = String::from_str(alloc, "a | x\n").expect(&rt, "it succeeds");
-    repeat(&mut text, "a\n", 20000).expect(&rt, "it succeeds");
-    repeat(&mut text, "x\n", 3).expect(&rt, "it succeeds");
-    let read = read_problem(alloc, text.as_bytes()).expect(&rt, "it succeeds");
-    assert!(rt; read.problem.options() == 20000);
-    assert!(rt; read.ignored == 3);
-    text.push_str("\na x").expect(&rt, "it succeeds");
-    let fault = read_problem(alloc, text.as_bytes()).err();
-    assert!(rt; fault == Some(TooManyOptions(20006)));
-}
-
-/// A line so many times, the first as the item line.
-pub fn lines(alloc: Global, line: &str, count: u16) -> Result<String, AllocError> {
-    let mut text = String::new(alloc);
-    for _ in 0..count {
-        text.push_str(line)?;
-        text.push('\n')?;
-    }
-    Ok(text)
-}
-
-/// A text has so many options, and with a further line this fault.
-fn ends_with<R: Abort>(rt: &R, text: &mut String, alloc: Global, count: usize, fault: ReadFault) {
-    let read = read_problem(alloc, text.as_bytes()).expect(rt, "it succeeds");
-    assert!(rt; read.problem.options() == count);
-    text.push_str("n0\n").expect(rt, "it succeeds");
-    assert!(rt; read_problem(alloc, text.as_bytes()).err() == Some(fault));
+    let mut text = String::from_str(rt.alloc(), "a | x\n").expect(&rt, "memory");
+    repeat(&rt, &mut text, "a\n", 20000);
+    repeat(&rt, &mut text, "x\n", 3);
+    let last = ("\na x", TooManyOptions(20006));
+    ends_with(&rt, rt.alloc(), &mut text, (20000, 3), last);
 }
 
 #[test]
 fn occurrences(rt: HostRuntime) {
-    let alloc = rt.alloc();
-    let mut text = lines(
-        alloc,
-        names(alloc, 1000).expect(&rt, "it succeeds").as_str(),
-        201,
-    )
-    .expect(&rt, "it succeeds");
-    ends_with(&rt, &mut text, alloc, 200, TooManyNodes(202));
+    let line = names(&rt, rt.alloc(), 1000);
+    let mut text = lines(&rt, rt.alloc(), line.as_str(), 201);
+    let last = ("n0\n", TooManyNodes(202));
+    ends_with(&rt, rt.alloc(), &mut text, (200, 0), last);
 }
 
 /// Both limits at one option: that of the options counts.
 #[test]
 fn both(rt: HostRuntime) {
-    let alloc = rt.alloc();
-    let mut text = lines(
-        alloc,
-        names(alloc, 10).expect(&rt, "it succeeds").as_str(),
-        20001,
-    )
-    .expect(&rt, "it succeeds");
-    ends_with(&rt, &mut text, alloc, 20000, TooManyOptions(20002));
+    let line = names(&rt, rt.alloc(), 10);
+    let mut text = lines(&rt, rt.alloc(), line.as_str(), 20001);
+    let last = ("n0\n", TooManyOptions(20002));
+    ends_with(&rt, rt.alloc(), &mut text, (20000, 0), last);
 }

@@ -1,10 +1,11 @@
 //! Packets and their bytes, worked out by hand from the format.
 
+use super::units::site;
 use cover_problem::Numbers;
-use packet_wire::WireFault::{Field, Kind, Magic, Short, Version};
+use packet_wire::WireFault::{Field, Kind, Magic, Short, Trailing, Version};
 use packet_wire::*;
 use spawn_frame::{Cause, ChildResult, Site};
-use std::alloc::{AllocError, Global};
+use std::alloc::Global;
 use std::process::Abort;
 
 /// Of each kind one packet, as bytes. Those that name a child name the root.
@@ -32,98 +33,124 @@ const ABORT: &[u8] = b"CN\x01\x09\x01\0\0\0\x01\x02\0\0\0\x01\0\0\x01\0\xff\xff\
 
 const OVER: &[u8] = b"CN\x01\x0a\0\0\0\0\x01\x01\0\0\0\x09";
 
-static SPELLINGS: [&[u8]; 11] = [
-    GIVE,
-    RETURN_EMPTY,
-    RETURN_COVER,
-    STEAL,
-    HELLO,
-    MEMBERS,
-    NO_WORK,
-    ACCEPT,
-    REFUSE,
-    ABORT,
-    OVER,
+/// The sender's node and incarnation, the receiver's, and the packet.
+static SPELLINGS: [((u8, u32), (u8, u32), &[u8]); 11] = [
+    ((0, 1), (2, 1), GIVE),
+    ((2, 1), (0, 1), RETURN_EMPTY),
+    ((2, 1), (0, 1), RETURN_COVER),
+    ((2, 1), (0, 1), STEAL),
+    ((16, 0x0102_0304), (0, 1), HELLO),
+    ((0, 1), (2, 3), MEMBERS),
+    ((1, 1), (2, 1), NO_WORK),
+    ((2, 1), (1, 5), ACCEPT),
+    ((0, 1), (1, 1), REFUSE),
+    ((1, 1), (2, 1), ABORT),
+    ((0, 1), (1, 9), OVER),
 ];
 
-fn site(node: u8, incarnation: u32) -> Site {
-    Site { node, incarnation }
+fn list<R: Abort>(rt: &R, alloc: Global, options: &[u16]) -> Numbers {
+    Numbers::from_vec(Vec::from_slice(alloc, options).expect(rt, "memory"))
 }
 
-fn list(alloc: Global, options: &[u16]) -> Result<Numbers, AllocError> {
-    Ok(Numbers::from_vec(Vec::from_slice(alloc, options)?))
+fn cover<R: Abort>(rt: &R, alloc: Global, options: &[u16]) -> ChildResult {
+    ChildResult::Cover(list(rt, alloc, options))
 }
 
-/// The packet of these bytes, of the table.
-fn packet_of(alloc: Global, place: usize) -> Result<Packet, AllocError> {
-    let (from, to, body) = match place {
-        0 => (site(0, 1), site(2, 1), Body::Give(0, 1, list(alloc, &[])?)),
-        1 => (
-            site(2, 1),
-            site(0, 1),
-            Body::Return(0, 1, ChildResult::Empty),
-        ),
-        2 => {
-            let cover = ChildResult::Cover(list(alloc, &[3, 4, 0])?);
-            (site(2, 1), site(0, 1), Body::Return(0, 1, cover))
-        }
-        3 => (site(2, 1), site(0, 1), Body::Steal),
-        4 => (site(16, 0x0102_0304), site(0, 1), Body::Hello),
-        5 => {
-            let known = Incarnations::from_vec(vec![in alloc; 1, 256]?);
-            (site(0, 1), site(2, 3), Body::Members(known))
-        }
-        6 => (site(1, 1), site(2, 1), Body::NoWork),
-        7 => {
-            let cover = ChildResult::Cover(list(alloc, &[19_999])?);
-            (site(2, 1), site(1, 5), Body::Accept(7, 2, cover))
-        }
-        8 => (
-            site(0, 1),
-            site(1, 1),
-            Body::Refuse(0, 1, Cause::Superseded),
-        ),
-        9 => (site(1, 1), site(2, 1), Body::Abort(256, u32::MAX)),
-        _ => (site(0, 1), site(1, 9), Body::Over),
-    };
-    Ok(Packet { from, to, body })
+fn members<R: Abort>(rt: &R, alloc: Global) -> Incarnations {
+    Incarnations::from_vec(vec![in alloc; 1, 256].expect(rt, "memory"))
+}
+
+/// What the packet at this place says.
+fn body_of<R: Abort>(rt: &R, alloc: Global, place: usize) -> Body {
+    match place {
+        0 => Body::Give(0, 1, list(rt, alloc, &[])),
+        1 => Body::Return(0, 1, ChildResult::Empty),
+        2 => Body::Return(0, 1, cover(rt, alloc, &[3, 4, 0])),
+        3 => Body::Steal,
+        4 => Body::Hello,
+        5 => Body::Members(members(rt, alloc)),
+        6 => Body::NoWork,
+        7 => Body::Accept(7, 2, cover(rt, alloc, &[19_999])),
+        8 => Body::Refuse(0, 1, Cause::Superseded),
+        9 => Body::Abort(256, u32::MAX),
+        _ => Body::Over,
+    }
+}
+
+/// A packet between these sites.
+fn packet(from: (u8, u32), to: (u8, u32), body: Body) -> Packet {
+    Packet {
+        from: site(from.0, from.1),
+        to: site(to.0, to.1),
+        body,
+    }
 }
 
 /// A list with the packet written behind a byte 7.
 fn written<R: Abort>(rt: &R, alloc: Global, packet: &Packet) -> Vec<u8> {
     assert!(rt; is_well_formed(packet));
-    let mut out = vec![in alloc; 7u8].expect(rt, "it succeeds");
-    write_packet(alloc, packet, &mut out).expect(rt, "it succeeds");
+    let mut out = vec![in alloc; 7u8].expect(rt, "memory");
+    write_packet(alloc, packet, &mut out).expect(rt, "memory");
     out
 }
 
-/// Whether these bytes stand behind the 7, and no others.
-fn is_behind_7(out: &[u8], bytes: &[u8]) -> bool {
-    matches!(out, [7, rest @ ..] if rest == bytes)
+/// Whether these bytes, and no others, are written behind the 7.
+fn is_written<R: Abort>(rt: &R, alloc: Global, packet: &Packet, bytes: &[u8]) -> bool {
+    matches!(written(rt, alloc, packet).as_slice(), [7, rest @ ..] if rest == bytes)
+}
+
+/// Whether the packet is written so, and a copy of it.
+fn writes<R: Abort>(rt: &R, alloc: Global, packet: &Packet, bytes: &[u8]) -> bool {
+    is_written(rt, alloc, packet, bytes)
+        && is_written(rt, alloc, &packet.copy().expect(rt, "memory"), bytes)
+}
+
+/// Whether the packet at this place is written so.
+fn writes_at<R: Abort>(
+    rt: &R,
+    alloc: Global,
+    place: usize,
+    (from, to): ((u8, u32), (u8, u32)),
+    bytes: &[u8],
+) -> bool {
+    writes(
+        rt,
+        alloc,
+        &packet(from, to, body_of(rt, alloc, place)),
+        bytes,
+    )
 }
 
 #[test]
 fn each_packet_is_written_behind_what_is_there(rt: HostRuntime) {
-    let alloc = rt.alloc();
-    for (place, bytes) in SPELLINGS.iter().enumerate() {
-        let packet = packet_of(alloc, place)
-            .expect(&rt, "it succeeds")
-            .copy()
-            .expect(&rt, "it succeeds");
-        let out = written(&rt, alloc, &packet);
-        assert!(rt; is_behind_7(&out, bytes), "{place}");
+    for (place, (from, to, bytes)) in SPELLINGS.iter().enumerate() {
+        assert!(rt;
+            writes_at(&rt, rt.alloc(), place, (*from, *to), bytes),
+            "{place}"
+        );
     }
+}
+
+/// The packet of these bytes.
+fn read<R: Abort>(rt: &R, alloc: Global, bytes: &[u8]) -> Packet {
+    read_packet(alloc, bytes).expect(rt, "a packet")
+}
+
+/// Whether it is from this site and to that.
+fn is_between(packet: &Packet, from: (u8, u32), to: (u8, u32)) -> bool {
+    packet.from == site(from.0, from.1) && packet.to == site(to.0, to.1)
+}
+
+/// Whether the bytes are read as a packet between these sites that is written so.
+fn reads<R: Abort>(rt: &R, alloc: Global, from: (u8, u32), to: (u8, u32), bytes: &[u8]) -> bool {
+    let packet = read(rt, alloc, bytes);
+    is_between(&packet, from, to) && is_written(rt, alloc, &packet, bytes)
 }
 
 #[test]
 fn each_packet_is_read_from_its_bytes(rt: HostRuntime) {
-    let alloc = rt.alloc();
-    for (place, bytes) in SPELLINGS.iter().enumerate() {
-        let packet = packet_of(alloc, place).expect(&rt, "it succeeds");
-        let read = read_packet(alloc, bytes).expect(&rt, "it succeeds");
-        assert!(rt; read.from == packet.from && read.to == packet.to, "{place}");
-        let again = written(&rt, alloc, &read);
-        assert!(rt; is_behind_7(&again, bytes), "{place}");
+    for (from, to, bytes) in SPELLINGS.iter() {
+        assert!(rt; reads(&rt, rt.alloc(), *from, *to, bytes), "{bytes:?}");
     }
 }
 
@@ -132,44 +159,85 @@ fn is_return_of(packet: &Packet, options: &[u16]) -> bool {
     matches!(&packet.body, Body::Return(0, 1, ChildResult::Cover(read)) if read.as_slice() == options)
 }
 
+/// Whether the bytes are read as a return of this cover.
+fn reads_return<R: Abort>(rt: &R, alloc: Global, bytes: &[u8], options: &[u16]) -> bool {
+    is_return_of(&read(rt, alloc, bytes), options)
+}
+
 #[test]
 fn a_cover_is_read_in_its_order(rt: HostRuntime) {
-    let read = read_packet(rt.alloc(), RETURN_COVER).expect(&rt, "it succeeds");
-    assert!(rt; is_return_of(&read, &[3, 4, 0]));
+    assert!(rt; reads_return(&rt, rt.alloc(), RETURN_COVER, &[3, 4, 0]));
+}
+
+/// Why these bytes aren't read.
+fn fault_of(alloc: Global, bytes: &[u8]) -> Option<WireFault> {
+    read_packet(alloc, bytes).err()
+}
+
+/// Each beginning is short.
+fn is_short_before_its_end<R: Abort>(rt: &R, alloc: Global, bytes: &[u8]) {
+    for end in 0..bytes.len() {
+        assert!(rt;
+            fault_of(alloc, &bytes[..end]) == Some(Short),
+            "{bytes:?} {end}"
+        );
+    }
+}
+
+/// A further byte is one too many.
+fn trails<R: Abort>(rt: &R, alloc: Global, bytes: &[u8]) {
+    let mut longer = Vec::from_slice(alloc, bytes).expect(rt, "memory");
+    longer.push(0).expect(rt, "memory");
+    assert!(rt; fault_of(alloc, &longer) == Some(Trailing), "{bytes:?}");
 }
 
 #[test]
 fn beginnings_are_short(rt: HostRuntime) {
-    let alloc = rt.alloc();
-    for bytes in &SPELLINGS {
-        for end in 0..bytes.len() {
-            let fault = read_packet(alloc, &bytes[..end]).err();
-            assert!(rt; fault == Some(Short), "{bytes:?} {end}");
+    for (_, _, bytes) in SPELLINGS.iter() {
+        is_short_before_its_end(&rt, rt.alloc(), bytes);
+        trails(&rt, rt.alloc(), bytes);
+    }
+}
+
+/// Whether the packet is written so, behind nothing.
+fn is_spelled<R: Abort>(rt: &R, alloc: Global, packet: &Packet, bytes: &[u8]) -> bool {
+    assert!(rt; is_well_formed(packet));
+    let mut out = Vec::new(alloc);
+    write_packet(alloc, packet, &mut out).expect(rt, "memory");
+    out.as_slice() == bytes
+}
+
+/// Whether the bytes aren't read, or as a packet that is spelled so.
+fn is_read_as_it_is<R: Abort>(rt: &R, alloc: Global, bytes: &[u8]) -> bool {
+    if fault_of(alloc, bytes).is_some() {
+        return true;
+    }
+    is_spelled(rt, alloc, &read(rt, alloc, bytes), bytes)
+}
+
+/// The same with each other byte at a place.
+fn change_byte<R: Abort>(rt: &R, alloc: Global, bytes: &mut [u8], place: usize) {
+    for _ in 1..=255u8 {
+        if let Some(byte) = bytes.get_mut(place) {
+            *byte = byte.wrapping_add(1);
         }
-        let mut longer = Vec::from_slice(alloc, bytes).expect(&rt, "it succeeds");
-        longer.push(0).expect(&rt, "it succeeds");
-        let fault = read_packet(alloc, &longer).err();
-        assert!(rt; fault == Some(WireFault::Trailing), "{bytes:?}");
+        assert!(rt; is_read_as_it_is(rt, alloc, bytes), "{bytes:?}");
+    }
+}
+
+/// The same at each place in turn.
+fn change_each_byte<R: Abort>(rt: &R, alloc: Global, bytes: &[u8]) {
+    for place in 0..bytes.len() {
+        let mut changed = Vec::from_slice(alloc, bytes).expect(rt, "memory");
+        change_byte(rt, alloc, &mut changed, place);
     }
 }
 
 /// Bytes with another byte give a fault, or a packet that is spelled so.
 #[test]
 fn changed_bytes_are_read_as_they_are(rt: HostRuntime) {
-    let alloc = rt.alloc();
-    for bytes in &SPELLINGS {
-        let mut changed = Vec::from_slice(alloc, bytes).expect(&rt, "it succeeds");
-        for place in 0..bytes.len() {
-            for more in 1..=255 {
-                changed[place] = bytes[place].wrapping_add(more);
-                if let Ok(packet) = read_packet(alloc, &changed) {
-                    let mut out = Vec::new(alloc);
-                    write_packet(alloc, &packet, &mut out).expect(&rt, "it succeeds");
-                    assert!(rt; out.as_slice() == changed.as_slice());
-                }
-            }
-            changed[place] = bytes[place];
-        }
+    for (_, _, bytes) in SPELLINGS.iter() {
+        change_each_byte(&rt, rt.alloc(), bytes);
     }
 }
 
@@ -229,52 +297,55 @@ static FIRST_FAULTS: [(&[u8], WireFault); 24] = [
 #[test]
 fn the_first_fault_is_told(rt: HostRuntime) {
     for (bytes, fault) in FIRST_FAULTS.iter() {
-        let found = read_packet(rt.alloc(), bytes).err();
-        assert!(rt; found == Some(*fault), "{bytes:?}");
+        assert!(rt; fault_of(rt.alloc(), bytes) == Some(*fault), "{bytes:?}");
     }
 }
 
-/// A Return of a cover.
-fn returned(alloc: Global, options: &[u16]) -> Result<Packet, AllocError> {
-    Ok(Packet {
-        from: site(2, 1),
-        to: site(0, 1),
-        body: Body::Return(0, 1, ChildResult::Cover(list(alloc, options)?)),
-    })
-}
-
 /// The options from 19,000 on, as many as a list can have.
-fn most_options(alloc: Global) -> Result<Vec<u16>, AllocError> {
-    (19_000..20_000u16).collect(alloc)
+fn most_options<R: Abort>(rt: &R, alloc: Global) -> Vec<u16> {
+    (19_000..20_000u16).collect(alloc).expect(rt, "memory")
+}
+
+/// A Return of a cover.
+fn returned<R: Abort>(rt: &R, alloc: Global, options: &[u16]) -> Packet {
+    packet(
+        (2, 1),
+        (0, 1),
+        Body::Return(0, 1, cover(rt, alloc, options)),
+    )
+}
+
+/// Whether these are the bytes of the longest packet, behind a 7: its list has 1,000 options, 19,000 to 19,999.
+fn is_longest(bytes: &[u8]) -> bool {
+    bytes.len() == 2026
+        && &bytes[23..28] == b"\x01\x03\xe8\x4a\x38".as_slice()
+        && &bytes[2024..] == b"\x4e\x1f".as_slice()
+}
+
+/// Whether the bytes behind the 7 are read as a return of this cover.
+fn reads_behind_7<R: Abort>(rt: &R, alloc: Global, bytes: &[u8], options: &[u16]) -> bool {
+    matches!(bytes, [7, rest @ ..] if reads_return(rt, alloc, rest, options))
+}
+
+/// Whether a Return of these options is spelled as the longest packet, and read again.
+fn spells_longest<R: Abort>(rt: &R, alloc: Global, options: &[u16]) -> bool {
+    let bytes = written(rt, alloc, &returned(rt, alloc, options));
+    is_longest(&bytes) && reads_behind_7(rt, alloc, &bytes, options)
 }
 
 #[test]
-fn longest_packet_is_written(rt: HostRuntime) {
-    let options = most_options(rt.alloc()).expect(&rt, "it succeeds");
-    let bytes = written(
-        &rt,
-        rt.alloc(),
-        &returned(rt.alloc(), &options).expect(&rt, "it succeeds"),
-    );
-    assert!(rt; bytes.len() == 2026);
-    assert!(rt; &bytes[23..28] == b"\x01\x03\xe8\x4a\x38".as_slice());
-    assert!(rt; &bytes[2024..] == b"\x4e\x1f".as_slice());
+fn longest_packet_is_written_and_read(rt: HostRuntime) {
+    assert!(rt; spells_longest(&rt, rt.alloc(), &most_options(&rt, rt.alloc())));
 }
 
-#[test]
-fn longest_packet_is_read(rt: HostRuntime) {
-    let options = most_options(rt.alloc()).expect(&rt, "it succeeds");
-    let packet = returned(rt.alloc(), &options).expect(&rt, "it succeeds");
-    assert!(rt; is_well_formed(&packet));
-    let mut bytes = Vec::new(rt.alloc());
-    write_packet(rt.alloc(), &packet, &mut bytes).expect(&rt, "it succeeds");
-    let read = read_packet(rt.alloc(), &bytes).expect(&rt, "it succeeds");
-    assert!(rt; is_return_of(&read, &options));
+/// Whether a Return of these options is well formed.
+fn may_return<R: Abort>(rt: &R, alloc: Global, options: &[u16]) -> bool {
+    is_well_formed(&returned(rt, alloc, options))
 }
 
 #[test]
 fn longer_list_is_not_well_formed(rt: HostRuntime) {
-    let mut options = most_options(rt.alloc()).expect(&rt, "it succeeds");
-    options.push(0).expect(&rt, "it succeeds");
-    assert!(rt; !is_well_formed(&returned(rt.alloc(), &options).expect(&rt, "it succeeds")));
+    let mut options = most_options(&rt, rt.alloc());
+    options.push(0).expect(&rt, "memory");
+    assert!(rt; !may_return(&rt, rt.alloc(), &options));
 }

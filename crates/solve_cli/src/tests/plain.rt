@@ -1,10 +1,8 @@
 //! The search by dancing links against a plain one, which filters all options at each visit, over random problems.
 
-ghost use Rattle.std.specs.Prelude.{◌≤◌};
-
 use super::search::ends_so;
+use super::texts::problem_of;
 use cover_problem::Problem;
-use dlx_reader::read_problem;
 use std::alloc::{AllocError, Global};
 use std::process::Abort;
 
@@ -110,53 +108,60 @@ fn next(state: &mut u64) -> u64 {
     *state
 }
 
-/// A problem of up to ten primary and three secondary items, and up to 39 options.
-fn random_text(alloc: Global, state: &mut u64) -> Result<String, AllocError> {
-    let names = "abcdefghij|xyz";
-    let mut text = String::new(alloc);
-    let skipped = next(state) % 4;
-    for name in names.chars() {
-        let wanted = if name == 'a' || name == '|' {
-            0
-        } else {
-            skipped
-        };
-        if next(state) % 4 >= wanted || name == 'b' {
-            text.push(name)?;
-            text.push(' ')?;
-        }
-    }
-    let items = text.clone()?;
-    for _ in 0..next(state) % 40 {
-        text.push('\n')?;
-        for name in items.chars() {
-            if name != '|' && name != ' ' && next(state) % 4 == 0 {
-                text.push(name)?;
-                text.push(' ')?;
-            }
-        }
-    }
-    Ok(text)
+/// Appends a name.
+fn push_name<R: Abort>(rt: &R, text: &mut String, name: char) {
+    text.push(name).expect(rt, "memory");
+    text.push(' ').expect(rt, "memory");
 }
 
-/// Searches one problem both ways: outcome, found list and the visits at the edge.
-fn compare<R: Abort>(rt: &R, alloc: Global, text: &str) {
-    let read = read_problem(alloc, text.as_bytes()).expect(rt, "it succeeds");
-    let options = options_of(alloc, &read.problem).expect(rt, "it succeeds");
-    let primary = read.problem.primary() as u16;
+/// Some of the names a to j, the bar and some of the names x to z; always a, b and the bar.
+fn item_line<R: Abort>(rt: &R, alloc: Global, state: &mut u64) -> String {
+    let mut text = String::new(alloc);
+    let skipped = next(state) % 4;
+    for name in "abcdefghij|xyz".chars() {
+        let is_drawn = next(state) % 4 >= skipped;
+        if is_drawn || matches!(name, 'a' | 'b' | '|') {
+            push_name(rt, &mut text, name);
+        }
+    }
+    text
+}
+
+/// Appends a line of some of the names.
+fn push_option<R: Abort>(rt: &R, text: &mut String, items: &str, state: &mut u64) {
+    text.push('\n').expect(rt, "memory");
+    for name in items.chars() {
+        if name != '|' && name != ' ' && next(state) % 4 == 0 {
+            push_name(rt, text, name);
+        }
+    }
+}
+
+/// A problem of up to ten primary and three secondary items, and up to 39 options.
+fn random_text<R: Abort>(rt: &R, alloc: Global, state: &mut u64) -> String {
+    let items = item_line(rt, alloc, state);
+    let mut text = items.clone().expect(rt, "memory");
+    for _ in 0..next(state) % 40 {
+        push_option(rt, &mut text, items.as_str(), state);
+    }
+    text
+}
+
+/// Whether a problem is searched alike both ways: outcome, found list and the visits at the edge.
+fn agree<R: Abort>(rt: &R, alloc: Global, text: &str) -> bool {
+    let problem = problem_of(rt, alloc, text);
+    let options = options_of(alloc, &problem).expect(rt, "memory");
+    let primary = problem.primary() as u16;
     let mut first = Vec::new(alloc);
-    let (_, visits) = visit(alloc, &options, primary, &mut first, primary).expect(
-        rt,
-        "it succeeds",
-    );
-    ends_so(rt, alloc, text, visits, &first);
+    let visited = visit(alloc, &options, primary, &mut first, primary);
+    ends_so(rt, alloc, text, visited.expect(rt, "memory").1, &first)
 }
 
 #[test]
 fn links_search_as_the_plain_program(rt: HostRuntime) {
     let mut state = 88172645463325252u64;
     for _ in 0..600 {
-        let text = random_text(rt.alloc(), &mut state).expect(&rt, "it succeeds");
-        compare(&rt, rt.alloc(), text.as_str());
+        let text = random_text(&rt, rt.alloc(), &mut state);
+        assert!(rt; agree(&rt, rt.alloc(), text.as_str()), "{text}");
     }
 }

@@ -1,11 +1,11 @@
 //! Texts with the fault or the problem that the rules of the format give them, worked out by hand.
 
+use cover_problem::Problem;
 use dlx_reader::ReadFault::{
     self, DuplicateInOption, DuplicateItem, IllegalByte, NameTooLong, NoItems, SecondBar,
     UnknownItem,
 };
 use dlx_reader::{Read, read_problem};
-use std::alloc::{AllocError, Global};
 
 /// 32 bytes, and one more.
 const LONGEST: &str = "aaaaaaaaaabbbbbbbbbbccccccccccdd";
@@ -109,72 +109,135 @@ fn faults(rt: HostRuntime) {
     }
 }
 
-/// The names; how many are primary; the options' items, each line ended by a comma; how many options are ignored.
-fn shown(alloc: Global, read: &Read) -> Result<Vec<u8>, AllocError> {
-    let mut text = Vec::new(alloc);
-    for item in 0..read.problem.items() as u16 {
-        text.extend_from_slice(read.problem.name(item))?;
-        text.push(b' ')?;
-    }
-    text.extend_from_slice(format!(in alloc; "/ {} /", read.problem.primary())?.as_bytes())?;
-    for option in 0..read.problem.options() as u16 {
-        for item in read.problem.option(option) {
-            text.extend_from_slice(format!(in alloc; " {item}")?.as_bytes())?;
-        }
-        text.push(b',')?;
-    }
-    text.extend_from_slice(format!(in alloc; " / {}", read.ignored)?.as_bytes())?;
-    Ok(text)
-}
-
-static PROBLEMS: [(&str, &str); 18] = [
+/// A text; the names, how many are primary, the options' items, and how many options are ignored.
+static PROBLEMS: [(&str, &[&str], usize, &[&[u16]], usize); 18] = [
     (
         "a b c d e f g\nc e\na d g\nb c f\na d f\nb g\nd e g\n",
-        "a b c d e f g / 7 / 2 4, 0 3 6, 1 2 5, 0 3 5, 1 6, 3 4 6, / 0",
+        &["a", "b", "c", "d", "e", "f", "g"],
+        7,
+        &[
+            &[2, 4],
+            &[0, 3, 6],
+            &[1, 2, 5],
+            &[0, 3, 5],
+            &[1, 6],
+            &[3, 4, 6],
+        ],
+        0,
     ),
-    ("a b | x\na x\nb x\nb\n", "a b x / 2 / 0 2, 1 2, 1, / 0"),
-    ("a", "a / 1 / / 0"),
-    ("a |x", "a x / 1 / / 0"),
-    ("a |\na\n", "a / 1 / 0, / 0"),
-    ("a b |\n b a\n", "a b / 2 / 1 0, / 0"),
-    ("a | x\nx\na", "a x / 1 / 0, / 1"),
-    ("a | x y\nx y\nx\ny a x\ny\n", "a x y / 1 / 2 0 1, / 3"),
-    ("a |x y\ny a\n", "a x y / 1 / 2 0, / 0"),
-    ("a\na\na\na\n", "a / 1 / 0, 0, 0, / 0"),
-    ("a b\r\na\r\nb\r\n", "a b / 2 / 0, 1, / 0"),
+    (
+        "a b | x\na x\nb x\nb\n",
+        &["a", "b", "x"],
+        2,
+        &[&[0, 2], &[1, 2], &[1]],
+        0,
+    ),
+    ("a", &["a"], 1, &[], 0),
+    ("a |x", &["a", "x"], 1, &[], 0),
+    ("a |\na\n", &["a"], 1, &[&[0]], 0),
+    ("a b |\n b a\n", &["a", "b"], 2, &[&[1, 0]], 0),
+    ("a | x\nx\na", &["a", "x"], 1, &[&[0]], 1),
+    (
+        "a | x y\nx y\nx\ny a x\ny\n",
+        &["a", "x", "y"],
+        1,
+        &[&[2, 0, 1]],
+        3,
+    ),
+    ("a |x y\ny a\n", &["a", "x", "y"], 1, &[&[2, 0]], 0),
+    ("a\na\na\na\n", &["a"], 1, &[&[0], &[0], &[0]], 0),
+    ("a b\r\na\r\nb\r\n", &["a", "b"], 2, &[&[0], &[1]], 0),
     (
         "\n | head |\n\n\ta\tb | c \n|a b:\n c a \n\n b\n| end",
-        "a b c / 2 / 2 0, 1, / 0",
+        &["a", "b", "c"],
+        2,
+        &[&[2, 0], &[1]],
+        0,
     ),
-    ("a\u{b}b\u{c}c\n\u{c}c\u{b}a\n", "a b c / 3 / 2 0, / 0"),
-    ("é a\na é\n", "é a / 2 / 1 0, / 0"),
-    ("A a\nA\na\n", "A a / 2 / 0, 1, / 0"),
-    ("none cover\ncover none\n", "none cover / 2 / 1 0, / 0"),
-    (LONGEST, "aaaaaaaaaabbbbbbbbbbccccccccccdd / 1 / / 0"),
+    (
+        "a\u{b}b\u{c}c\n\u{c}c\u{b}a\n",
+        &["a", "b", "c"],
+        3,
+        &[&[2, 0]],
+        0,
+    ),
+    ("é a\na é\n", &["é", "a"], 2, &[&[1, 0]], 0),
+    ("A a\nA\na\n", &["A", "a"], 2, &[&[0], &[1]], 0),
+    (
+        "none cover\ncover none\n",
+        &["none", "cover"],
+        2,
+        &[&[1, 0]],
+        0,
+    ),
+    (LONGEST, &[LONGEST], 1, &[], 0),
     (
         "a |aaaaaaaaaabbbbbbbbbbccccccccccdd\naaaaaaaaaabbbbbbbbbbccccccccccdd\n",
-        "a aaaaaaaaaabbbbbbbbbbccccccccccdd / 1 / / 1",
+        &["a", LONGEST],
+        1,
+        &[],
+        1,
     ),
 ];
 
+/// Whether these are the names of a problem's items.
+fn are_names(problem: &Problem, names: &[&str]) -> bool {
+    for item in 0..problem.items() as u16 {
+        match names.get(usize::from(item)) {
+            Some(name) if problem.name(item) == name.as_bytes() => {}
+            _ => return false,
+        }
+    }
+    problem.items() == names.len()
+}
+
+/// Whether these are a problem's options.
+fn are_options(problem: &Problem, options: &[&[u16]]) -> bool {
+    for option in 0..problem.options() as u16 {
+        match options.get(usize::from(option)) {
+            Some(items) if problem.option(option) == *items => {}
+            _ => return false,
+        }
+    }
+    problem.options() == options.len()
+}
+
+/// Whether these are the names and the options, so many items are primary and so many options ignored.
+fn is_read(
+    read: &Read,
+    (names, primary): (&[&str], usize),
+    (options, ignored): (&[&[u16]], usize),
+) -> bool {
+    are_names(&read.problem, names)
+        && read.problem.primary() == primary
+        && are_options(&read.problem, options)
+        && read.ignored == ignored
+}
+
 #[test]
 fn problems(rt: HostRuntime) {
-    let alloc = rt.alloc();
-    for (text, problem) in PROBLEMS.iter() {
-        let read = read_problem(alloc, text.as_bytes()).expect(&rt, "it succeeds");
+    for (text, names, primary, options, ignored) in PROBLEMS.iter() {
+        let read = read_problem(rt.alloc(), text.as_bytes()).expect(&rt, "a problem");
         assert!(rt;
-            shown(alloc, &read).expect(&rt, "it succeeds").as_slice() == problem.as_bytes(),
+            is_read(&read, (names, *primary), (options, *ignored)),
             "{text:?}"
         );
     }
 }
 
+/// Whether the items are 80 ff, which is primary, and fe, and the one option has them the other way round.
+fn has_bytes_above_127(read: &Read) -> bool {
+    let problem = &read.problem;
+    problem.items() == 2
+        && problem.name(0) == b"\x80\xff".as_slice()
+        && problem.name(1) == b"\xfe".as_slice()
+        && problem.primary() == 1
+        && are_options(problem, &[&[1, 0]])
+        && read.ignored == 0
+}
+
 #[test]
 fn bytes_above_127(rt: HostRuntime) {
-    let alloc = rt.alloc();
-    let read = read_problem(alloc, b"\x80\xff | \xfe\n\xfe \x80\xff\n").expect(&rt, "it succeeds");
-    assert!(rt;
-        shown(alloc, &read).expect(&rt, "it succeeds").as_slice()
-            == b"\x80\xff \xfe / 1 / 1 0, / 0".as_slice()
-    );
+    let read = read_problem(rt.alloc(), b"\x80\xff | \xfe\n\xfe \x80\xff\n");
+    assert!(rt; has_bytes_above_127(&read.expect(&rt, "a problem")));
 }

@@ -1,12 +1,11 @@
 //! The search against a plain program: `scripts/plain_search.py` gave the visits and the first covers.
 
-ghost use Rattle.std.specs.Prelude.{◌≤◌};
-
-use brancher::{Branch, Outcome, Searcher, branch, children};
-use cover_problem::is_prefix;
+use super::links::choose;
+use super::texts::{LETTERS, problem_of};
+use brancher::{Branch, Finding, Outcome, Searcher, branch, children};
+use cover_problem::{Problem, is_prefix};
 use dancing_links::Links;
-use dlx_reader::read_problem;
-use std::alloc::{AllocError, Global};
+use std::alloc::Global;
 use std::process::Abort;
 
 /// What a search comes to that finds this first; no cover is an empty list.
@@ -18,26 +17,30 @@ fn outcome_of(first: &[u16]) -> Outcome {
     }
 }
 
-/// The search of the empty prefix takes so many visits, and finds this first.
-pub fn ends_so<R: Abort>(rt: &R, alloc: Global, text: &str, visits: u64, first: &[u16]) {
-    let read = read_problem(alloc, text.as_bytes()).expect(rt, "it succeeds");
-    let mut searcher = Searcher::new(alloc, &read.problem).expect(rt, "it succeeds");
-    if visits > 1 {
-        let less = searcher.search(&[], visits - 1);
-        assert!(rt; less == Outcome::Spent, "{text}");
+/// Whether the search of the empty prefix finds this first with so much fuel.
+fn finds(searcher: &mut Searcher, fuel: u64, first: &[u16]) -> bool {
+    searcher.search(&[], fuel.max(1)) == outcome_of(first)
+        && (first.is_empty() || searcher.found() == first)
+}
+
+/// Whether so many visits are enough to find this first, and one less isn't.
+fn takes(searcher: &mut Searcher, visits: u64, first: &[u16]) -> bool {
+    if visits > 1 && searcher.search(&[], visits - 1) != Outcome::Spent {
+        return false;
     }
-    let enough = searcher.search(&[], visits.max(1));
-    assert!(rt; enough == outcome_of(first), "{text}");
-    assert!(rt; first.is_empty() || searcher.found() == first, "{text}");
+    finds(searcher, visits, first)
+}
+
+/// Whether the search of the empty prefix takes so many visits, and finds this first.
+pub fn ends_so<R: Abort>(rt: &R, alloc: Global, text: &str, visits: u64, first: &[u16]) -> bool {
+    let problem = problem_of(rt, alloc, text);
+    let mut searcher = Searcher::new(alloc, &problem).expect(rt, "memory");
+    takes(&mut searcher, visits, first)
 }
 
 /// A problem, the visits of its empty prefix, and what is found first.
 static SEARCHES: [(&str, u64, &[u16]); 30] = [
-    (
-        "a b c d e f g\nc e\na d g\nb c f\na d f\nb g\nd e g\n",
-        6,
-        &[3, 4, 0],
-    ),
+    (LETTERS, 6, &[3, 4, 0]),
     ("a b c d e f g\nc e\na d g\nb c f\na d f\nd e g\n", 3, &[]),
     ("a b | x\na x\nb x\n", 2, &[]),
     ("a b | x\na x\nb x\nb\n", 3, &[0, 2]),
@@ -144,86 +147,99 @@ static SEARCHES: [(&str, u64, &[u16]); 30] = [
 #[test]
 fn searches_agree(rt: HostRuntime) {
     for (text, visits, first) in SEARCHES.iter() {
-        ends_so(&rt, rt.alloc(), text, *visits, first);
+        assert!(rt; ends_so(&rt, rt.alloc(), text, *visits, first), "{text}");
     }
 }
 
-const LETTERS: &[u8] = b"a b c d e f g\nc e\na d g\nb c f\na d f\nb g\nd e g\n";
+/// A prefix and the fuel; what its search comes to, and what is found.
+static PREFIXES: [(&[u16], u64, Outcome, &[u16]); 4] = [
+    (&[], 6, Outcome::Cover, &[3, 4, 0]),
+    (&[], 5, Outcome::Spent, &[]),
+    (&[0, 3, 4], 1, Outcome::Cover, &[0, 3, 4]),
+    (&[1], 9, Outcome::Barren, &[]),
+];
 
-/// Searches a prefix, and gives back what is found; no cover is an empty list.
-fn search_below<R: Abort>(rt: &R, alloc: Global, prefix: &[u16], fuel: u64) -> (Outcome, Vec<u16>)
-    requires { 1 ≤ fuel }
-{
-    let read = read_problem(alloc, LETTERS).expect(rt, "it succeeds");
-    assert!(rt; is_prefix(&read.problem, prefix));
-    let mut searcher = Searcher::new(alloc, &read.problem).expect(rt, "it succeeds");
-    let outcome = searcher.search(prefix, fuel);
-    if outcome != Outcome::Cover {
-        return (outcome, Vec::new(alloc));
-    }
-    (
-        outcome,
-        Vec::from_slice(alloc, searcher.found()).expect(rt, "it succeeds"),
-    )
+/// Whether the search of a prefix comes to this, and finds this where there is a cover.
+fn comes_to<R: Abort>(
+    rt: &R,
+    alloc: Global,
+    problem: &Problem,
+    (prefix, fuel): (&[u16], u64),
+    (outcome, found): (Outcome, &[u16]),
+) -> bool {
+    let mut searcher = Searcher::new(alloc, problem).expect(rt, "memory");
+    assert!(rt; is_prefix(problem, prefix));
+    searcher.search(prefix, fuel.max(1)) == outcome
+        && (outcome != Outcome::Cover || searcher.found() == found)
 }
 
 #[test]
 fn prefixes_are_searched(rt: HostRuntime) {
-    for (prefix, fuel, outcome, found) in [
-        ([].as_slice(), 6u64, Outcome::Cover, [3, 4, 0].as_slice()),
-        ([].as_slice(), 5, Outcome::Spent, [].as_slice()),
-        (
-            [0, 3, 4].as_slice(),
-            1,
-            Outcome::Cover,
-            [0, 3, 4].as_slice(),
-        ),
-        ([1].as_slice(), 9, Outcome::Barren, [].as_slice()),
-    ] {
-        let ended = search_below(&rt, rt.alloc(), prefix, fuel.max(1));
-        assert!(rt; ended.0 == outcome);
-        assert!(rt; ended.1.as_slice() == found);
+    let problem = problem_of(&rt, rt.alloc(), LETTERS);
+    for (prefix, fuel, outcome, found) in PREFIXES.iter() {
+        let expected = (*outcome, *found);
+        assert!(rt; comes_to(&rt, rt.alloc(), &problem, (prefix, *fuel), expected));
     }
 }
 
-/// The branch, and its children in a list that begins with 9.
-fn branch_of(alloc: Global, links: &Links) -> Result<(Branch, Vec<u16>), AllocError> {
-    let mut list = vec![in alloc; 9u16]?;
+/// The branch, with its children appended to the list.
+fn branch_into<R: Abort>(rt: &R, links: &Links, list: &mut Vec<u16>) -> Branch {
     let branch = branch(links);
     if let Branch::Item(item) = branch {
-        children(links, item, &mut list)?;
+        children(links, item, list).expect(rt, "memory");
     }
-    Ok((branch, list))
+    branch
+}
+
+/// Whether the links branch on this item once an option is chosen, and its children stand behind a 9 as this list.
+fn branches<R: Abort>(
+    rt: &R,
+    alloc: Global,
+    links: &mut Links,
+    (chosen, item): (u16, u16),
+    children: &[u16],
+) -> bool {
+    let mut list = vec![in alloc; 9u16].expect(rt, "memory");
+    choose(rt, links, chosen);
+    branch_into(rt, links, &mut list) == Branch::Item(item) && list.as_slice() == children
 }
 
 #[test]
 fn links_branch(rt: HostRuntime) {
-    let read = read_problem(rt.alloc(), LETTERS).expect(&rt, "it succeeds");
-    let mut links = Links::build(rt.alloc(), &read.problem).expect(&rt, "it succeeds");
-    assert!(rt; read.problem.options() == 6 && links.is_live(3));
-    links.choose(3);
-    let (branch, list) = branch_of(rt.alloc(), &links).expect(&rt, "it succeeds");
-    assert!(rt; branch == Branch::Item(1));
-    assert!(rt; list.as_slice() == [9, 4].as_slice());
+    let problem = problem_of(&rt, rt.alloc(), LETTERS);
+    let mut links = Links::build(rt.alloc(), &problem).expect(&rt, "memory");
+    assert!(rt; branches(&rt, rt.alloc(), &mut links, (3, 1), &[9, 4]));
+}
+
+/// The finding of the empty prefix with so much fuel.
+pub fn found<R: Abort>(rt: &R, alloc: Global, fuel: u64) -> Finding {
+    let problem = problem_of(rt, alloc, LETTERS);
+    let mut searcher = Searcher::new(alloc, &problem).expect(rt, "memory");
+    searcher
+        .find(Vec::new(alloc), fuel.max(1))
+        .expect(rt, "memory")
+}
+
+/// Whether the finding is that of the empty prefix, with this fuel and this outcome.
+fn is_finding(found: &Finding, fuel: u64, outcome: Outcome) -> bool {
+    found.prefix().is_empty() && found.fuel() == fuel && found.outcome() == outcome
+}
+
+/// Whether the cover of the empty prefix is copied out, and the searcher has it still.
+fn copies_out<R: Abort>(rt: &R, alloc: Global, searcher: &mut Searcher, cover: &[u16]) -> bool {
+    let found = searcher.find(Vec::new(alloc), 6).expect(rt, "memory");
+    is_finding(&found, 6, Outcome::Cover) && found.cover() == cover && searcher.found() == cover
 }
 
 #[test]
 fn findings_are_copied_out(rt: HostRuntime) {
-    let alloc = rt.alloc();
-    let read = read_problem(alloc, LETTERS).expect(&rt, "it succeeds");
-    let mut searcher = Searcher::new(alloc, &read.problem).expect(&rt, "it succeeds");
-    let found = searcher.find(Vec::new(alloc), 6).expect(&rt, "it succeeds");
-    assert!(rt; found.prefix().is_empty() && found.fuel() == 6);
-    assert!(rt; found.outcome() == Outcome::Cover && found.cover() == [3, 4, 0].as_slice());
-    assert!(rt; searcher.found() == [3, 4, 0].as_slice());
+    let problem = problem_of(&rt, rt.alloc(), LETTERS);
+    let mut searcher = Searcher::new(rt.alloc(), &problem).expect(&rt, "memory");
+    assert!(rt; copies_out(&rt, rt.alloc(), &mut searcher, &[3, 4, 0]));
 }
 
 #[test]
 fn a_spent_finding_is_copied(rt: HostRuntime) {
-    let read = read_problem(rt.alloc(), LETTERS).expect(&rt, "it succeeds");
-    let mut searcher = Searcher::new(rt.alloc(), &read.problem).expect(&rt, "it succeeds");
-    let spent = searcher
-        .find(Vec::new(rt.alloc()), 5)
-        .expect(&rt, "it succeeds");
-    assert!(rt; spent.copy().expect(&rt, "it succeeds").outcome() == Outcome::Spent);
+    let copy = found(&rt, rt.alloc(), 5).copy();
+    assert!(rt; is_finding(&copy.expect(&rt, "memory"), 5, Outcome::Spent));
 }

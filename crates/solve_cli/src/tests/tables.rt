@@ -1,12 +1,72 @@
-//! Tables of few units; what is expected is worked out by hand from the rules.
+//! Tables of few units, as scripts of calls; what is expected is worked out by hand from the rules.
+
+ghost use Rattle.std.specs.Prelude.{◌≡◌, ◌<◌, slice_get, true};
+ghost use Rattle.spawn_frame.specs.Tables.{attempt_in, has_status, is_out};
+ghost use Rattle.spawn_frame.specs.Units.{last_attempt};
 
 use super::units::{
-    HERE, THIEF, cover, is_finished, is_here, is_open, is_ready, is_split, letter, may_end, name,
-    site,
+    Came, HERE, REGISTRY, ROOT, THIEF, has_come, is_finished, is_here, is_open, is_ready, is_split,
+    letter, may_end, result_of,
 };
+use spawn_frame::Heard::{Open, Settled};
+use spawn_frame::Unit::{Guest, Own};
 use spawn_frame::*;
 use std::alloc::{AllocError, Global};
 use std::process::Abort;
+
+/// A call of a table with what it answers, or what the table shows then.
+enum Step {
+    /// Nothing is ready.
+    Idle,
+    /// The unit that is taken up, and its attempt.
+    Take(Unit, Attempt),
+    /// A guest is admitted, at an attempt with a prefix.
+    Admit(ChildName, Attempt, &'static [u16]),
+    /// A unit is split by these options; the first child's serial.
+    Split(Unit, &'static [u16], Result<u32, SpawnFault>),
+    /// A unit comes to this; what its frame says then.
+    End(Unit, Came, Heard),
+    /// An own child is given to a thief.
+    Give(u32),
+    /// An own child is given out anew.
+    Redo(u32),
+    /// An own child is aborted.
+    Cancel(u32),
+    /// A guest settles on this, at its first attempt.
+    Settle(ChildName, Came),
+    /// A guest is dropped, at its first attempt.
+    Drop(ChildName),
+    /// A unit's attempt, a letter for its status, and its prefix.
+    Shows(Unit, &'static str),
+    /// A unit has come to this.
+    HasCome(Unit, Came),
+    /// What a frame says, and its winner.
+    Says(Unit, Heard, Option<u32>),
+    /// The frame that is settled and the next to finish.
+    Ripe(Option<Unit>),
+    /// The unit that an own child is below.
+    Parent(u32, Option<Unit>),
+    /// The guest behind the given one, or the first.
+    Next(Option<(ChildName, Attempt)>, Option<(ChildName, Attempt)>),
+    /// How many own children there are.
+    Issued(u32),
+}
+
+use self::Step::*;
+
+/// Children of node 2, and one of node 3.
+const OF_2: ChildName = ChildName {
+    site: THIEF,
+    serial: 7,
+};
+
+const OF_3: ChildName = ChildName {
+    site: Site {
+        node: 3,
+        incarnation: 1,
+    },
+    serial: 0,
+};
 
 /// A unit's attempt, a letter for its status, and its prefix.
 fn told(alloc: Global, table: &Table, unit: Unit) -> Result<String, AllocError> {
@@ -19,289 +79,340 @@ fn told(alloc: Global, table: &Table, unit: Unit) -> Result<String, AllocError> 
     format!(in alloc; "{} {letter} {prefix:?}", view.attempt)
 }
 
-/// The unit is told so.
-fn tells<R: Abort>(rt: &R, alloc: Global, table: &Table, unit: Unit, expected: &str) {
-    let told = told(alloc, table, unit).expect(rt, "memory");
-    assert!(rt; told.as_str() == expected);
+/// Whether a unit is told so.
+fn shows<R: Abort>(rt: &R, alloc: Global, table: &Table, unit: Unit, expected: &str) -> bool {
+    told(alloc, table, unit).expect(rt, "memory").as_str() == expected
+}
+
+/// Whether this is the parent of an own child, which is there.
+fn is_parent(table: &Table, serial: u32, parent: Option<Unit>) -> bool {
+    serial < table.issued() && table.parent(serial) == parent
+}
+
+/// Whether a frame says this, and has this winner.
+fn says<R: Abort>(rt: &R, table: &Table, unit: Unit, heard: Heard, winner: Option<u32>) -> bool {
+    assert!(rt; is_split(table, unit));
+    table.heard(unit) == heard && table.winner(unit) == winner
+}
+
+/// Whether the table shows what a step says.
+fn is_shown<R: Abort>(rt: &R, alloc: Global, table: &Table, step: &Step) -> bool {
+    match *step {
+        Shows(unit, expected) => shows(rt, alloc, table, unit, expected),
+        HasCome(unit, came) => has_come(table, unit, came),
+        Says(unit, heard, winner) => says(rt, table, unit, heard, winner),
+        Ripe(unit) => table.ripe() == unit,
+        Parent(serial, parent) => is_parent(table, serial, parent),
+        Next(after, next) => table.next_guest(after) == next,
+        Issued(count) => table.issued() == count,
+        _ => false,
+    }
 }
 
 /// Admits a guest that isn't there.
 fn admit<R: Abort>(rt: &R, table: &mut Table, name: ChildName, attempt: Attempt, prefix: &[u16]) {
-    let is_new = table.unit(Unit::Guest(name, attempt)).is_none();
-    assert!(rt; is_new);
+    assert!(rt; table.unit(Guest(name, attempt)).is_none());
     assert!(rt; attempt > 0);
     table.admit(name, attempt, prefix).expect(rt, "memory");
 }
 
-/// Splits a unit that is here.
-fn spawn<R: Abort>(
+/// Gives out an own child that is ready.
+fn give<R: Abort>(rt: &R, table: &mut Table, serial: u32) {
+    assert!(rt; is_ready(table, Own(serial)));
+    table.give(serial, THIEF);
+}
+
+/// Whether a child is out, and not at its last attempt.
+fn may_redo(table: &Table, serial: u32) -> bool
+    ensures out { result ≡ true → has_status is_out (slice_get table.now.own serial) ≡ true }
+    ensures attempt { result ≡ true → attempt_in (slice_get table.now.own serial) < last_attempt }
+{
+    match table.unit(Own(serial)) {
+        Some(view) => matches!(view.status, Status::Out(_)) && view.attempt < u32::MAX,
+        None => false,
+    }
+}
+
+/// Gives out anew an own child that is out.
+fn redo<R: Abort>(rt: &R, table: &mut Table, serial: u32) {
+    assert!(rt; may_redo(table, serial));
+    table.redo(serial);
+}
+
+/// Aborts an own child that is open.
+fn cancel<R: Abort>(rt: &R, table: &mut Table, serial: u32) {
+    assert!(rt; is_open(table, Own(serial)));
+    table.abort(serial);
+}
+
+/// Settles a guest that is finished.
+fn settle<R: Abort>(rt: &R, alloc: Global, table: &mut Table, name: ChildName, option: Came) {
+    let came = result_of(rt, alloc, option);
+    assert!(rt; is_finished(table, Guest(name, 1)));
+    table.settle(name, 1, came);
+}
+
+/// Drops a guest that is open.
+fn drop_guest<R: Abort>(rt: &R, table: &mut Table, name: ChildName) {
+    assert!(rt; is_open(table, Guest(name, 1)));
+    table.drop_guest(name, 1);
+}
+
+/// Makes a step that answers nothing.
+fn change<R: Abort>(rt: &R, alloc: Global, table: &mut Table, step: &Step) {
+    match *step {
+        Admit(name, attempt, prefix) => admit(rt, table, name, attempt, prefix),
+        Give(serial) => give(rt, table, serial),
+        Redo(serial) => redo(rt, table, serial),
+        Cancel(serial) => cancel(rt, table, serial),
+        Settle(name, option) => settle(rt, alloc, table, name, option),
+        Drop(name) => drop_guest(rt, table, name),
+        _ => {}
+    }
+}
+
+/// What is answered where a unit, which is here, is split.
+fn split<R: Abort>(
     rt: &R,
     table: &mut Table,
     unit: Unit,
     options: &[u16],
 ) -> Result<u32, SpawnFault> {
-    let is_here = is_here(table, unit);
-    assert!(rt; is_here);
+    assert!(rt; is_here(table, unit));
     assert!(rt; !options.is_empty());
     table.spawn(unit, options)
 }
 
-/// Ends a unit that is worked on.
-fn end<R: Abort>(rt: &R, table: &mut Table, unit: Unit, child_result: ChildResult) -> Heard {
-    let may_end = may_end(table, unit);
-    assert!(rt; may_end);
-    table.set_result(unit, child_result)
+/// What the frame says of a unit, which is worked on, once it comes to this.
+fn ended<R: Abort>(rt: &R, alloc: Global, table: &mut Table, unit: Unit, option: Came) -> Heard {
+    let came = result_of(rt, alloc, option);
+    assert!(rt; may_end(table, unit));
+    table.set_result(unit, came)
 }
 
-/// The unit that is taken up.
-fn taken(table: &mut Table) -> Option<Unit> {
-    table.take().map(|job| job.unit)
-}
-
-/// A table with room for three names, in which a guest is a frame of two, and the second child is here.
-fn with_a_frame<R: Abort>(rt: &R, alloc: Global) -> Table {
-    let unit = Unit::Guest(name(0, 0), 1);
-    let mut table = Table::start(alloc, HERE, 3);
-    assert!(rt; table.take().is_none());
-    admit(rt, &mut table, name(0, 0), 1, &[]);
-    assert!(rt; table.take() == Some(Job { unit, attempt: 1 }));
-    assert!(rt; spawn(rt, &mut table, unit, &[0, 1]) == Ok(0));
-    assert!(rt; taken(&mut table) == Some(Unit::Own(1)));
-    table
-}
-
-#[test]
-fn names_that_do_not_fit_are_refused(rt: HostRuntime) {
-    let mut table = with_a_frame(&rt, rt.alloc());
-    let refused = spawn(&rt, &mut table, Unit::Own(1), &[4, 5]);
-    assert!(rt; refused == Err(SpawnFault::NamesSpent));
-    assert!(rt; table.issued() == 2);
-    tells(&rt, rt.alloc(), &table, Unit::Own(1), "1 H [1]");
-}
-
-#[test]
-fn a_child_is_split(rt: HostRuntime) {
-    let mut table = with_a_frame(&rt, rt.alloc());
-    assert!(rt; spawn(&rt, &mut table, Unit::Own(1), &[4]) == Ok(2));
-    tells(&rt, rt.alloc(), &table, Unit::Own(1), "1 S [1]");
-    tells(&rt, rt.alloc(), &table, Unit::Own(2), "1 R [1, 4]");
-}
-
-#[test]
-fn a_ready_child_is_given(rt: HostRuntime) {
-    let mut table = with_a_frame(&rt, rt.alloc());
-    let is_ready = is_ready(&table, Unit::Own(0));
-    assert!(rt; is_ready);
-    table.give(0, THIEF);
-    tells(&rt, rt.alloc(), &table, Unit::Own(0), "1 O [0]");
-    let guest = Unit::Guest(name(0, 0), 1);
-    tells(&rt, rt.alloc(), &table, guest, "1 S []");
-}
-
-/// Makes a guest a frame of two, its second child a frame of two, and the second child of that one a frame of two.
-fn three_deep<R: Abort>(rt: &R, alloc: Global) -> Table {
-    let guest = name(0, 0);
-    let mut table = Table::start(alloc, HERE, 6);
-    admit(rt, &mut table, guest, 1, &[]);
-    let mut unit = Unit::Guest(guest, 1);
-    for first in [0, 2, 4] {
-        assert!(rt; taken(&mut table) == Some(unit));
-        assert!(rt; spawn(rt, &mut table, unit, &[8, 9]) == Ok(first));
-        unit = Unit::Own(first + 1);
+/// Whether a step goes as it says.
+fn goes<R: Abort>(rt: &R, alloc: Global, table: &mut Table, step: &Step) -> bool {
+    match *step {
+        Idle => table.take().is_none(),
+        Take(unit, attempt) => table.take() == Some(Job { unit, attempt }),
+        Split(unit, options, first) => split(rt, table, unit, options) == first,
+        End(unit, came, heard) => ended(rt, alloc, table, unit, came) == heard,
+        Admit(..) | Give(_) | Redo(_) | Cancel(_) | Settle(..) | Drop(_) => {
+            change(rt, alloc, table, step);
+            true
+        }
+        _ => is_shown(rt, alloc, table, step),
     }
-    table
 }
 
-/// Takes up an own child and ends it, at which its frame says this.
-fn take_and_end<R: Abort>(
-    rt: &R,
-    table: &mut Table,
-    serial: u32,
-    child_result: ChildResult,
-    heard: Heard,
-) {
-    assert!(rt; taken(table) == Some(Unit::Own(serial)));
-    assert!(rt; end(rt, table, Unit::Own(serial), child_result) == heard);
+/// Takes these steps, one after another.
+fn run<R: Abort>(rt: &R, alloc: Global, table: &mut Table, steps: &[Step]) {
+    for (place, step) in steps.iter().enumerate() {
+        assert!(rt; goes(rt, alloc, table, step), "step {place}");
+    }
 }
 
-/// What a frame says, and its winner.
-fn outcome<R: Abort>(rt: &R, table: &Table, unit: Unit) -> (Heard, Option<u32>) {
-    let is_split = is_split(table, unit);
-    assert!(rt; is_split);
-    (table.heard(unit), table.winner(unit))
+/// Takes these steps in a table with room for so many names.
+fn run_anew<R: Abort>(rt: &R, alloc: Global, limit: u32, steps: &[Step]) {
+    run(rt, alloc, &mut Table::start(alloc, HERE, limit), steps);
 }
+
+static SPLITS: &[Step] = &[
+    Idle,
+    Admit(ROOT, 1, &[]),
+    Take(Guest(ROOT, 1), 1),
+    Split(Guest(ROOT, 1), &[0, 1], Ok(0)),
+    Take(Own(1), 1),
+    // Names that don't fit are refused.
+    Split(Own(1), &[4, 5], Err(SpawnFault::NamesSpent)),
+    Issued(2),
+    Shows(Own(1), "1 H [1]"),
+    Split(Own(1), &[4], Ok(2)),
+    Issued(3),
+    Shows(Own(1), "1 S [1]"),
+    Shows(Own(2), "1 R [1, 4]"),
+    Parent(0, Some(Guest(ROOT, 1))),
+    Parent(2, Some(Own(1))),
+    Give(0),
+    Shows(Own(0), "1 O [0]"),
+    Shows(Guest(ROOT, 1), "1 S []"),
+];
+
+#[test]
+fn units_are_split_and_given(rt: HostRuntime) {
+    run_anew(&rt, rt.alloc(), 3, SPLITS);
+}
+
+/// A guest is a frame of two, its second child a frame of two, and the second child of that one a frame of two.
+static THREE_DEEP: &[Step] = &[
+    Admit(ROOT, 1, &[]),
+    Take(Guest(ROOT, 1), 1),
+    Split(Guest(ROOT, 1), &[8, 9], Ok(0)),
+    Take(Own(1), 1),
+    Split(Own(1), &[8, 9], Ok(2)),
+    Take(Own(3), 1),
+    Split(Own(3), &[8, 9], Ok(4)),
+    Shows(Own(5), "1 R [9, 9, 9]"),
+];
+
+/// Takes these steps below the three frames.
+fn run_three_deep<R: Abort>(rt: &R, alloc: Global, steps: &[Step]) {
+    let mut table = Table::start(alloc, HERE, 6);
+    run(rt, alloc, &mut table, THREE_DEEP);
+    run(rt, alloc, &mut table, steps);
+}
+
+static COVERS: &[Step] = &[
+    Says(Own(3), Open, None),
+    Ripe(None),
+    Take(Own(5), 1),
+    End(Own(5), Some(5), Settled),
+    Says(Own(3), Settled, Some(5)),
+    Ripe(Some(Own(3))),
+    // That of least serial wins.
+    Take(Own(4), 1),
+    End(Own(4), Some(4), Settled),
+    Says(Own(3), Settled, Some(4)),
+    HasCome(Own(5), Some(5)),
+];
 
 #[test]
 fn a_cover_settles_its_frame(rt: HostRuntime) {
-    let mut table = three_deep(&rt, rt.alloc());
-    tells(&rt, rt.alloc(), &table, Unit::Own(5), "1 R [9, 9, 9]");
-    assert!(rt; outcome(&rt, &table, Unit::Own(3)) == (Heard::Open, None));
-    assert!(rt; table.ripe().is_none());
-    take_and_end(
-        &rt,
-        &mut table,
-        5,
-        cover(rt.alloc(), 5).expect(&rt, "it succeeds"),
-        Heard::Settled,
-    );
-    assert!(rt; outcome(&rt, &table, Unit::Own(3)) == (Heard::Settled, Some(5)));
-    assert!(rt; table.ripe() == Some(Unit::Own(3)));
+    run_three_deep(&rt, rt.alloc(), COVERS);
 }
 
-#[test]
-fn the_cover_of_least_serial_wins(rt: HostRuntime) {
-    let mut table = three_deep(&rt, rt.alloc());
-    take_and_end(
-        &rt,
-        &mut table,
-        5,
-        cover(rt.alloc(), 5).expect(&rt, "it succeeds"),
-        Heard::Settled,
-    );
-    take_and_end(
-        &rt,
-        &mut table,
-        4,
-        cover(rt.alloc(), 4).expect(&rt, "it succeeds"),
-        Heard::Settled,
-    );
-    assert!(rt; outcome(&rt, &table, Unit::Own(3)) == (Heard::Settled, Some(4)));
-}
+static EMPTIES: &[Step] = &[
+    Take(Own(5), 1),
+    End(Own(5), None, Open),
+    Take(Own(4), 1),
+    End(Own(4), None, Settled),
+    Ripe(Some(Own(3))),
+    Says(Own(3), Settled, None),
+    End(Own(3), None, Open),
+    Take(Own(2), 1),
+    End(Own(2), None, Settled),
+    Ripe(Some(Own(1))),
+    Says(Guest(ROOT, 1), Open, None),
+];
 
 #[test]
 fn a_frame_of_empties_settles_without_a_winner(rt: HostRuntime) {
-    let mut table = three_deep(&rt, rt.alloc());
-    take_and_end(&rt, &mut table, 5, ChildResult::Empty, Heard::Open);
-    take_and_end(&rt, &mut table, 4, ChildResult::Empty, Heard::Settled);
-    assert!(rt; table.ripe() == Some(Unit::Own(3)));
-    assert!(rt; outcome(&rt, &table, Unit::Own(3)) == (Heard::Settled, None));
-    let heard = end(&rt, &mut table, Unit::Own(3), ChildResult::Empty);
-    assert!(rt; heard == Heard::Open);
-    take_and_end(&rt, &mut table, 2, ChildResult::Empty, Heard::Settled);
-    assert!(rt; table.ripe() == Some(Unit::Own(1)));
-    let guest = Unit::Guest(name(0, 0), 1);
-    assert!(rt; outcome(&rt, &table, guest) == (Heard::Open, None));
+    run_three_deep(&rt, rt.alloc(), EMPTIES);
 }
+
+static ABORTED: &[Step] = &[
+    Cancel(4),
+    Shows(Own(4), "1 A [9, 9, 8]"),
+    Take(Own(5), 1),
+    End(Own(5), None, Open),
+    Says(Own(3), Open, None),
+];
 
 #[test]
 fn an_aborted_child_is_not_empty(rt: HostRuntime) {
-    let mut table = three_deep(&rt, rt.alloc());
-    let is_open = is_open(&table, Unit::Own(4));
-    assert!(rt; is_open);
-    table.abort(4);
-    tells(&rt, rt.alloc(), &table, Unit::Own(4), "1 A [9, 9, 8]");
-    take_and_end(&rt, &mut table, 5, ChildResult::Empty, Heard::Open);
-    assert!(rt; outcome(&rt, &table, Unit::Own(3)) == (Heard::Open, None));
+    run_three_deep(&rt, rt.alloc(), ABORTED);
 }
 
-#[test]
-fn the_root_takes_the_one_name(rt: HostRuntime) {
-    let table = Table::with_root(rt.alloc()).expect(&rt, "it succeeds");
-    assert!(rt; table.site() == site(0, 1));
-    assert!(rt; (table.names_limit(), table.issued()) == (1, 1));
-    assert!(rt; table.parent(0).is_none());
-    tells(&rt, rt.alloc(), &table, Unit::Own(0), "1 R []");
-}
+static ROOT_ANEW: &[Step] = &[
+    Issued(1),
+    Parent(0, None),
+    Shows(Own(0), "1 R []"),
+    Give(0),
+    Shows(Own(0), "1 O []"),
+    Redo(0),
+    Shows(Own(0), "2 R []"),
+    Take(Own(0), 2),
+    End(Own(0), None, Open),
+    Shows(Own(0), "2 D []"),
+];
 
-/// The registry's table, in which the root was given out and is ready anew.
-fn with_the_root_anew<R: Abort>(rt: &R, alloc: Global) -> Table {
-    let mut table = Table::with_root(alloc).expect(rt, "it succeeds");
-    let is_ready = is_ready(&table, Unit::Own(0));
-    assert!(rt; is_ready);
-    table.give(0, THIEF);
-    tells(rt, alloc, &table, Unit::Own(0), "1 O []");
-    table.redo(0);
-    table
+/// Whether it is the registry's table, which has room for one name.
+fn is_of_registry(table: &Table) -> bool {
+    table.site() == REGISTRY && table.names_limit() == 1
 }
 
 #[test]
 fn the_root_is_given_and_ends_anew(rt: HostRuntime) {
-    let mut table = with_the_root_anew(&rt, rt.alloc());
-    tells(&rt, rt.alloc(), &table, Unit::Own(0), "2 R []");
-    assert!(rt; table.take().map(|job| job.attempt) == Some(2));
-    let heard = end(&rt, &mut table, Unit::Own(0), ChildResult::Empty);
-    assert!(rt; heard == Heard::Open);
-    tells(&rt, rt.alloc(), &table, Unit::Own(0), "2 D []");
+    let mut table = Table::with_root(rt.alloc()).expect(&rt, "memory");
+    assert!(rt; is_of_registry(&table));
+    run(&rt, rt.alloc(), &mut table, ROOT_ANEW);
 }
 
-/// The guests behind the given one, each by node, serial and attempt.
-fn guests(alloc: Global, table: &Table) -> Result<Vec<(u8, u32, Attempt)>, AllocError> {
-    let mut keys = Vec::new(alloc);
-    let mut last = None;
-    for _ in 0..4 {
-        last = table.next_guest(last);
-        if let Some((name, attempt)) = last {
-            keys.push((name.site.node, name.serial, attempt))?;
-        }
-    }
-    Ok(keys)
-}
+static GUESTS: &[Step] = &[
+    Admit(OF_3, 1, &[3]),
+    Admit(OF_2, 2, &[2, 7]),
+    Admit(OF_2, 1, &[]),
+    Next(None, Some((OF_2, 1))),
+    Next(Some((OF_2, 1)), Some((OF_2, 2))),
+    Next(Some((OF_2, 2)), Some((OF_3, 1))),
+    Next(Some((OF_3, 1)), None),
+    Shows(Guest(OF_2, 2), "2 R [2, 7]"),
+    Take(Guest(OF_2, 1), 1),
+];
 
 #[test]
 fn guests_stand_in_order(rt: HostRuntime) {
-    let mut table = Table::start(rt.alloc(), HERE, 0);
-    admit(&rt, &mut table, name(3, 0), 1, &[3]);
-    admit(&rt, &mut table, name(2, 7), 2, &[2, 7]);
-    admit(&rt, &mut table, name(2, 7), 1, &[]);
-    assert!(rt;
-        guests(rt.alloc(), &table)
-            .expect(&rt, "it succeeds")
-            .as_slice()
-            == [(2, 7, 1), (2, 7, 2), (3, 0, 1)].as_slice()
-    );
-    let later = Unit::Guest(name(2, 7), 2);
-    tells(&rt, rt.alloc(), &table, later, "2 R [2, 7]");
-    assert!(rt; taken(&mut table) == Some(Unit::Guest(name(2, 7), 1)));
+    run_anew(&rt, rt.alloc(), 0, GUESTS);
 }
 
-#[test]
-fn a_finished_guest_settles(rt: HostRuntime) {
-    let guest = name(2, 7);
-    let unit = Unit::Guest(guest, 1);
-    let mut table = Table::start(rt.alloc(), HERE, 0);
-    admit(&rt, &mut table, guest, 1, &[]);
-    assert!(rt; taken(&mut table) == Some(unit));
-    let heard = end(
-        &rt,
-        &mut table,
-        unit,
-        cover(rt.alloc(), 1).expect(&rt, "it succeeds"),
-    );
-    assert!(rt; heard == Heard::Open);
-    tells(&rt, rt.alloc(), &table, unit, "1 F []");
-    let is_finished = is_finished(&table, unit);
-    assert!(rt; is_finished);
-    table.settle(guest, 1, ChildResult::Empty);
-    tells(&rt, rt.alloc(), &table, unit, "1 T []");
-}
+static SETTLED: &[Step] = &[
+    Admit(OF_2, 1, &[]),
+    Take(Guest(OF_2, 1), 1),
+    End(Guest(OF_2, 1), Some(1), Open),
+    Shows(Guest(OF_2, 1), "1 F []"),
+    HasCome(Guest(OF_2, 1), Some(1)),
+    Settle(OF_2, None),
+    Shows(Guest(OF_2, 1), "1 T []"),
+    HasCome(Guest(OF_2, 1), None),
+    // An open guest is dropped.
+    Admit(OF_3, 1, &[]),
+    Drop(OF_3),
+    Shows(Guest(OF_3, 1), "1 X []"),
+];
 
 #[test]
-fn an_open_guest_is_dropped(rt: HostRuntime) {
-    let guest = name(2, 8);
-    let unit = Unit::Guest(guest, 1);
-    let mut table = Table::start(rt.alloc(), HERE, 0);
-    admit(&rt, &mut table, guest, 1, &[]);
-    let is_open = is_open(&table, unit);
-    assert!(rt; is_open);
-    table.drop_guest(guest, 1);
-    tells(&rt, rt.alloc(), &table, unit, "1 X []");
+fn guests_settle_and_drop(rt: HostRuntime) {
+    run_anew(&rt, rt.alloc(), 0, SETTLED);
+}
+
+/// A child and its result; what an inlet says then, its winner, and how many children it still waits for.
+type Taken = (u32, Came, Heard, Option<u32>, u32);
+
+static EMPTIES_TAKEN: &[Taken] = &[(0, None, Open, None, 1), (1, None, Settled, None, 0)];
+
+static COVERS_TAKEN: &[Taken] = &[
+    (1, Some(1), Settled, Some(1), 1),
+    (0, Some(1), Settled, Some(0), 0),
+];
+
+/// Whether an inlet that isn't done says this once a child has come to this.
+fn hears(inlet: &mut FirstFound, child: u32, came: &ChildResult, heard: Heard) -> bool {
+    inlet.left() > 0 && inlet.take(child, came) == heard && inlet.heard() == heard
+}
+
+/// Whether an inlet takes a result so.
+fn takes<R: Abort>(rt: &R, alloc: Global, inlet: &mut FirstFound, row: &Taken) -> bool {
+    let (child, option, heard, winner, left) = *row;
+    hears(inlet, child, &result_of(rt, alloc, option), heard)
+        && inlet.winner() == winner
+        && inlet.left() == left
+}
+
+/// An inlet of two children takes these results.
+fn run_inlet<R: Abort>(rt: &R, alloc: Global, rows: &[Taken]) {
+    let mut inlet = FirstFound::new(2);
+    assert!(rt; inlet.heard() == Open);
+    for row in rows {
+        assert!(rt; takes(rt, alloc, &mut inlet, row));
+    }
 }
 
 #[test]
 fn an_inlet_settles_at_the_last_empty(rt: HostRuntime) {
-    let mut inlet = FirstFound::new(2);
-    assert!(rt; inlet.heard() == Heard::Open);
-    assert!(rt; inlet.take(0, &ChildResult::Empty) == Heard::Open);
-    assert!(rt; inlet.take(1, &ChildResult::Empty) == Heard::Settled);
-    assert!(rt; (inlet.winner(), inlet.left()) == (None, 0));
+    run_inlet(&rt, rt.alloc(), EMPTIES_TAKEN);
 }
 
 #[test]
 fn an_inlet_settles_at_a_cover(rt: HostRuntime) {
-    let cover = cover(rt.alloc(), 1).expect(&rt, "it succeeds");
-    let mut inlet = FirstFound::new(2);
-    assert!(rt; inlet.take(1, &cover) == Heard::Settled);
-    assert!(rt; (inlet.winner(), inlet.left()) == (Some(1), 1));
-    assert!(rt; inlet.take(0, &cover) == Heard::Settled);
-    assert!(rt; (inlet.winner(), inlet.left()) == (Some(0), 0));
+    run_inlet(&rt, rt.alloc(), COVERS_TAKEN);
 }

@@ -9,6 +9,7 @@ ghost use Rattle.spawn_frame.specs.Units.{unit_of};
 use cover_problem::Numbers;
 use spawn_frame::{ChildName, ChildResult, Site, Status, Table, Unit};
 use std::alloc::{AllocError, Global};
+use std::process::Abort;
 
 /// The site whose tables these are.
 pub const HERE: Site = Site {
@@ -22,21 +23,60 @@ pub const THIEF: Site = Site {
     incarnation: 1,
 };
 
+/// The registry's site.
+pub const REGISTRY: Site = Site {
+    node: 0,
+    incarnation: 1,
+};
+
+/// The root's name.
+pub const ROOT: ChildName = ChildName {
+    site: REGISTRY,
+    serial: 0,
+};
+
+/// A cover of one option, or Empty.
+pub type Came = Option<u16>;
+
+/// The result.
+pub fn result_of<R: Abort>(rt: &R, alloc: Global, option: Came) -> ChildResult {
+    match option {
+        Some(option) => cover(alloc, option).expect(rt, "memory"),
+        None => ChildResult::Empty,
+    }
+}
+
+/// Whether it is this result.
+pub fn is_result(child_result: &ChildResult, came: Came) -> bool {
+    match (child_result, came) {
+        (ChildResult::Empty, None) => true,
+        (ChildResult::Cover(options), Some(option)) => options.as_slice() == [option].as_slice(),
+        _ => false,
+    }
+}
+
 /// A run of a node.
 pub fn site(node: u8, incarnation: u32) -> Site {
     Site { node, incarnation }
-}
-
-/// A child of the first run of a node.
-pub fn name(node: u8, serial: u32) -> ChildName {
-    let site = site(node, 1);
-    ChildName { site, serial }
 }
 
 /// A cover of one option.
 pub fn cover(alloc: Global, option: u16) -> Result<ChildResult, AllocError> {
     let options = vec![in alloc; option]?;
     Ok(ChildResult::Cover(Numbers::from_vec(options)))
+}
+
+/// Whether a unit has come to this.
+pub fn has_come(table: &Table, unit: Unit, came: Came) -> bool {
+    match table.unit(unit) {
+        Some(view) => match view.status {
+            Status::Done(result) | Status::Finished(result) | Status::Settled(result) => {
+                is_result(result, came)
+            }
+            _ => false,
+        },
+        None => false,
+    }
 }
 
 /// A letter for each status.
