@@ -96,6 +96,11 @@ const LATER_OF_2: ChildName = ChildName {
     serial: 7,
 };
 
+const LAST_OF_2: ChildName = ChildName {
+    site: NODE_2,
+    serial: 9,
+};
+
 const OF_3: ChildName = ChildName {
     site: NODE_3,
     serial: 5,
@@ -373,7 +378,8 @@ static MEMBERS: &[Step] = &[
     // An earlier run gets and gives nothing, and a guest comes once.
     Give(NODE_2, None),
     Give(NODE_2_ANEW, Some((3, 2, &[7, 5]))),
-    Receive(OF_2, false),
+    Receive(LAST_OF_2, false),
+    Shows(Guest(LAST_OF_2, 1), "none"),
     Receive(ROOT, false),
 ];
 
