@@ -1,6 +1,9 @@
+pub mod Acting
 pub mod Arrivals
 pub mod Membership
 pub mod NodeStep
+pub mod Outgoing
+pub mod Refusal
 pub mod Requests
 pub mod Results
 pub mod SiteView

@@ -2,9 +2,13 @@
 #![tactic(auto)]
 
 mod act_fault;
+mod core_trait;
 mod event;
+mod outgoing;
 mod reply;
 
 pub use act_fault::ActFault;
+pub use core_trait::Core;
 pub use event::Event;
+pub use outgoing::{Load, Outgoing};
 pub use reply::Reply;

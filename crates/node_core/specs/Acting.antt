@@ -1,0 +1,43 @@
+-- What a core does with an event.
+use Rattle.std.specs.Prelude.{◌≡◌, ℕ, List, Option, Some, None, Result, Ok, Err, ⊤}
+use Rattle.cover_problem.specs.Problem.{Problem}
+use Rattle.node_core.specs.Arrivals.{answer_packet}
+use Rattle.node_core.specs.Outgoing.{Lists, Sends}
+use Rattle.node_core.specs.SiteView.{View}
+use Rattle.node_core.specs.declared.act_fault.ActFault.{ActFault}
+use Rattle.node_core.specs.declared.act_fault.ActFault.TheVariants.{Memory}
+use Rattle.node_core.specs.declared.event.Event.{Event}
+use Rattle.node_core.specs.declared.event.Event.TheVariants.{Deliver}
+use Rattle.node_core.specs.declared.reply.Reply.{Reply}
+use Rattle.packet_wire.specs.declared.packet.Body.TheVariants.{Give}
+use Rattle.packet_wire.specs.declared.packet.Packet.{Packet}
+use Rattle.steal_return.specs.Steals.{first_ready}
+
+-- a step of a machine, by its problem, the view before, the event, the reply, what is put out and the view after
+abbrev pub StepOf : Type 1
+StepOf = Problem → View → Event → Reply → List Packet → View → Type 0
+
+-- a fault but want of memory, which is none of the machine's
+abbrev pub named_fault : ActFault → Option ActFault
+named_fault Memory = None
+named_fault fault = Some fault
+
+-- the refusal that an answer tells
+abbrev pub refusal_told : Result Reply ActFault → Option ActFault
+refusal_told (Ok reply) = None
+refusal_told (Err fault) = named_fault fault
+
+-- of the ready children a Steal gets the one of least serial
+abbrev pub GivesLeast : View → Event → List Packet → Type 0
+GivesLeast old (Deliver packet) out =
+    (serial attempt : ℕ) (prefix : List ℕ) → out ≡ answer_packet old packet.from (Give serial attempt prefix) → first_ready old.own ≡ Some serial
+GivesLeast old _ out = ⊤
+
+-- An event is a step of the machine.
+pub record Acts (Step : StepOf) (problem : Problem) (old : View) (event : Event) (reply : Reply) (out : List Packet) (new : View) : Type 0 where
+  pub steps : Step problem old event reply out new
+  pub least : GivesLeast old event out
+
+-- packets of which this is so are appended to each list
+abbrev pub Sending : Lists → Lists → (List Packet → Type 0) → Type 0
+Sending old new P = (out : List Packet) × Sends old out new × P out

@@ -1,0 +1,97 @@
+ghost use Rattle.std.specs.Prelude.{◌≡◌, ◌++◌, List, Option, IfOk, OnErr};
+ghost use Rattle.cover_problem.specs.Problem.{Problem};
+ghost use Rattle.node_core.specs.Acting.{refusal_told, Acts, Sending, StepOf};
+ghost use Rattle.node_core.specs.Refusal.{IsFit};
+ghost use Rattle.node_core.specs.SiteView.{View};
+ghost use Rattle.node_core.specs.declared.act_fault.ActFault.{ActFault};
+ghost use Rattle.node_core.specs.declared.event.Event.{Event};
+ghost use Rattle.packet_wire.specs.declared.packet.Packet.{Packet};
+
+use crate::act_fault::ActFault;
+use crate::event::Event;
+use crate::outgoing::Outgoing;
+use crate::reply::Reply;
+use packet_wire::Packet;
+use spawn_frame::Site;
+use std::alloc::Global;
+use std::mem;
+
+/// The core of a site: each event is one step of its machine, or is refused.
+pub trait Core {
+    ghost problem: { Self → Problem };
+
+    ghost view: { Self → View };
+
+    ghost step: { StepOf };
+
+    ghost refusal: { Problem → View → Event → Option ActFault };
+
+    /// The site.
+    fn site(&self) -> Site
+        ensures { result ≡ (view self.now).site };
+
+    /// Where its memory comes from.
+    fn allocator(&self) -> Global;
+
+    /// Takes an event, and puts its packets out. After a fault the lists may have packets more than before.
+    fn answer(&mut self, event: Event, out: &mut Outgoing) -> Result<Reply, ActFault>
+        requires { IsFit (problem self.old) event }
+        ensures problem { problem self.new ≡ problem self.old }
+        ensures acts { IfOk result (λ reply. Sending out.old out.new (λ sent. Acts step (problem self.old) (view self.old) event reply sent (view self.new))) }
+        ensures refusal { refusal_told result ≡ refusal (problem self.old) (view self.old) event }
+        ensures err { OnErr result (view self.new ≡ view self.old) }
+        ensures list { OnErr result (Sending out.old out.new (λ sent. Unit {0})) };
+
+    /// Takes an event, and appends its packets to the list.
+    ///
+    /// It is refused exactly where the machine has no step of it, with the first fault that the event meets; `Memory` comes only where memory ran
+    /// out. A fault changes nothing.
+    fn act(&mut self, event: Event, out: &mut Vec<Packet>) -> Result<Reply, ActFault>
+        requires { IsFit (problem self.old) event }
+        ensures problem { problem self.new ≡ problem self.old }
+        ensures acts { IfOk result (λ reply. (sent : List Packet) × (out.new.items ≡ out.old.items ++ sent) × Acts step (problem self.old) (view self.old) event reply sent (view self.new)) }
+        ensures refusal { refusal_told result ≡ refusal (problem self.old) (view self.old) event }
+        ensures err { OnErr result (view self.new ≡ view self.old) }
+        ensures list { OnErr result (out.new.items ≡ out.old.items) }
+    {
+        let alloc = self.allocator();
+        let mut outgoing = Outgoing::one(alloc, mem::replace(out, Vec::new(alloc)));
+        let before = outgoing.lengths();
+        let answer = self.answer(event, &mut outgoing);
+        if answer.is_err() {
+            outgoing.cut(before);
+        }
+        let (packets, _) = outgoing.into_lists();
+        *out = packets;
+        answer
+    }
+
+    /// Takes an event as `act` does, and appends its packets to both lists.
+    fn act_both(
+        &mut self,
+        event: Event,
+        out: &mut Vec<Packet>,
+        copies: &mut Vec<Packet>,
+    ) -> Result<Reply, ActFault>
+        requires { IsFit (problem self.old) event }
+        ensures problem { problem self.new ≡ problem self.old }
+        ensures acts { IfOk result (λ reply. (sent : List Packet) × (out.new.items ≡ out.old.items ++ sent) × (copies.new.items ≡ copies.old.items ++ sent) × Acts step (problem self.old) (view self.old) event reply sent (view self.new)) }
+        ensures refusal { refusal_told result ≡ refusal (problem self.old) (view self.old) event }
+        ensures err { OnErr result (view self.new ≡ view self.old) }
+        ensures list { OnErr result (out.new.items ≡ out.old.items) }
+        ensures copies { OnErr result (copies.new.items ≡ copies.old.items) }
+    {
+        let alloc = self.allocator();
+        let packets = mem::replace(out, Vec::new(alloc));
+        let mut outgoing = Outgoing::two(packets, mem::replace(copies, Vec::new(alloc)));
+        let before = outgoing.lengths();
+        let answer = self.answer(event, &mut outgoing);
+        if answer.is_err() {
+            outgoing.cut(before);
+        }
+        let (packets, second) = outgoing.into_lists();
+        *out = packets;
+        *copies = second;
+        answer
+    }
+}

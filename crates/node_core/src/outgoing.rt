@@ -1,0 +1,184 @@
+//! Where the packets of an event go.
+
+ghost use Rattle.std.specs.Prelude.{◌≡◌, ◌+◌, ◌∷◌, ◌≤◌, [], false, length, take, true, IfOk, OnErr, OnOk};
+ghost use Rattle.node_core.specs.Outgoing.{IsLoad, Sends};
+ghost use Rattle.node_core.specs.SiteView.{abort_packet, abort_packets};
+
+use packet_wire::{Body, Packet};
+use spawn_frame::{Out, Site};
+use std::alloc::{AllocError, Global};
+use std::marker::Model;
+
+/// What an event puts out: its packets are appended to one list, or to two alike.
+#[derive(Drop)]
+pub struct Outgoing {
+    packets: Vec<Packet>,
+    copies: Vec<Packet>,
+    both: bool,
+}
+
+impl Model for Outgoing {
+    ghost use Rattle.std.specs.Prelude.{◌-◌, vec_capacity, vec_len};
+    ghost use Rattle.node_core.specs.Outgoing.{Lists, room_in};
+
+    ghost Value = { Lists };
+
+    ghost view = { λ o. record { packets = o.packets.items; copies = o.copies.items; both = o.both; room = room_in (vec_capacity o.packets - vec_len o.packets) (vec_capacity o.copies - vec_len o.copies) o.both } };
+}
+
+/// A packet for each of the lists, ready to be put there.
+#[derive(Drop)]
+pub struct Load {
+    packet: Packet,
+    copy: Option<Packet>,
+}
+
+impl Model for Load {
+    ghost use Rattle.std.specs.Prelude.{Option};
+    ghost use Rattle.node_core.specs.Outgoing.{LoadValue};
+
+    ghost Value = { LoadValue };
+
+    ghost view = { λ l. record { packet = l.packet; copy = l.copy } };
+}
+
+impl Outgoing {
+    /// The packets go to this list alone.
+    pub fn one(alloc: Global, packets: Vec<Packet>) -> Outgoing
+        ensures packets { result.packets ≡ packets.items }
+        ensures both { result.both ≡ false }
+    {
+        Outgoing {
+            packets,
+            copies: Vec::new(alloc),
+            both: false,
+        }
+    }
+
+    /// The packets go to both lists.
+    pub fn two(packets: Vec<Packet>, copies: Vec<Packet>) -> Outgoing
+        ensures packets { result.packets ≡ packets.items }
+        ensures copies { result.copies ≡ copies.items }
+        ensures both { result.both ≡ true }
+    {
+        Outgoing {
+            packets,
+            copies,
+            both: true,
+        }
+    }
+
+    /// The lists, as the caller's again.
+    pub fn into_lists(self) -> (Vec<Packet>, Vec<Packet>)
+        ensures packets { result.0.items ≡ self.packets }
+        ensures copies { result.1.items ≡ self.copies }
+    {
+        let Outgoing {
+            packets,
+            copies,
+            both: _,
+        } = self;
+        (packets, copies)
+    }
+
+    /// Makes room for so many packets more in each list; the only error is want of memory.
+    pub fn reserve(&mut self, more: usize) -> Result<(), AllocError>
+        ensures same { Sends self.old [] self.new }
+        ensures room { OnOk result (more ≤ self.new.room) }
+    {
+        self.packets.reserve(more)?;
+        if self.both {
+            self.copies.reserve(more)?;
+        }
+        Ok(())
+    }
+
+    /// A packet for each list; the only error is want of memory.
+    pub fn load(&self, packet: Packet) -> Result<Load, AllocError>
+        ensures { IfOk result (IsLoad self.now.both packet) }
+    {
+        let copy = if self.both {
+            Some(packet.copy()?)
+        } else {
+            None
+        };
+        Ok(Load { packet, copy })
+    }
+
+    /// Puts a packet into each list, which is asked to have room.
+    pub fn put(&mut self, load: Load)
+        requires room { 1 ≤ self.old.room }
+        requires load { IsLoad self.old.both load.packet load }
+        ensures sends { Sends self.old (load.packet ∷ []) self.new }
+        ensures room { self.new.room + 1 ≡ self.old.room }
+    {
+        let Load { packet, copy } = load;
+        self.packets.push_reserved(packet);
+        if let Some(copy) = copy {
+            self.copies.push_reserved(copy);
+        }
+    }
+
+    /// Puts a packet into each list; the only error is want of memory, and the lists are then as they were.
+    pub fn send(&mut self, packet: Packet) -> Result<(), AllocError>
+        ensures ok { OnOk result (Sends self.old (packet ∷ []) self.new) }
+        ensures err { OnErr result (Sends self.old [] self.new) }
+    {
+        let load = self.load(packet)?;
+        self.reserve(1)?;
+        self.put(load);
+        Ok(())
+    }
+
+    /// Tells the thieves of these children, in their order, that they are wanted no more. The lists are asked to have
+    /// room.
+    pub fn put_aborts(&mut self, site: Site, outs: &[Out])
+        requires { length outs.now ≤ self.old.room }
+        ensures sends { Sends self.old (abort_packets site outs.now) self.new }
+        ensures room { self.new.room + length outs.now ≡ self.old.room }
+    {
+        for out in outs {
+            self.put_abort(site, *out);
+        }
+    }
+
+    /// Tells the thief of a child that it is wanted no more.
+    fn put_abort(&mut self, site: Site, out: Out)
+        requires { 1 ≤ self.old.room }
+        ensures sends { Sends self.old (abort_packet site out ∷ []) self.new }
+        ensures room { self.new.room + 1 ≡ self.old.room }
+    {
+        self.packets.push_reserved(abort_packet(site, out));
+        if self.both {
+            self.copies.push_reserved(abort_packet(site, out));
+        }
+    }
+
+    /// How many packets the lists have.
+    pub fn lengths(&self) -> (usize, usize)
+        ensures packets { result.0 ≡ length self.now.packets }
+        ensures copies { result.1 ≡ length self.now.copies }
+    {
+        (self.packets.len(), self.copies.len())
+    }
+
+    /// Takes back what the lists have beyond these numbers of packets.
+    pub fn cut(&mut self, lengths: (usize, usize))
+        ensures packets { self.new.packets ≡ take lengths.0 self.old.packets }
+        ensures copies { self.new.copies ≡ take lengths.1 self.old.copies }
+    {
+        self.packets.truncate(lengths.0);
+        self.copies.truncate(lengths.1);
+    }
+}
+
+/// The packet to the thief of a child that is wanted no more.
+fn abort_packet(site: Site, out: Out) -> Packet
+    ensures { result ≡ abort_packet site out }
+{
+    Packet {
+        from: site,
+        to: out.thief,
+        body: Body::Abort(out.serial, out.attempt),
+    }
+}
