@@ -5,6 +5,7 @@ pub mod Frames
 pub mod Places
 pub mod Kept
 pub mod Statuses
+pub mod Working
 pub mod Writes
 pub mod Found
 pub mod Redone

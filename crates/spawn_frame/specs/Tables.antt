@@ -1,5 +1,5 @@
 -- What the calls of a table ask for and answer.
-use Rattle.std.specs.Prelude.{◌≡◌, ℕ, ◌<◌, ◌≤◌, IsSome, Bool, true, false, if◌then◌else◌, List, [], ◌∷◌, ◌++◌, map, Option, Some, None, slice_get}
+use Rattle.std.specs.Prelude.{◌≡◌, ℕ, ◌<◌, ◌≤◌, IsSome, Bool, true, false, ◌&&◌, if◌then◌else◌, List, [], ◌∷◌, ◌++◌, map, Option, Some, None, slice_get, ◌==◌, bytes_eq as same_numbers}
 use Rattle.std.specs.List.{AllByRecursion}
 use Rattle.spawn_frame.specs.Frames.{frame, frame_result, is_unit}
 use Rattle.spawn_frame.specs.Inlets.{heard_by}
@@ -69,6 +69,19 @@ may_end _ = false
 abbrev pub has_status : (Status → Bool) → Option Entry → Bool
 has_status test None = false
 has_status test (Some entry) = test entry.status
+
+-- the unit is there and here, at this attempt and with this prefix
+abbrev pub is_at_work : ℕ → List ℕ → Option Entry → Bool
+is_at_work attempt prefix None = false
+is_at_work attempt prefix (Some entry) = is_here entry.status && (entry.attempt == attempt && same_numbers entry.prefix prefix)
+
+-- A unit that is there and here, at this attempt and with this prefix.
+pub record IsAtWork (attempt : ℕ) (prefix : List ℕ) (unit : Option Entry) : Type 0 where
+  pub entry : Entry
+  pub is : unit ≡ Some entry
+  pub here : entry.status ≡ Here
+  pub attempt_is : entry.attempt ≡ attempt
+  pub prefix_is : entry.prefix ≡ prefix
 
 -- A unit that is there, at this attempt and with this status.
 pub record IsSeen (unit : Option Entry) (attempt : ℕ) (status : Status) : Type 0 where

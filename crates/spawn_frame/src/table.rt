@@ -1,12 +1,13 @@
 //! The units of work of one site.
 
 ghost use Rattle.std.specs.Prelude.{◌≡◌, ◌+◌, ◌<◌, ◌≤◌, ◌↔◌, ◌++◌, length, IfNone, IfOk, IfSome, IsErrOf, IsSome, MatchOption, None, OnErr, OnOk, Some, find, option_map, slice_get, true, Bool, ℕ};
+ghost use Rattle.std.specs.Bool.{OnTrue};
 ghost use Rattle.spawn_frame.specs.Aborts.{is_open};
 ghost use Rattle.spawn_frame.specs.Frames.{frame, frame_result};
 ghost use Rattle.spawn_frame.specs.Inlets.{frame_winner, heard_by};
 ghost use Rattle.spawn_frame.specs.Picks.{is_finished, is_ready, is_split, ready_unit, ripe_unit};
 ghost use Rattle.spawn_frame.specs.Splits.{split_into, with_result};
-ghost use Rattle.spawn_frame.specs.Tables.{attempt_in, empty_table, guest_key, has_status, is_after, is_here, is_out, longer_prefixes, may_end, new_guest, parent_heard, parent_in, prefix_in, root_table, AllLawful, GivesResult, HasParents, IsAscending, IsMadeBefore, IsSeen};
+ghost use Rattle.spawn_frame.specs.Tables.{attempt_in, empty_table, guest_key, has_status, is_after, is_at_work, is_here, is_out, longer_prefixes, may_end, new_guest, parent_heard, parent_in, prefix_in, root_table, AllLawful, GivesResult, HasParents, IsAscending, IsAtWork, IsMadeBefore, IsSeen};
 ghost use Rattle.spawn_frame.specs.declared.site.ChildName.{ChildName};
 ghost use Rattle.spawn_frame.specs.declared.status.Status.{Status};
 ghost use Rattle.spawn_frame.specs.Units.{change_at, guest_in, insert_guest, last_attempt, redone, table_gets, table_guests, table_own, unit_of};
@@ -222,17 +223,50 @@ impl Table {
         }
     }
 
-    /// Takes up a ready unit, which is here then: the own child of greatest serial, else the least guest. It costs a
-    /// pass through all units.
+    /// The ready unit that is taken up next: the own child of greatest serial, else the least guest. It costs a pass
+    /// through all units.
+    pub fn ready(&self) -> Option<Unit>
+        ensures unit { result ≡ ready_unit self.now }
+        ensures ready { IfSome result (λ unit. has_status is_ready (unit_of self.now unit) ≡ true) }
+    {
+        self.picked(Wanted::Ready)
+    }
+
+    /// Takes up this unit, which is ready, and is here then. It costs looks for the unit.
+    pub fn take_up(&mut self, unit: Unit) -> Job
+        requires { has_status is_ready (unit_of self.old unit) ≡ true }
+        ensures unit { result.unit ≡ unit }
+        ensures ready { IsSeen (unit_of self.old unit) result.attempt Status.Ready }
+        ensures after { self.new ≡ table_gets self.old unit Status.Here }
+    {
+        let attempt = match self.work(unit) {
+            Some(work) => work.attempt,
+            None => unreachable!(),
+        };
+        self.set_status(unit, Status::Here);
+        Job { unit, attempt }
+    }
+
+    /// Takes up the ready unit that is taken up next, if there is one. It costs a pass through all units.
     pub fn take(&mut self) -> Option<Job>
         ensures unit { option_map (λ job. job.unit) result ≡ ready_unit self.old }
         ensures ready { IfSome result (λ job. IsSeen (unit_of self.old job.unit) job.attempt Status.Ready) }
         ensures after { MatchOption result (self.new ≡ self.old) (λ job. self.new ≡ table_gets self.old job.unit Status.Here) }
     {
-        let unit = self.picked(Wanted::Ready)?;
-        let attempt = self.work(unit)?.attempt;
-        self.set_status(unit, Status::Here);
-        Some(Job { unit, attempt })
+        let unit = self.ready()?;
+        Some(self.take_up(unit))
+    }
+
+    /// Whether a job is still worked on: its unit is here, at that attempt and with this prefix. It takes no memory, and
+    /// costs a look for the unit, and the prefix.
+    pub fn has_job(&self, job: Job, prefix: &[u16]) -> bool
+        ensures tested { result ≡ is_at_work job.attempt prefix.now (unit_of self.now job.unit) }
+        ensures at_work { OnTrue result (IsAtWork job.attempt prefix.now (unit_of self.now job.unit)) }
+    {
+        match self.work(job.unit) {
+            Some(work) => work.is_at_work(job.attempt, prefix),
+            None => false,
+        }
     }
 
     /// Gives a unit its result: an own child is done, a guest is finished. If it is a child of a frame of this site,

@@ -1,4 +1,6 @@
-ghost use Rattle.std.specs.Prelude.{◌≡◌, ◌<◌, Some};
+ghost use Rattle.std.specs.Prelude.{◌≡◌, ◌<◌, Option, Some};
+ghost use Rattle.spawn_frame.specs.Tables.{is_at_work};
+ghost use Rattle.spawn_frame.specs.declared.unit.Unit.{Unit as WorkUnit};
 
 use crate::child_result::ChildResult;
 use crate::first_found::FirstFound;
@@ -24,7 +26,7 @@ pub struct Work {
 
 impl Work {
     ghost use Rattle.spawn_frame.specs.Units.{last_attempt};
-    ghost use Rattle.spawn_frame.specs.Works.{frame_says, heard_work, is_wanted, new_work, redone_work, split_work, with_heard, with_work_status, HearsChildren};
+    ghost use Rattle.spawn_frame.specs.Works.{entry_of, frame_says, heard_work, is_wanted, new_work, redone_work, split_work, with_heard, with_work_status, HearsChildren};
 
     /// Work that nobody has taken up.
     pub fn new(prefix: Numbers, attempt: Attempt) -> Work
@@ -46,6 +48,15 @@ impl Work {
             Wanted::Ready => matches!(self.status, Status::Ready),
             Wanted::Ripe => matches!(self.status, Status::Split) && self.heard() == Heard::Settled,
         }
+    }
+
+    /// Whether a worker of this site has it, at this attempt and with this prefix.
+    pub fn is_at_work(&self, attempt: Attempt, prefix: &[u16]) -> bool
+        ensures { (parent : Option WorkUnit) → result ≡ is_at_work attempt prefix.now (Some (entry_of parent self.now)) }
+    {
+        matches!(self.status, Status::Here)
+            && self.attempt == attempt
+            && self.prefix.as_slice() == prefix
     }
 
     /// What its inlet says; `Open` where it was never split.

@@ -1,5 +1,5 @@
 -- No child of a ledger comes to be out to an earlier run than is known.
-use Rattle.std.proofs.Common.{◌≡◌, ℕ, zero, suc, Bool, true, false, ◌&&◌, ◌++◌, cond, map, List, [], ◌∷◌, MatchOption, OnErr, OnOk, Option, Some, None, Result, Ok, Err, refl, sym, ap, subst, ◌∙◌}
+use Rattle.std.proofs.Common.{◌≡◌, ℕ, zero, suc, Bool, true, false, ◌&&◌, ◌++◌, cond, map, List, [], ◌∷◌, OnErr, OnOk, Option, Some, None, Result, Ok, Err, refl, sym, ap, subst, ◌∙◌}
 use Rattle.abort_tree.specs.Below.{aborted}
 use Rattle.spawn_frame.specs.Aborts.{is_open}
 use Rattle.spawn_frame.specs.Splits.{new_child, split_into, with_result}
@@ -8,7 +8,6 @@ use Rattle.spawn_frame.specs.declared.child_result.ChildResult.{ChildResult}
 use Rattle.spawn_frame.specs.declared.site.Site.{Site}
 use Rattle.spawn_frame.specs.declared.status.Status.{Status}
 use Rattle.spawn_frame.specs.declared.status.Status.TheVariants.{Aborted, Here, Out, Ready, Split}
-use Rattle.spawn_frame.specs.declared.unit.Job.{Job}
 use Rattle.spawn_frame.specs.declared.unit.Unit.{Unit as WorkUnit}
 use Rattle.spawn_frame.specs.declared.unit.Unit.TheVariants.{Guest, Own}
 use Rattle.steal_return.specs.Invariant.{IsLedger, NoneOutrun}
@@ -66,11 +65,6 @@ gets_keeps ledger h (Guest name attempt) status e = record { each = h.each; with
 pub gets : (ledger : Ledger) → IsLedger ledger → (unit : WorkUnit) (status : Status) → is_out_to (is_older ledger.known) status ≡ false
     → (table : Table) → table ≡ table_gets ledger.table unit status → IsLedger (ledger_table ledger table)
 gets ledger h unit status e table is = subst (λ t. IsLedger (ledger_table ledger t)) (sym is) (gets_keeps ledger h unit status e)
-
-pub takes : (ledger : Ledger) → IsLedger ledger → (table : Table) (job : Option Job)
-    → MatchOption job (table ≡ ledger.table) (λ j. table ≡ table_gets ledger.table j.unit Here) → IsLedger (ledger_table ledger table)
-takes ledger h table None is = subst (λ t. IsLedger (ledger_table ledger t)) (sym is) h
-takes ledger h table (Some job) is = gets ledger h job.unit Here refl table is
 
 pub ends : (ledger : Ledger) → IsLedger ledger → (unit : WorkUnit) (result : ChildResult)
     → (table : Table) → table ≡ table_gets ledger.table unit (with_result unit result) → IsLedger (ledger_table ledger table)

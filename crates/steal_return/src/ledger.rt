@@ -3,7 +3,7 @@
 ghost use Rattle.std.specs.Prelude.{◌≡◌, ◌≢◌, ◌+◌, ◌<◌, ◌≤◌, ◌↔◌, length, option_map, slice_get, slice_index, false, true, IfOk, IfSome, IsErrOf, IsSome, MatchBool, MatchOption, OnErr, OnOk, Some};
 ghost use Rattle.std.specs.Bool.{OnFalse, OnTrue};
 ghost use Rattle.spawn_frame.specs.Frames.{frame, frame_result};
-ghost use Rattle.spawn_frame.specs.Picks.{is_split, ready_unit};
+ghost use Rattle.spawn_frame.specs.Picks.{is_ready, is_split, ready_unit};
 ghost use Rattle.spawn_frame.specs.Splits.{split_into, with_result};
 ghost use Rattle.spawn_frame.specs.Tables.{attempt_in, has_status, is_here, is_out, longer_prefixes, may_end, parent_heard, prefix_in, IsSeen};
 ghost use Rattle.spawn_frame.specs.Units.{last_attempt, unit_of};
@@ -114,13 +114,24 @@ impl Ledger {
         self.known[node as usize]
     }
 
-    /// Takes up a ready unit, as `Table::take` does.
+    /// Takes up this unit, which is ready, as `Table::take_up` does.
+    pub fn take_up(&mut self, unit: Unit) -> Job
+        requires { has_status is_ready (unit_of self.old.table unit) ≡ true }
+        ensures unit { result.unit ≡ unit }
+        ensures ready { IsSeen (unit_of self.old.table unit) result.attempt Status.Ready }
+        ensures after { self.new ≡ ledger_gets self.old unit Status.Here }
+    {
+        self.table.take_up(unit)
+    }
+
+    /// Takes up the ready unit that is taken up next, as `Table::take` does.
     pub fn take(&mut self) -> Option<Job>
         ensures unit { option_map (λ job. job.unit) result ≡ ready_unit self.old.table }
         ensures ready { IfSome result (λ job. IsSeen (unit_of self.old.table job.unit) job.attempt Status.Ready) }
         ensures after { MatchOption result (self.new ≡ self.old) (λ job. self.new ≡ ledger_gets self.old job.unit Status.Here) }
     {
-        self.table.take()
+        let unit = self.table.ready()?;
+        Some(self.take_up(unit))
     }
 
     /// Splits a unit that is here, as `Table::spawn` does; a fault changes nothing.
@@ -163,8 +174,9 @@ impl Ledger {
         Ok(())
     }
 
-    /// What a settled frame came to; the only error is want of memory.
-    fn frame_result(&self, unit: Unit) -> Result<ChildResult, AllocError>
+    /// What a settled frame came to; the only error is want of memory. It costs looks for the unit and for the child that
+    /// has the cover, and the copy of it.
+    pub fn frame_result(&self, unit: Unit) -> Result<ChildResult, AllocError>
         requires split { has_status is_split (unit_of self.now.table unit) ≡ true }
         requires settled { IsSome (frame_result (frame unit self.now.own)) }
         ensures { IfOk result (λ came. frame_result (frame unit self.now.own) ≡ Some came) }
