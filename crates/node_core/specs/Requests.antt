@@ -4,7 +4,7 @@ use Rattle.node_core.specs.Results.{return_packets}
 use Rattle.node_core.specs.SiteView.{View, with_ledger}
 use Rattle.node_core.specs.declared.reply.Reply.{Reply}
 use Rattle.node_core.specs.declared.reply.Reply.TheVariants.{Ignored, Moved}
-use Rattle.packet_wire.specs.declared.packet.Body.TheVariants.{Give, Steal}
+use Rattle.packet_wire.specs.declared.packet.Body.TheVariants.{Give, Hello, Steal}
 use Rattle.packet_wire.specs.declared.packet.Packet.{Packet}
 use Rattle.spawn_frame.specs.Units.{Entry, GuestEntry}
 use Rattle.spawn_frame.specs.declared.site.Site.{Site}
@@ -17,6 +17,10 @@ use Rattle.steal_return.specs.Steals.{RedoesChild}
 -- the site of the registry
 abbrev pub registry : Site
 registry = record { node = 0; incarnation = 1 }
+
+-- a node tells the registry that it is there
+abbrev pub hello_packet : Site → Packet
+hello_packet from = record { from = from; to = registry; body = Hello }
 
 -- a node in the run that is known of it
 abbrev pub known_site : View → ℕ → Site

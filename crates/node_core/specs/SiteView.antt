@@ -1,5 +1,5 @@
 -- All that a site knows.
-use Rattle.std.specs.Prelude.{Bool, List, map, Option}
+use Rattle.std.specs.Prelude.{Bool, false, List, map, Option}
 use Rattle.packet_wire.specs.declared.packet.Body.TheVariants.{Abort}
 use Rattle.packet_wire.specs.declared.packet.Packet.{Packet}
 use Rattle.spawn_frame.specs.Aborts.{Reached}
@@ -14,6 +14,10 @@ pub record View : Type 0 where
   pub ledger : Ledger
   pub open ledger use *
   pub over : Bool
+
+-- all that a site knows when it begins with this ledger
+abbrev pub opening_view : Ledger → View
+opening_view ledger = record { ledger = ledger; over = false }
 
 -- what a site has of a unit
 abbrev pub unit_in : View → WorkUnit → Option Entry

@@ -1,3 +1,10 @@
+//! Why an event is refused.
+
+ghost use Rattle.std.specs.Prelude.{◌≡◌};
+ghost use Rattle.node_core.specs.declared.act_fault.ActFault.TheVariants.{Memory};
+
+use std::alloc::{AllocError, AllocFailed};
+
 /// Why an event is refused. Whatever the fault is, the site stays as it was and no packet is put out.
 #[derive(Clone, Copy, Debug, PartialEq, Eq)]
 pub enum ActFault {
@@ -23,4 +30,20 @@ pub enum ActFault {
     BadCover,
     /// The list that a packet gives isn't a prefix. Only nodes say so.
     BadPrefix,
+}
+
+impl From<AllocError> for ActFault {
+    ghost from_gives = { λ _ e. e ≡ Memory };
+
+    fn from(_e: AllocError) -> ActFault {
+        ActFault::Memory
+    }
+}
+
+impl<T: Drop> From<AllocFailed<T>> for ActFault {
+    ghost from_gives = { λ _ e. e ≡ Memory };
+
+    fn from(_e: AllocFailed<T>) -> ActFault {
+        ActFault::Memory
+    }
 }

@@ -2,13 +2,19 @@
 #![tactic(auto)]
 
 mod act_fault;
+mod arrivals;
+
 mod core_trait;
 mod event;
 mod outgoing;
 mod reply;
+mod requests;
+mod site_state;
+mod taking;
 
 pub use act_fault::ActFault;
 pub use core_trait::Core;
 pub use event::Event;
 pub use outgoing::{Load, Outgoing};
 pub use reply::Reply;
+pub use site_state::SiteState;

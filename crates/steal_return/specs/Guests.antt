@@ -18,6 +18,11 @@ pub record AdmitsGuest (old : Ledger) (name : ChildName) (attempt : ℕ) (prefix
   pub is_new : guest_in old.guests name attempt ≡ None
   pub after : new ≡ ledger_guests old (insert_guest (new_guest name attempt prefix) old.guests)
 
+-- A child that is given would be a new guest: no later run of its owner is known, and it isn't there, in whatever status.
+pub record IsNew (ledger : Ledger) (name : ChildName) (attempt : ℕ) : Type 0 where
+  pub not_older : is_older ledger.known name.site ≡ false
+  pub absent : guest_in ledger.guests name attempt ≡ None
+
 -- Its owner is of an earlier run than is known, or the guest is there already, in whatever status.
 abbrev pub IsNotNew : Ledger → ChildName → ℕ → Type 0
 IsNotNew old name attempt = (is_older old.known name.site ≡ true) ⊎ (is_some (guest_in old.guests name attempt) ≡ true)

@@ -8,7 +8,7 @@ ghost use Rattle.spawn_frame.specs.Splits.{split_into, with_result};
 ghost use Rattle.spawn_frame.specs.Tables.{attempt_in, has_status, is_here, is_out, longer_prefixes, may_end, parent_heard, prefix_in, IsSeen};
 ghost use Rattle.spawn_frame.specs.Units.{last_attempt, unit_of};
 ghost use Rattle.steal_return.specs.Finishing.{Appends, FinishesFrame};
-ghost use Rattle.steal_return.specs.Guests.{AdmitsGuest, DropsGuest, IsNotFinished, IsNotNew, IsNotOpen, SettlesGuest};
+ghost use Rattle.steal_return.specs.Guests.{AdmitsGuest, DropsGuest, IsNew, IsNotFinished, IsNotNew, IsNotOpen, SettlesGuest};
 ghost use Rattle.steal_return.specs.Invariant.{IsLedger};
 ghost use Rattle.steal_return.specs.Ledger.{ledger_gets, ledger_table, opening_ledger, root_ledger};
 ghost use Rattle.steal_return.specs.Members.{now_known, Differs, IsAlike, IsSpent, LearnsMembers};
@@ -298,14 +298,35 @@ impl Ledger {
         ensures err { OnErr result (self.new ≡ self.old) }
     {
         let name = ChildName { site: from, serial };
-        if is_older(&self.known, from) {
+        if !self.is_new(name, attempt) {
             return Ok(false);
         }
-        if self.table.unit(Unit::Guest(name, attempt)).is_some() {
-            return Ok(false);
-        }
-        self.table.admit(name, attempt, prefix)?;
+        self.admit(name, attempt, prefix)?;
         Ok(true)
+    }
+
+    /// Whether a child that is given would be a new guest: no later run of its owner is known, and it isn't there yet, in
+    /// whatever status.
+    pub fn is_new(&self, name: ChildName, attempt: Attempt) -> bool
+        ensures new { OnTrue result (IsNew self.now name attempt) }
+        ensures not_new { OnFalse result (IsNotNew self.now name attempt) }
+    {
+        !is_older(&self.known, name.site) && self.table.unit(Unit::Guest(name, attempt)).is_none()
+    }
+
+    /// A new child of another site becomes a ready guest; the only error is want of memory, which changes nothing.
+    pub fn admit(
+        &mut self,
+        name: ChildName,
+        attempt: Attempt,
+        prefix: &[u16],
+    ) -> Result<(), AllocError>
+        requires new { IsNew self.old name attempt }
+        requires attempt { 1 ≤ attempt }
+        ensures ok { OnOk result (AdmitsGuest self.old name attempt prefix.now self.new) }
+        ensures err { OnErr result (self.new ≡ self.old) }
+    {
+        self.table.admit(name, attempt, prefix)
     }
 
     /// A finished guest settles on the result that its owner accepted, which may be another than its own. True where it

@@ -1,0 +1,64 @@
+ghost use Rattle.std.specs.Prelude.{◌≡◌, ◌≤◌};
+ghost use Rattle.steal_return.specs.Invariant.{IsLedger};
+
+use spawn_frame::Site;
+use std::alloc::Global;
+use std::marker::Model;
+use steal_return::Ledger;
+
+/// All that a site knows: its ledger, and whether the search is over.
+#[derive(Drop)]
+pub struct SiteState {
+    pub(crate) ledger: Ledger,
+    pub(crate) over: bool,
+    pub(crate) alloc: Global,
+}
+
+impl Model for SiteState {
+    ghost use Rattle.node_core.specs.SiteView.{View};
+
+    ghost Value = { View };
+
+    ghost view = { λ s. record { ledger = s.ledger; over = s.over } };
+}
+
+impl SiteState {
+    ghost use Rattle.node_core.specs.SiteView.{opening_view};
+
+    /// What a site knows that begins with this ledger.
+    pub fn new(alloc: Global, ledger: Ledger) -> SiteState
+        ensures { result ≡ opening_view ledger }
+    {
+        SiteState {
+            ledger,
+            over: false,
+            alloc,
+        }
+    }
+
+    /// The site.
+    pub fn site(&self) -> Site
+        ensures { result ≡ self.now.site }
+    {
+        self.ledger.table().site()
+    }
+
+    /// Whether the search is over.
+    pub fn is_over(&self) -> bool
+        ensures { result ≡ self.now.over }
+    {
+        self.over
+    }
+
+    /// Its units, and what it knows of the others.
+    pub fn ledger(&self) -> &Ledger
+        ensures { result.now ≡ self.now.ledger }
+    {
+        &self.ledger
+    }
+
+    /// Where its memory comes from.
+    pub fn allocator(&self) -> Global {
+        self.alloc
+    }
+}
