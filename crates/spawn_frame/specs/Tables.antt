@@ -1,6 +1,6 @@
 -- What the calls of a table ask for and answer.
 use Rattle.std.specs.Prelude.{◌≡◌, ℕ, ◌<◌, ◌≤◌, IsSome, Bool, true, false, ◌&&◌, if◌then◌else◌, List, [], ◌∷◌, ◌++◌, map, Option, Some, None, slice_get, ◌==◌, bytes_eq as same_numbers}
-use Rattle.std.specs.List.{AllByRecursion}
+use Rattle.std.specs.List.{AllByRecursion, count_by}
 use Rattle.spawn_frame.specs.Frames.{frame, frame_result, is_unit}
 use Rattle.spawn_frame.specs.Inlets.{heard_by}
 use Rattle.spawn_frame.specs.Names.{guest_before}
@@ -37,6 +37,10 @@ is_here _ = false
 abbrev pub is_out : Status → Bool
 is_out (Out thief) = true
 is_out _ = false
+
+-- how many own children are out
+abbrev pub outs_of : List Entry → ℕ
+outs_of own = count_by (λ c. is_out c.status) own
 
 -- a status that goes with the kind of unit: a guest is never out, done or aborted, an own child never finished, settled or dropped
 abbrev pub suits : WorkUnit → Status → Bool

@@ -7,7 +7,7 @@ ghost use Rattle.spawn_frame.specs.Frames.{frame, frame_result};
 ghost use Rattle.spawn_frame.specs.Inlets.{frame_winner, heard_by};
 ghost use Rattle.spawn_frame.specs.Picks.{is_finished, is_ready, is_split, ready_unit, ripe_unit};
 ghost use Rattle.spawn_frame.specs.Splits.{split_into, with_result};
-ghost use Rattle.spawn_frame.specs.Tables.{attempt_in, empty_table, guest_key, has_status, is_after, is_at_work, is_here, is_out, longer_prefixes, may_end, new_guest, parent_heard, parent_in, prefix_in, root_table, AllLawful, GivesResult, HasParents, IsAscending, IsAtWork, IsMadeBefore, IsSeen};
+ghost use Rattle.spawn_frame.specs.Tables.{attempt_in, empty_table, guest_key, has_status, is_after, is_at_work, is_here, is_out, longer_prefixes, may_end, new_guest, outs_of, parent_heard, parent_in, prefix_in, root_table, AllLawful, GivesResult, HasParents, IsAscending, IsAtWork, IsMadeBefore, IsSeen};
 ghost use Rattle.spawn_frame.specs.declared.site.ChildName.{ChildName};
 ghost use Rattle.spawn_frame.specs.declared.status.Status.{Status};
 ghost use Rattle.spawn_frame.specs.Units.{change_at, guest_in, insert_guest, last_attempt, redone, table_gets, table_guests, table_own, unit_of};
@@ -140,6 +140,13 @@ impl Table {
         ensures lawful { AllLawful self.now }
     {
         self.own.len() as u32
+    }
+
+    /// How many own children are out. It costs a pass through the own children.
+    pub fn outs(&self) -> usize
+        ensures { result ≡ outs_of self.now.own }
+    {
+        self.own.iter().filter(|child| child.work.is_out()).count()
     }
 
     /// A unit's attempt and status; none where it isn't there. An own child is found at once, a guest by a pass

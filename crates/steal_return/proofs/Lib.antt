@@ -1,5 +1,6 @@
 pub mod Dropping
 pub mod Drops
+pub mod Fewer
 pub mod Finishes
 pub mod Giving
 pub mod Learning

@@ -5,7 +5,7 @@ ghost use Rattle.std.specs.Bool.{OnFalse, OnTrue};
 ghost use Rattle.spawn_frame.specs.Frames.{frame, frame_result};
 ghost use Rattle.spawn_frame.specs.Picks.{is_ready, is_split, ready_unit};
 ghost use Rattle.spawn_frame.specs.Splits.{split_into, with_result};
-ghost use Rattle.spawn_frame.specs.Tables.{attempt_in, has_status, is_here, is_out, longer_prefixes, may_end, parent_heard, prefix_in, IsSeen};
+ghost use Rattle.spawn_frame.specs.Tables.{attempt_in, has_status, is_here, is_out, longer_prefixes, may_end, outs_of, parent_heard, prefix_in, IsSeen};
 ghost use Rattle.spawn_frame.specs.Units.{last_attempt, unit_of};
 ghost use Rattle.steal_return.specs.Finishing.{Appends, FinishesFrame};
 ghost use Rattle.steal_return.specs.Guests.{AdmitsGuest, DropsGuest, IsNew, IsNotFinished, IsNotNew, IsNotOpen, SettlesGuest};
@@ -162,6 +162,7 @@ impl Ledger {
         requires split { has_status is_split (unit_of self.old.table unit) ≡ true }
         requires settled { IsSome (frame_result (frame unit self.old.own)) }
         ensures ok { OnOk result (Appends list.old.items list.new.items (λ outs. FinishesFrame self.old unit outs self.new)) }
+        ensures few { OnOk result (length list.new.items ≤ length list.old.items + outs_of self.old.own) }
         ensures err { OnErr result (self.new ≡ self.old) }
         ensures list { OnErr result (list.new.items ≡ list.old.items) }
     {
@@ -362,6 +363,7 @@ impl Ledger {
         list: &mut Vec<Out>,
     ) -> Result<bool, AllocError>
         ensures dropped { IfOk result (λ moved. OnTrue moved (Appends list.old.items list.new.items (λ outs. DropsGuest self.old (record { site = from; serial = serial }) attempt outs self.new))) }
+        ensures few { OnOk result (length list.new.items ≤ length list.old.items + outs_of self.old.own) }
         ensures left { IfOk result (λ moved. OnFalse moved (IsNotOpen self.old (record { site = from; serial = serial }) attempt × (self.new ≡ self.old) × (list.new.items ≡ list.old.items))) }
         ensures err { OnErr result (self.new ≡ self.old) }
         ensures list { OnErr result (list.new.items ≡ list.old.items) }
@@ -390,6 +392,7 @@ impl Ledger {
         list: &mut Vec<Out>,
     ) -> Result<bool, LearnFault>
         ensures learns { OnOk result (Appends list.old.items list.new.items (λ outs. LearnsMembers self.old incarnations.now outs self.new)) }
+        ensures few { OnOk result (length list.new.items ≤ length list.old.items + outs_of self.old.own) }
         ensures moved { IfOk result (λ moved. OnTrue moved (self.new ≢ self.old)) }
         ensures same { IfOk result (λ moved. OnFalse moved (self.new ≡ self.old)) }
         ensures spent { IsErrOf result LearnFault.NamesSpent ↔ IsSpent (is_older (now_known self.old.site.node self.old.known incarnations.now)) self.old.own }

@@ -5,12 +5,14 @@ mod children;
 mod given;
 mod guests;
 mod known;
+mod laws;
 mod learn_fault;
 mod ledger;
 mod redo_fault;
 mod return_reply;
 
 pub use given::Given;
+pub use laws::aborts_are_few;
 pub use learn_fault::LearnFault;
 pub use ledger::Ledger;
 pub use redo_fault::RedoFault;

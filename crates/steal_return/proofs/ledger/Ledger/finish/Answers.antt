@@ -2,6 +2,7 @@ use Rattle.steal_return.proofs.Outrun.{aborts, ends}
 use Rattle.std.proofs.Common.{◌≤◌, length, sym, ap, subst, ◌∙◌, arith}
 use Rattle.abort_tree.specs.Below.{outs_from}
 use Rattle.spawn_frame.specs.Splits.{with_result}
+use Rattle.steal_return.proofs.Fewer.{appended_few, finished_few}
 use Rattle.steal_return.proofs.Finishes.{appended, finishes_frame}
 use Rattle.steal_return.proofs.Marking.{NoMoreOut, no_more_reached, only_own, parents, parents_gets, parents_length, result_no_more}
 use Rattle.steal_return.proofs.ledger.Ledger.finish.Goals as goal
@@ -35,3 +36,6 @@ pub invariant_of-self : goal.invariant_of-self
 invariant_of-self c =
     aborts _ (ends _ c.self.invariant c.args.unit c.in_ok-came.came c.set_result.new.self c.set_result.ensures.after)
     c.in_ok-reach.reach c.abort.new.table c.abort.ensures.table
+
+pub returns-clause-few : goal.returns-clause-few
+returns-clause-few c = appended_few _ _ _ _ (finished_few c.args.self.now _ c.args.unit) (returns-clause-ok c)

@@ -2,6 +2,7 @@ use Rattle.std.proofs.Common.{◌≡◌, ◌<◌, ◌≤◌, length, sym, ap, su
 use Rattle.abort_tree.specs.Below.{MarksBelow, is_among, outs_from}
 use Rattle.spawn_frame.specs.Units.{table_guests, table_own}
 use Rattle.steal_return.proofs.Dropping.{lost_may_drop}
+use Rattle.steal_return.proofs.Fewer.{appended_few, learnt_few}
 use Rattle.steal_return.proofs.Finishes.{appended}
 use Rattle.steal_return.proofs.Learning.{known_length}
 use Rattle.steal_return.proofs.Learns.{learns_members, moves, on_false, on_true, parents_same, redone_no_more, rests}
@@ -101,3 +102,6 @@ returns-clause-same c =
     (subst (λ k. IsAlike c.args.self.now k c.in_ok-lost.lost.items) c.deref-5.ensures.value
     (subst (λ us. IsAlike c.args.self.now c.deref-5.result.now us) c.deref-6.ensures.value a)))
     c.differs-moved.ensures.alike
+
+pub returns-clause-few : goal.returns-clause-few
+returns-clause-few c = appended_few _ _ _ _ (learnt_few c.args.self.now _ c.args.incarnations.now) (returns-clause-learns c)

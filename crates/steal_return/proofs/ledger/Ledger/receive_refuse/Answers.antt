@@ -5,6 +5,7 @@ use Rattle.std.proofs.Common.{sym, subst, ◌∙◌}
 use Rattle.abort_tree.specs.Below.{MarksBelow, is_among}
 use Rattle.spawn_frame.specs.declared.unit.Unit.TheVariants.{Guest}
 use Rattle.std.proofs.Common.{[], ◌∷◌}
+use Rattle.steal_return.proofs.Fewer.{appended_few, dropped_few}
 use Rattle.steal_return.proofs.Finishes.{appended, drops_guest}
 use Rattle.steal_return.proofs.Marking.{only_own}
 use Rattle.steal_return.proofs.ledger.Ledger.receive_refuse.Goals as goal
@@ -25,3 +26,6 @@ invariant_of-self c =
     aborts _
     (gets _ c.self.invariant (Guest (record { site = c.args.from; serial = c.args.serial }) c.args.attempt) Dropped refl c.drop_guest.new.self c.drop_guest.ensures)
     c.in_ok-reach.reach c.abort.new.table c.abort.ensures.table
+
+pub returns-clause-few : goal.returns-clause-few
+returns-clause-few c = appended_few _ _ _ _ (dropped_few c.args.self.now _ _ c.args.attempt) (returns-clause-dropped c)
