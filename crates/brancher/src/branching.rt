@@ -1,8 +1,8 @@
 //! Where a search goes on from the chosen options.
 
-ghost use Rattle.std.specs.Prelude.{◌≡◌, ◌<◌, ◌++◌, length, nat_lt, OnOk, OnErr, true, false};
+ghost use Rattle.std.specs.Prelude.{◌≡◌, ◌<◌, ◌++◌, [], length, nat_lt, OnOk, OnErr, true, false};
 ghost use Rattle.std.specs.Option.{option_map_or};
-ghost use Rattle.cover_problem.specs.Prefix.{is_covered};
+ghost use Rattle.cover_problem.specs.Prefix.{is_covered, is_prefix};
 ghost use Rattle.cover_problem.specs.Branching.{live_options, branch_item};
 ghost use Rattle.brancher.specs.Branch.{branch_told, IsOpenBranch};
 
@@ -56,4 +56,26 @@ pub fn children(links: &Links, item: u16, list: &mut Vec<u16>) -> Result<(), All
         list.push_reserved(option);
     }
     Ok(())
+}
+
+/// Puts a prefix in place of what is chosen. It takes no memory: all that was chosen is undone, and the prefix chosen.
+pub fn choose_prefix(links: &mut Links, prefix: &[u16])
+    requires { is_prefix links.old.problem prefix.now ≡ true }
+    ensures problem { links.new.problem ≡ links.old.problem }
+    ensures chosen { links.new.chosen ≡ prefix.now }
+{
+    undo_all(links);
+    for option in prefix {
+        links.choose(*option);
+    }
+}
+
+/// Takes all choices back.
+fn undo_all(links: &mut Links)
+    ensures problem { links.new.problem ≡ links.old.problem }
+    ensures chosen { links.new.chosen ≡ [] }
+{
+    while !links.chosen().is_empty() {
+        links.undo();
+    }
 }

@@ -73,6 +73,19 @@ impl Finding {
         self.cover.as_slice()
     }
 
+    /// The cover that was found, as the caller's; of a search that found none, nothing is said of it.
+    pub fn into_cover(self) -> Numbers
+        ensures { (options : List ℕ) → self.outcome ≡ Covers options → result ≡ options }
+    {
+        let Finding {
+            prefix: _,
+            fuel: _,
+            outcome: _,
+            cover,
+        } = self;
+        cover
+    }
+
     /// An equal finding; the only error is want of memory.
     pub fn copy(&self) -> Result<Finding, AllocError>
         ensures { IfOk result (λ copied. copied ≡ self.now) }

@@ -2,6 +2,7 @@ ghost use Rattle.std.specs.Prelude.{◌≡◌, ◌<◌, ◌≤◌, ℕ, List, []
 ghost use Rattle.cover_problem.specs.Prefix.{is_prefix, IsBarren, IsCoverOver};
 ghost use Rattle.cover_problem.specs.Search.{Covers, outcome};
 
+use crate::branching::choose_prefix;
 use crate::finding::Finding;
 use crate::outcome::Outcome;
 use crate::visit::{Visit, visit_prefix};
@@ -47,7 +48,7 @@ impl<'a> Searcher<'a> {
         ensures barren { result ≡ Outcome.Barren → IsBarren self.old.problem prefix.now }
     {
         let depth = self.links.problem().primary();
-        start(&mut self.links, prefix);
+        choose_prefix(&mut self.links, prefix);
         match visit_prefix(&mut self.links, depth, fuel) {
             Visit::Found => Outcome::Cover,
             Visit::Barren(_) => Outcome::Barren,
@@ -91,26 +92,4 @@ fn copied(alloc: Global, numbers: &[u16]) -> Result<Vec<u16>, AllocError>
     let mut list = Vec::new(alloc);
     list.extend_from_slice(numbers)?;
     Ok(list)
-}
-
-/// Puts the prefix in place of what is chosen.
-fn start(links: &mut Links, prefix: &[u16])
-    requires { is_prefix links.old.problem prefix.now ≡ true }
-    ensures problem { links.new.problem ≡ links.old.problem }
-    ensures chosen { links.new.chosen ≡ prefix.now }
-{
-    undo_all(links);
-    for option in prefix {
-        links.choose(*option);
-    }
-}
-
-/// Takes all choices back.
-fn undo_all(links: &mut Links)
-    ensures problem { links.new.problem ≡ links.old.problem }
-    ensures chosen { links.new.chosen ≡ [] }
-{
-    while !links.chosen().is_empty() {
-        links.undo();
-    }
 }

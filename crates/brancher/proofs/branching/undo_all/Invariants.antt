@@ -1,5 +1,5 @@
 use Rattle.std.proofs.Common.{◌≡◌, length}
-use Rattle.brancher.proofs.searcher.undo_all.Given as goal
+use Rattle.brancher.proofs.branching.undo_all.Given as goal
 
 abbrev pub invariant-loop-links : goal.invariant-loop-links
 invariant-loop-links l = l.links.problem ≡ l.fn.links.problem

@@ -1,0 +1,117 @@
+//! Searches and frames that come to a result.
+
+ghost use Rattle.std.specs.Prelude.{◌≡◌, ◌≤◌, ◌<◌, [], true, length, IfOk, OnErr, OnOk};
+ghost use Rattle.cover_problem.specs.Branching.{children};
+ghost use Rattle.cover_problem.specs.Prefix.{is_prefix};
+ghost use Rattle.cover_problem.specs.Search.{outcome, Spent};
+ghost use Rattle.node_core.specs.Acting.{refusal_told, Sending};
+ghost use Rattle.node_core.specs.Outgoing.{Sends};
+ghost use Rattle.node_core.specs.Refusal.{finish_refusal, post_refusal};
+ghost use Rattle.node_core.specs.Results.{return_packets, split_up, FinishStep, IsRight, PostStep, ResultStep, SplitStep};
+ghost use Rattle.node_core.specs.SiteView.{unit_in};
+ghost use Rattle.spawn_frame.specs.Tables.{has_status, is_here, may_end, prefix_in};
+
+use crate::act_fault::ActFault;
+use crate::outgoing::Outgoing;
+use crate::reply::Reply;
+use crate::site_state::SiteState;
+use brancher::{Branch, Finding, Outcome, branch, children, choose_prefix};
+use cover_problem::Numbers;
+use dancing_links::Links;
+use packet_wire::{Body, Packet};
+use spawn_frame::{ChildResult, Heard, Job, SpawnFault, Status, Unit};
+use std::alloc::AllocError;
+
+impl SiteState {
+    /// A worker has searched the prefix of a job: the unit gets its result, or is split where the fuel was spent.
+    pub fn post(
+        &mut self,
+        links: &mut Links,
+        job: Job,
+        finding: Finding,
+        out: &mut Outgoing,
+    ) -> Result<Reply, ActFault>
+        requires right { IsRight links.old.problem finding }
+        requires prefix { has_status is_here (unit_in self.old job.unit) ≡ true → is_prefix links.old.problem (prefix_in (unit_in self.old job.unit)) ≡ true }
+        ensures problem { links.new.problem ≡ links.old.problem }
+        ensures step { IfOk result (λ reply. Sending out.old out.new (λ sent. (reply ≡ Reply.Moved) × PostStep links.old.problem self.old job finding sent self.new)) }
+        ensures refusal { refusal_told result ≡ post_refusal links.old.problem self.old job finding }
+        ensures err { OnErr result (self.new ≡ self.old) }
+        ensures list { OnErr result (Sending out.old out.new (λ sent. Unit {0})) }
+    {
+        if !self.ledger.table().has_job(job, finding.prefix()) {
+            return Err(ActFault::StaleJob);
+        }
+        match finding.outcome() {
+            Outcome::Cover => {
+                let cover = finding.into_cover();
+                self.end(job.unit, ChildResult::Cover(cover), out)?;
+            }
+            Outcome::Barren => self.end(job.unit, ChildResult::Empty, out)?,
+            Outcome::Spent => self.split(links, job.unit, finding.prefix())?,
+        }
+        Ok(Reply::Moved)
+    }
+
+    /// Gives a unit its result; a guest's goes to its owner.
+    fn end(
+        &mut self,
+        unit: Unit,
+        child_result: ChildResult,
+        out: &mut Outgoing,
+    ) -> Result<(), AllocError>
+        requires { has_status may_end (unit_in self.old unit) ≡ true }
+        ensures step { OnOk result (Sending out.old out.new (λ sent. ResultStep self.old unit child_result sent self.new)) }
+        ensures err { OnErr result (self.new ≡ self.old) }
+        ensures list { OnErr result (Sending out.old out.new (λ sent. Unit {0})) }
+    {
+        self.send_return(unit, &child_result, out)?;
+        self.ledger.set_result(unit, child_result);
+        Ok(())
+    }
+
+    /// Returns the result of a guest to its owner; of an own child nothing is told.
+    fn send_return(
+        &self,
+        unit: Unit,
+        child_result: &ChildResult,
+        out: &mut Outgoing,
+    ) -> Result<(), AllocError>
+        ensures ok { OnOk result (Sends out.old (return_packets self.now.site unit child_result.now) out.new) }
+        ensures err { OnErr result (Sends out.old [] out.new) }
+    {
+        let Unit::Guest(name, attempt) = unit else {
+            return Ok(());
+        };
+        let body = Body::Return(name.serial, attempt, child_result.copy()?);
+        out.send(Packet {
+            from: self.site(),
+            to: name.site,
+            body,
+        })
+    }
+
+    /// Splits a unit into the children of its prefix.
+    fn split(&mut self, links: &mut Links, unit: Unit, prefix: &[u16]) -> Result<(), ActFault>
+        requires here { has_status is_here (unit_in self.old unit) ≡ true }
+        requires prefix { prefix_in (unit_in self.old unit) ≡ prefix.now }
+        requires lawful { is_prefix links.old.problem prefix.now ≡ true }
+        requires some { 0 < length (children links.old.problem prefix.now) }
+        ensures problem { links.new.problem ≡ links.old.problem }
+        ensures step { OnOk result (SplitStep links.old.problem self.old unit prefix.now self.new) }
+        ensures fault { IfErr result (IsSplitFault links.old.problem self.old prefix.now) }
+        ensures err { OnErr result (self.new ≡ self.old) }
+    {
+        choose_prefix(links, prefix);
+        let Branch::Item(item) = branch(links) else {
+            unreachable!();
+        };
+        if self.ledger.table().names_left() < links.count(item) {
+            return Err(ActFault::NamesSpent);
+        }
+        let mut options = Vec::new(self.alloc);
+        children(links, item, &mut options)?;
+        self.ledger.spawn(unit, &options)?;
+        Ok(())
+    }
+}
