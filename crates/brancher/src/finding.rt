@@ -1,4 +1,6 @@
-ghost use Rattle.std.specs.Prelude.{◌≡◌, ℕ, List, IfOk};
+ghost use Rattle.std.specs.Prelude.{◌≡◌, ◌↔◌, ℕ, List, IfOk, IsTrue};
+ghost use Rattle.std.proofs.Common.{rules};
+ghost use Rattle.std.specs.Cmp.Rules.{comparing};
 ghost use Rattle.cover_problem.specs.Search.{Covers};
 
 use crate::outcome::Outcome;
@@ -7,7 +9,7 @@ use std::alloc::AllocError;
 use std::marker::Model;
 
 /// What a search of a prefix with some fuel came to, copied out of its searcher.
-#[derive(Drop)]
+#[derive(Debug, Drop)]
 pub struct Finding {
     prefix: Numbers,
     fuel: u64,
@@ -24,8 +26,40 @@ impl Model for Finding {
     ghost view = { λ f. record { prefix = f.prefix; fuel = f.fuel; outcome = outcome_told f.outcome f.cover } };
 }
 
+impl PartialEq for Finding {
+    ghost use Rattle.brancher.specs.Finding.{same_finding};
+
+    ghost eq = { same_finding };
+
+    ghost laws = { Prim.search (comparing, rules) };
+
+    fn eq(&self, other: &Finding) -> bool
+        ensures same { result ≡ same_finding self.now other.now }
+        ensures exact { IsTrue result ↔ (self.now ≡ other.now) }
+    {
+        self.prefix == other.prefix && self.fuel == other.fuel && self.came_to(other)
+    }
+}
+
+impl Eq for Finding {
+    ghost laws = { Prim.search (comparing, rules) };
+}
+
+impl Clone for Finding {
+    ghost is_clone = { λ a b. a ≡ b };
+
+    fn clone(&self) -> Result<Self, AllocError> {
+        Ok(Finding {
+            prefix: self.prefix.clone()?,
+            fuel: self.fuel,
+            outcome: self.outcome,
+            cover: self.cover.clone()?,
+        })
+    }
+}
+
 impl Finding {
-    ghost use Rattle.brancher.specs.Finding.{finding_by};
+    ghost use Rattle.brancher.specs.Finding.{finding_by, same_outcome};
     ghost use Rattle.brancher.specs.Visit.{outcome_told};
 
     /// What the search of a prefix with so much fuel came to, with the cover that was found, if any.
@@ -86,15 +120,20 @@ impl Finding {
         cover
     }
 
+    /// Whether it came to what the other did. (The cover of a search that found none is not looked at.)
+    fn came_to(&self, other: &Finding) -> bool
+        ensures { result ≡ same_outcome self.now.outcome other.now.outcome }
+    {
+        match (self.outcome, other.outcome) {
+            (Outcome::Cover, Outcome::Cover) => self.cover == other.cover,
+            (own, others) => own == others,
+        }
+    }
+
     /// An equal finding; the only error is want of memory.
     pub fn copy(&self) -> Result<Finding, AllocError>
         ensures { IfOk result (λ copied. copied ≡ self.now) }
     {
-        Ok(Finding {
-            prefix: self.prefix.copy()?,
-            fuel: self.fuel,
-            outcome: self.outcome,
-            cover: self.cover.copy()?,
-        })
+        self.clone()
     }
 }

@@ -1,12 +1,14 @@
 //! Short lists inside public types, which contracts see as lists.
 
 ghost use Rattle.std.specs.Prelude.{◌≡◌, ℕ, List, length, IfOk};
+ghost use Rattle.std.proofs.Common.{rules};
+ghost use Rattle.std.specs.Cmp.Rules.{comparing};
 
 use std::alloc::AllocError;
 use std::marker::Model;
 
 /// The name of an item: its bytes, as they stand in the file.
-#[derive(Drop)]
+#[derive(Debug, Drop)]
 pub struct Name {
     bytes: Vec<u8>,
 }
@@ -17,12 +19,46 @@ impl Model for Name {
     ghost view = { λ n. n.bytes.items };
 }
 
+impl PartialEq for Name {
+    ghost use Rattle.std.specs.Prelude.{nat_eq};
+    ghost use Rattle.std.specs.Cmp.Lexicographic.{pointwise};
+
+    ghost eq = { λ a b. pointwise nat_eq a b };
+
+    ghost laws = { Prim.search (comparing, rules) };
+
+    fn eq(&self, other: &Name) -> bool {
+        self.bytes.as_slice() == other.bytes.as_slice()
+    }
+}
+
+impl Eq for Name {
+    ghost laws = { Prim.search (comparing, rules) };
+}
+
+impl Clone for Name {
+    ghost is_clone = { λ a b. a ≡ b };
+
+    fn clone(&self) -> Result<Self, AllocError> {
+        let bytes = self.bytes.clone()?;
+        Ok(Name { bytes })
+    }
+}
+
 impl Name {
     /// The name with these bytes.
     pub fn from_vec(bytes: Vec<u8>) -> Name
         ensures { result ≡ bytes.items }
     {
         Name { bytes }
+    }
+
+    /// Its bytes, as a list of the caller's.
+    pub fn into_vec(self) -> Vec<u8>
+        ensures { result.items ≡ self }
+    {
+        let Name { bytes } = self;
+        bytes
     }
 
     /// Its bytes.
@@ -36,13 +72,12 @@ impl Name {
     pub fn copy(&self) -> Result<Name, AllocError>
         ensures { IfOk result (λ name. name ≡ self.now) }
     {
-        let bytes = self.bytes.clone()?;
-        Ok(Name { bytes })
+        self.clone()
     }
 }
 
 /// Numbers of items or of options, counted from 0.
-#[derive(Drop)]
+#[derive(Debug, Drop)]
 pub struct Numbers {
     numbers: Vec<u16>,
 }
@@ -53,12 +88,46 @@ impl Model for Numbers {
     ghost view = { λ n. n.numbers.items };
 }
 
+impl PartialEq for Numbers {
+    ghost use Rattle.std.specs.Prelude.{nat_eq};
+    ghost use Rattle.std.specs.Cmp.Lexicographic.{pointwise};
+
+    ghost eq = { λ a b. pointwise nat_eq a b };
+
+    ghost laws = { Prim.search (comparing, rules) };
+
+    fn eq(&self, other: &Numbers) -> bool {
+        self.numbers.as_slice() == other.numbers.as_slice()
+    }
+}
+
+impl Eq for Numbers {
+    ghost laws = { Prim.search (comparing, rules) };
+}
+
+impl Clone for Numbers {
+    ghost is_clone = { λ a b. a ≡ b };
+
+    fn clone(&self) -> Result<Self, AllocError> {
+        let numbers = self.numbers.clone()?;
+        Ok(Numbers { numbers })
+    }
+}
+
 impl Numbers {
     /// The list of these numbers.
     pub fn from_vec(numbers: Vec<u16>) -> Numbers
         ensures { result ≡ numbers.items }
     {
         Numbers { numbers }
+    }
+
+    /// The numbers, as a list of the caller's.
+    pub fn into_vec(self) -> Vec<u16>
+        ensures { result.items ≡ self }
+    {
+        let Numbers { numbers } = self;
+        numbers
     }
 
     /// The numbers in their order.
@@ -72,7 +141,6 @@ impl Numbers {
     pub fn copy(&self) -> Result<Numbers, AllocError>
         ensures { IfOk result (λ numbers. numbers ≡ self.now) }
     {
-        let numbers = self.numbers.clone()?;
-        Ok(Numbers { numbers })
+        self.clone()
     }
 }

@@ -1,7 +1,7 @@
 ghost use Rattle.std.specs.Prelude.{◌≡◌, ◌<◌, ◌≤◌, length, slice_index_or, [], All, IfOk};
 
 use crate::lists::{Name, Numbers};
-use std::alloc::{AllocError, Global};
+use std::alloc::AllocError;
 use std::marker::Model;
 
 /// An exact cover problem: items with names, of which the first are primary and the others secondary, and
@@ -9,7 +9,7 @@ use std::marker::Model;
 ///
 /// There are 1 to 1,000 items, one of them at least primary, and at most 20,000 options with 200,000 items in all.
 /// Names are 1 to 32 bytes and different; an option names a primary item at least, and no item twice.
-#[derive(Drop)]
+#[derive(Debug, Drop)]
 pub struct Problem {
     names: Vec<Name>,
     primary: usize,
@@ -24,6 +24,18 @@ impl Model for Problem {
     ghost view = { λ p. record { names = p.names.items; primary = p.primary; options = p.options.items } };
 
     ghost invariant = { λ p. IsProblem (record { names = p.names.items; primary = p.primary; options = p.options.items }) };
+}
+
+impl Clone for Problem {
+    ghost is_clone = { λ a b. a ≡ b };
+
+    fn clone(&self) -> Result<Self, AllocError> {
+        Ok(Problem {
+            names: self.names.clone()?,
+            primary: self.primary,
+            options: self.options.clone()?,
+        })
+    }
 }
 
 impl Problem {
@@ -86,33 +98,6 @@ impl Problem {
     pub fn copy(&self) -> Result<Problem, AllocError>
         ensures { IfOk result (λ copied. copied ≡ self.now) }
     {
-        let alloc = *self.names.allocator();
-        let names = copied_names(alloc, &self.names)?;
-        let options = copied_options(alloc, &self.options)?;
-        Ok(Problem {
-            names,
-            primary: self.primary,
-            options,
-        })
+        self.clone()
     }
-}
-
-fn copied_names(alloc: Global, names: &[Name]) -> Result<Vec<Name>, AllocError>
-    ensures { IfOk result (λ copied. copied.items ≡ names.now) }
-{
-    let mut copied = Vec::with_capacity(alloc, names.len())?;
-    for name in names {
-        copied.push(name.copy()?)?;
-    }
-    Ok(copied)
-}
-
-fn copied_options(alloc: Global, options: &[Numbers]) -> Result<Vec<Numbers>, AllocError>
-    ensures { IfOk result (λ copied. copied.items ≡ options.now) }
-{
-    let mut copied = Vec::with_capacity(alloc, options.len())?;
-    for option in options {
-        copied.push(option.copy()?)?;
-    }
-    Ok(copied)
 }

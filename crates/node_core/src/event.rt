@@ -6,7 +6,7 @@ use spawn_frame::{Job, Unit};
 use std::alloc::AllocError;
 
 /// What happens at a site.
-#[derive(Drop)]
+#[derive(Clone, Debug, Drop, PartialEq, Eq)]
 pub enum Event {
     /// A worker asks for work.
     Take,
@@ -31,15 +31,6 @@ impl Event {
     pub fn copy(&self) -> Result<Event, AllocError>
         ensures { IfOk result (λ copied. copied ≡ self.now) }
     {
-        match self {
-            Event::Take => Ok(Event::Take),
-            Event::Post(job, finding) => Ok(Event::Post(*job, finding.copy()?)),
-            Event::Finish(unit) => Ok(Event::Finish(*unit)),
-            Event::Ask(victim) => Ok(Event::Ask(*victim)),
-            Event::Redo(serial) => Ok(Event::Redo(*serial)),
-            Event::Deliver(packet) => Ok(Event::Deliver(packet.copy()?)),
-            Event::Again => Ok(Event::Again),
-            Event::Greet => Ok(Event::Greet),
-        }
+        self.clone()
     }
 }

@@ -5,7 +5,7 @@ use spawn_frame::{Job, Unit};
 use std::alloc::AllocError;
 
 /// What an event came to.
-#[derive(Drop)]
+#[derive(Clone, Debug, Drop, PartialEq, Eq)]
 pub enum Reply {
     /// The job is taken up; this is its prefix.
     Taken(Job, Numbers),
@@ -24,12 +24,6 @@ impl Reply {
     pub fn copy(&self) -> Result<Reply, AllocError>
         ensures { IfOk result (λ copied. copied ≡ self.now) }
     {
-        match self {
-            Reply::Taken(job, prefix) => Ok(Reply::Taken(*job, prefix.copy()?)),
-            Reply::Ripe(unit) => Ok(Reply::Ripe(*unit)),
-            Reply::Idle => Ok(Reply::Idle),
-            Reply::Moved => Ok(Reply::Moved),
-            Reply::Ignored => Ok(Reply::Ignored),
-        }
+        self.clone()
     }
 }

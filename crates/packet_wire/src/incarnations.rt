@@ -1,10 +1,12 @@
 ghost use Rattle.std.specs.Prelude.{◌≡◌, ℕ, List, IfOk};
+ghost use Rattle.std.proofs.Common.{rules};
+ghost use Rattle.std.specs.Cmp.Rules.{comparing};
 
 use std::alloc::AllocError;
 use std::marker::Model;
 
 /// Incarnations of the nodes from 1 on, in their order.
-#[derive(Drop)]
+#[derive(Debug, Drop)]
 pub struct Incarnations {
     numbers: Vec<u32>,
 }
@@ -15,12 +17,46 @@ impl Model for Incarnations {
     ghost view = { λ i. i.numbers.items };
 }
 
+impl PartialEq for Incarnations {
+    ghost use Rattle.std.specs.Prelude.{nat_eq};
+    ghost use Rattle.std.specs.Cmp.Lexicographic.{pointwise};
+
+    ghost eq = { λ a b. pointwise nat_eq a b };
+
+    ghost laws = { Prim.search (comparing, rules) };
+
+    fn eq(&self, other: &Incarnations) -> bool {
+        self.numbers.as_slice() == other.numbers.as_slice()
+    }
+}
+
+impl Eq for Incarnations {
+    ghost laws = { Prim.search (comparing, rules) };
+}
+
+impl Clone for Incarnations {
+    ghost is_clone = { λ a b. a ≡ b };
+
+    fn clone(&self) -> Result<Self, AllocError> {
+        let numbers = self.numbers.clone()?;
+        Ok(Incarnations { numbers })
+    }
+}
+
 impl Incarnations {
     /// The list of these incarnations.
     pub fn from_vec(numbers: Vec<u32>) -> Incarnations
         ensures { result ≡ numbers.items }
     {
         Incarnations { numbers }
+    }
+
+    /// The incarnations, as a list of the caller's.
+    pub fn into_vec(self) -> Vec<u32>
+        ensures { result.items ≡ self }
+    {
+        let Incarnations { numbers } = self;
+        numbers
     }
 
     /// The incarnations in their order.
@@ -34,7 +70,6 @@ impl Incarnations {
     pub fn copy(&self) -> Result<Incarnations, AllocError>
         ensures { IfOk result (λ copied. copied ≡ self.now) }
     {
-        let numbers = self.numbers.clone()?;
-        Ok(Incarnations { numbers })
+        self.clone()
     }
 }

@@ -7,7 +7,7 @@ use std::alloc::AllocError;
 
 /// What a packet says. The child of a `Return` is of the receiver's site; that of a `Give`, `Accept`, `Refuse` or
 /// `Abort` is of the sender's. Children go by their serial number there and the attempt.
-#[derive(Drop)]
+#[derive(Clone, Debug, Drop, PartialEq, Eq)]
 pub enum Body {
     /// A node tells the registry that it is there.
     Hello,
@@ -36,29 +36,12 @@ impl Body {
     pub fn copy(&self) -> Result<Body, AllocError>
         ensures { IfOk result (λ copied. copied ≡ self.now) }
     {
-        match self {
-            Body::Hello => Ok(Body::Hello),
-            Body::Members(incarnations) => Ok(Body::Members(incarnations.copy()?)),
-            Body::Steal => Ok(Body::Steal),
-            Body::Give(serial, attempt, prefix) => {
-                Ok(Body::Give(*serial, *attempt, prefix.copy()?))
-            }
-            Body::NoWork => Ok(Body::NoWork),
-            Body::Return(serial, attempt, result) => {
-                Ok(Body::Return(*serial, *attempt, result.copy()?))
-            }
-            Body::Accept(serial, attempt, result) => {
-                Ok(Body::Accept(*serial, *attempt, result.copy()?))
-            }
-            Body::Refuse(serial, attempt, cause) => Ok(Body::Refuse(*serial, *attempt, *cause)),
-            Body::Abort(serial, attempt) => Ok(Body::Abort(*serial, *attempt)),
-            Body::Over => Ok(Body::Over),
-        }
+        self.clone()
     }
 }
 
 /// A message from one site to another.
-#[derive(Drop)]
+#[derive(Clone, Debug, Drop, PartialEq, Eq)]
 pub struct Packet {
     /// The site that sent it.
     pub from: Site,
@@ -73,10 +56,6 @@ impl Packet {
     pub fn copy(&self) -> Result<Packet, AllocError>
         ensures { IfOk result (λ copied. copied ≡ self.now) }
     {
-        Ok(Packet {
-            from: self.from,
-            to: self.to,
-            body: self.body.copy()?,
-        })
+        self.clone()
     }
 }

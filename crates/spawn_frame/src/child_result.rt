@@ -4,7 +4,7 @@ use cover_problem::Numbers;
 use std::alloc::AllocError;
 
 /// What the search of a child came to.
-#[derive(Drop)]
+#[derive(Clone, Debug, Drop, PartialEq, Eq)]
 pub enum ChildResult {
     /// An exact cover that extends the child's prefix, by the numbers of its options.
     Cover(Numbers),
@@ -17,9 +17,6 @@ impl ChildResult {
     pub fn copy(&self) -> Result<ChildResult, AllocError>
         ensures { IfOk result (λ copied. copied ≡ self.now) }
     {
-        match self {
-            ChildResult::Cover(options) => Ok(ChildResult::Cover(options.copy()?)),
-            ChildResult::Empty => Ok(ChildResult::Empty),
-        }
+        self.clone()
     }
 }

@@ -6,7 +6,7 @@ use std::alloc::AllocError;
 
 /// How far a unit of work is. An own child is never `Finished`, `Settled` or `Dropped`; a guest is never `Out`, `Done`
 /// or `Aborted`.
-#[derive(Drop)]
+#[derive(Clone, Debug, Drop, PartialEq, Eq)]
 pub enum Status {
     /// It waits for a worker.
     Ready,
@@ -45,16 +45,6 @@ impl Status {
     pub fn copy(&self) -> Result<Status, AllocError>
         ensures { IfOk result (λ copied. copied ≡ self.now) }
     {
-        match self {
-            Status::Ready => Ok(Status::Ready),
-            Status::Here => Ok(Status::Here),
-            Status::Split => Ok(Status::Split),
-            Status::Out(thief) => Ok(Status::Out(*thief)),
-            Status::Done(result) => Ok(Status::Done(result.copy()?)),
-            Status::Aborted => Ok(Status::Aborted),
-            Status::Finished(result) => Ok(Status::Finished(result.copy()?)),
-            Status::Settled(result) => Ok(Status::Settled(result.copy()?)),
-            Status::Dropped => Ok(Status::Dropped),
-        }
+        self.clone()
     }
 }

@@ -2,7 +2,7 @@ use cover_problem::Numbers;
 use spawn_frame::Attempt;
 
 /// What a thief is given.
-#[derive(Drop)]
+#[derive(Clone, Debug, Drop, PartialEq, Eq)]
 pub struct Given {
     /// The own child's serial number.
     pub serial: u32,
