@@ -23,8 +23,8 @@ named_fault Memory = None
 named_fault fault = Some fault
 
 -- the refusal that an answer tells
-abbrev pub refusal_told : Result Reply ActFault → Option ActFault
-refusal_told (Ok reply) = None
+abbrev pub refusal_told : {A : Type 0} → Result A ActFault → Option ActFault
+refusal_told (Ok answer) = None
 refusal_told (Err fault) = named_fault fault
 
 -- of the ready children a Steal gets the one of least serial
@@ -41,3 +41,7 @@ pub record Acts (Step : StepOf) (problem : Problem) (old : View) (event : Event)
 -- packets of which this is so are appended to each list
 abbrev pub Sending : Lists → Lists → (List Packet → Type 0) → Type 0
 Sending old new P = (out : List Packet) × Sends old out new × P out
+
+-- some packets are appended to each list
+abbrev pub MaySend : Lists → Lists → Type 0
+MaySend old new = (out : List Packet) × Sends old out new

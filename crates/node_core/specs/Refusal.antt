@@ -48,6 +48,10 @@ is_spent _ = false
 abbrev pub lacks_names : Problem → View → List ℕ → Bool
 lacks_names problem view prefix = nat_lt view.limit (length view.own + length (children problem prefix))
 
+-- a unit is split where each child gets a name
+abbrev pub split_refusal : Problem → View → List ℕ → Option ActFault
+split_refusal problem view prefix = if lacks_names problem view prefix then Some faults.NamesSpent else None
+
 -- a finding is of a job that is awaited, and where the fuel did not suffice each child gets a name
 abbrev pub post_refusal : Problem → View → Job → Finding → Option ActFault
 post_refusal problem view job finding =

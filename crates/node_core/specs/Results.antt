@@ -34,6 +34,14 @@ return_packets from (Guest name attempt) result = record { from = from; to = nam
 abbrev pub split_up : Problem → View → WorkUnit → List ℕ → View
 split_up problem old unit prefix = with_table old (split_into old.table unit (children problem prefix))
 
+-- A unit has its result, which goes to its owner if it is a guest.
+abbrev pub EndStep : View → WorkUnit → ChildResult → List Packet → View → Type 0
+EndStep old unit result out new = (new ≡ unit_gets old unit (with_result unit result)) × (out ≡ return_packets old.site unit result)
+
+-- A unit is split, and the site may name its children.
+abbrev pub SplitStep : Problem → View → WorkUnit → List ℕ → View → Type 0
+SplitStep problem old unit prefix new = (new ≡ split_up problem old unit prefix) × (length new.own ≤ old.limit)
+
 -- what a search of a unit leaves: its result, or the unit split where the fuel was spent
 abbrev pub Leaves : Problem → View → WorkUnit → List ℕ → Outcome → List Packet → View → Type 0
 Leaves problem old unit prefix (Covers options) out new =

@@ -1,6 +1,6 @@
 ghost use Rattle.std.specs.Prelude.{◌≡◌, ◌++◌, List, Option, IfOk, OnErr};
 ghost use Rattle.cover_problem.specs.Problem.{Problem};
-ghost use Rattle.node_core.specs.Acting.{refusal_told, Acts, Sending, StepOf};
+ghost use Rattle.node_core.specs.Acting.{refusal_told, Acts, MaySend, Sending, StepOf};
 ghost use Rattle.node_core.specs.Refusal.{IsFit};
 ghost use Rattle.node_core.specs.SiteView.{View};
 ghost use Rattle.node_core.specs.declared.act_fault.ActFault.{ActFault};
@@ -40,7 +40,7 @@ pub trait Core {
         ensures acts { IfOk result (λ reply. Sending out.old out.new (λ sent. Acts step (problem self.old) (view self.old) event reply sent (view self.new))) }
         ensures refusal { refusal_told result ≡ refusal (problem self.old) (view self.old) event }
         ensures err { OnErr result (view self.new ≡ view self.old) }
-        ensures list { OnErr result (Sending out.old out.new (λ sent. Unit {0})) };
+        ensures list { OnErr result (MaySend out.old out.new) };
 
     /// Takes an event, and appends its packets to the list.
     ///

@@ -3,12 +3,12 @@
 
 mod act_fault;
 mod arrivals;
-
 mod core_trait;
 mod event;
 mod outgoing;
 mod reply;
 mod requests;
+mod results;
 mod site_state;
 mod taking;
 

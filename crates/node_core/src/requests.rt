@@ -1,7 +1,7 @@
 //! What a site does of itself: it asks for work, greets, and gives a child out anew.
 
 ghost use Rattle.std.specs.Prelude.{◌≡◌, ◌∷◌, [], IfOk, OnErr, OnOk};
-ghost use Rattle.node_core.specs.Acting.{refusal_told, Sending};
+ghost use Rattle.node_core.specs.Acting.{refusal_told, MaySend, Sending};
 ghost use Rattle.node_core.specs.Outgoing.{Sends};
 ghost use Rattle.node_core.specs.Refusal.{ask_refusal, redo_refusal};
 ghost use Rattle.node_core.specs.Requests.{hello_packet, AskStep, RedoStep};
@@ -26,7 +26,7 @@ impl SiteState {
     pub fn ask(&self, victim: u8, out: &mut Outgoing) -> Result<Reply, ActFault>
         ensures step { IfOk result (λ reply. Sending out.old out.new (λ sent. (reply ≡ Reply.Moved) × AskStep self.now victim sent self.now)) }
         ensures refusal { refusal_told result ≡ ask_refusal self.now victim }
-        ensures list { OnErr result (Sending out.old out.new (λ sent. Unit {0})) }
+        ensures list { OnErr result (MaySend out.old out.new) }
     {
         let site = self.site();
         if victim == site.node || self.ledger.nodes() < victim {
@@ -47,7 +47,7 @@ impl SiteState {
     /// Tells the registry that the node is there.
     pub fn greet(&self, out: &mut Outgoing) -> Result<(), AllocError>
         ensures step { OnOk result (Sends out.old (hello_packet self.now.site ∷ []) out.new) }
-        ensures list { OnErr result (Sending out.old out.new (λ sent. Unit {0})) }
+        ensures list { OnErr result (MaySend out.old out.new) }
     {
         out.send(Packet {
             from: self.site(),

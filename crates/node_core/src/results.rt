@@ -1,25 +1,23 @@
 //! Searches and frames that come to a result.
 
-ghost use Rattle.std.specs.Prelude.{◌≡◌, ◌≤◌, ◌<◌, [], true, length, IfOk, OnErr, OnOk};
+ghost use Rattle.std.specs.Prelude.{◌≡◌, ◌<◌, [], true, length, IfOk, None, OnErr, OnOk};
 ghost use Rattle.cover_problem.specs.Branching.{children};
 ghost use Rattle.cover_problem.specs.Prefix.{is_prefix};
-ghost use Rattle.cover_problem.specs.Search.{outcome, Spent};
-ghost use Rattle.node_core.specs.Acting.{refusal_told, Sending};
+ghost use Rattle.node_core.specs.Acting.{refusal_told, MaySend, Sending};
 ghost use Rattle.node_core.specs.Outgoing.{Sends};
-ghost use Rattle.node_core.specs.Refusal.{finish_refusal, post_refusal};
-ghost use Rattle.node_core.specs.Results.{return_packets, split_up, FinishStep, IsRight, PostStep, ResultStep, SplitStep};
+ghost use Rattle.node_core.specs.Refusal.{post_refusal, split_refusal};
+ghost use Rattle.node_core.specs.Results.{return_packets, split_up, IsRight, PostStep, EndStep, SplitStep};
 ghost use Rattle.node_core.specs.SiteView.{unit_in};
-ghost use Rattle.spawn_frame.specs.Tables.{has_status, is_here, may_end, prefix_in};
+ghost use Rattle.spawn_frame.specs.Tables.{has_status, is_here, longer_prefixes, may_end, prefix_in};
 
 use crate::act_fault::ActFault;
 use crate::outgoing::Outgoing;
 use crate::reply::Reply;
 use crate::site_state::SiteState;
 use brancher::{Branch, Finding, Outcome, branch, children, choose_prefix};
-use cover_problem::Numbers;
 use dancing_links::Links;
 use packet_wire::{Body, Packet};
-use spawn_frame::{ChildResult, Heard, Job, SpawnFault, Status, Unit};
+use spawn_frame::{ChildResult, Job, SpawnFault, Unit};
 use std::alloc::AllocError;
 
 impl SiteState {
@@ -37,7 +35,7 @@ impl SiteState {
         ensures step { IfOk result (λ reply. Sending out.old out.new (λ sent. (reply ≡ Reply.Moved) × PostStep links.old.problem self.old job finding sent self.new)) }
         ensures refusal { refusal_told result ≡ post_refusal links.old.problem self.old job finding }
         ensures err { OnErr result (self.new ≡ self.old) }
-        ensures list { OnErr result (Sending out.old out.new (λ sent. Unit {0})) }
+        ensures list { OnErr result (MaySend out.old out.new) }
     {
         if !self.ledger.table().has_job(job, finding.prefix()) {
             return Err(ActFault::StaleJob);
@@ -45,12 +43,14 @@ impl SiteState {
         match finding.outcome() {
             Outcome::Cover => {
                 let cover = finding.into_cover();
-                self.end(job.unit, ChildResult::Cover(cover), out)?;
+                self.end(job.unit, ChildResult::Cover(cover), out)
             }
-            Outcome::Barren => self.end(job.unit, ChildResult::Empty, out)?,
-            Outcome::Spent => self.split(links, job.unit, finding.prefix())?,
+            Outcome::Barren => self.end(job.unit, ChildResult::Empty, out),
+            Outcome::Spent => {
+                self.split(links, job.unit, finding.prefix())?;
+                Ok(Reply::Moved)
+            }
         }
-        Ok(Reply::Moved)
     }
 
     /// Gives a unit its result; a guest's goes to its owner.
@@ -59,15 +59,16 @@ impl SiteState {
         unit: Unit,
         child_result: ChildResult,
         out: &mut Outgoing,
-    ) -> Result<(), AllocError>
+    ) -> Result<Reply, ActFault>
         requires { has_status may_end (unit_in self.old unit) ≡ true }
-        ensures step { OnOk result (Sending out.old out.new (λ sent. ResultStep self.old unit child_result sent self.new)) }
+        ensures step { IfOk result (λ reply. Sending out.old out.new (λ sent. (reply ≡ Reply.Moved) × EndStep self.old unit child_result sent self.new)) }
+        ensures refusal { refusal_told result ≡ None }
         ensures err { OnErr result (self.new ≡ self.old) }
-        ensures list { OnErr result (Sending out.old out.new (λ sent. Unit {0})) }
+        ensures list { OnErr result (MaySend out.old out.new) }
     {
         self.send_return(unit, &child_result, out)?;
         self.ledger.set_result(unit, child_result);
-        Ok(())
+        Ok(Reply::Moved)
     }
 
     /// Returns the result of a guest to its owner; of an own child nothing is told.
@@ -92,26 +93,52 @@ impl SiteState {
     }
 
     /// Splits a unit into the children of its prefix.
-    fn split(&mut self, links: &mut Links, unit: Unit, prefix: &[u16]) -> Result<(), ActFault>
+    fn split(
+        &mut self,
+        links: &mut Links,
+        unit: Unit,
+        prefix: &[u16],
+    ) -> Result<(), ActFault>
         requires here { has_status is_here (unit_in self.old unit) ≡ true }
         requires prefix { prefix_in (unit_in self.old unit) ≡ prefix.now }
         requires lawful { is_prefix links.old.problem prefix.now ≡ true }
         requires some { 0 < length (children links.old.problem prefix.now) }
         ensures problem { links.new.problem ≡ links.old.problem }
         ensures step { OnOk result (SplitStep links.old.problem self.old unit prefix.now self.new) }
-        ensures fault { IfErr result (IsSplitFault links.old.problem self.old prefix.now) }
+        ensures refusal { refusal_told result ≡ split_refusal links.old.problem self.old prefix.now }
         ensures err { OnErr result (self.new ≡ self.old) }
+    {
+        let options = self.branch_options(links, prefix)?;
+        match self.ledger.spawn(unit, &options) {
+            Ok(_) => {
+                // (for what the getter says: that the names are within the limit)
+                let _issued = self.ledger.table().issued();
+                Ok(())
+            }
+            Err(SpawnFault::NamesSpent) => Err(ActFault::NamesSpent),
+            Err(SpawnFault::Memory) => Err(ActFault::Memory),
+        }
+    }
+
+    /// The options by which a prefix goes on, if the site may name so many children.
+    fn branch_options(&self, links: &mut Links, prefix: &[u16]) -> Result<Vec<u16>, ActFault>
+        requires lawful { is_prefix links.old.problem prefix.now ≡ true }
+        requires some { 0 < length (children links.old.problem prefix.now) }
+        ensures problem { links.new.problem ≡ links.old.problem }
+        ensures children { IfOk result (λ options. children links.old.problem prefix.now ≡ longer_prefixes prefix.now options.items) }
+        ensures some { IfOk result (λ options. 0 < length options.items) }
+        ensures refusal { refusal_told result ≡ split_refusal links.old.problem self.now prefix.now }
     {
         choose_prefix(links, prefix);
         let Branch::Item(item) = branch(links) else {
             unreachable!();
         };
-        if self.ledger.table().names_left() < links.count(item) {
+        let table = self.ledger.table();
+        if ((table.names_limit() - table.issued()) as usize) < links.count(item) {
             return Err(ActFault::NamesSpent);
         }
         let mut options = Vec::new(self.alloc);
         children(links, item, &mut options)?;
-        self.ledger.spawn(unit, &options)?;
-        Ok(())
+        Ok(options)
     }
 }

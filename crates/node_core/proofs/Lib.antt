@@ -1,0 +1,4 @@
+pub mod Posting
+pub mod Sending
+pub mod Spending
+pub mod Splits
