@@ -9,6 +9,8 @@ use Rattle.spawn_frame.specs.declared.site.Site.{Site}
 use Rattle.spawn_frame.specs.declared.status.Status.{Status}
 use Rattle.spawn_frame.specs.declared.status.Status.TheVariants.{Aborted, Done, Out}
 use Rattle.steal_return.specs.Ledger.{Ledger, ledger_own}
+use Rattle.steal_return.specs.declared.judged.Judged.{Judged}
+use Rattle.steal_return.specs.declared.judged.Judged.TheVariants as judges
 use Rattle.steal_return.specs.declared.return_reply.ReturnReply.{ReturnReply}
 use Rattle.steal_return.specs.declared.return_reply.ReturnReply.TheVariants.{Accept, Refuse}
 
@@ -17,6 +19,12 @@ pub data Judgement : Type 0 where
   Enters : Judgement
   Holds : (result : ChildResult) → Judgement
   Refuses : (cause : Cause) → Judgement
+
+-- what is found, as a judgement
+abbrev pub judgement_of : Judged → Judgement
+judgement_of judges.Enters = Enters
+judgement_of (judges.Holds held) = Holds held.now
+judgement_of (judges.Refuses cause) = Refuses cause
 
 -- out to the sender at that attempt, or not
 abbrev pub if_out : Bool → Judgement

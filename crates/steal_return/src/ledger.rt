@@ -12,12 +12,13 @@ ghost use Rattle.steal_return.specs.Guests.{AdmitsGuest, DropsGuest, IsNotFinish
 ghost use Rattle.steal_return.specs.Invariant.{IsLedger};
 ghost use Rattle.steal_return.specs.Ledger.{ledger_gets, ledger_table, opening_ledger, root_ledger};
 ghost use Rattle.steal_return.specs.Members.{now_known, Differs, IsAlike, IsSpent, LearnsMembers};
-ghost use Rattle.steal_return.specs.Returns.{judged, reply_to, returned};
+ghost use Rattle.steal_return.specs.Returns.{judged, judgement_of, reply_to, returned, Enters};
 ghost use Rattle.steal_return.specs.Steals.{first_ready, is_older, GivesChild, GivesNothing, IsGiven, RedoesChild};
 
 use crate::children::{LAST_ATTEMPT, first_lost, first_ready, is_redoable, redo_lost};
 use crate::given::Given;
 use crate::guests::{drop_guests, is_open, lost_guests};
+use crate::judged::Judged;
 use crate::known::{is_older, learn};
 use crate::learn_fault::LearnFault;
 use crate::redo_fault::RedoFault;
@@ -252,8 +253,38 @@ impl Ledger {
     }
 
     /// Judges a result that a site returns for an own child at an attempt. It enters where the child is out to that very
-    /// site at that attempt: the child is done with it. A child that is done answers with the result that it has. The
-    /// only error is want of memory, which changes nothing.
+    /// site at that attempt; a child that is done answers with the result that it has. It takes no memory, and costs
+    /// nothing.
+    pub fn judge(&self, from: Site, serial: u32, attempt: Attempt) -> Judged<'_>
+        ensures judged { judgement_of result ≡ judged (slice_get self.now.own serial) from attempt }
+        ensures out { judgement_of result ≡ Enters → has_status is_out (slice_get self.now.own serial) ≡ true }
+    {
+        let Some(view) = self.table.unit(Unit::Own(serial)) else {
+            return Judged::Refuses(Cause::Unknown);
+        };
+        if view.attempt < attempt {
+            return Judged::Refuses(Cause::Unknown);
+        }
+        match view.status {
+            Status::Aborted => Judged::Refuses(Cause::Aborted),
+            Status::Done(held) => Judged::Holds(held),
+            Status::Out(thief) if *thief == from && view.attempt == attempt => Judged::Enters,
+            _ => Judged::Refuses(Cause::Superseded),
+        }
+    }
+
+    /// The result of a child that is out enters: the child is done with it, and its frame hears of it. It takes no
+    /// memory, and costs a look for the parent.
+    pub fn enter(&mut self, serial: u32, child_result: ChildResult)
+        requires { has_status is_out (slice_get self.old.own serial) ≡ true }
+        ensures { self.new ≡ returned self.old serial child_result Enters }
+    {
+        self.table.set_result(Unit::Own(serial), child_result);
+    }
+
+    /// Judges a result that a site returns for an own child at an attempt, and lets it enter where it may: the child is
+    /// done with it. The answer tells what is accepted or why nothing is. The only error is want of memory, which changes
+    /// nothing.
     pub fn receive_return(
         &mut self,
         from: Site,
@@ -265,22 +296,14 @@ impl Ledger {
         ensures after { OnOk result (self.new ≡ returned self.old serial child_result.now (judged (slice_get self.old.own serial) from attempt)) }
         ensures err { OnErr result (self.new ≡ self.old) }
     {
-        let Some(view) = self.table.unit(Unit::Own(serial)) else {
-            return Ok(ReturnReply::Refuse(Cause::Unknown));
-        };
-        if view.attempt < attempt {
-            return Ok(ReturnReply::Refuse(Cause::Unknown));
-        }
-        match view.status {
-            Status::Aborted => Ok(ReturnReply::Refuse(Cause::Aborted)),
-            Status::Done(held) => Ok(ReturnReply::Accept(held.copy()?)),
-            Status::Out(thief) if *thief == from && view.attempt == attempt => {
+        match self.judge(from, serial, attempt) {
+            Judged::Enters => {
                 let accepted = child_result.copy()?;
-                self.table
-                    .set_result(Unit::Own(serial), child_result.copy()?);
+                self.enter(serial, child_result.copy()?);
                 Ok(ReturnReply::Accept(accepted))
             }
-            _ => Ok(ReturnReply::Refuse(Cause::Superseded)),
+            Judged::Holds(held) => Ok(ReturnReply::Accept(held.copy()?)),
+            Judged::Refuses(cause) => Ok(ReturnReply::Refuse(cause)),
         }
     }
 

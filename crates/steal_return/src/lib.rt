@@ -4,6 +4,7 @@
 mod children;
 mod given;
 mod guests;
+mod judged;
 mod known;
 mod laws;
 mod learn_fault;
@@ -12,6 +13,7 @@ mod redo_fault;
 mod return_reply;
 
 pub use given::Given;
+pub use judged::Judged;
 pub use laws::aborts_are_few;
 pub use learn_fault::LearnFault;
 pub use ledger::Ledger;
