@@ -7,6 +7,7 @@ use Rattle.spawn_frame.specs.Names.{guest_before}
 use Rattle.spawn_frame.specs.Picks.{is_split}
 use Rattle.spawn_frame.specs.Units.{Entry, GuestEntry, Table, unit_of}
 use Rattle.spawn_frame.specs.declared.child_result.ChildResult.TheVariants.{Cover}
+use Rattle.spawn_frame.specs.declared.guest_view.GuestView.{GuestView}
 use Rattle.spawn_frame.specs.declared.heard.Heard.{Heard}
 use Rattle.spawn_frame.specs.declared.heard.Heard.TheVariants.{Open}
 use Rattle.spawn_frame.specs.declared.site.ChildName.{ChildName}
@@ -116,6 +117,13 @@ longer_prefixes prefix options = map (λ o. prefix ++ o ∷ []) options
 -- a child of another site when it is admitted
 abbrev pub new_guest : ChildName → ℕ → List ℕ → GuestEntry
 new_guest name attempt prefix = record { name = name; entry = record { parent = None; prefix = prefix; attempt = attempt; status = Ready } }
+
+-- a guest as it is told: it has no parent here
+abbrev pub seen_guest : GuestView → GuestEntry
+seen_guest view = record {
+  name = view.name;
+  entry = record { parent = None; prefix = view.prefix.now; attempt = view.attempt; status = view.status.now };
+}
 
 -- by what a guest is known
 abbrev pub guest_key : GuestEntry → ChildName × ℕ

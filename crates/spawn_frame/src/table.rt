@@ -7,7 +7,7 @@ ghost use Rattle.spawn_frame.specs.Frames.{frame, frame_result};
 ghost use Rattle.spawn_frame.specs.Inlets.{frame_winner, heard_by};
 ghost use Rattle.spawn_frame.specs.Picks.{is_finished, is_ready, is_split, ready_unit, ripe_unit};
 ghost use Rattle.spawn_frame.specs.Splits.{split_into, with_result};
-ghost use Rattle.spawn_frame.specs.Tables.{attempt_in, empty_table, guest_key, has_status, is_after, is_at_work, is_here, is_out, longer_prefixes, may_end, new_guest, outs_of, parent_heard, parent_in, prefix_in, root_table, AllLawful, GivesResult, HasParents, IsAscending, IsAtWork, IsMadeBefore, IsSeen};
+ghost use Rattle.spawn_frame.specs.Tables.{attempt_in, empty_table, guest_key, has_status, is_after, is_at_work, is_here, is_out, longer_prefixes, may_end, new_guest, outs_of, parent_heard, parent_in, prefix_in, root_table, seen_guest, AllLawful, GivesResult, HasParents, IsAscending, IsAtWork, IsMadeBefore, IsSeen};
 ghost use Rattle.spawn_frame.specs.declared.site.ChildName.{ChildName};
 ghost use Rattle.spawn_frame.specs.declared.status.Status.{Status};
 ghost use Rattle.spawn_frame.specs.Units.{change_at, guest_in, insert_guest, last_attempt, redone, table_gets, table_guests, table_own, unit_of};
@@ -16,6 +16,7 @@ use crate::building::{new_children, new_guest, new_root};
 use crate::child::Child;
 use crate::child_result::ChildResult;
 use crate::guest::Guest;
+use crate::guest_view::GuestView;
 use crate::heard::Heard;
 use crate::inlet::Inlet;
 use crate::site::{Attempt, ChildName, Site};
@@ -191,6 +192,28 @@ impl Table {
         ensures ascending { IsAscending self.now.guests }
     {
         first_after(&self.guests, after)
+    }
+
+    /// How many guests there are; they stand in order. It costs nothing.
+    pub fn guest_count(&self) -> usize
+        ensures count { result ≡ length self.now.guests }
+        ensures ascending { IsAscending self.now.guests }
+    {
+        self.guests.len()
+    }
+
+    /// The guest at a place in the order of guests, from 0. It costs nothing.
+    pub fn guest(&self, place: usize) -> GuestView<'_>
+        requires { place < length self.now.guests }
+        ensures { slice_get self.now.guests place ≡ Some (seen_guest result) }
+    {
+        let guest = &self.guests[place];
+        GuestView {
+            name: guest.name,
+            prefix: guest.work.prefix.as_slice(),
+            attempt: guest.work.attempt,
+            status: &guest.work.status,
+        }
     }
 
     /// The settled frame that is finished next: the own child of greatest serial, else the least guest. It costs a

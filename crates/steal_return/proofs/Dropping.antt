@@ -1,17 +1,17 @@
 -- Guests that are dropped, since their owners are lost.
-use Rattle.std.proofs.Common.{◌≡◌, ℕ, Bool, true, false, ◌&&◌, ◌||◌, cond, filter, map, List, [], ◌∷◌, ◌++◌, append_assoc, Option, Some, None, refl, sym, ap, subst, ◌∙◌, true≢false}
+use Rattle.std.proofs.Common.{◌≡◌, ℕ, zero, suc, ◌+◌, drop, slice_get, arith, Bool, true, false, ◌&&◌, ◌||◌, cond, filter, map, List, [], ◌∷◌, ◌++◌, append_assoc, Some, refl, sym, ap, subst, ◌∙◌, true≢false}
 use Rattle.std.specs.List.{AllByRecursion}
 use Rattle.std.proofs.lemmas.Bool.{and_parts}
-use Rattle.std.proofs.lemmas.List.{append-nil}
+use Rattle.std.proofs.lemmas.Option.{none-some, same_Some}
 use Rattle.abort_tree.specs.Below.{is_among}
 use Rattle.spawn_frame.specs.Aborts.{is_open}
-use Rattle.spawn_frame.specs.Tables.{IsAscending, has_status, is_after}
+use Rattle.spawn_frame.specs.Tables.{IsAscending, has_status}
 use Rattle.spawn_frame.specs.Units.{GuestEntry, change_guest, guest_in, is_guest, with_status}
 use Rattle.spawn_frame.specs.declared.site.ChildName.{ChildName}
 use Rattle.spawn_frame.specs.declared.status.Status.TheVariants.{Dropped}
 use Rattle.spawn_frame.specs.declared.unit.Unit.{Unit as WorkUnit}
 use Rattle.spawn_frame.specs.declared.unit.Unit.TheVariants.{Guest, Own}
-use Rattle.steal_return.proofs.Order.{WalksOn, before, is_itself, key_path, other_guest, other_key, weaker}
+use Rattle.steal_return.proofs.Order.{before, is_itself, key_path, other_guest, other_key, weaker}
 use Rattle.steal_return.specs.Members.{MayDrop, drop_if, drop_lost, dropped, is_lost, is_lost_guest, lost_units}
 use Rattle.steal_return.specs.Steals.{is_older}
 
@@ -156,53 +156,38 @@ some_dropped known (g ∷ hs) u us e d = go (is_lost known g) refl e d (λ f h. 
 
 -- ---- a walk that collects the lost guests
 
-lost_so : (known : List ℕ) (gs : List GuestEntry) (at : Option (ChildName × ℕ)) (name : ChildName) (attempt : ℕ) (w : WalksOn gs at name attempt)
-    → is_lost known w.guest ≡ (is_older known name.site && has_status is_open (guest_in gs name attempt))
-lost_so known gs at name attempt w =
-    ap (λ n. is_older known n.site && is_open w.guest.entry.status) w.named
-    ∙ ap (λ o. is_older known name.site && has_status is_open o) (sym w.there)
+one_more : (known : List ℕ) (gs : List GuestEntry) (k : ℕ) (g : GuestEntry) → slice_get gs k ≡ Some g
+    → lost_units known (drop k gs) ≡ cond (is_lost known g) (Guest g.name g.entry.attempt ∷ lost_units known (drop (suc k) gs)) (lost_units known (drop (suc k) gs))
+one_more known [] k g at = absurd (none-some g at)
+one_more known (h ∷ hs) zero g at = go (is_lost known h) ∙ ap one (same_Some h g at)
+  where
+    one : GuestEntry → List WorkUnit
+    one x = cond (is_lost known x) (Guest x.name x.entry.attempt ∷ lost_units known hs) (lost_units known hs)
 
-pub walk_collects : (known : List ℕ) (gs : List GuestEntry) (at : Option (ChildName × ℕ)) (name : ChildName) (attempt : ℕ) (so_far more all : List WorkUnit)
-    → WalksOn gs at name attempt → true ≡ (is_older known name.site && has_status is_open (guest_in gs name attempt))
-    → more ≡ so_far ++ Guest name attempt ∷ []
-    → so_far ++ lost_units known (filter (is_after at) gs) ≡ all
-    → more ++ lost_units known (filter (is_after (Some (name, attempt))) gs) ≡ all
-walk_collects known gs at name attempt so_far more all w lost pushed before_it =
-    ap (λ l. l ++ lost_units known (filter (is_after (Some (name, attempt))) gs)) pushed
-    ∙ ap (λ l. (so_far ++ Guest name attempt ∷ []) ++ lost_units known l) w.behind
-    ∙ append_assoc so_far (Guest name attempt ∷ []) (lost_units known w.more)
+    go : (b : Bool) → map (λ x. Guest x.name x.entry.attempt) (cond b (h ∷ filter (is_lost known) hs) (filter (is_lost known) hs))
+        ≡ cond b (Guest h.name h.entry.attempt ∷ lost_units known hs) (lost_units known hs)
+    go true = refl
+    go false = refl
+one_more known (h ∷ hs) (suc k) g at = one_more known hs k g at
+
+pub walk_collects : (known : List ℕ) (gs : List GuestEntry) (k : ℕ) (g : GuestEntry) (so_far more all : List WorkUnit)
+    → slice_get gs k ≡ Some g → true ≡ is_lost known g → more ≡ so_far ++ Guest g.name g.entry.attempt ∷ []
+    → so_far ++ lost_units known (drop k gs) ≡ all → more ++ lost_units known (drop (k + 1) gs) ≡ all
+walk_collects known gs k g so_far more all at lost pushed before_it =
+    let rest = lost_units known (drop (suc k) gs) in
+    let units = one_more known gs k g at ∙ ap (λ b. cond b (Guest g.name g.entry.attempt ∷ rest) rest) (sym lost) in
+    ap (λ n. more ++ lost_units known (drop n gs)) (let e : k + 1 ≡ suc k = omega arith in e)
+    ∙ ap (λ l. l ++ rest) pushed
+    ∙ append_assoc so_far (Guest g.name g.entry.attempt ∷ []) rest
     ∙ ap (λ l. so_far ++ l) (sym units)
     ∙ before_it
-  where
-    units : lost_units known (filter (is_after at) gs) ≡ Guest name attempt ∷ lost_units known w.more
-    units =
-        ap (lost_units known) w.is
-        ∙ ap (λ b. map (λ x. Guest x.name x.entry.attempt) (cond b (w.guest ∷ filter (is_lost known) w.more) (filter (is_lost known) w.more))) (lost_so known gs at name attempt w ∙ sym lost)
-        ∙ ap (λ n. Guest n w.guest.entry.attempt ∷ lost_units known w.more) w.named
-        ∙ ap (λ a. Guest name a ∷ lost_units known w.more) w.numbered
 
-pub walk_passes : (known : List ℕ) (gs : List GuestEntry) (at : Option (ChildName × ℕ)) (name : ChildName) (attempt : ℕ) (so_far all : List WorkUnit)
-    → WalksOn gs at name attempt → false ≡ (is_older known name.site && has_status is_open (guest_in gs name attempt))
-    → so_far ++ lost_units known (filter (is_after at) gs) ≡ all
-    → so_far ++ lost_units known (filter (is_after (Some (name, attempt))) gs) ≡ all
-walk_passes known gs at name attempt so_far all w kept before_it =
-    ap (λ l. so_far ++ lost_units known l) w.behind
+pub walk_passes : (known : List ℕ) (gs : List GuestEntry) (k : ℕ) (g : GuestEntry) (so_far all : List WorkUnit)
+    → slice_get gs k ≡ Some g → false ≡ is_lost known g
+    → so_far ++ lost_units known (drop k gs) ≡ all → so_far ++ lost_units known (drop (k + 1) gs) ≡ all
+walk_passes known gs k g so_far all at kept before_it =
+    let rest = lost_units known (drop (suc k) gs) in
+    let units = one_more known gs k g at ∙ ap (λ b. cond b (Guest g.name g.entry.attempt ∷ rest) rest) (sym kept) in
+    ap (λ n. so_far ++ lost_units known (drop n gs)) (let e : k + 1 ≡ suc k = omega arith in e)
     ∙ ap (λ l. so_far ++ l) (sym units)
     ∙ before_it
-  where
-    units : lost_units known (filter (is_after at) gs) ≡ lost_units known w.more
-    units =
-        ap (lost_units known) w.is
-        ∙ ap (λ b. map (λ x. Guest x.name x.entry.attempt) (cond b (w.guest ∷ filter (is_lost known) w.more) (filter (is_lost known) w.more))) (lost_so known gs at name attempt w ∙ sym kept)
-
--- at first all guests are ahead
-pub walk_starts : (gs : List GuestEntry) → filter (is_after None) gs ≡ gs
-walk_starts [] = refl
-walk_starts (g ∷ gs) = ap (λ l. g ∷ l) (walk_starts gs)
-
-pub walk_begins : (known : List ℕ) (gs : List GuestEntry) (so_far : List WorkUnit) → so_far ≡ [] → so_far ++ lost_units known (filter (is_after None) gs) ≡ lost_units known gs
-walk_begins known gs so_far e = ap (λ l. l ++ lost_units known (filter (is_after None) gs)) e ∙ ap (lost_units known) (walk_starts gs)
-
-pub walk_done : (known : List ℕ) (gs : List GuestEntry) (at : Option (ChildName × ℕ)) (so_far all : List WorkUnit) → filter (is_after at) gs ≡ []
-    → so_far ++ lost_units known (filter (is_after at) gs) ≡ all → so_far ≡ all
-walk_done known gs at so_far all e h = sym (append-nil so_far) ∙ ap (λ l. so_far ++ lost_units known l) (sym e) ∙ h

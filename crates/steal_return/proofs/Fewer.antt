@@ -1,14 +1,13 @@
 -- Aborts reach no more thieves than own children were out.
-use Rattle.std.proofs.Common.{◌≡◌, ℕ, zero, suc, ◌+◌, ◌≤◌, Bool, true, false, cond, length, List, [], ◌∷◌, ◌++◌, refl, sym, ap, subst, ◌∙◌, arith, length-append, true≢false}
+use Rattle.std.proofs.Common.{◌≡◌, ℕ, suc, ◌+◌, ◌≤◌, Bool, true, false, cond, length, List, [], ◌∷◌, refl, sym, ap, arith, length-append, true≢false}
 use Rattle.std.proofs.lemmas.List.Sums.{sum_by-cons}
 use Rattle.spawn_frame.specs.Aborts.{Reached, reached, reached_one}
 use Rattle.spawn_frame.specs.Tables.{is_out, outs_of}
 use Rattle.spawn_frame.specs.Units.{Entry}
 use Rattle.spawn_frame.specs.declared.site.ChildName.{ChildName}
 use Rattle.spawn_frame.specs.declared.status.Status.{Status}
-use Rattle.spawn_frame.specs.declared.status.Status.TheVariants.{Aborted, Dropped, Out}
+use Rattle.spawn_frame.specs.declared.status.Status.TheVariants.{Aborted, Out}
 use Rattle.spawn_frame.specs.declared.unit.Unit.{Unit as WorkUnit}
-use Rattle.spawn_frame.specs.declared.unit.Unit.TheVariants.{Guest}
 use Rattle.steal_return.proofs.Marking.{NoMoreOut, redo_no_more, result_no_more}
 use Rattle.steal_return.specs.Finishing.{Appends, FinishesFrame}
 use Rattle.steal_return.specs.Guests.{DropsGuest}

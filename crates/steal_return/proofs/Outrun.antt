@@ -1,5 +1,5 @@
 -- No child of a ledger comes to be out to an earlier run than is known.
-use Rattle.std.proofs.Common.{◌≡◌, ℕ, zero, suc, Bool, true, false, ◌&&◌, ◌++◌, cond, map, List, [], ◌∷◌, OnErr, OnOk, Option, Some, None, Result, Ok, Err, refl, sym, ap, subst, ◌∙◌}
+use Rattle.std.proofs.Common.{◌≡◌, ℕ, zero, suc, Bool, true, false, ◌&&◌, ◌++◌, cond, map, List, [], ◌∷◌, OnErr, OnOk, Result, Ok, Err, refl, sym, ap, subst, ◌∙◌}
 use Rattle.abort_tree.specs.Below.{aborted}
 use Rattle.spawn_frame.specs.Aborts.{is_open}
 use Rattle.spawn_frame.specs.Splits.{new_child, split_into, with_result}
@@ -7,7 +7,7 @@ use Rattle.spawn_frame.specs.Units.{Entry, GuestEntry, Table, change_at, redone,
 use Rattle.spawn_frame.specs.declared.child_result.ChildResult.{ChildResult}
 use Rattle.spawn_frame.specs.declared.site.Site.{Site}
 use Rattle.spawn_frame.specs.declared.status.Status.{Status}
-use Rattle.spawn_frame.specs.declared.status.Status.TheVariants.{Aborted, Here, Out, Ready, Split}
+use Rattle.spawn_frame.specs.declared.status.Status.TheVariants.{Aborted, Out, Ready, Split}
 use Rattle.spawn_frame.specs.declared.unit.Unit.{Unit as WorkUnit}
 use Rattle.spawn_frame.specs.declared.unit.Unit.TheVariants.{Guest, Own}
 use Rattle.steal_return.specs.Invariant.{IsLedger, NoneOutrun}

@@ -2,7 +2,7 @@
 use Rattle.std.specs.Prelude.{◌≡◌, ◌≢◌, ◌⊎◌, ℕ, ◌<◌, Bool, true, false, List, Option, Some, slice_get, slice_index, nat_lt}
 use Rattle.std.specs.List.{position_from}
 use Rattle.spawn_frame.specs.Picks.{is_ready}
-use Rattle.spawn_frame.specs.Tables.{attempt_in, prefix_in}
+use Rattle.spawn_frame.specs.Tables.{attempt_in, has_status, prefix_in}
 use Rattle.spawn_frame.specs.Units.{Entry, change_at, last_attempt, redone, with_status}
 use Rattle.spawn_frame.specs.declared.site.Site.{Site}
 use Rattle.spawn_frame.specs.declared.status.Status.TheVariants.{Out, Ready}
@@ -20,6 +20,12 @@ GivesNothing old thief = (is_older old.known thief ≡ true) ⊎ ((k : ℕ) (ent
 -- the ready own child of least serial
 abbrev pub first_ready : List Entry → Option ℕ
 first_ready own = position_from (λ c. is_ready c.status) 0 own
+
+-- A child that a thief may be given: the ready one of least serial, where no later run of the thief's node is known.
+pub record MayGive (ledger : Ledger) (thief : Site) (serial : ℕ) : Type 0 where
+  pub not_older : is_older ledger.known thief ≡ false
+  pub least : first_ready ledger.own ≡ Some serial
+  pub ready : has_status is_ready (slice_get ledger.own serial) ≡ true
 
 -- A thief gets a ready own child, at its attempt and with its prefix. Any may be given.
 pub record GivesChild (old : Ledger) (thief : Site) (given : Given) (new : Ledger) : Type 0 where

@@ -1,37 +1,36 @@
 //! Walks over the guests of a table, in their order.
 
-ghost use Rattle.std.specs.Prelude.{◌≡◌, ◌&&◌, ◌∷◌, [], IfOk};
+ghost use Rattle.std.specs.Prelude.{◌≡◌, ◌∷◌, [], IfOk};
 ghost use Rattle.spawn_frame.specs.Aborts.{is_open};
-ghost use Rattle.spawn_frame.specs.Tables.{has_status, IsAscending};
+ghost use Rattle.spawn_frame.specs.Tables.{has_status, seen_guest, IsAscending};
 ghost use Rattle.spawn_frame.specs.Units.{guest_in, table_guests};
-ghost use Rattle.steal_return.specs.Members.{dropped, lost_units, MayDrop};
-ghost use Rattle.steal_return.specs.Steals.{is_older};
+ghost use Rattle.steal_return.specs.Members.{dropped, is_lost, lost_units, MayDrop};
 
 use crate::known::is_older;
-use spawn_frame::{Attempt, ChildName, Table, Unit};
+use spawn_frame::{Attempt, ChildName, GuestView, Table, Unit};
 use std::alloc::{AllocError, Global};
 
-/// The open guests of owners of which a later run is known; the only error is want of memory.
+/// The open guests of owners of which a later run is known; the only error is want of memory. It costs a pass through
+/// the guests.
 pub fn lost_guests(alloc: Global, table: &Table, known: &[u32]) -> Result<Vec<Unit>, AllocError>
     ensures lost { IfOk result (λ lost. lost.items ≡ lost_units known.now table.now.guests) }
     ensures ascending { IfOk result (λ _. IsAscending table.now.guests) }
 {
     let mut lost = Vec::new(alloc);
-    let mut after = None;
-    while let Some((name, attempt)) = table.next_guest(after) {
-        if is_lost(table, known, name, attempt) {
-            lost.push(Unit::Guest(name, attempt))?;
+    for place in 0..table.guest_count() {
+        let guest = table.guest(place);
+        if is_lost(known, guest) {
+            lost.push(Unit::Guest(guest.name, guest.attempt))?;
         }
-        after = Some((name, attempt));
     }
     Ok(lost)
 }
 
-/// Whether a guest is there and open, and a later run of its owner is known.
-fn is_lost(table: &Table, known: &[u32], name: ChildName, attempt: Attempt) -> bool
-    ensures { result ≡ (is_older known.now name.site && has_status is_open (guest_in table.now.guests name attempt)) }
+/// Whether a guest is open, and a later run of its owner is known.
+fn is_lost(known: &[u32], guest: GuestView<'_>) -> bool
+    ensures { result ≡ is_lost known.now (seen_guest guest.entry) }
 {
-    is_older(known, name.site) && is_open(table, name, attempt)
+    is_older(known, guest.name.site) && guest.status.is_open()
 }
 
 /// Whether a guest is there and open.

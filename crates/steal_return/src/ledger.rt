@@ -13,7 +13,7 @@ ghost use Rattle.steal_return.specs.Invariant.{IsLedger};
 ghost use Rattle.steal_return.specs.Ledger.{ledger_gets, ledger_table, opening_ledger, root_ledger};
 ghost use Rattle.steal_return.specs.Members.{now_known, Differs, IsAlike, IsSpent, LearnsMembers};
 ghost use Rattle.steal_return.specs.Returns.{judged, judgement_of, reply_to, returned, Enters};
-ghost use Rattle.steal_return.specs.Steals.{first_ready, is_older, GivesChild, GivesNothing, IsGiven, RedoesChild};
+ghost use Rattle.steal_return.specs.Steals.{first_ready, is_older, GivesChild, GivesNothing, IsGiven, MayGive, RedoesChild};
 
 use crate::children::{LAST_ATTEMPT, first_lost, first_ready, is_redoable, redo_lost};
 use crate::given::Given;
@@ -195,26 +195,19 @@ impl Ledger {
         }
     }
 
-    /// Gives the ready own child of least serial to a thief, if there is one and no later run of the thief's node is
-    /// known; the child is out then. The only error is want of memory, which changes nothing.
-    pub fn give(&mut self, thief: Site) -> Result<Option<Given>, AllocError>
-        ensures gives { IfOk result (λ answer. MatchOption answer (GivesNothing self.old thief × (self.new ≡ self.old)) (λ given. GivesChild self.old thief given self.new)) }
-        ensures least { IfOk result (λ answer. IfSome answer (λ given. first_ready self.old.own ≡ Some given.serial)) }
-        ensures err { OnErr result (self.new ≡ self.old) }
+    /// The own child that a thief may be given: the ready one of least serial. None where there is none, or where a later
+    /// run of the thief's node is known. It takes no memory, and costs a pass through the own children.
+    pub fn ready_child(&self, thief: Site) -> Option<u32>
+        ensures { MatchOption result (GivesNothing self.now thief) (MayGive self.now thief) }
     {
         if is_older(&self.known, thief) {
-            return Ok(None);
+            return None;
         }
-        let Some(serial) = first_ready(&self.table) else {
-            return Ok(None);
-        };
-        let given = self.given(serial)?;
-        self.table.give(serial, thief);
-        Ok(Some(given))
+        first_ready(&self.table)
     }
 
-    /// What a thief is told of an own child.
-    fn given(&self, serial: u32) -> Result<Given, AllocError>
+    /// What a thief is told of an own child; the only error is want of memory.
+    pub fn given(&self, serial: u32) -> Result<Given, AllocError>
         requires { serial < length self.now.own }
         ensures { IfOk result (IsGiven self.now.own serial) }
     {
@@ -222,13 +215,39 @@ impl Ledger {
         self.table.prefix_into(Unit::Own(serial), &mut prefix)?;
         let attempt = match self.table.unit(Unit::Own(serial)) {
             Some(view) => view.attempt,
-            None => 0,
+            None => unreachable!(),
         };
         Ok(Given {
             serial,
             attempt,
             prefix: Numbers::from_vec(prefix),
         })
+    }
+
+    /// Gives a ready own child to a thief, of whose node no later run is known: the child is out then. It takes no
+    /// memory, and costs nothing.
+    pub fn give_child(&mut self, serial: u32, thief: Site)
+        requires not_older { is_older self.old.known thief ≡ false }
+        requires ready { has_status is_ready (slice_get self.old.own serial) ≡ true }
+        ensures after { self.new ≡ ledger_gets self.old (Unit.Own serial) (Status.Out thief) }
+        ensures gives { (given : Given) → IsGiven self.old.own serial given → GivesChild self.old thief given self.new }
+    {
+        self.table.give(serial, thief);
+    }
+
+    /// Gives the ready own child of least serial to a thief, if there is one and no later run of the thief's node is
+    /// known; the child is out then. The only error is want of memory, which changes nothing.
+    pub fn give(&mut self, thief: Site) -> Result<Option<Given>, AllocError>
+        ensures gives { IfOk result (λ answer. MatchOption answer (GivesNothing self.old thief × (self.new ≡ self.old)) (λ given. GivesChild self.old thief given self.new)) }
+        ensures least { IfOk result (λ answer. IfSome answer (λ given. first_ready self.old.own ≡ Some given.serial)) }
+        ensures err { OnErr result (self.new ≡ self.old) }
+    {
+        let Some(serial) = self.ready_child(thief) else {
+            return Ok(None);
+        };
+        let given = self.given(serial)?;
+        self.give_child(serial, thief);
+        Ok(Some(given))
     }
 
     /// Makes an own child that is out ready again, at the next attempt. `NotOut` comes exactly where there is no such
