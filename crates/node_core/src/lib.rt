@@ -3,8 +3,10 @@
 
 mod act_fault;
 mod event;
+mod laws;
 mod reply;
 
 pub use act_fault::ActFault;
 pub use event::Event;
+pub use laws::nodes_act_unless_they_refuse;
 pub use reply::Reply;
