@@ -1,5 +1,5 @@
 -- What the registry refuses: the first fault that an event meets.
-use Rattle.std.specs.Prelude.{◌≡◌, ℕ, Bool, true, false, not, if◌then◌else◌, List, Option, Some, None, slice_get}
+use Rattle.std.specs.Prelude.{◌≡◌, Bool, true, false, if◌then◌else◌, List, Option, Some, None, slice_get}
 use Rattle.cover_problem.specs.Problem.{Problem}
 use Rattle.cover_problem.specs.Verdict.{verdict_of}
 use Rattle.cover_problem.specs.declared.verdict.Verdict.{Verdict}
@@ -53,6 +53,10 @@ registry_refusal problem view (Deliver packet) =
 registry_refusal problem view (Redo serial) = redo_refusal view serial
 registry_refusal problem view Again = None
 registry_refusal problem view _ = Some faults.OtherSite
+
+-- the view is the registry's
+abbrev pub IsRegistryView : View → Type 0
+IsRegistryView view = view.site.node ≡ 0
 
 -- The registry has a step of the event.
 pub record RegistryActs (problem : Problem) (view : View) (event : Event) : Type 0 where
