@@ -10,7 +10,7 @@ use Rattle.node_core.specs.declared.reply.Reply.TheVariants.{Moved}
 use Rattle.packet_wire.specs.declared.packet.Body.TheVariants.{Refuse}
 use Rattle.packet_wire.specs.declared.packet.Packet.{Packet}
 use Rattle.root_registry.specs.RegistryStep.{RegistryStep}
-use Rattle.spawn_frame.specs.Units.{Entry}
+use Rattle.spawn_frame.specs.Units.{Entry, last_attempt}
 use Rattle.spawn_frame.specs.declared.cause.Cause.{Cause}
 use Rattle.spawn_frame.specs.declared.site.Site.{Site}
 use Rattle.spawn_frame.specs.declared.status.Status.TheVariants.{Here, Out}
@@ -38,6 +38,13 @@ pub record IsOut (view : View) (serial : ℕ) : Type 0 where
   pub thief : Site
   pub is : slice_get view.own serial ≡ Some entry
   pub out_there : entry.status ≡ Out thief
+
+-- the own child of this serial is out to the thief, at its last attempt
+pub record IsLastOut (view : View) (serial : ℕ) (thief : Site) : Type 0 where
+  pub entry : Entry
+  pub is : slice_get view.own serial ≡ Some entry
+  pub out_there : entry.status ≡ Out thief
+  pub last : entry.attempt ≡ last_attempt
 
 -- a result is refused with this cause, and nothing changes
 abbrev pub Refused : View → Site → ℕ → ℕ → Cause → Reply → List Packet → View → Type 0

@@ -7,9 +7,10 @@ mod runs;
 
 pub use laws::{below_goes_on, safe_over_every_run, step_is_determined, thieves_are_told};
 pub use refusals::{
-    finding_without_fuel, names_spent, no_prefix_given, no_such_victim, node_that_is_over,
-    packet_for_another_site, redo_of_no_use, registry_does_no_work, stale_job, superseded_return,
-    unsettled_frame, wrong_cover,
+    finding_without_fuel, lost_at_the_last_attempt, names_spent, no_prefix_given, no_such_victim,
+    node_that_is_over, packet_for_another_site, packet_of_no_node, redo_of_no_use,
+    registry_does_no_work, root_redo_of_no_use, stale_job, superseded_return, unsettled_frame,
+    wrong_cover,
 };
 pub use runs::{
     late_result, later_runs, overtaken_result, repeated_result, said_again, thief_begins_anew,

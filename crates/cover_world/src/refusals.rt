@@ -6,16 +6,16 @@ ghost use Rattle.cover_problem.specs.Branching.{children};
 ghost use Rattle.cover_problem.specs.Prefix.{is_prefix};
 ghost use Rattle.cover_problem.specs.Problem.{Problem};
 ghost use Rattle.cover_problem.specs.Search.{Spent};
-ghost use Rattle.cover_world.specs.Refusals.{IsAwaited, IsOut, NodeRefuses, Refused, RegistryRefuses};
+ghost use Rattle.cover_world.specs.Refusals.{IsAwaited, IsLastOut, IsOut, NodeRefuses, Refused, RegistryRefuses};
 ghost use Rattle.node_core.specs.NodeStep.{NodeStep};
 ghost use Rattle.node_core.specs.Results.{split_up};
 ghost use Rattle.node_core.specs.SiteView.{View, unit_in};
 ghost use Rattle.node_core.specs.declared.event.Event.{Event};
 ghost use Rattle.node_core.specs.declared.event.Event.TheVariants.{Ask, Deliver, Finish, Greet, Post, Redo, Take};
 ghost use Rattle.node_core.specs.declared.reply.Reply.{Reply};
-ghost use Rattle.packet_wire.specs.declared.packet.Body.TheVariants.{Give, Return};
+ghost use Rattle.packet_wire.specs.declared.packet.Body.TheVariants.{Give, Hello, Members, Return};
 ghost use Rattle.packet_wire.specs.declared.packet.Packet.{Packet};
-ghost use Rattle.root_registry.specs.RegistryStep.{IsAcceptable};
+ghost use Rattle.root_registry.specs.RegistryStep.{IsAcceptable, is_earlier_run, raised};
 ghost use Rattle.spawn_frame.specs.Aborts.{is_open};
 ghost use Rattle.spawn_frame.specs.Frames.{frame, frame_result};
 ghost use Rattle.spawn_frame.specs.Units.{Entry, guest_in, last_attempt};
@@ -25,6 +25,7 @@ ghost use Rattle.spawn_frame.specs.declared.site.Site.{Site};
 ghost use Rattle.spawn_frame.specs.declared.status.Status.TheVariants.{Out, Split};
 ghost use Rattle.spawn_frame.specs.declared.unit.Job.{Job};
 ghost use Rattle.spawn_frame.specs.declared.unit.Unit.{Unit as WorkUnit};
+ghost use Rattle.steal_return.specs.Members.{now_known};
 ghost use Rattle.steal_return.specs.Returns.{Enters, judged};
 ghost use Rattle.steal_return.specs.Steals.{is_older};
 
@@ -34,6 +35,14 @@ pub fn packet_for_another_site()
         NodeRefuses problem view (Deliver packet) }
     ensures registry { (problem : Problem) (view : View) (packet : Packet) → packet.to ≢ view.site →
         RegistryRefuses problem view (Deliver packet) }
+{}
+
+/// A packet from a node that there isn't changes nothing and isn't answered.
+pub fn packet_of_no_node()
+    ensures node { (problem : Problem) (view : View) (packet : Packet) →
+        view.nodes < packet.from.node → NodeRefuses problem view (Deliver packet) }
+    ensures registry { (problem : Problem) (view : View) (packet : Packet) →
+        view.nodes < packet.from.node → RegistryRefuses problem view (Deliver packet) }
 {}
 
 /// A node that is over takes part no more.
@@ -81,6 +90,32 @@ pub fn redo_of_no_use()
         NodeRefuses problem view (Redo serial) }
     ensures last { (problem : Problem) (view : View) (serial : ℕ) (entry : Entry) →
         slice_get view.own serial ≡ Some entry → entry.attempt ≡ last_attempt → NodeRefuses problem view (Redo serial) }
+{}
+
+/// Nor does the registry redo a child that isn't out, or one after its last attempt; where it has
+/// the root alone, it redoes no other.
+pub fn root_redo_of_no_use()
+    ensures not_out { (problem : Problem) (view : View) (serial : ℕ) → (IsOut view serial → ⊥) →
+        RegistryRefuses problem view (Redo serial) }
+    ensures last { (problem : Problem) (view : View) (serial : ℕ) (thief : Site) →
+        IsLastOut view serial thief → RegistryRefuses problem view (Redo serial) }
+    ensures other { (problem : Problem) (view : View) (serial : ℕ) (root : Entry) →
+        view.own ≡ root ∷ [] → serial ≢ 0 → RegistryRefuses problem view (Redo serial) }
+{}
+
+/// Nothing is learnt of the others where a child would have to be redone and stands at its last
+/// attempt.
+pub fn lost_at_the_last_attempt()
+    ensures members { (problem : Problem) (view : View) (packet : Packet) (incarnations : List ℕ)
+        (serial : ℕ) (thief : Site) → packet.body ≡ Members incarnations →
+        IsLastOut view serial thief →
+        is_older (now_known view.site.node view.known incarnations) thief ≡ true →
+        NodeRefuses problem view (Deliver packet) }
+    ensures hello { (problem : Problem) (view : View) (packet : Packet) (known : List ℕ)
+        (serial : ℕ) (thief : Site) → packet.body ≡ Hello → IsLastOut view serial thief →
+        known ≡ raised view.known packet.from.node packet.from.incarnation →
+        is_earlier_run packet.from.node known thief ≡ true →
+        RegistryRefuses problem view (Deliver packet) }
 {}
 
 /// A list that is no prefix makes no guest: unless the packet is ignored, it has no step.

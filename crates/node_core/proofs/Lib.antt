@@ -1,4 +1,10 @@
+pub mod Acting
+pub mod Alike
+pub mod Branches
+pub mod Picking
 pub mod Posting
+pub mod Reaching
 pub mod Sending
 pub mod Spending
 pub mod Splits
+pub mod Stepping

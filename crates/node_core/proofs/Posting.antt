@@ -5,7 +5,7 @@ use Rattle.cover_problem.specs.Branching.{children}
 use Rattle.cover_problem.specs.Prefix.{is_prefix}
 use Rattle.cover_problem.specs.Problem.{Problem}
 use Rattle.cover_problem.specs.Search.{Barren, Covers, Outcome, Spent}
-use Rattle.node_core.proofs.Spending.{spent_has_children}
+use Rattle.node_core.proofs.Branches.{spent_has_children}
 use Rattle.node_core.specs.Refusal.{is_awaited, is_spent, lacks_names, post_refusal, split_refusal}
 use Rattle.node_core.specs.Results.{IsRight, Leaves, PostStep, SplitStep}
 use Rattle.node_core.specs.SiteView.{View, unit_in}

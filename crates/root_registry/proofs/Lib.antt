@@ -1,0 +1,3 @@
+pub mod Acceptable
+pub mod Stepping
+pub mod Acting
