@@ -6,7 +6,7 @@ ghost use Rattle.spawn_frame.specs.Frames.{frame, frame_result};
 ghost use Rattle.spawn_frame.specs.Inlets.{frame_winner, heard_by};
 ghost use Rattle.spawn_frame.specs.Picks.{is_finished, is_ready, is_split, ready_unit, ripe_unit};
 ghost use Rattle.spawn_frame.specs.Splits.{split_into, with_result};
-ghost use Rattle.spawn_frame.specs.Tables.{attempt_in, empty_table, guest_key, has_status, is_after, is_here, is_out, longer_prefixes, may_end, new_guest, parent_heard, parent_in, prefix_in, root_table, AllLawful, GivesResult, HasParents, IsAscending, IsMadeBefore, IsSeen};
+ghost use Rattle.spawn_frame.specs.Tables.{attempt_in, empty_table, guest_key, has_status, is_after, is_here, is_out, longer_prefixes, may_end, new_guest, parent_heard, parent_in, prefix_in, root_table, status_in, AllLawful, GivesResult, HasParents, IsAscending, IsMadeBefore, IsSeen};
 ghost use Rattle.spawn_frame.specs.declared.site.ChildName.{ChildName};
 ghost use Rattle.spawn_frame.specs.declared.status.Status.{Status};
 ghost use Rattle.spawn_frame.specs.Units.{change_at, guest_in, insert_guest, last_attempt, redone, table_gets, table_guests, table_own, unit_of};
@@ -154,6 +154,15 @@ impl Table {
         })
     }
 
+    /// A unit's status; none where it isn't there. It is found as `unit` finds it.
+    pub fn status(&self, unit: Unit) -> Option<&Status>
+        ensures status { option_map (λ status. status.now) result ≡ status_in (unit_of self.now unit) }
+        ensures tested { IfSome result (λ status. (test : Status → Bool) → has_status test (unit_of self.now unit) ≡ test status.now) }
+    {
+        let work = self.work(unit)?;
+        Some(&work.status)
+    }
+
     /// Appends a unit's prefix to the list; the only error is want of memory, and the list is then as it was. It costs
     /// a look for the unit, and the prefix.
     pub fn prefix_into(&self, unit: Unit, list: &mut Vec<u16>) -> Result<(), AllocError>
@@ -163,7 +172,7 @@ impl Table {
     {
         match self.work(unit) {
             Some(work) => list.extend_from_slice(work.prefix.as_slice()),
-            None => Ok(()),
+            None => unreachable!(),
         }
     }
 
@@ -201,7 +210,7 @@ impl Table {
     {
         match self.work(unit) {
             Some(work) => work.heard(),
-            None => Heard::Open,
+            None => unreachable!(),
         }
     }
 
@@ -216,9 +225,9 @@ impl Table {
         match self.work(unit) {
             Some(work) => match &work.inlet {
                 Some(inlet) => inlet.winner(),
-                None => None,
+                None => unreachable!(),
             },
-            None => None,
+            None => unreachable!(),
         }
     }
 
@@ -230,7 +239,10 @@ impl Table {
         ensures after { MatchOption result (self.new ≡ self.old) (λ job. self.new ≡ table_gets self.old job.unit Status.Here) }
     {
         let unit = self.picked(Wanted::Ready)?;
-        let attempt = self.work(unit)?.attempt;
+        let Some(work) = self.work(unit) else {
+            unreachable!()
+        };
+        let attempt = work.attempt;
         self.set_status(unit, Status::Here);
         Some(Job { unit, attempt })
     }
