@@ -139,8 +139,8 @@ fn outs_at(table: &Table, serial: u32, marked: bool) -> usize
 fn is_due(table: &Table, serial: u32, marked: bool) -> bool
     ensures { result ≡ (marked && has_status is_open (slice_get table.now.own serial)) }
 {
-    match table.unit(Unit::Own(serial)) {
-        Some(view) => marked && view.status.is_open(),
+    match table.status(Unit::Own(serial)) {
+        Some(status) => marked && status.is_open(),
         None => false,
     }
 }

@@ -179,6 +179,9 @@ fn abort_packet(site: Site, out: Out) -> Packet
     Packet {
         from: site,
         to: out.thief,
-        body: Body::Abort(out.serial, out.attempt),
+        body: Body::Abort {
+            serial: out.serial,
+            attempt: out.attempt,
+        },
     }
 }

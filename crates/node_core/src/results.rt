@@ -84,7 +84,11 @@ impl SiteState {
         let Unit::Guest(name, attempt) = unit else {
             return Ok(());
         };
-        let body = Body::Return(name.serial, attempt, child_result.copy()?);
+        let body = Body::Return {
+            serial: name.serial,
+            attempt,
+            result: child_result.copy()?,
+        };
         out.send(Packet {
             from: self.site(),
             to: name.site,

@@ -28,12 +28,12 @@ impl Kind {
             Body::Hello => Kind::Hello,
             Body::Members(_) => Kind::Members,
             Body::Steal => Kind::Steal,
-            Body::Give(..) => Kind::Give,
+            Body::Give { .. } => Kind::Give,
             Body::NoWork => Kind::NoWork,
-            Body::Return(..) => Kind::Return,
-            Body::Accept(..) => Kind::Accept,
-            Body::Refuse(..) => Kind::Refuse,
-            Body::Abort(..) => Kind::Abort,
+            Body::Return { .. } => Kind::Return,
+            Body::Accept { .. } => Kind::Accept,
+            Body::Refuse { .. } => Kind::Refuse,
+            Body::Abort { .. } => Kind::Abort,
             Body::Over => Kind::Over,
         }
     }

@@ -16,17 +16,50 @@ pub enum Body {
     /// A node asks for work.
     Steal,
     /// A child is given, with its prefix.
-    Give(u32, Attempt, Numbers),
+    Give {
+        /// The child's serial number.
+        serial: u32,
+        /// Its attempt, from 1.
+        attempt: Attempt,
+        /// Its prefix.
+        prefix: Numbers,
+    },
     /// There is no work to give.
     NoWork,
     /// A thief returns the result of a child.
-    Return(u32, Attempt, ChildResult),
+    Return {
+        /// The child's serial number.
+        serial: u32,
+        /// Its attempt, from 1.
+        attempt: Attempt,
+        /// What the search of the child came to.
+        result: ChildResult,
+    },
     /// The owner tells the result that the child has.
-    Accept(u32, Attempt, ChildResult),
+    Accept {
+        /// The child's serial number.
+        serial: u32,
+        /// Its attempt, from 1.
+        attempt: Attempt,
+        /// The result that the child has.
+        result: ChildResult,
+    },
     /// The owner refuses a result.
-    Refuse(u32, Attempt, Cause),
+    Refuse {
+        /// The child's serial number.
+        serial: u32,
+        /// The attempt that was returned, from 1.
+        attempt: Attempt,
+        /// Why.
+        cause: Cause,
+    },
     /// The owner wants the child no more.
-    Abort(u32, Attempt),
+    Abort {
+        /// The child's serial number.
+        serial: u32,
+        /// The attempt at which it was out, from 1.
+        attempt: Attempt,
+    },
     /// The registry has its answer.
     Over,
 }

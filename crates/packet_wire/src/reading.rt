@@ -226,6 +226,66 @@ fn cause_at(bytes: &[u8]) -> Result<(Cause, &[u8]), WireFault>
     }
 }
 
+/// Reads the body of a Give.
+#[tactic(auto, unfolding(crate::specs::Reading::body_at))]
+fn give_at(alloc: Global, bytes: &[u8]) -> Result<(Body, &[u8]), WireFault>
+    ensures { Gives (λ x. (x.0, x.1.now)) result (body_at Kind.Give bytes.now) }
+{
+    let ((serial, attempt), rest) = child_at(bytes)?;
+    let (prefix, rest) = options_at(alloc, 0, rest)?;
+    let body = Body::Give {
+        serial,
+        attempt,
+        prefix,
+    };
+    Ok((body, rest))
+}
+
+/// Reads the body of a Return.
+#[tactic(auto, unfolding(crate::specs::Reading::body_at))]
+fn return_at(alloc: Global, bytes: &[u8]) -> Result<(Body, &[u8]), WireFault>
+    ensures { Gives (λ x. (x.0, x.1.now)) result (body_at Kind.Return bytes.now) }
+{
+    let ((serial, attempt), rest) = child_at(bytes)?;
+    let (result, rest) = result_at(alloc, rest)?;
+    let body = Body::Return {
+        serial,
+        attempt,
+        result,
+    };
+    Ok((body, rest))
+}
+
+/// Reads the body of an Accept.
+#[tactic(auto, unfolding(crate::specs::Reading::body_at))]
+fn accept_at(alloc: Global, bytes: &[u8]) -> Result<(Body, &[u8]), WireFault>
+    ensures { Gives (λ x. (x.0, x.1.now)) result (body_at Kind.Accept bytes.now) }
+{
+    let ((serial, attempt), rest) = child_at(bytes)?;
+    let (result, rest) = result_at(alloc, rest)?;
+    let body = Body::Accept {
+        serial,
+        attempt,
+        result,
+    };
+    Ok((body, rest))
+}
+
+/// Reads the body of a Refuse.
+#[tactic(auto, unfolding(crate::specs::Reading::body_at))]
+fn refuse_at(bytes: &[u8]) -> Result<(Body, &[u8]), WireFault>
+    ensures { Gives (λ x. (x.0, x.1.now)) result (body_at Kind.Refuse bytes.now) }
+{
+    let ((serial, attempt), rest) = child_at(bytes)?;
+    let (cause, rest) = cause_at(rest)?;
+    let body = Body::Refuse {
+        serial,
+        attempt,
+        cause,
+    };
+    Ok((body, rest))
+}
+
 /// Reads a body of this kind.
 #[tactic(auto, unfolding(crate::specs::Reading::body_at))]
 fn body_at(alloc: Global, kind: Kind, bytes: &[u8]) -> Result<(Body, &[u8]), WireFault>
@@ -238,30 +298,14 @@ fn body_at(alloc: Global, kind: Kind, bytes: &[u8]) -> Result<(Body, &[u8]), Wir
             Ok((Body::Members(incarnations), rest))
         }
         Kind::Steal => Ok((Body::Steal, bytes)),
-        Kind::Give => {
-            let ((serial, attempt), rest) = child_at(bytes)?;
-            let (prefix, rest) = options_at(alloc, 0, rest)?;
-            Ok((Body::Give(serial, attempt, prefix), rest))
-        }
+        Kind::Give => give_at(alloc, bytes),
         Kind::NoWork => Ok((Body::NoWork, bytes)),
-        Kind::Return => {
-            let ((serial, attempt), rest) = child_at(bytes)?;
-            let (told, rest) = result_at(alloc, rest)?;
-            Ok((Body::Return(serial, attempt, told), rest))
-        }
-        Kind::Accept => {
-            let ((serial, attempt), rest) = child_at(bytes)?;
-            let (told, rest) = result_at(alloc, rest)?;
-            Ok((Body::Accept(serial, attempt, told), rest))
-        }
-        Kind::Refuse => {
-            let ((serial, attempt), rest) = child_at(bytes)?;
-            let (cause, rest) = cause_at(rest)?;
-            Ok((Body::Refuse(serial, attempt, cause), rest))
-        }
+        Kind::Return => return_at(alloc, bytes),
+        Kind::Accept => accept_at(alloc, bytes),
+        Kind::Refuse => refuse_at(bytes),
         Kind::Abort => {
             let ((serial, attempt), rest) = child_at(bytes)?;
-            Ok((Body::Abort(serial, attempt), rest))
+            Ok((Body::Abort { serial, attempt }, rest))
         }
         Kind::Over => Ok((Body::Over, bytes)),
     }

@@ -118,15 +118,27 @@ fn is_body(body: &Body) -> bool
     match body {
         Body::Hello | Body::Steal | Body::NoWork | Body::Over => true,
         Body::Members(incarnations) => are_incarnations(incarnations.as_slice()),
-        Body::Give(serial, attempt, prefix) => {
-            is_child(*serial, *attempt) && are_options(0, prefix.as_slice())
+        Body::Give {
+            serial,
+            attempt,
+            prefix,
+        } => is_child(*serial, *attempt) && are_options(0, prefix.as_slice()),
+        Body::Return {
+            serial,
+            attempt,
+            result,
         }
-        Body::Return(serial, attempt, told) | Body::Accept(serial, attempt, told) => {
-            is_child(*serial, *attempt) && is_result(told)
+        | Body::Accept {
+            serial,
+            attempt,
+            result,
+        } => is_child(*serial, *attempt) && is_result(result),
+        Body::Refuse {
+            serial,
+            attempt,
+            ..
         }
-        Body::Refuse(serial, attempt, _) | Body::Abort(serial, attempt) => {
-            is_child(*serial, *attempt)
-        }
+        | Body::Abort { serial, attempt } => is_child(*serial, *attempt),
     }
 }
 

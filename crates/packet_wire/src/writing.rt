@@ -155,19 +155,36 @@ fn write_body(out: &mut Vec<u8>, body: &Body) -> Result<(), AllocError>
     match body {
         Body::Hello | Body::Steal | Body::NoWork | Body::Over => Ok(()),
         Body::Members(incarnations) => write_members(out, incarnations.as_slice()),
-        Body::Give(serial, attempt, prefix) => {
+        Body::Give {
+            serial,
+            attempt,
+            prefix,
+        } => {
             write_child(out, *serial, *attempt)?;
             write_option_list(out, prefix.as_slice())
         }
-        Body::Return(serial, attempt, told) | Body::Accept(serial, attempt, told) => {
-            write_child(out, *serial, *attempt)?;
-            write_result(out, told)
+        Body::Return {
+            serial,
+            attempt,
+            result,
         }
-        Body::Refuse(serial, attempt, cause) => {
+        | Body::Accept {
+            serial,
+            attempt,
+            result,
+        } => {
+            write_child(out, *serial, *attempt)?;
+            write_result(out, result)
+        }
+        Body::Refuse {
+            serial,
+            attempt,
+            cause,
+        } => {
             write_child(out, *serial, *attempt)?;
             write_cause(out, *cause)
         }
-        Body::Abort(serial, attempt) => write_child(out, *serial, *attempt),
+        Body::Abort { serial, attempt } => write_child(out, *serial, *attempt),
     }
 }
 

@@ -100,6 +100,11 @@ abbrev pub prefix_in : Option Entry → List ℕ
 prefix_in None = []
 prefix_in (Some entry) = entry.prefix
 
+-- the status of a unit, where it is there
+abbrev pub status_in : Option Entry → Option Status
+status_in None = None
+status_in (Some entry) = Some entry.status
+
 -- the attempt of a unit
 abbrev pub attempt_in : Option Entry → ℕ
 attempt_in None = 0

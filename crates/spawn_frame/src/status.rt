@@ -30,6 +30,50 @@ pub enum Status {
 
 impl Status {
     ghost use Rattle.spawn_frame.specs.Aborts.{is_open};
+    ghost use Rattle.spawn_frame.specs.Picks.{is_finished, is_ready, is_split};
+    ghost use Rattle.spawn_frame.specs.Tables.{is_here, is_out, may_end};
+
+    /// Whether the unit waits for a worker.
+    pub fn is_ready(&self) -> bool
+        ensures { result ≡ is_ready self.now }
+    {
+        matches!(self, Status::Ready)
+    }
+
+    /// Whether a worker of this site has the unit.
+    pub fn is_here(&self) -> bool
+        ensures { result ≡ is_here self.now }
+    {
+        matches!(self, Status::Here)
+    }
+
+    /// Whether the unit is a frame.
+    pub fn is_split(&self) -> bool
+        ensures { result ≡ is_split self.now }
+    {
+        matches!(self, Status::Split)
+    }
+
+    /// Whether the own child was given to a thief.
+    pub fn is_out(&self) -> bool
+        ensures { result ≡ is_out self.now }
+    {
+        matches!(self, Status::Out(_))
+    }
+
+    /// Whether the guest has a result that its owner hasn't judged.
+    pub fn is_finished(&self) -> bool
+        ensures { result ≡ is_finished self.now }
+    {
+        matches!(self, Status::Finished(_))
+    }
+
+    /// Whether the unit's result may come: it is here, a frame, or out.
+    pub fn may_end(&self) -> bool
+        ensures { result ≡ may_end self.now }
+    {
+        matches!(self, Status::Here | Status::Split | Status::Out(_))
+    }
 
     /// Whether the unit is not finished for good.
     pub fn is_open(&self) -> bool

@@ -7,7 +7,7 @@ ghost use Rattle.spawn_frame.specs.Frames.{frame, frame_result};
 ghost use Rattle.spawn_frame.specs.Inlets.{frame_winner, heard_by};
 ghost use Rattle.spawn_frame.specs.Picks.{is_finished, is_ready, is_split, ready_unit, ripe_unit};
 ghost use Rattle.spawn_frame.specs.Splits.{split_into, with_result};
-ghost use Rattle.spawn_frame.specs.Tables.{attempt_in, empty_table, guest_key, has_status, is_after, is_at_work, is_here, is_out, longer_prefixes, may_end, new_guest, outs_of, parent_heard, parent_in, prefix_in, root_table, seen_guest, AllLawful, GivesResult, HasParents, IsAscending, IsAtWork, IsMadeBefore, IsSeen};
+ghost use Rattle.spawn_frame.specs.Tables.{attempt_in, empty_table, guest_key, has_status, is_after, is_at_work, is_here, is_out, longer_prefixes, may_end, new_guest, outs_of, parent_heard, parent_in, prefix_in, root_table, seen_guest, status_in, AllLawful, GivesResult, HasParents, IsAscending, IsAtWork, IsMadeBefore, IsSeen};
 ghost use Rattle.spawn_frame.specs.declared.site.ChildName.{ChildName};
 ghost use Rattle.spawn_frame.specs.declared.status.Status.{Status};
 ghost use Rattle.spawn_frame.specs.Units.{change_at, guest_in, insert_guest, last_attempt, redone, table_gets, table_guests, table_own, unit_of};
@@ -163,6 +163,15 @@ impl Table {
         })
     }
 
+    /// A unit's status; none where it isn't there. It is found as `unit` finds it.
+    pub fn status(&self, unit: Unit) -> Option<&Status>
+        ensures status { option_map (λ status. status.now) result ≡ status_in (unit_of self.now unit) }
+        ensures tested { IfSome result (λ status. (test : Status → Bool) → has_status test (unit_of self.now unit) ≡ test status.now) }
+    {
+        let work = self.work(unit)?;
+        Some(&work.status)
+    }
+
     /// Appends a unit's prefix to the list; the only error is want of memory, and the list is then as it was. It costs
     /// a look for the unit, and the prefix.
     pub fn prefix_into(&self, unit: Unit, list: &mut Vec<u16>) -> Result<(), AllocError>
@@ -172,7 +181,7 @@ impl Table {
     {
         match self.work(unit) {
             Some(work) => list.extend_from_slice(work.prefix.as_slice()),
-            None => Ok(()),
+            None => unreachable!(),
         }
     }
 
@@ -232,7 +241,7 @@ impl Table {
     {
         match self.work(unit) {
             Some(work) => work.heard(),
-            None => Heard::Open,
+            None => unreachable!(),
         }
     }
 
@@ -247,9 +256,9 @@ impl Table {
         match self.work(unit) {
             Some(work) => match &work.inlet {
                 Some(inlet) => inlet.winner(),
-                None => None,
+                None => unreachable!(),
             },
-            None => None,
+            None => unreachable!(),
         }
     }
 

@@ -45,8 +45,8 @@ impl Work {
         ensures { result ≡ is_wanted wanted self.now }
     {
         match wanted {
-            Wanted::Ready => matches!(self.status, Status::Ready),
-            Wanted::Ripe => matches!(self.status, Status::Split) && self.heard() == Heard::Settled,
+            Wanted::Ready => self.status.is_ready(),
+            Wanted::Ripe => self.status.is_split() && self.heard() == Heard::Settled,
         }
     }
 
@@ -108,12 +108,12 @@ impl Work {
         ensures hears { self.new ≡ with_heard child child_result.now self.old }
         ensures heard { result ≡ frame_says (Some self.new) }
     {
-        if !matches!(self.status, Status::Split) {
+        if !self.status.is_split() {
             return Heard::Open;
         }
         match &mut self.inlet {
             Some(inlet) => inlet.take(child, child_result),
-            None => Heard::Open,
+            None => unreachable!(),
         }
     }
 }

@@ -1,5 +1,7 @@
 //! Packets and their bytes, worked out by hand from the format.
 
+ghost use Rattle.std.specs.Prelude.{◌≡◌, ◌↔◌, IsTrue};
+
 use super::units::site;
 use cover_problem::Numbers;
 use packet_wire::WireFault::{Field, Kind, Magic, Short, Trailing, Version};
@@ -60,19 +62,43 @@ fn members<R: Abort>(rt: &R, alloc: Global) -> Incarnations {
     Incarnations::from_vec(vec![in alloc; 1, 256].expect(rt, "memory"))
 }
 
+/// A Return of the root at its first attempt.
+fn returned(told: ChildResult) -> Body {
+    Body::Return {
+        serial: 0,
+        attempt: 1,
+        result: told,
+    }
+}
+
 /// What the packet at this place says.
 fn body_of<R: Abort>(rt: &R, alloc: Global, place: usize) -> Body {
     match place {
-        0 => Body::Give(0, 1, list(rt, alloc, &[])),
-        1 => Body::Return(0, 1, ChildResult::Empty),
-        2 => Body::Return(0, 1, cover(rt, alloc, &[3, 4, 0])),
+        0 => Body::Give {
+            serial: 0,
+            attempt: 1,
+            prefix: list(rt, alloc, &[]),
+        },
+        1 => returned(ChildResult::Empty),
+        2 => returned(cover(rt, alloc, &[3, 4, 0])),
         3 => Body::Steal,
         4 => Body::Hello,
         5 => Body::Members(members(rt, alloc)),
         6 => Body::NoWork,
-        7 => Body::Accept(7, 2, cover(rt, alloc, &[19_999])),
-        8 => Body::Refuse(0, 1, Cause::Superseded),
-        9 => Body::Abort(256, u32::MAX),
+        7 => Body::Accept {
+            serial: 7,
+            attempt: 2,
+            result: cover(rt, alloc, &[19_999]),
+        },
+        8 => Body::Refuse {
+            serial: 0,
+            attempt: 1,
+            cause: Cause::Superseded,
+        },
+        9 => Body::Abort {
+            serial: 256,
+            attempt: u32::MAX,
+        },
         _ => Body::Over,
     }
 }
@@ -99,10 +125,16 @@ fn is_written<R: Abort>(rt: &R, alloc: Global, packet: &Packet, bytes: &[u8]) ->
     matches!(written(rt, alloc, packet).as_slice(), [7, rest @ ..] if rest == bytes)
 }
 
-/// Whether the packet is written so, and a copy of it.
+/// Whether two packets are the same.
+fn is_same(packet: &Packet, other: &Packet) -> bool
+    ensures { IsTrue result ↔ (packet.now ≡ other.now) }
+{
+    packet == other
+}
+
+/// Whether the packet is written so, and a copy of it is the same.
 fn writes<R: Abort>(rt: &R, alloc: Global, packet: &Packet, bytes: &[u8]) -> bool {
-    is_written(rt, alloc, packet, bytes)
-        && is_written(rt, alloc, &packet.copy().expect(rt, "memory"), bytes)
+    is_written(rt, alloc, packet, bytes) && is_same(&packet.copy().expect(rt, "memory"), packet)
 }
 
 /// Whether the packet at this place is written so.
@@ -136,32 +168,33 @@ fn read<R: Abort>(rt: &R, alloc: Global, bytes: &[u8]) -> Packet {
     read_packet(alloc, bytes).expect(rt, "a packet")
 }
 
-/// Whether it is from this site and to that.
-fn is_between(packet: &Packet, from: (u8, u32), to: (u8, u32)) -> bool {
-    packet.from == site(from.0, from.1) && packet.to == site(to.0, to.1)
-}
-
-/// Whether the bytes are read as a packet between these sites that is written so.
-fn reads<R: Abort>(rt: &R, alloc: Global, from: (u8, u32), to: (u8, u32), bytes: &[u8]) -> bool {
-    let packet = read(rt, alloc, bytes);
-    is_between(&packet, from, to) && is_written(rt, alloc, &packet, bytes)
+/// Whether the bytes are read as the packet at this place.
+fn reads<R: Abort>(
+    rt: &R,
+    alloc: Global,
+    place: usize,
+    (from, to): ((u8, u32), (u8, u32)),
+    bytes: &[u8],
+) -> bool {
+    is_same(
+        &read(rt, alloc, bytes),
+        &packet(from, to, body_of(rt, alloc, place)),
+    )
 }
 
 #[test]
 fn each_packet_is_read_from_its_bytes(rt: HostRuntime) {
-    for (from, to, bytes) in SPELLINGS.iter() {
-        assert!(rt; reads(&rt, rt.alloc(), *from, *to, bytes), "{bytes:?}");
+    for (place, (from, to, bytes)) in SPELLINGS.iter().enumerate() {
+        assert!(rt;
+            reads(&rt, rt.alloc(), place, (*from, *to), bytes),
+            "{place}"
+        );
     }
-}
-
-/// Whether it returns this cover of the root, at the first attempt.
-fn is_return_of(packet: &Packet, options: &[u16]) -> bool {
-    matches!(&packet.body, Body::Return(0, 1, ChildResult::Cover(read)) if read.as_slice() == options)
 }
 
 /// Whether the bytes are read as a return of this cover.
 fn reads_return<R: Abort>(rt: &R, alloc: Global, bytes: &[u8], options: &[u16]) -> bool {
-    is_return_of(&read(rt, alloc, bytes), options)
+    is_same(&read(rt, alloc, bytes), &cover_returned(rt, alloc, options))
 }
 
 #[test]
@@ -306,13 +339,9 @@ fn most_options<R: Abort>(rt: &R, alloc: Global) -> Vec<u16> {
     (19_000..20_000u16).collect(alloc).expect(rt, "memory")
 }
 
-/// A Return of a cover.
-fn returned<R: Abort>(rt: &R, alloc: Global, options: &[u16]) -> Packet {
-    packet(
-        (2, 1),
-        (0, 1),
-        Body::Return(0, 1, cover(rt, alloc, options)),
-    )
+/// The packet that returns a cover of the root.
+fn cover_returned<R: Abort>(rt: &R, alloc: Global, options: &[u16]) -> Packet {
+    packet((2, 1), (0, 1), returned(cover(rt, alloc, options)))
 }
 
 /// Whether these are the bytes of the longest packet, behind a 7: its list has 1,000 options, 19,000 to 19,999.
@@ -329,7 +358,7 @@ fn reads_behind_7<R: Abort>(rt: &R, alloc: Global, bytes: &[u8], options: &[u16]
 
 /// Whether a Return of these options is spelled as the longest packet, and read again.
 fn spells_longest<R: Abort>(rt: &R, alloc: Global, options: &[u16]) -> bool {
-    let bytes = written(rt, alloc, &returned(rt, alloc, options));
+    let bytes = written(rt, alloc, &cover_returned(rt, alloc, options));
     is_longest(&bytes) && reads_behind_7(rt, alloc, &bytes, options)
 }
 
@@ -340,7 +369,7 @@ fn longest_packet_is_written_and_read(rt: HostRuntime) {
 
 /// Whether a Return of these options is well formed.
 fn may_return<R: Abort>(rt: &R, alloc: Global, options: &[u16]) -> bool {
-    is_well_formed(&returned(rt, alloc, options))
+    is_well_formed(&cover_returned(rt, alloc, options))
 }
 
 #[test]
