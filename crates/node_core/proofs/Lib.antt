@@ -1,4 +1,5 @@
 pub mod Acting
+pub mod Again
 pub mod Alike
 pub mod Branches
 pub mod Picking

@@ -9,8 +9,10 @@ use Rattle.node_core.specs.declared.act_fault.ActFault.TheVariants.{Memory}
 use Rattle.node_core.specs.declared.event.Event.{Event}
 use Rattle.node_core.specs.declared.event.Event.TheVariants.{Deliver}
 use Rattle.node_core.specs.declared.reply.Reply.{Reply}
-use Rattle.packet_wire.specs.declared.packet.Body.TheVariants.{Give}
+use Rattle.packet_wire.specs.declared.packet.Body.{Body}
+use Rattle.packet_wire.specs.declared.packet.Body.TheVariants.{Give, Steal}
 use Rattle.packet_wire.specs.declared.packet.Packet.{Packet}
+use Rattle.spawn_frame.specs.declared.site.Site.{Site}
 use Rattle.steal_return.specs.Steals.{first_ready}
 
 -- a step of a machine, by its problem, the view before, the event, the reply, what is put out and the view after
@@ -27,10 +29,19 @@ abbrev pub refusal_told : {A : Type 0} → Result A ActFault → Option ActFault
 refusal_told (Ok answer) = None
 refusal_told (Err fault) = named_fault fault
 
+-- the child that is given to the site is the ready one of least serial
+abbrev pub GivesLeastTo : View → Site → List Packet → Type 0
+GivesLeastTo old from out =
+    (serial attempt : ℕ) (prefix : List ℕ) → out ≡ answer_packet old from (Give serial attempt prefix) → first_ready old.own ≡ Some serial
+
+-- the same of a packet that asks for work
+abbrev pub AnswersLeast : View → Site → Body → List Packet → Type 0
+AnswersLeast old from Steal out = GivesLeastTo old from out
+AnswersLeast old from _ out = ⊤
+
 -- of the ready children a Steal gets the one of least serial
 abbrev pub GivesLeast : View → Event → List Packet → Type 0
-GivesLeast old (Deliver packet) out =
-    (serial attempt : ℕ) (prefix : List ℕ) → out ≡ answer_packet old packet.from (Give serial attempt prefix) → first_ready old.own ≡ Some serial
+GivesLeast old (Deliver packet) out = AnswersLeast old packet.from packet.body out
 GivesLeast old _ out = ⊤
 
 -- An event is a step of the machine.

@@ -1,5 +1,5 @@
 -- Packets that arrive at a node: steals, results and their acceptance, refusals and aborts (Cilk-NOW).
-use Rattle.std.specs.Prelude.{◌≡◌, ℕ, true, List, [], ◌∷◌, slice_get}
+use Rattle.std.specs.Prelude.{◌≡◌, ◌⊎◌, ℕ, true, List, [], ◌∷◌, slice_get}
 use Rattle.cover_problem.specs.Prefix.{is_prefix}
 use Rattle.cover_problem.specs.Problem.{Problem}
 use Rattle.node_core.specs.SiteView.{View, abort_packets, with_ledger}
@@ -40,6 +40,10 @@ pub record Gives (old : View) (from : Site) (out : List Packet) (new : View) : T
   pub open gives use {entry, not_older, is, ready}
   pub after : new ≡ with_ledger old ledger
   pub sends : out ≡ answer_packet old from (Give given.serial given.attempt given.prefix)
+
+-- a Steal gets work or is told that there is none
+abbrev pub StealStep : View → Site → List Packet → View → Type 0
+StealStep old from out new = Denies old from out new ⊎ Gives old from out new
 
 -- A Give makes a guest of a prefix.
 pub record Admits (problem : Problem) (old : View) (from : Site) (serial attempt : ℕ) (prefix : List ℕ) (out : List Packet) (new : View) : Type 0 where

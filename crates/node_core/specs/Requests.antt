@@ -1,5 +1,5 @@
 -- What a site does of itself: it asks for work, gives a child out anew, and says again what may be lost.
-use Rattle.std.specs.Prelude.{◌≡◌, ◌≢◌, ℕ, suc, ◌≤◌, List, [], ◌∷◌, ◌++◌, slice_index}
+use Rattle.std.specs.Prelude.{◌≡◌, ◌≢◌, ℕ, suc, ◌≤◌, List, [], ◌∷◌, ◌++◌, Option, Some, None, slice_index}
 use Rattle.node_core.specs.Results.{return_packets}
 use Rattle.node_core.specs.SiteView.{View, with_ledger}
 use Rattle.node_core.specs.declared.reply.Reply.{Reply}
@@ -46,6 +46,11 @@ abbrev pub give_again : Site → ℕ → Entry → Status → List Packet
 give_again from serial entry (Out thief) = record { from = from; to = thief; body = Give serial entry.attempt entry.prefix } ∷ []
 give_again from serial entry _ = []
 
+-- the same of a child that is there
+abbrev pub given_again : Site → ℕ → Option Entry → List Packet
+given_again from serial None = []
+given_again from serial (Some entry) = give_again from serial entry entry.status
+
 -- a Give for each child that is out, by serial
 abbrev pub gives_again : Site → ℕ → List Entry → List Packet
 gives_again from serial [] = []
@@ -56,10 +61,19 @@ abbrev pub return_again : Site → GuestEntry → Status → List Packet
 return_again from g (Finished result) = return_packets from (Guest g.name g.entry.attempt) result
 return_again from g _ = []
 
+-- the same of a guest that is there
+abbrev pub returned_again : Site → Option GuestEntry → List Packet
+returned_again from None = []
+returned_again from (Some g) = return_again from g g.entry.status
+
 -- a Return for each finished guest, in order
 abbrev pub returns_again : Site → List GuestEntry → List Packet
 returns_again from [] = []
 returns_again from (g ∷ gs) = return_again from g g.entry.status ++ returns_again from gs
+
+-- all that a node says again
+abbrev pub all_again : View → List Packet
+all_again view = gives_again view.site 0 view.own ++ returns_again view.site view.guests
 
 -- the reply of an event that only sends
 abbrev pub moved_by : List Packet → Reply

@@ -154,6 +154,13 @@ impl Outgoing {
         }
     }
 
+    /// How many packets the first list has.
+    pub fn count(&self) -> usize
+        ensures { result ≡ length self.now.packets }
+    {
+        self.packets.len()
+    }
+
     /// How many packets the lists have.
     pub fn lengths(&self) -> (usize, usize)
         ensures packets { result.0 ≡ length self.now.packets }

@@ -1,17 +1,18 @@
 //! What a site does of itself: it asks for work, greets, and gives a child out anew.
 
-ghost use Rattle.std.specs.Prelude.{◌≡◌, ◌∷◌, [], IfOk, OnErr, OnOk};
+ghost use Rattle.std.specs.Prelude.{◌≡◌, ◌<◌, ◌∷◌, [], length, slice_get, IfOk, None, OnErr, OnOk};
 ghost use Rattle.node_core.specs.Acting.{refusal_told, MaySend, Sending};
 ghost use Rattle.node_core.specs.Outgoing.{Sends};
 ghost use Rattle.node_core.specs.Refusal.{ask_refusal, redo_refusal};
-ghost use Rattle.node_core.specs.Requests.{hello_packet, AskStep, RedoStep};
+ghost use Rattle.node_core.specs.Requests.{all_again, given_again, gives_again, hello_packet, moved_by, returned_again, returns_again, AskStep, RedoStep};
 
 use crate::act_fault::ActFault;
+use crate::arrivals::give_body;
 use crate::outgoing::Outgoing;
 use crate::reply::Reply;
 use crate::site_state::SiteState;
 use packet_wire::{Body, Packet};
-use spawn_frame::Site;
+use spawn_frame::{Site, Status, Unit};
 use std::alloc::AllocError;
 use steal_return::RedoFault;
 
@@ -67,5 +68,83 @@ impl SiteState {
             Err(RedoFault::NotOut) => Err(ActFault::NotOut),
             Err(RedoFault::NamesSpent) => Err(ActFault::NamesSpent),
         }
+    }
+
+    /// Says again what may have been lost: a Give for each child that is out, by serial, then a Return for each finished
+    /// guest, in order.
+    pub fn again(&self, out: &mut Outgoing) -> Result<Reply, ActFault>
+        ensures step { IfOk result (λ reply. Sending out.old out.new (λ sent. (sent ≡ all_again self.now) × (reply ≡ moved_by sent))) }
+        ensures refusal { refusal_told result ≡ None }
+        ensures list { OnErr result (MaySend out.old out.new) }
+    {
+        let before = out.count();
+        self.give_again(out)?;
+        self.return_again(out)?;
+        if out.count() == before {
+            Ok(Reply::Ignored)
+        } else {
+            Ok(Reply::Moved)
+        }
+    }
+
+    /// A Give for each child that is out, by serial.
+    pub fn give_again(&self, out: &mut Outgoing) -> Result<(), AllocError>
+        ensures ok { OnOk result (Sends out.old (gives_again self.now.site 0 self.now.own) out.new) }
+        ensures err { OnErr result (MaySend out.old out.new) }
+    {
+        for serial in 0..self.ledger.table().issued() {
+            self.give_one_again(serial, out)?;
+        }
+        Ok(())
+    }
+
+    /// A Give for a child, if it is out.
+    fn give_one_again(&self, serial: u32, out: &mut Outgoing) -> Result<(), AllocError>
+        requires { serial < length self.now.own }
+        ensures ok { OnOk result (Sends out.old (given_again self.now.site serial (slice_get self.now.own serial)) out.new) }
+        ensures err { OnErr result (Sends out.old [] out.new) }
+    {
+        let Some(Status::Out(thief)) = self.ledger.table().status(Unit::Own(serial)) else {
+            return Ok(());
+        };
+        let given = self.ledger.given(serial)?;
+        out.send(Packet {
+            from: self.site(),
+            to: *thief,
+            body: give_body(given),
+        })
+    }
+
+    /// A Return for each finished guest, in order.
+    fn return_again(&self, out: &mut Outgoing) -> Result<(), AllocError>
+        ensures ok { OnOk result (Sends out.old (returns_again self.now.site self.now.guests) out.new) }
+        ensures err { OnErr result (MaySend out.old out.new) }
+    {
+        for place in 0..self.ledger.table().guest_count() {
+            self.return_one_again(place, out)?;
+        }
+        Ok(())
+    }
+
+    /// A Return for a guest, if it is finished.
+    fn return_one_again(&self, place: usize, out: &mut Outgoing) -> Result<(), AllocError>
+        requires { place < length self.now.guests }
+        ensures ok { OnOk result (Sends out.old (returned_again self.now.site (slice_get self.now.guests place)) out.new) }
+        ensures err { OnErr result (Sends out.old [] out.new) }
+    {
+        let guest = self.ledger.table().guest(place);
+        let Status::Finished(result) = guest.status else {
+            return Ok(());
+        };
+        let body = Body::Return {
+            serial: guest.name.serial,
+            attempt: guest.attempt,
+            result: result.copy()?,
+        };
+        out.send(Packet {
+            from: self.site(),
+            to: guest.name.site,
+            body,
+        })
     }
 }

@@ -1,24 +1,27 @@
 //! Searches and frames that come to a result.
 
-ghost use Rattle.std.specs.Prelude.{◌≡◌, ◌<◌, [], true, length, IfOk, None, OnErr, OnOk};
+ghost use Rattle.std.specs.Prelude.{◌≡◌, ◌<◌, [], true, length, IfOk, IsSome, None, OnErr, OnOk};
 ghost use Rattle.cover_problem.specs.Branching.{children};
 ghost use Rattle.cover_problem.specs.Prefix.{is_prefix};
 ghost use Rattle.node_core.specs.Acting.{refusal_told, MaySend, Sending};
 ghost use Rattle.node_core.specs.Outgoing.{Sends};
-ghost use Rattle.node_core.specs.Refusal.{post_refusal, split_refusal};
-ghost use Rattle.node_core.specs.Results.{return_packets, split_up, IsRight, PostStep, EndStep, SplitStep};
+ghost use Rattle.node_core.specs.Refusal.{finish_refusal, post_refusal, split_refusal};
+ghost use Rattle.node_core.specs.Results.{return_packets, split_up, IsRight, EndStep, FinishStep, IsReturnLoad, PostStep, SplitStep};
 ghost use Rattle.node_core.specs.SiteView.{unit_in};
+ghost use Rattle.spawn_frame.specs.Frames.{frame, frame_result};
+ghost use Rattle.spawn_frame.specs.Picks.{is_split};
 ghost use Rattle.spawn_frame.specs.Tables.{has_status, is_here, longer_prefixes, may_end, prefix_in};
 
 use crate::act_fault::ActFault;
-use crate::outgoing::Outgoing;
+use crate::outgoing::{Load, Outgoing};
 use crate::reply::Reply;
 use crate::site_state::SiteState;
 use brancher::{Branch, Finding, Outcome, branch, children, choose_prefix};
 use dancing_links::Links;
 use packet_wire::{Body, Packet};
-use spawn_frame::{ChildResult, Job, SpawnFault, Unit};
+use spawn_frame::{ChildResult, Heard, Job, SpawnFault, Unit};
 use std::alloc::AllocError;
+use steal_return::aborts_are_few;
 
 impl SiteState {
     /// A worker has searched the prefix of a job: the unit gets its result, or is split where the fuel was spent.
@@ -144,5 +147,54 @@ impl SiteState {
         let mut options = Vec::new(self.alloc);
         children(links, item, &mut options)?;
         Ok(options)
+    }
+
+    /// Gives a settled frame its result; a guest's goes to its owner, and the thieves below are told that their children
+    /// are wanted no more.
+    pub fn finish(&mut self, unit: Unit, out: &mut Outgoing) -> Result<Reply, ActFault>
+        ensures step { IfOk result (λ reply. Sending out.old out.new (λ sent. (reply ≡ Reply.Moved) × FinishStep self.old unit sent self.new)) }
+        ensures refusal { refusal_told result ≡ finish_refusal self.old unit }
+        ensures err { OnErr result (self.new ≡ self.old) }
+        ensures list { OnErr result (MaySend out.old out.new) }
+    {
+        let table = self.ledger.table();
+        if !table.status(unit).is_some_and(|status| status.is_split()) {
+            return Err(ActFault::NotOpen);
+        }
+        if table.heard(unit) == Heard::Open {
+            return Err(ActFault::NotSettled);
+        }
+        let load = self.return_load(unit, out)?;
+        out.reserve(self.ledger.table().outs() + 1)?;
+        let mut outs = Vec::new(self.alloc);
+        self.ledger.finish(unit, &mut outs)?;
+        aborts_are_few();
+        out.put_aborts(self.site(), &outs);
+        if let Some(load) = load {
+            out.put(load);
+        }
+        Ok(Reply::Moved)
+    }
+
+    /// What a settled frame will return to its owner, if it is a guest.
+    fn return_load(&self, unit: Unit, out: &Outgoing) -> Result<Option<Load>, AllocError>
+        requires split { has_status is_split (unit_in self.now unit) ≡ true }
+        requires settled { IsSome (frame_result (frame unit self.now.own)) }
+        ensures { IfOk result (IsReturnLoad self.now.site unit (frame_result (frame unit self.now.own)) out.now.both) }
+    {
+        let Unit::Guest(name, attempt) = unit else {
+            return Ok(None);
+        };
+        let body = Body::Return {
+            serial: name.serial,
+            attempt,
+            result: self.ledger.frame_result(unit)?,
+        };
+        let load = out.load(Packet {
+            from: self.site(),
+            to: name.site,
+            body,
+        })?;
+        Ok(Some(load))
     }
 }

@@ -1,0 +1,38 @@
+-- What is said again, unit by unit.
+use Rattle.std.proofs.Common.{◌≡◌, ℕ, zero, suc, ◌+◌, ◌<◌, ◌≤◌, List, [], ◌∷◌, ◌++◌, length, take, Option, Some, None, slice_get, refl, sym, ap, ◌∙◌, subst, arith, append_assoc, append-nil, add-zero, add-suc}
+use Rattle.node_core.specs.Requests.{give_again, given_again, gives_again, moved_by, return_again, returned_again, returns_again}
+use Rattle.node_core.specs.declared.reply.Reply.TheVariants.{Ignored, Moved}
+use Rattle.packet_wire.specs.declared.packet.Packet.{Packet}
+use Rattle.spawn_frame.specs.Units.{Entry, GuestEntry}
+use Rattle.spawn_frame.specs.declared.site.Site.{Site}
+
+-- the Gives of one child more, of those from serial s on
+pub gives_next : (from : Site) (s : ℕ) (own : List Entry) (i : ℕ) → i < length own
+    → gives_again from s (take (suc i) own) ≡ gives_again from s (take i own) ++ given_again from (s + i) (slice_get own i)
+gives_next from s [] i l = absurd (omega (arith, l))
+gives_next from s (c ∷ cs) zero l =
+    append-nil (give_again from s c c.status) ∙ ap (λ k. give_again from k c c.status) (sym (add-zero s))
+gives_next from s (c ∷ cs) (suc i) l =
+    ap (λ ps. give_again from s c c.status ++ ps) (gives_next from (suc s) cs i (omega (arith, l)))
+    ∙ sym (append_assoc (give_again from s c c.status) (gives_again from (suc s) (take i cs)) (given_again from (suc s + i) (slice_get cs i)))
+    ∙ ap (λ k. (give_again from s c c.status ++ gives_again from (suc s) (take i cs)) ++ given_again from k (slice_get cs i)) (omega arith)
+
+-- the Returns of one guest more
+pub returns_next : (from : Site) (guests : List GuestEntry) (i : ℕ) → i < length guests
+    → returns_again from (take (suc i) guests) ≡ returns_again from (take i guests) ++ returned_again from (slice_get guests i)
+returns_next from [] i l = absurd (omega (arith, l))
+returns_next from (g ∷ gs) zero l = append-nil (return_again from g g.entry.status)
+returns_next from (g ∷ gs) (suc i) l =
+    ap (λ ps. return_again from g g.entry.status ++ ps) (returns_next from gs i (omega (arith, l)))
+    ∙ sym (append_assoc (return_again from g g.entry.status) (returns_again from (take i gs)) (returned_again from (slice_get gs i)))
+
+-- where nothing is said, the reply is Ignored
+pub none_moved : (ps qs : List Packet) → length (ps ++ qs) ≡ length ps → Ignored ≡ moved_by qs
+none_moved ps [] e = refl
+none_moved [] (q ∷ qs) e = absurd (omega (arith, e))
+none_moved (p ∷ ps) (q ∷ qs) e = none_moved ps (q ∷ qs) (omega (arith, e))
+
+-- where something is, it is Moved
+pub some_moved : (ps qs : List Packet) → (length (ps ++ qs) ≡ length ps → ⊥) → Moved ≡ moved_by qs
+some_moved ps [] e = absurd (e (ap length (append-nil ps)))
+some_moved ps (q ∷ qs) e = refl
