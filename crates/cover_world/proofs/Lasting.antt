@@ -36,9 +36,10 @@ members_refused problem view packet incarnations serial thief body last older re
     let heard : HearStep problem view packet.from (Members incarnations) reply out new = subst (λ b. HearStep problem view packet.from b reply out new) body step.1.2 in
     last_not_redoable view serial thief last (is_older heard.0.known) (ap (λ known. is_older known thief) heard.0.known_is ∙ older) heard.0.redoable
 
-pub hello_refused : (problem : Problem) (view : View) (packet : Packet) (serial : ℕ) (thief : Site) → packet.body ≡ Hello
-    → IsLastOut view serial thief → is_earlier_run packet.from.node (raised view.known packet.from.node packet.from.incarnation) thief ≡ true
+pub hello_refused : (problem : Problem) (view : View) (packet : Packet) (known : List ℕ) (serial : ℕ) (thief : Site) → packet.body ≡ Hello
+    → IsLastOut view serial thief → known ≡ raised view.known packet.from.node packet.from.incarnation → is_earlier_run packet.from.node known thief ≡ true
     → (reply : Reply) (out : List Packet) (new : View) → RegistryStep problem view (Deliver packet) reply out new → ⊥
-hello_refused problem view packet serial thief body last earlier reply out new step =
+hello_refused problem view packet known serial thief body last is earlier reply out new step =
     let heard : RootHears problem view packet.from Hello reply out new = subst (λ b. RootHears problem view packet.from b reply out new) body step.2 in
-    last_not_redoable view serial thief last (is_earlier_run packet.from.node heard.1.known) (ap (λ known. is_earlier_run packet.from.node known thief) heard.1.known_is ∙ earlier) heard.1.redoable
+    let same : heard.1.known ≡ known = heard.1.known_is ∙ sym is in
+    last_not_redoable view serial thief last (is_earlier_run packet.from.node heard.1.known) (ap (λ n. is_earlier_run packet.from.node n thief) same ∙ earlier) heard.1.redoable

@@ -37,8 +37,8 @@ pub fn below_goes_on()
         IsBelow (same_unit (Own upper)) own lower → IsBelow top own lower }
 {}
 
-/// A step of a site is determined by its view and the event, but for the child that a Steal is given; and of a Steal too,
-/// once it is known which child is given, or that none is.
+/// A step of a site is determined by its view and the event, but for the child that a Steal is
+/// given; and of a Steal too, once it is known which child is given, or that none is.
 pub fn step_is_determined()
     ensures node { (problem : Problem) (old : View) (event : Event) (reply other_reply : Reply)
         (out other_out : List Packet) (new other_new : View) → may_choose event ≡ false →
@@ -48,13 +48,15 @@ pub fn step_is_determined()
         (out other_out : List Packet) (new other_new : View) → may_choose event ≡ false →
         RegistryStep problem old event reply out new → RegistryStep problem old event other_reply other_out other_new →
         SameStep reply other_reply out other_out new other_new }
-    ensures node_choice { (problem : Problem) (old : View) (event : Event) (reply other_reply : Reply)
-        (out other_out : List Packet) (new other_new : View) → given_by out ≡ given_by other_out →
-        NodeStep problem old event reply out new → NodeStep problem old event other_reply other_out other_new →
+    ensures node_choice { (problem : Problem) (old : View) (event : Event)
+        (reply other_reply : Reply) (out other_out : List Packet) (new other_new : View) →
+        given_by out ≡ given_by other_out → NodeStep problem old event reply out new →
+        NodeStep problem old event other_reply other_out other_new →
         SameStep reply other_reply out other_out new other_new }
-    ensures registry_choice { (problem : Problem) (old : View) (event : Event) (reply other_reply : Reply)
-        (out other_out : List Packet) (new other_new : View) → given_by out ≡ given_by other_out →
-        RegistryStep problem old event reply out new → RegistryStep problem old event other_reply other_out other_new →
+    ensures registry_choice { (problem : Problem) (old : View) (event : Event)
+        (reply other_reply : Reply) (out other_out : List Packet) (new other_new : View) →
+        given_by out ≡ given_by other_out → RegistryStep problem old event reply out new →
+        RegistryStep problem old event other_reply other_out other_new →
         SameStep reply other_reply out other_out new other_new }
 {}
 

@@ -39,10 +39,10 @@ pub fn packet_for_another_site()
 
 /// A packet from a node that there isn't changes nothing and isn't answered.
 pub fn packet_of_no_node()
-    ensures node { (problem : Problem) (view : View) (packet : Packet) → view.nodes < packet.from.node →
-        NodeRefuses problem view (Deliver packet) }
-    ensures registry { (problem : Problem) (view : View) (packet : Packet) → view.nodes < packet.from.node →
-        RegistryRefuses problem view (Deliver packet) }
+    ensures node { (problem : Problem) (view : View) (packet : Packet) →
+        view.nodes < packet.from.node → NodeRefuses problem view (Deliver packet) }
+    ensures registry { (problem : Problem) (view : View) (packet : Packet) →
+        view.nodes < packet.from.node → RegistryRefuses problem view (Deliver packet) }
 {}
 
 /// A node that is over takes part no more.
@@ -92,25 +92,29 @@ pub fn redo_of_no_use()
         slice_get view.own serial ≡ Some entry → entry.attempt ≡ last_attempt → NodeRefuses problem view (Redo serial) }
 {}
 
-/// Nor does the registry redo a child that isn't out, or stands at its last attempt; where it has the root alone, no other.
+/// Nor does the registry redo a child that isn't out, or one after its last attempt; where it has
+/// the root alone, it redoes no other.
 pub fn root_redo_of_no_use()
     ensures not_out { (problem : Problem) (view : View) (serial : ℕ) → (IsOut view serial → ⊥) →
         RegistryRefuses problem view (Redo serial) }
-    ensures last { (problem : Problem) (view : View) (serial : ℕ) (thief : Site) → IsLastOut view serial thief →
-        RegistryRefuses problem view (Redo serial) }
-    ensures other { (problem : Problem) (view : View) (serial : ℕ) (root : Entry) → view.own ≡ root ∷ [] → serial ≢ 0 →
-        RegistryRefuses problem view (Redo serial) }
+    ensures last { (problem : Problem) (view : View) (serial : ℕ) (thief : Site) →
+        IsLastOut view serial thief → RegistryRefuses problem view (Redo serial) }
+    ensures other { (problem : Problem) (view : View) (serial : ℕ) (root : Entry) →
+        view.own ≡ root ∷ [] → serial ≢ 0 → RegistryRefuses problem view (Redo serial) }
 {}
 
-/// Nothing is learnt of the others where a child would have to be redone and stands at its last attempt.
+/// Nothing is learnt of the others where a child would have to be redone and stands at its last
+/// attempt.
 pub fn lost_at_the_last_attempt()
-    ensures members { (problem : Problem) (view : View) (packet : Packet) (incarnations : List ℕ) (serial : ℕ) (thief : Site) →
-        packet.body ≡ Members incarnations → IsLastOut view serial thief →
+    ensures members { (problem : Problem) (view : View) (packet : Packet) (incarnations : List ℕ)
+        (serial : ℕ) (thief : Site) → packet.body ≡ Members incarnations →
+        IsLastOut view serial thief →
         is_older (now_known view.site.node view.known incarnations) thief ≡ true →
         NodeRefuses problem view (Deliver packet) }
-    ensures hello { (problem : Problem) (view : View) (packet : Packet) (serial : ℕ) (thief : Site) →
-        packet.body ≡ Hello → IsLastOut view serial thief →
-        is_earlier_run packet.from.node (raised view.known packet.from.node packet.from.incarnation) thief ≡ true →
+    ensures hello { (problem : Problem) (view : View) (packet : Packet) (known : List ℕ)
+        (serial : ℕ) (thief : Site) → packet.body ≡ Hello → IsLastOut view serial thief →
+        known ≡ raised view.known packet.from.node packet.from.incarnation →
+        is_earlier_run packet.from.node known thief ≡ true →
         RegistryRefuses problem view (Deliver packet) }
 {}
 

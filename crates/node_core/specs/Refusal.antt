@@ -37,7 +37,8 @@ use Rattle.steal_return.specs.Steals.{is_older}
 abbrev pub is_awaited : View → Job → Finding → Bool
 is_awaited view job finding =
     has_status is_here (unit_in view job.unit)
-    && (attempt_in (unit_in view job.unit) == job.attempt && pointwise nat_eq (prefix_in (unit_in view job.unit)) finding.prefix)
+    && (attempt_in (unit_in view job.unit) == job.attempt
+    && pointwise nat_eq (prefix_in (unit_in view job.unit)) finding.prefix)
 
 -- the fuel did not suffice
 abbrev pub is_spent : Outcome → Bool
@@ -46,13 +47,15 @@ is_spent _ = false
 
 -- the site may not name so many children more as the prefix has
 abbrev pub lacks_names : Problem → View → List ℕ → Bool
-lacks_names problem view prefix = nat_lt view.limit (length view.own + length (children problem prefix))
+lacks_names problem view prefix =
+    nat_lt view.limit (length view.own + length (children problem prefix))
 
 -- a finding is of a job that is awaited, and where the fuel did not suffice each child gets a name
 abbrev pub post_refusal : Problem → View → Job → Finding → Option ActFault
 post_refusal problem view job finding =
     if not (is_awaited view job finding) then Some faults.StaleJob
-    else if is_spent finding.outcome && lacks_names problem view finding.prefix then Some faults.NamesSpent
+    else if is_spent finding.outcome && lacks_names problem view finding.prefix
+    then Some faults.NamesSpent
     else None
 
 -- a unit that is finished is split, and its frame is settled
@@ -68,7 +71,8 @@ is_beyond view node = nat_lt view.nodes node
 
 -- a victim is another node, or the registry
 abbrev pub ask_refusal : View → ℕ → Option ActFault
-ask_refusal view victim = if victim == view.site.node || is_beyond view victim then Some faults.OtherSite else None
+ask_refusal view victim =
+    if victim == view.site.node || is_beyond view victim then Some faults.OtherSite else None
 
 -- a child that is redone is out, and not at its last attempt
 abbrev pub redo_refusal : View → ℕ → Option ActFault
@@ -90,11 +94,14 @@ any_spent lost own = list_any (λ c. is_spent_at lost (Some c)) own
 -- Members is learnt where each child can be redone that has to be
 abbrev pub members_refusal : View → List ℕ → Option ActFault
 members_refusal view incarnations =
-    if any_spent (is_older (now_known view.site.node view.known incarnations)) view.own then Some faults.NamesSpent else None
+    if any_spent (is_older (now_known view.site.node view.known incarnations)) view.own
+    then Some faults.NamesSpent
+    else None
 
 -- a Give is ignored: a later run of its sender is known, or the guest is there already
 abbrev pub is_ignored : View → ChildName → ℕ → Bool
-is_ignored view name attempt = is_older view.known name.site || is_some (guest_in view.guests name attempt)
+is_ignored view name attempt =
+    is_older view.known name.site || is_some (guest_in view.guests name attempt)
 
 -- a list that is given is a prefix, unless the packet is ignored
 abbrev pub give_refusal : Problem → View → ChildName → ℕ → List ℕ → Option ActFault
@@ -104,7 +111,8 @@ give_refusal problem view name attempt prefix =
 -- of the bodies that arrive, Members and Give may be refused
 abbrev pub hear_refusal : Problem → View → Site → Body → Option ActFault
 hear_refusal problem view from (Members incarnations) = members_refusal view incarnations
-hear_refusal problem view from (Give serial attempt prefix) = give_refusal problem view (record { site = from; serial = serial }) attempt prefix
+hear_refusal problem view from (Give serial attempt prefix) =
+    give_refusal problem view (record { site = from; serial = serial }) attempt prefix
 hear_refusal problem view from _ = None
 
 -- ---- the first fault
@@ -120,23 +128,26 @@ event_refusal problem view (Deliver packet) = hear_refusal problem view packet.f
 event_refusal problem view Again = None
 event_refusal problem view Greet = None
 
--- the first fault of an event at a node: a packet may be misdirected, then a node that is over refuses every event
+-- The first fault of an event at a node: a packet may be misdirected, and else a node that is over
+-- refuses every event.
 abbrev pub node_refusal : Problem → View → Event → Option ActFault
 node_refusal problem view (Deliver packet) =
     if is_misdirected view packet then Some faults.OtherSite
     else if view.over then Some faults.Over
     else event_refusal problem view (Deliver packet)
-node_refusal problem view event = if view.over then Some faults.Over else event_refusal problem view event
+node_refusal problem view event =
+    if view.over then Some faults.Over else event_refusal problem view event
 
 -- ---- when there is a step
 
--- what is true of each event that a site is told of: its packet has a spelling, its finding is right
+-- what is true of each event that a site is told of: the packet has a spelling, the finding is right
 abbrev pub IsFit : Problem → Event → Type 0
 IsFit problem (Deliver packet) = is_well_formed packet ≡ true
 IsFit problem (Post job finding) = IsRight problem finding
 IsFit problem _ = ⊤
 
--- What is true of the view of each node: parents are made before their children, guests stand in order, and it isn't the registry.
+-- What is true of the view of each node: parents are made before their children, guests stand in
+-- order, and it isn't the registry.
 pub record IsNodeView (view : View) : Type 0 where
   pub parents : HasParents view.table
   pub ascending : IsAscending view.guests

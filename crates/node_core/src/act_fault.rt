@@ -1,8 +1,9 @@
-/// Why an event is refused. Whatever the fault is, the site stays as it was and no packet is put out.
+/// Why an event is refused. Whatever the fault is, the site stays as it was, and no packet is put
+/// out.
 #[derive(Clone, Copy, Debug, PartialEq, Eq)]
 pub enum ActFault {
-    /// The finding is of a job that the site doesn't wait for: the unit isn't worked on here at that
-    /// attempt with that prefix.
+    /// The finding is of a job that the site doesn't wait for: the unit isn't worked on here at
+    /// that attempt and with that prefix.
     StaleJob,
     /// The unit to be finished isn't split.
     NotOpen,
@@ -10,8 +11,8 @@ pub enum ActFault {
     NotSettled,
     /// The child to be given out anew isn't out.
     NotOut,
-    /// The packet is for another site or from a node that there isn't, the victim is the site's own node
-    /// or one that there isn't, or the registry is asked for what only nodes do.
+    /// The packet is for another site or from a node that there isn't, or the victim is the site's
+    /// own node or one that there isn't, or the registry is asked for what only nodes do.
     OtherSite,
     /// The node takes part no more.
     Over,

@@ -23,7 +23,9 @@ use Rattle.steal_return.specs.Returns.{Enters, Judgement, judged}
 -- a Hello is learnt, unless the root would have to be redone and stands at its last attempt
 abbrev pub hello_refusal : View → Site → Option ActFault
 hello_refusal view from =
-    if any_spent (is_earlier_run from.node (raised view.known from.node from.incarnation)) view.own then Some faults.NamesSpent else None
+    if any_spent (is_earlier_run from.node (raised view.known from.node from.incarnation)) view.own
+    then Some faults.NamesSpent
+    else None
 
 -- the verdict finds nothing wrong
 abbrev pub is_exact : Verdict → Bool
@@ -37,19 +39,22 @@ is_acceptable problem Empty = true
 
 -- a cover that enters has to count right
 abbrev pub return_refusal : Problem → ChildResult → Judgement → Option ActFault
-return_refusal problem result Enters = if is_acceptable problem result then None else Some faults.BadCover
+return_refusal problem result Enters =
+    if is_acceptable problem result then None else Some faults.BadCover
 return_refusal problem result _ = None
 
 -- of the bodies that arrive, Hello and Return may be refused
 abbrev pub root_hear_refusal : Problem → View → Site → Body → Option ActFault
 root_hear_refusal problem view from Hello = hello_refusal view from
-root_hear_refusal problem view from (Return serial attempt result) = return_refusal problem result (judged (slice_get view.own serial) from attempt)
+root_hear_refusal problem view from (Return serial attempt result) =
+    return_refusal problem result (judged (slice_get view.own serial) from attempt)
 root_hear_refusal problem view from _ = None
 
 -- the first fault of an event at the registry, which does no work of its own
 abbrev pub registry_refusal : Problem → View → Event → Option ActFault
 registry_refusal problem view (Deliver packet) =
-    if is_misdirected view packet then Some faults.OtherSite else root_hear_refusal problem view packet.from packet.body
+    if is_misdirected view packet then Some faults.OtherSite
+    else root_hear_refusal problem view packet.from packet.body
 registry_refusal problem view (Redo serial) = redo_refusal view serial
 registry_refusal problem view Again = None
 registry_refusal problem view _ = Some faults.OtherSite

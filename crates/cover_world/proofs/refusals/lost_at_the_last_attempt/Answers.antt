@@ -6,5 +6,5 @@ returns-clause-members c = λ problem view packet incarnations serial thief body
     members_refused problem view packet incarnations serial thief body last older reply out new step
 
 pub returns-clause-hello : goal.returns-clause-hello
-returns-clause-hello c = λ problem view packet serial thief body last earlier reply out new step.
-    hello_refused problem view packet serial thief body last earlier reply out new step
+returns-clause-hello c = λ problem view packet known serial thief body last is earlier reply out new step.
+    hello_refused problem view packet known serial thief body last is earlier reply out new step
