@@ -52,7 +52,8 @@ lacks_names problem view prefix =
 
 -- a unit is split where each child gets a name
 abbrev pub split_refusal : Problem → View → List ℕ → Option ActFault
-split_refusal problem view prefix = if lacks_names problem view prefix then Some faults.NamesSpent else None
+split_refusal problem view prefix =
+    if lacks_names problem view prefix then Some faults.NamesSpent else None
 
 -- a finding is of a job that is awaited, and where the fuel did not suffice each child gets a name
 abbrev pub post_refusal : Problem → View → Job → Finding → Option ActFault
