@@ -1,5 +1,7 @@
 -- What is said again, unit by unit.
 use Rattle.std.proofs.Common.{◌≡◌, ℕ, zero, suc, ◌+◌, ◌<◌, ◌≤◌, List, [], ◌∷◌, ◌++◌, length, take, Option, Some, None, slice_get, refl, sym, ap, ◌∙◌, subst, arith, append_assoc, append-nil, add-zero, add-suc}
+use Rattle.node_core.proofs.Sending.{sends_more}
+use Rattle.node_core.specs.Outgoing.{Lists, Sends}
 use Rattle.node_core.specs.Requests.{give_again, given_again, gives_again, moved_by, return_again, returned_again, returns_again}
 use Rattle.node_core.specs.declared.reply.Reply.TheVariants.{Ignored, Moved}
 use Rattle.packet_wire.specs.declared.packet.Packet.{Packet}
@@ -36,3 +38,27 @@ none_moved (p ∷ ps) (q ∷ qs) e = none_moved ps (q ∷ qs) (omega (arith, e))
 pub some_moved : (ps qs : List Packet) → (length (ps ++ qs) ≡ length ps → ⊥) → Moved ≡ moved_by qs
 some_moved ps [] e = absurd (e (ap length (append-nil ps)))
 some_moved ps (q ∷ qs) e = refl
+
+-- the Gives up to a serial are sent, and that of the child at it
+pub gives_sent : (old mid new : Lists) (from : Site) (own : List Entry) (i : ℕ) → i < length own
+    → Sends old (gives_again from 0 (take i own)) mid → Sends mid (given_again from i (slice_get own i)) new
+    → Sends old (gives_again from 0 (take (i + 1) own)) new
+gives_sent old mid new from own i l before then =
+    let P : List Packet → Type 0 = λ ps. Sends old ps new in
+    let next = gives_next from 0 own i l in
+    let more : i + 1 ≡ suc i = omega arith in
+    let start : 0 + i ≡ i = omega arith in
+    let at : take (i + 1) own ≡ take (suc i) own = ap (λ k. take k own) more in
+    subst P (sym (ap (gives_again from 0) at ∙ next ∙ ap (λ k. gives_again from 0 (take i own) ++ given_again from k (slice_get own i)) start))
+    (sends_more old mid new (gives_again from 0 (take i own)) (given_again from i (slice_get own i)) before then)
+
+-- the Returns up to a place are sent, and that of the guest at it
+pub returns_sent : (old mid new : Lists) (from : Site) (guests : List GuestEntry) (i : ℕ) → i < length guests
+    → Sends old (returns_again from (take i guests)) mid → Sends mid (returned_again from (slice_get guests i)) new
+    → Sends old (returns_again from (take (i + 1) guests)) new
+returns_sent old mid new from guests i l before then =
+    let P : List Packet → Type 0 = λ ps. Sends old ps new in
+    let more : i + 1 ≡ suc i = omega arith in
+    let at : take (i + 1) guests ≡ take (suc i) guests = ap (λ k. take k guests) more in
+    subst P (sym (ap (returns_again from) at ∙ returns_next from guests i l))
+    (sends_more old mid new (returns_again from (take i guests)) (returned_again from (slice_get guests i)) before then)

@@ -2,6 +2,7 @@ pub mod Acting
 pub mod Again
 pub mod Alike
 pub mod Branches
+pub mod Outs
 pub mod Picking
 pub mod Posting
 pub mod Reaching
@@ -9,3 +10,4 @@ pub mod Sending
 pub mod Spending
 pub mod Splits
 pub mod Stepping
+pub mod Telling

@@ -1,5 +1,5 @@
 -- Where the packets of an event go.
-use Rattle.std.specs.Prelude.{◌≡◌, ℕ, Bool, true, false, List, [], ◌++◌, Option, Some, None, min}
+use Rattle.std.specs.Prelude.{◌≡◌, ℕ, Bool, true, false, List, [], ◌∷◌, ◌++◌, Option, Some, None, min, ⊤}
 use Rattle.packet_wire.specs.declared.packet.Packet.{Packet}
 
 -- one list that packets are appended to, or two alike
@@ -39,3 +39,13 @@ copy_for true packet = Some packet
 pub record IsLoad (both : Bool) (packet : Packet) (load : LoadValue) : Type 0 where
   pub packet_is : load.packet ≡ packet
   pub copy_is : load.copy ≡ copy_for both packet
+
+-- the packet that is ready, if there is one
+abbrev pub loaded : Option LoadValue → List Packet
+loaded None = []
+loaded (Some load) = load.packet ∷ []
+
+-- what is ready is so for each of the lists
+abbrev pub IsReady : Bool → Option LoadValue → Type 0
+IsReady both None = ⊤
+IsReady both (Some load) = IsLoad both load.packet load

@@ -141,17 +141,19 @@ impl SiteState {
         ensures err { OnErr result (self.new ≡ self.old) }
         ensures list { OnErr result (MaySend out.old out.new) }
     {
-        out.reserve(self.ledger.table().outs())?;
+        let site = self.site();
+        out.reserve(self.outs())?;
         let mut outs = Vec::new(self.alloc);
         let dropped = self
             .ledger
             .receive_refuse(from, serial, attempt, &mut outs)?;
         aborts_are_few();
-        if !dropped {
-            return Ok(Reply::Ignored);
+        if dropped {
+            out.put_aborts(site, &outs);
+            Ok(Reply::Moved)
+        } else {
+            Ok(Reply::Ignored)
         }
-        out.put_aborts(self.site(), &outs);
-        Ok(Reply::Moved)
     }
 
     /// The search is over.

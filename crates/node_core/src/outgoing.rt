@@ -1,7 +1,7 @@
 //! Where the packets of an event go.
 
 ghost use Rattle.std.specs.Prelude.{◌≡◌, ◌+◌, ◌∷◌, ◌≤◌, [], false, length, take, true, IfOk, OnErr, OnOk};
-ghost use Rattle.node_core.specs.Outgoing.{IsLoad, Sends};
+ghost use Rattle.node_core.specs.Outgoing.{loaded, IsLoad, IsReady, Sends};
 ghost use Rattle.node_core.specs.SiteView.{abort_packet, abort_packets};
 
 use packet_wire::{Body, Packet};
@@ -116,6 +116,17 @@ impl Outgoing {
         self.packets.push_reserved(packet);
         if let Some(copy) = copy {
             self.copies.push_reserved(copy);
+        }
+    }
+
+    /// Puts a packet into each list if one is ready; the lists are asked to have room for one.
+    pub fn put_ready(&mut self, load: Option<Load>)
+        requires room { 1 ≤ self.old.room }
+        requires load { IsReady self.old.both load }
+        ensures { Sends self.old (loaded load) self.new }
+    {
+        if let Some(load) = load {
+            self.put(load);
         }
     }
 

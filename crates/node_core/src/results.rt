@@ -164,15 +164,14 @@ impl SiteState {
         if table.heard(unit) == Heard::Open {
             return Err(ActFault::NotSettled);
         }
+        let site = self.site();
         let load = self.return_load(unit, out)?;
-        out.reserve(self.ledger.table().outs() + 1)?;
+        out.reserve(self.outs() + 1)?;
         let mut outs = Vec::new(self.alloc);
         self.ledger.finish(unit, &mut outs)?;
         aborts_are_few();
-        out.put_aborts(self.site(), &outs);
-        if let Some(load) = load {
-            out.put(load);
-        }
+        out.put_aborts(site, &outs);
+        out.put_ready(load);
         Ok(Reply::Moved)
     }
 

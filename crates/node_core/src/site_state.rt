@@ -1,5 +1,5 @@
-ghost use Rattle.std.specs.Prelude.{◌≡◌, ◌≤◌};
-ghost use Rattle.steal_return.specs.Invariant.{IsLedger};
+ghost use Rattle.std.specs.Prelude.{◌≡◌, ◌<◌, ◌^◌};
+ghost use Rattle.spawn_frame.specs.Tables.{outs_of};
 
 use spawn_frame::Site;
 use std::alloc::Global;
@@ -60,5 +60,17 @@ impl SiteState {
     /// Where its memory comes from.
     pub fn allocator(&self) -> Global {
         self.alloc
+    }
+
+    /// How many own children are out: an abort has no more thieves to tell.
+    #[tactic(auto, using(crate::proofs::Outs::outs_few))]
+    pub(crate) fn outs(&self) -> usize
+        ensures count { result ≡ outs_of self.now.own }
+        ensures few { result < 2 ^ 32 }
+    {
+        let table = self.ledger.table();
+        // (for its range: as many names at most as numbers of four bytes)
+        let _issued = table.issued();
+        table.outs()
     }
 }
