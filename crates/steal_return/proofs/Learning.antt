@@ -1,9 +1,9 @@
 -- The incarnations that are known once some are learnt.
-use Rattle.std.proofs.Common.{◌≡◌, ◌≢◌, ℕ, zero, suc, ◌+◌, ◌-◌, ◌<◌, ◌≤◌, max, Bool, true, false, cond, ◌==◌, nat_lt, List, [], ◌∷◌, length, get_or, refl, sym, ap, ◌∙◌, arith}
+use Rattle.std.proofs.Common.{◌≡◌, ◌≢◌, ℕ, zero, suc, ◌+◌, ◌-◌, ◌<◌, ◌≤◌, max, Bool, true, false, cond, ◌==◌, nat_lt, List, [], ◌∷◌, length, get_or, slice_set, refl, sym, ap, ◌∙◌, arith}
 use Rattle.std.proofs.lemmas.Bool.{eq-eqb, ne_eqb, le-ltb}
 use Rattle.std.proofs.lemmas.List.{get_or_past}
 use Rattle.spawn_frame.specs.declared.site.Site.{Site}
-use Rattle.steal_return.specs.Members.{learnt, now_known}
+use Rattle.steal_return.specs.Members.{learnt, now_known, raised}
 use Rattle.steal_return.specs.Steals.{is_older}
 
 max_zero : (n : ℕ) → max n 0 ≡ n
@@ -64,3 +64,10 @@ known_length self (k ∷ ks) ms h = ap suc (learnt_length self 1 ks ms)
 pub no_such_node : (known : List ℕ) (site : Site) → length known ≤ site.node → is_older known site ≡ false
 no_such_node known site past =
     ap (λ n. nat_lt site.incarnation n) (get_or_past known site.node 0 past) ∙ le-ltb site.incarnation 0 (omega arith)
+
+-- the greater number is written at the node's place
+pub raised_is : (known : List ℕ) (node incarnation before : ℕ) → node < length known → before ≡ get_or known node before
+    → slice_set known node (max before incarnation) ≡ raised known node incarnation
+raised_is [] node incarnation before h e = absurd (omega (arith, h))
+raised_is (k ∷ ks) zero incarnation before h e = ap (λ n. max n incarnation ∷ ks) e
+raised_is (k ∷ ks) (suc node) incarnation before h e = ap (λ l. k ∷ l) (raised_is ks node incarnation before (omega (arith, h)) e)

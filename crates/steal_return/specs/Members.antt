@@ -1,5 +1,5 @@
 -- What a site learns of the others, and what it does again then (Cilk-NOW).
-use Rattle.std.specs.Prelude.{◌≡◌, ◌≢◌, ◌⊎◌, ℕ, suc, ◌<◌, max, Bool, true, false, ◌&&◌, if◌then◌else◌, length, List, [], ◌∷◌, filter, map, drop, Option, Some, None, slice_get, slice_index, nat_le, ◌==◌}
+use Rattle.std.specs.Prelude.{◌≡◌, ◌≢◌, ◌⊎◌, ℕ, zero, suc, ◌<◌, max, Bool, true, false, ◌&&◌, if◌then◌else◌, length, List, [], ◌∷◌, filter, map, drop, Option, Some, None, slice_get, slice_index, nat_le, ◌==◌}
 use Rattle.spawn_frame.specs.Aborts.{AbortsBelow, Reached, is_open, reached}
 use Rattle.spawn_frame.specs.Tables.{has_status}
 use Rattle.spawn_frame.specs.Units.{Entry, GuestEntry, change_guest, guest_in, last_attempt, redone, table_guests, table_own, with_status}
@@ -16,6 +16,16 @@ abbrev pub learnt : ℕ → ℕ → List ℕ → List ℕ → List ℕ
 learnt self node [] new = []
 learnt self node (k ∷ ks) [] = k ∷ ks
 learnt self node (k ∷ ks) (m ∷ ms) = (if node == self then k else max k m) ∷ learnt self (suc node) ks ms
+
+-- an earlier run of this node
+abbrev pub is_earlier_run : ℕ → List ℕ → Site → Bool
+is_earlier_run node known site = site.node == node && is_older known site
+
+-- the list with the greater number at the node's place
+abbrev pub raised : List ℕ → ℕ → ℕ → List ℕ
+raised [] node incarnation = []
+raised (k ∷ ks) zero incarnation = max k incarnation ∷ ks
+raised (k ∷ ks) (suc node) incarnation = k ∷ raised ks node incarnation
 
 -- redone where it is out to a lost site
 abbrev pub redo_if : (Site → Bool) → Entry → Status → Entry

@@ -19,7 +19,7 @@ use crate::children::{LAST_ATTEMPT, first_lost, first_ready, is_redoable, redo_l
 use crate::given::Given;
 use crate::guests::{drop_guests, is_open, lost_guests};
 use crate::judged::Judged;
-use crate::known::{is_older, learn};
+use crate::known::Known;
 use crate::learn_fault::LearnFault;
 use crate::redo_fault::RedoFault;
 use crate::return_reply::ReturnReply;
@@ -36,7 +36,7 @@ use std::marker::Model;
 pub struct Ledger {
     table: Table,
     nodes: u8,
-    known: Vec<u32>,
+    known: Known,
     alloc: Global,
 }
 
@@ -46,9 +46,9 @@ impl Model for Ledger {
 
     ghost Value = { SeenLedger };
 
-    ghost view = { λ l. record { table = l.table; nodes = l.nodes; known = l.known.items } };
+    ghost view = { λ l. record { table = l.table; nodes = l.nodes; known = l.known } };
 
-    ghost invariant = { λ l. IsLedger (record { table = l.table; nodes = l.nodes; known = l.known.items }) };
+    ghost invariant = { λ l. IsLedger (record { table = l.table; nodes = l.nodes; known = l.known }) };
 }
 
 impl Ledger {
@@ -67,11 +67,10 @@ impl Ledger {
         requires run { 1 ≤ site.incarnation }
         ensures { IfOk result (λ ledger. ledger ≡ opening_ledger site nodes names_limit) }
     {
-        let known = vec![in alloc; 1; nodes as usize + 1]?;
         Ok(Ledger {
             table: Table::start(alloc, site, names_limit),
             nodes,
-            known,
+            known: Known::start(alloc, nodes)?,
             alloc,
         })
     }
@@ -83,11 +82,10 @@ impl Ledger {
         requires most { nodes ≤ 16 }
         ensures { IfOk result (λ ledger. ledger ≡ root_ledger nodes) }
     {
-        let known = vec![in alloc; 1; nodes as usize + 1]?;
         Ok(Ledger {
             table: Table::with_root(alloc)?,
             nodes,
-            known,
+            known: Known::start(alloc, nodes)?,
             alloc,
         })
     }
@@ -112,7 +110,7 @@ impl Ledger {
         requires { node ≤ self.now.nodes }
         ensures { result ≡ slice_index self.now.known node }
     {
-        self.known[node as usize]
+        self.known.of(node)
     }
 
     /// Takes up this unit, which is ready, as `Table::take_up` does.
@@ -200,7 +198,7 @@ impl Ledger {
     pub fn ready_child(&self, thief: Site) -> Option<u32>
         ensures { MatchOption result (GivesNothing self.now thief) (MayGive self.now thief) }
     {
-        if is_older(&self.known, thief) {
+        if self.known.is_older(thief) {
             return None;
         }
         first_ready(&self.table)
@@ -341,7 +339,7 @@ impl Ledger {
         ensures err { OnErr result (self.new ≡ self.old) }
     {
         let name = ChildName { site: from, serial };
-        if is_older(&self.known, from) {
+        if self.known.is_older(from) {
             return Ok(false);
         }
         if self.table.unit(Unit::Guest(name, attempt)).is_some() {
@@ -424,7 +422,7 @@ impl Ledger {
         if !is_redoable(&self.table, &self.known, own, incarnations) {
             return Err(LearnFault::NamesSpent);
         }
-        let known = learn(self.alloc, &self.known, own, incarnations)?;
+        let known = self.known.learnt(own, incarnations)?;
         let lost = lost_guests(self.alloc, &self.table, &known)?;
         let reach = Reach::below(self.alloc, &self.table, &lost)?;
         list.reserve(reach.outs(&self.table))?;
@@ -438,11 +436,11 @@ impl Ledger {
     }
 
     /// Whether it makes a difference that these runs are known and these guests lost.
-    fn differs(&self, known: &[u32], lost: &[Unit]) -> bool
+    fn differs(&self, known: &Known, lost: &[Unit]) -> bool
         ensures differs { OnTrue result (Differs self.now known.now lost.now) }
         ensures alike { OnFalse result (IsAlike self.now known.now lost.now) }
     {
-        if known != self.known.as_slice() {
+        if known.as_slice() != self.known.as_slice() {
             return true;
         }
         if !lost.is_empty() {
