@@ -10,6 +10,8 @@ use Rattle.spawn_frame.specs.declared.unit.Unit.{Unit as WorkUnit}
 use Rattle.spawn_frame.specs.declared.unit.Unit.TheVariants.{Guest, Own}
 use Rattle.steal_return.specs.Ledger.{Ledger}
 use Rattle.steal_return.specs.Steals.{is_older}
+use Rattle.steal_return.specs.declared.told.Told.{Told}
+use Rattle.steal_return.specs.declared.told.Told.TheVariants as tells
 
 -- the greater incarnation of each node but the own one
 abbrev pub learnt : ℕ → ℕ → List ℕ → List ℕ → List ℕ
@@ -96,6 +98,11 @@ is_lost_guest known guests (Guest name attempt) = is_older known name.site && ha
 abbrev pub now_known : ℕ → List ℕ → List ℕ → List ℕ
 now_known self known incarnations = slice_index known 0 ∷ learnt self 1 (drop 1 known) incarnations
 
+-- what is known once that is told
+abbrev pub known_after : Told → List ℕ → List ℕ
+known_after (tells.Members self incarnations) known = now_known self known incarnations.now
+known_after (tells.Hello site) known = raised known site.node site.incarnation
+
 -- what makes a difference: another run is known, or a guest is dropped, or a child is redone
 abbrev pub Differs : Ledger → List ℕ → List WorkUnit → Type 0
 Differs old known lost =
@@ -121,3 +128,14 @@ pub record LearnsMembers (old : Ledger) (incarnations : List ℕ) (outs : List R
     known = known;
   }
   pub reaches : outs ≡ reached 0 (redo_lost (is_older known) old.own) own
+
+-- A node says that it runs: the later run is kept, and each child that is out to an earlier run of it is redone.
+pub record LearnsHello (old : Ledger) (from : Site) (new : Ledger) : Type 0 where
+  pub known : List ℕ
+  pub known_is : known ≡ raised old.known from.node from.incarnation
+  pub redoable : IsRedoable (is_earlier_run from.node known) old.own
+  pub after : new ≡ record {
+    table = table_own old.table (redo_lost (is_earlier_run from.node known) old.own);
+    nodes = old.nodes;
+    known = known;
+  }

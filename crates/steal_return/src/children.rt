@@ -6,10 +6,11 @@ ghost use Rattle.std.specs.List.{position_from};
 ghost use Rattle.spawn_frame.specs.Picks.{is_ready};
 ghost use Rattle.spawn_frame.specs.Tables.{has_status};
 ghost use Rattle.spawn_frame.specs.Units.{change_at, table_own};
-ghost use Rattle.steal_return.specs.Members.{is_out_to, is_spent_at, now_known, redo_if, redo_lost, IsRedoable, IsSpent};
+ghost use Rattle.steal_return.specs.Members.{is_out_to, is_spent_at, known_after, redo_if, redo_lost, IsRedoable, IsSpent};
 ghost use Rattle.steal_return.specs.Steals.{first_ready, is_older};
 
 use crate::known::Known;
+use crate::told::Told;
 use spawn_frame::{Status, Table, Unit};
 
 /// The last attempt, after which no child is given out anew.
@@ -62,13 +63,13 @@ fn is_lost(table: &Table, known: &Known, serial: u32) -> bool
     }
 }
 
-/// Whether each child can be redone that has to be, once the incarnations are learnt at a site of the node `own`.
-pub fn is_redoable(table: &Table, known: &Known, own: u8, incarnations: &[u32]) -> bool
-    ensures able { OnTrue result (IsRedoable (is_older (now_known own known.now incarnations.now)) table.now.own) }
-    ensures spent { OnFalse result (IsSpent (is_older (now_known own known.now incarnations.now)) table.now.own) }
+/// Whether each child can be redone that has to be once that is told.
+pub fn is_redoable(table: &Table, known: &Known, told: Told<'_>) -> bool
+    ensures able { OnTrue result (IsRedoable (is_older (known_after told.entry known.now)) table.now.own) }
+    ensures spent { OnFalse result (IsSpent (is_older (known_after told.entry known.now)) table.now.own) }
 {
     for serial in 0..table.issued() {
-        if is_spent(table, known, own, incarnations, serial) {
+        if is_spent(table, known, told, serial) {
             return false;
         }
     }
@@ -76,13 +77,13 @@ pub fn is_redoable(table: &Table, known: &Known, own: u8, incarnations: &[u32]) 
 }
 
 /// Whether a child would have to be redone then and stands at its last attempt.
-fn is_spent(table: &Table, known: &Known, own: u8, incarnations: &[u32], serial: u32) -> bool
-    ensures { result ≡ is_spent_at (is_older (now_known own known.now incarnations.now)) (slice_get table.now.own serial) }
+fn is_spent(table: &Table, known: &Known, told: Told<'_>, serial: u32) -> bool
+    ensures { result ≡ is_spent_at (is_older (known_after told.entry known.now)) (slice_get table.now.own serial) }
 {
     match table.unit(Unit::Own(serial)) {
         Some(view) => match view.status {
             Status::Out(thief) => {
-                view.attempt == LAST_ATTEMPT && known.will_outrun(own, incarnations, *thief)
+                view.attempt == LAST_ATTEMPT && known.will_outrun(told, *thief)
             }
             _ => false,
         },

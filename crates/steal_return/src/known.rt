@@ -2,9 +2,10 @@
 
 ghost use Rattle.std.specs.Prelude.{◌≡◌, ◌<◌, ◌≤◌, IfOk, length, max, replicate, slice_index, suc};
 ghost use Rattle.steal_return.specs.Invariant.{IsKnown};
-ghost use Rattle.steal_return.specs.Members.{now_known, raised};
+ghost use Rattle.steal_return.specs.Members.{known_after, now_known, raised};
 ghost use Rattle.steal_return.specs.Steals.{is_older};
 
+use crate::told::Told;
 use spawn_frame::Site;
 use std::alloc::{AllocError, Global};
 use std::marker::Model;
@@ -70,17 +71,17 @@ impl Known {
         }
     }
 
-    /// Whether a later run of the site's node is known once a site of the node `own` learns the incarnations of nodes 1,
-    /// 2, ...
-    pub fn will_outrun(&self, own: u8, incarnations: &[u32], site: Site) -> bool
-        ensures { result ≡ is_older (now_known own self.now incarnations.now) site }
+    /// Whether a later run of the site's node is known once that is told.
+    pub fn will_outrun(&self, told: Told<'_>, site: Site) -> bool
+        ensures { result ≡ is_older (known_after told.entry self.now) site }
     {
         let known = self.as_slice();
         let node = site.node as usize;
-        node < known.len() && site.incarnation < later_run(known, own, incarnations, node)
+        node < known.len() && site.incarnation < run_after(known, told, node)
     }
 
-    /// What is known then; the only error is want of memory.
+    /// What is known once a site of the node `own` learns the incarnations of nodes 1, 2, ..; the only error is want of
+    /// memory.
     pub fn learnt(&self, own: u8, incarnations: &[u32]) -> Result<Known, AllocError>
         ensures { IfOk result (λ learnt. learnt ≡ now_known own self.now incarnations.now) }
     {
@@ -98,6 +99,23 @@ impl Known {
     {
         let node = node as usize;
         self.runs[node] = later_of(self.runs[node], incarnation);
+    }
+}
+
+/// The run of a node that is known once that is told.
+fn run_after(known: &[u32], told: Told<'_>, node: usize) -> u32
+    requires { node < length known.now }
+    ensures { result ≡ slice_index (known_after told.entry known.now) node }
+{
+    match told {
+        Told::Members(own, incarnations) => later_run(known, own, incarnations, node),
+        Told::Hello(from) => {
+            if node == from.node as usize {
+                later_of(known[node], from.incarnation)
+            } else {
+                known[node]
+            }
+        }
     }
 }
 

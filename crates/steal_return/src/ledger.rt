@@ -11,7 +11,7 @@ ghost use Rattle.steal_return.specs.Finishing.{Appends, FinishesFrame};
 ghost use Rattle.steal_return.specs.Guests.{AdmitsGuest, DropsGuest, IsNotFinished, IsNotNew, IsNotOpen, SettlesGuest};
 ghost use Rattle.steal_return.specs.Invariant.{IsLedger};
 ghost use Rattle.steal_return.specs.Ledger.{ledger_gets, ledger_table, opening_ledger, root_ledger};
-ghost use Rattle.steal_return.specs.Members.{now_known, Differs, IsAlike, IsSpent, LearnsMembers};
+ghost use Rattle.steal_return.specs.Members.{is_earlier_run, now_known, raised, Differs, IsAlike, IsSpent, LearnsHello, LearnsMembers};
 ghost use Rattle.steal_return.specs.Returns.{judged, judgement_of, reply_to, returned, Enters};
 ghost use Rattle.steal_return.specs.Steals.{first_ready, is_older, GivesChild, GivesNothing, IsGiven, MayGive, RedoesChild};
 
@@ -23,6 +23,7 @@ use crate::known::Known;
 use crate::learn_fault::LearnFault;
 use crate::redo_fault::RedoFault;
 use crate::return_reply::ReturnReply;
+use crate::told::Told;
 use abort_tree::{Out, Reach, parents_decide};
 use cover_problem::Numbers;
 use spawn_frame::{
@@ -419,7 +420,7 @@ impl Ledger {
         ensures list { OnErr result (list.new.items ≡ list.old.items) }
     {
         let own = self.table.site().node;
-        if !is_redoable(&self.table, &self.known, own, incarnations) {
+        if !is_redoable(&self.table, &self.known, Told::Members(own, incarnations)) {
             return Err(LearnFault::NamesSpent);
         }
         let known = self.known.learnt(own, incarnations)?;
@@ -433,6 +434,24 @@ impl Ledger {
         reach.abort(&mut self.table, list);
         self.known = known;
         Ok(moved)
+    }
+
+    /// Learns that a node runs so: the later run of it is kept, and each child that is out to an earlier run of it is
+    /// redone. `NamesSpent`, the only fault, comes exactly where one of them stands at its last attempt; then nothing
+    /// changes. It takes no memory, and costs two passes through the own children.
+    pub fn learn_hello(&mut self, from: Site) -> Result<(), LearnFault>
+        requires { from.node ≤ self.old.nodes }
+        ensures ok { OnOk result (LearnsHello self.old from self.new) }
+        ensures spent { IsErrOf result LearnFault.NamesSpent ↔ IsSpent (is_earlier_run from.node (raised self.old.known from.node from.incarnation)) self.old.own }
+        ensures no_other { OnErr result (IsErrOf result LearnFault.NamesSpent) }
+        ensures err { OnErr result (self.new ≡ self.old) }
+    {
+        if !is_redoable(&self.table, &self.known, Told::Hello(from)) {
+            return Err(LearnFault::NamesSpent);
+        }
+        self.known.raise(from.node, from.incarnation);
+        redo_lost(&mut self.table, &self.known);
+        Ok(())
     }
 
     /// Whether it makes a difference that these runs are known and these guests lost.
