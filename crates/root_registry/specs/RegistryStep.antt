@@ -20,6 +20,7 @@ use Rattle.spawn_frame.specs.declared.site.Site.{Site}
 use Rattle.spawn_frame.specs.declared.status.Status.{Status}
 use Rattle.spawn_frame.specs.declared.status.Status.TheVariants.{Done}
 use Rattle.steal_return.specs.Members.{IsRedoable, redo_lost}
+pub use Rattle.steal_return.specs.Members.{is_earlier_run, raised}
 use Rattle.steal_return.specs.Returns.{Enters, Judgement, judged, returned}
 use Rattle.steal_return.specs.Steals.{is_older}
 
@@ -31,16 +32,6 @@ to_each from body node (k ∷ ks) = record { from = from; to = record { node = n
 -- what is known of the nodes themselves
 abbrev pub known_nodes : View → List ℕ
 known_nodes view = drop 1 view.known
-
--- an earlier run of this node
-abbrev pub is_earlier_run : ℕ → List ℕ → Site → Bool
-is_earlier_run node known site = site.node == node && is_older known site
-
--- the list with the greater number at the node's place
-abbrev pub raised : List ℕ → ℕ → ℕ → List ℕ
-raised [] node incarnation = []
-raised (k ∷ ks) zero incarnation = max k incarnation ∷ ks
-raised (k ∷ ks) (suc node) incarnation = k ∷ raised ks node incarnation
 
 -- A node greets: the greater incarnation is kept, a root that is out to an earlier run of it is redone, and all nodes are told.
 pub record HelloStep (old : View) (from : Site) (out : List Packet) (new : View) : Type 0 where

@@ -1,10 +1,12 @@
 -- The incarnations that are known once some are learnt.
-use Rattle.std.proofs.Common.{◌≡◌, ◌≢◌, ℕ, zero, suc, ◌+◌, ◌-◌, ◌<◌, ◌≤◌, max, Bool, true, false, cond, ◌==◌, nat_lt, List, [], ◌∷◌, length, get_or, refl, sym, ap, ◌∙◌, arith}
+use Rattle.std.proofs.Common.{◌≡◌, ◌≢◌, ℕ, zero, suc, ◌+◌, ◌-◌, ◌<◌, ◌≤◌, max, Bool, true, false, cond, ◌==◌, nat_lt, List, [], ◌∷◌, length, get_or, slice_set, refl, sym, ap, ◌∙◌, arith}
 use Rattle.std.proofs.lemmas.Bool.{eq-eqb, ne_eqb, le-ltb}
 use Rattle.std.proofs.lemmas.List.{get_or_past}
 use Rattle.spawn_frame.specs.declared.site.Site.{Site}
-use Rattle.steal_return.specs.Members.{learnt, now_known}
+use Rattle.steal_return.specs.Members.{known_after, learnt, now_known, raised}
 use Rattle.steal_return.specs.Steals.{is_older}
+use Rattle.steal_return.specs.declared.told.Told.{Told}
+use Rattle.steal_return.specs.declared.told.Told.TheVariants.{Hello, Members}
 
 max_zero : (n : ℕ) → max n 0 ≡ n
 max_zero n = omega arith
@@ -64,3 +66,35 @@ known_length self (k ∷ ks) ms h = ap suc (learnt_length self 1 ks ms)
 pub no_such_node : (known : List ℕ) (site : Site) → length known ≤ site.node → is_older known site ≡ false
 no_such_node known site past =
     ap (λ n. nat_lt site.incarnation n) (get_or_past known site.node 0 past) ∙ le-ltb site.incarnation 0 (omega arith)
+
+-- the greater number is written at the node's place
+pub raised_is : (known : List ℕ) (node incarnation before : ℕ) → node < length known → before ≡ get_or known node before
+    → slice_set known node (max before incarnation) ≡ raised known node incarnation
+raised_is [] node incarnation before h e = absurd (omega (arith, h))
+raised_is (k ∷ ks) zero incarnation before h e = ap (λ n. max n incarnation ∷ ks) e
+raised_is (k ∷ ks) (suc node) incarnation before h e = ap (λ l. k ∷ l) (raised_is ks node incarnation before (omega (arith, h)) e)
+
+pub raised_length : (known : List ℕ) (node incarnation : ℕ) → length (raised known node incarnation) ≡ length known
+raised_length [] node incarnation = refl
+raised_length (k ∷ ks) zero incarnation = refl
+raised_length (k ∷ ks) (suc node) incarnation = ap suc (raised_length ks node incarnation)
+
+pub raised_at : (known : List ℕ) (node incarnation other : ℕ) → other < length known → other ≡ node
+    → max (get_or known other 0) incarnation ≡ get_or (raised known node incarnation) other 0
+raised_at [] node incarnation other h e = absurd (omega (arith, h))
+raised_at (k ∷ ks) zero incarnation zero h e = refl
+raised_at (k ∷ ks) zero incarnation (suc other) h e = absurd (omega (arith, e))
+raised_at (k ∷ ks) (suc node) incarnation zero h e = absurd (omega (arith, e))
+raised_at (k ∷ ks) (suc node) incarnation (suc other) h e = raised_at ks node incarnation other (omega (arith, h)) (omega (arith, e))
+
+pub raised_other : (known : List ℕ) (node incarnation other : ℕ) → other ≢ node → get_or (raised known node incarnation) other 0 ≡ get_or known other 0
+raised_other [] node incarnation other h = refl
+raised_other (k ∷ ks) zero incarnation zero h = absurd (h refl)
+raised_other (k ∷ ks) zero incarnation (suc other) h = refl
+raised_other (k ∷ ks) (suc node) incarnation zero h = refl
+raised_other (k ∷ ks) (suc node) incarnation (suc other) h = raised_other ks node incarnation other (λ e. h (ap suc e))
+
+-- as many runs are known then
+pub after_length : (told : Told) (known : List ℕ) → 0 < length known → length (known_after told known) ≡ length known
+after_length (Members self incarnations) known h = known_length self known incarnations.now h
+after_length (Hello site) known h = raised_length known site.node site.incarnation

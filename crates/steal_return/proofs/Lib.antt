@@ -2,6 +2,7 @@ pub mod Dropping
 pub mod Drops
 pub mod Fewer
 pub mod Finishes
+pub mod Hellos
 pub mod Giving
 pub mod Learning
 pub mod Learns

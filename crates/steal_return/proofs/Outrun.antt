@@ -51,7 +51,7 @@ redone_one lost c (Out thief) e = by (lost thief) refl
 redone_one lost c Ready e = ap (is_out_to lost) e
 redone_one lost c _ e = ap (is_out_to lost) e
 
-redo_leaves : (known : List ℕ) (own : List Entry) → NoneOutrun known (redo_lost (is_older known) own)
+pub redo_leaves : (known : List ℕ) (own : List Entry) → NoneOutrun known (redo_lost (is_older known) own)
 redo_leaves known [] = tt
 redo_leaves known (c ∷ cs) = (redone_one (is_older known) c c.status refl, redo_leaves known cs)
 

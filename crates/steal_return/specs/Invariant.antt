@@ -1,5 +1,5 @@
 -- What is true of every ledger.
-use Rattle.std.specs.Prelude.{◌≡◌, ℕ, suc, ◌≤◌, false, List, length}
+use Rattle.std.specs.Prelude.{◌≡◌, ℕ, suc, ◌<◌, ◌≤◌, false, List, length}
 use Rattle.std.specs.List.{AllByRecursion}
 use Rattle.spawn_frame.specs.Units.{Entry}
 use Rattle.steal_return.specs.Ledger.{Ledger}
@@ -9,6 +9,11 @@ use Rattle.steal_return.specs.Steals.{is_older}
 -- no child is out to an earlier run than is known
 abbrev pub NoneOutrun : List ℕ → List Entry → Type 0
 NoneOutrun known own = AllByRecursion (λ c. is_out_to (is_older known) c.status ≡ false) own
+
+-- What is true of what is known: the registry's run is, and the runs of at most sixteen nodes.
+pub record IsKnown (known : List ℕ) : Type 0 where
+  pub some : 0 < length known
+  pub few : length known ≤ 17
 
 -- What is true of every ledger: one incarnation is known of the registry and of each node, of which the site is one, and no child
 -- is out to an earlier run than is known.

@@ -1,5 +1,5 @@
 -- What a site learns of the others, and what it does again then (Cilk-NOW).
-use Rattle.std.specs.Prelude.{◌≡◌, ◌≢◌, ◌⊎◌, ℕ, suc, ◌<◌, max, Bool, true, false, ◌&&◌, if◌then◌else◌, length, List, [], ◌∷◌, filter, map, drop, Option, Some, None, slice_get, slice_index, nat_le, ◌==◌}
+use Rattle.std.specs.Prelude.{◌≡◌, ◌≢◌, ◌⊎◌, ℕ, zero, suc, ◌<◌, max, Bool, true, false, ◌&&◌, if◌then◌else◌, length, List, [], ◌∷◌, filter, map, drop, Option, Some, None, slice_get, slice_index, nat_le, ◌==◌}
 use Rattle.spawn_frame.specs.Aborts.{AbortsBelow, Reached, is_open, reached}
 use Rattle.spawn_frame.specs.Tables.{has_status}
 use Rattle.spawn_frame.specs.Units.{Entry, GuestEntry, change_guest, guest_in, last_attempt, redone, table_guests, table_own, with_status}
@@ -10,12 +10,24 @@ use Rattle.spawn_frame.specs.declared.unit.Unit.{Unit as WorkUnit}
 use Rattle.spawn_frame.specs.declared.unit.Unit.TheVariants.{Guest, Own}
 use Rattle.steal_return.specs.Ledger.{Ledger}
 use Rattle.steal_return.specs.Steals.{is_older}
+use Rattle.steal_return.specs.declared.told.Told.{Told}
+use Rattle.steal_return.specs.declared.told.Told.TheVariants as tells
 
 -- the greater incarnation of each node but the own one
 abbrev pub learnt : ℕ → ℕ → List ℕ → List ℕ → List ℕ
 learnt self node [] new = []
 learnt self node (k ∷ ks) [] = k ∷ ks
 learnt self node (k ∷ ks) (m ∷ ms) = (if node == self then k else max k m) ∷ learnt self (suc node) ks ms
+
+-- an earlier run of this node
+abbrev pub is_earlier_run : ℕ → List ℕ → Site → Bool
+is_earlier_run node known site = site.node == node && is_older known site
+
+-- the list with the greater number at the node's place
+abbrev pub raised : List ℕ → ℕ → ℕ → List ℕ
+raised [] node incarnation = []
+raised (k ∷ ks) zero incarnation = max k incarnation ∷ ks
+raised (k ∷ ks) (suc node) incarnation = k ∷ raised ks node incarnation
 
 -- redone where it is out to a lost site
 abbrev pub redo_if : (Site → Bool) → Entry → Status → Entry
@@ -86,6 +98,11 @@ is_lost_guest known guests (Guest name attempt) = is_older known name.site && ha
 abbrev pub now_known : ℕ → List ℕ → List ℕ → List ℕ
 now_known self known incarnations = slice_index known 0 ∷ learnt self 1 (drop 1 known) incarnations
 
+-- what is known once that is told
+abbrev pub known_after : Told → List ℕ → List ℕ
+known_after (tells.Members self incarnations) known = now_known self known incarnations.now
+known_after (tells.Hello site) known = raised known site.node site.incarnation
+
 -- what makes a difference: another run is known, or a guest is dropped, or a child is redone
 abbrev pub Differs : Ledger → List ℕ → List WorkUnit → Type 0
 Differs old known lost =
@@ -111,3 +128,14 @@ pub record LearnsMembers (old : Ledger) (incarnations : List ℕ) (outs : List R
     known = known;
   }
   pub reaches : outs ≡ reached 0 (redo_lost (is_older known) old.own) own
+
+-- A node says that it runs: the later run is kept, and each child that is out to an earlier run of it is redone.
+pub record LearnsHello (old : Ledger) (from : Site) (new : Ledger) : Type 0 where
+  pub known : List ℕ
+  pub known_is : known ≡ raised old.known from.node from.incarnation
+  pub redoable : IsRedoable (is_earlier_run from.node known) old.own
+  pub after : new ≡ record {
+    table = table_own old.table (redo_lost (is_earlier_run from.node known) old.own);
+    nodes = old.nodes;
+    known = known;
+  }

@@ -1,15 +1,16 @@
 //! Walks over the own children of a table, by serial.
 
-ghost use Rattle.std.specs.Prelude.{◌≡◌, ◌<◌, length, slice_get, false};
+ghost use Rattle.std.specs.Prelude.{◌≡◌, slice_get, false};
 ghost use Rattle.std.specs.Bool.{OnFalse, OnTrue};
 ghost use Rattle.std.specs.List.{position_from};
 ghost use Rattle.spawn_frame.specs.Picks.{is_ready};
 ghost use Rattle.spawn_frame.specs.Tables.{has_status};
 ghost use Rattle.spawn_frame.specs.Units.{change_at, table_own};
-ghost use Rattle.steal_return.specs.Members.{is_out_to, is_spent_at, now_known, redo_if, redo_lost, IsRedoable, IsSpent};
+ghost use Rattle.steal_return.specs.Members.{is_out_to, is_spent_at, known_after, redo_if, redo_lost, IsRedoable, IsSpent};
 ghost use Rattle.steal_return.specs.Steals.{first_ready, is_older};
 
-use crate::known::{is_older, is_outrun};
+use crate::known::Known;
+use crate::told::Told;
 use spawn_frame::{Status, Table, Unit};
 
 /// The last attempt, after which no child is given out anew.
@@ -38,7 +39,7 @@ fn is_ready(table: &Table, serial: u32) -> bool
 }
 
 /// The child of least serial that is out to a site of which a later run is known.
-pub fn first_lost(table: &Table, known: &[u32]) -> Option<u32>
+pub fn first_lost(table: &Table, known: &Known) -> Option<u32>
     ensures { result ≡ position_from (λ c. is_out_to (is_older known.now) c.status) 0 table.now.own }
 {
     for serial in 0..table.issued() {
@@ -50,26 +51,25 @@ pub fn first_lost(table: &Table, known: &[u32]) -> Option<u32>
 }
 
 /// Whether a child is there and out to such a site.
-fn is_lost(table: &Table, known: &[u32], serial: u32) -> bool
+fn is_lost(table: &Table, known: &Known, serial: u32) -> bool
     ensures { result ≡ has_status (is_out_to (is_older known.now)) (slice_get table.now.own serial) }
 {
     match table.unit(Unit::Own(serial)) {
         Some(view) => match view.status {
-            Status::Out(thief) => is_older(known, *thief),
+            Status::Out(thief) => known.is_older(*thief),
             _ => false,
         },
         None => false,
     }
 }
 
-/// Whether each child can be redone that has to be, once the incarnations are learnt at a site of the node `own`.
-pub fn is_redoable(table: &Table, known: &[u32], own: u8, incarnations: &[u32]) -> bool
-    requires { 0 < length known.now }
-    ensures able { OnTrue result (IsRedoable (is_older (now_known own known.now incarnations.now)) table.now.own) }
-    ensures spent { OnFalse result (IsSpent (is_older (now_known own known.now incarnations.now)) table.now.own) }
+/// Whether each child can be redone that has to be once that is told.
+pub fn is_redoable(table: &Table, known: &Known, told: Told<'_>) -> bool
+    ensures able { OnTrue result (IsRedoable (is_older (known_after told.entry known.now)) table.now.own) }
+    ensures spent { OnFalse result (IsSpent (is_older (known_after told.entry known.now)) table.now.own) }
 {
     for serial in 0..table.issued() {
-        if is_spent(table, known, own, incarnations, serial) {
+        if is_spent(table, known, told, serial) {
             return false;
         }
     }
@@ -77,14 +77,13 @@ pub fn is_redoable(table: &Table, known: &[u32], own: u8, incarnations: &[u32]) 
 }
 
 /// Whether a child would have to be redone then and stands at its last attempt.
-fn is_spent(table: &Table, known: &[u32], own: u8, incarnations: &[u32], serial: u32) -> bool
-    requires { 0 < length known.now }
-    ensures { result ≡ is_spent_at (is_older (now_known own known.now incarnations.now)) (slice_get table.now.own serial) }
+fn is_spent(table: &Table, known: &Known, told: Told<'_>, serial: u32) -> bool
+    ensures { result ≡ is_spent_at (is_older (known_after told.entry known.now)) (slice_get table.now.own serial) }
 {
     match table.unit(Unit::Own(serial)) {
         Some(view) => match view.status {
             Status::Out(thief) => {
-                view.attempt == LAST_ATTEMPT && is_outrun(known, own, incarnations, *thief)
+                view.attempt == LAST_ATTEMPT && known.will_outrun(told, *thief)
             }
             _ => false,
         },
@@ -93,7 +92,7 @@ fn is_spent(table: &Table, known: &[u32], own: u8, incarnations: &[u32], serial:
 }
 
 /// Redoes each child that is out to a site of which a later run is known.
-pub fn redo_lost(table: &mut Table, known: &[u32])
+pub fn redo_lost(table: &mut Table, known: &Known)
     requires { IsRedoable (is_older known.now) table.old.own }
     ensures { table.new ≡ table_own table.old (redo_lost (is_older known.now) table.old.own) }
 {
@@ -103,7 +102,7 @@ pub fn redo_lost(table: &mut Table, known: &[u32])
 }
 
 /// Redoes a child if it is out to such a site.
-fn redo_if_lost(table: &mut Table, known: &[u32], serial: u32)
+fn redo_if_lost(table: &mut Table, known: &Known, serial: u32)
     requires { is_spent_at (is_older known.now) (slice_get table.old.own serial) ≡ false }
     ensures { table.new ≡ table_own table.old (change_at (λ c. redo_if (is_older known.now) c c.status) table.old.own serial) }
 {

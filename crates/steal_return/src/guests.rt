@@ -6,13 +6,13 @@ ghost use Rattle.spawn_frame.specs.Tables.{has_status, seen_guest, IsAscending};
 ghost use Rattle.spawn_frame.specs.Units.{guest_in, table_guests};
 ghost use Rattle.steal_return.specs.Members.{dropped, is_lost, lost_units, MayDrop};
 
-use crate::known::is_older;
+use crate::known::Known;
 use spawn_frame::{Attempt, ChildName, GuestView, Table, Unit};
 use std::alloc::{AllocError, Global};
 
 /// The open guests of owners of which a later run is known; the only error is want of memory. It costs a pass through
 /// the guests.
-pub fn lost_guests(alloc: Global, table: &Table, known: &[u32]) -> Result<Vec<Unit>, AllocError>
+pub fn lost_guests(alloc: Global, table: &Table, known: &Known) -> Result<Vec<Unit>, AllocError>
     ensures lost { IfOk result (λ lost. lost.items ≡ lost_units known.now table.now.guests) }
     ensures ascending { IfOk result (λ _. IsAscending table.now.guests) }
 {
@@ -27,10 +27,10 @@ pub fn lost_guests(alloc: Global, table: &Table, known: &[u32]) -> Result<Vec<Un
 }
 
 /// Whether a guest is open, and a later run of its owner is known.
-fn is_lost(known: &[u32], guest: GuestView<'_>) -> bool
+fn is_lost(known: &Known, guest: GuestView<'_>) -> bool
     ensures { result ≡ is_lost known.now (seen_guest guest.entry) }
 {
-    is_older(known, guest.name.site) && guest.status.is_open()
+    known.is_older(guest.name.site) && guest.status.is_open()
 }
 
 /// Whether a guest is there and open.

@@ -1,24 +1,126 @@
-//! The known incarnations, the registry's first.
+//! The runs of nodes that a site knows of.
 
-ghost use Rattle.std.specs.Prelude.{◌≡◌, ◌<◌, IfOk, length, max, slice_index};
-ghost use Rattle.steal_return.specs.Members.{now_known};
+ghost use Rattle.std.specs.Prelude.{◌≡◌, ◌<◌, ◌≤◌, IfOk, length, max, replicate, slice_index, suc};
+ghost use Rattle.steal_return.specs.Invariant.{IsKnown};
+ghost use Rattle.steal_return.specs.Members.{known_after, now_known, raised};
 ghost use Rattle.steal_return.specs.Steals.{is_older};
 
+use crate::told::Told;
 use spawn_frame::Site;
 use std::alloc::{AllocError, Global};
+use std::marker::Model;
 
-/// Whether a later run of the site's node is known.
-pub fn is_older(known: &[u32], site: Site) -> bool
-    ensures { result ≡ is_older known.now site }
+/// The latest run of each node that is known, the registry's first.
+#[derive(Drop)]
+pub struct Known {
+    runs: Vec<u32>,
+    alloc: Global,
+}
+
+impl Model for Known {
+    ghost use Rattle.std.specs.Prelude.{List, ℕ};
+    ghost use Rattle.steal_return.specs.Invariant.{IsKnown};
+
+    ghost Value = { List ℕ };
+
+    ghost view = { λ k. k.runs.items };
+
+    ghost invariant = { λ k. IsKnown k.runs.items };
+}
+
+impl Known {
+    /// The first run of the registry and of each of so many nodes; the only error is want of memory.
+    pub fn start(alloc: Global, nodes: u8) -> Result<Known, AllocError>
+        requires { nodes ≤ 16 }
+        ensures { IfOk result (λ known. known ≡ replicate (suc nodes) 1) }
+    {
+        let runs = vec![in alloc; 1; nodes as usize + 1]?;
+        Ok(Known { runs, alloc })
+    }
+
+    /// How many nodes there are beside the registry, at most 16.
+    pub fn nodes(&self) -> u8
+        ensures { length self.now ≡ suc result }
+    {
+        (self.runs.len() - 1) as u8
+    }
+
+    /// The runs, the registry's first. The other clause says what is true of all that is known.
+    pub fn as_slice(&self) -> &[u32]
+        ensures value { result.now ≡ self.now }
+        ensures known { IsKnown self.now }
+    {
+        &self.runs
+    }
+
+    /// The run of a node, or of the registry at 0.
+    pub fn of(&self, node: u8) -> u32
+        requires { node < length self.now }
+        ensures { result ≡ slice_index self.now node }
+    {
+        self.runs[node as usize]
+    }
+
+    /// Whether a later run of the site's node is known.
+    pub fn is_older(&self, site: Site) -> bool
+        ensures { result ≡ is_older self.now site }
+    {
+        match self.runs.get(site.node as usize) {
+            Some(incarnation) => site.incarnation < *incarnation,
+            None => false,
+        }
+    }
+
+    /// Whether a later run of the site's node is known once that is told.
+    pub fn will_outrun(&self, told: Told<'_>, site: Site) -> bool
+        ensures { result ≡ is_older (known_after told.entry self.now) site }
+    {
+        let known = self.as_slice();
+        let node = site.node as usize;
+        node < known.len() && site.incarnation < run_after(known, told, node)
+    }
+
+    /// What is known once a site of the node `own` learns the incarnations of nodes 1, 2, ..; the only error is want of
+    /// memory.
+    pub fn learnt(&self, own: u8, incarnations: &[u32]) -> Result<Known, AllocError>
+        ensures { IfOk result (λ learnt. learnt ≡ now_known own self.now incarnations.now) }
+    {
+        let runs = later_runs(self.alloc, self.as_slice(), own, incarnations)?;
+        Ok(Known {
+            runs,
+            alloc: self.alloc,
+        })
+    }
+
+    /// Keeps the later run of a node. It takes no memory.
+    pub fn raise(&mut self, node: u8, incarnation: u32)
+        requires { node < length self.old }
+        ensures { self.new ≡ raised self.old node incarnation }
+    {
+        let node = node as usize;
+        self.runs[node] = later_of(self.runs[node], incarnation);
+    }
+}
+
+/// The run of a node that is known once that is told.
+fn run_after(known: &[u32], told: Told<'_>, node: usize) -> u32
+    requires { node < length known.now }
+    ensures { result ≡ slice_index (known_after told.entry known.now) node }
 {
-    match known.get(site.node as usize) {
-        Some(incarnation) => site.incarnation < *incarnation,
-        None => false,
+    match told {
+        Told::Members(own, incarnations) => later_run(known, own, incarnations, node),
+        Told::Hello(from) => {
+            if node == from.node as usize {
+                later_of(known[node], from.incarnation)
+            } else {
+                known[node]
+            }
+        }
     }
 }
 
 /// The run of a node that is known once the incarnations of nodes 1, 2, .. are learnt at a site of the node `own`.
-pub fn later_run(known: &[u32], own: u8, incarnations: &[u32], node: usize) -> u32
+fn later_run(known: &[u32], own: u8, incarnations: &[u32], node: usize) -> u32
     requires { node < length known.now }
     ensures { result ≡ slice_index (now_known own known.now incarnations.now) node }
 {
@@ -39,17 +141,8 @@ fn later_of(first: u32, second: u32) -> u32
     first.max(second)
 }
 
-/// Whether a later run of the site's node is known then.
-pub fn is_outrun(known: &[u32], own: u8, incarnations: &[u32], site: Site) -> bool
-    requires { 0 < length known.now }
-    ensures { result ≡ is_older (now_known own known.now incarnations.now) site }
-{
-    let node = site.node as usize;
-    node < known.len() && site.incarnation < later_run(known, own, incarnations, node)
-}
-
 /// All known runs then; the only error is want of memory.
-pub fn learn(
+fn later_runs(
     alloc: Global,
     known: &[u32],
     own: u8,
@@ -58,7 +151,7 @@ pub fn learn(
     requires { 0 < length known.now }
     ensures { IfOk result (λ learnt. learnt.items ≡ now_known own known.now incarnations.now) }
 {
-    let mut learnt = Vec::new(alloc);
+    let mut learnt = Vec::with_capacity(alloc, known.len())?;
     for node in 0..known.len() {
         learnt.push(later_run(known, own, incarnations, node))?;
     }

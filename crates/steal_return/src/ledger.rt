@@ -11,7 +11,7 @@ ghost use Rattle.steal_return.specs.Finishing.{Appends, FinishesFrame};
 ghost use Rattle.steal_return.specs.Guests.{AdmitsGuest, DropsGuest, IsNew, IsNotFinished, IsNotNew, IsNotOpen, SettlesGuest};
 ghost use Rattle.steal_return.specs.Invariant.{IsLedger};
 ghost use Rattle.steal_return.specs.Ledger.{ledger_gets, ledger_table, opening_ledger, root_ledger};
-ghost use Rattle.steal_return.specs.Members.{now_known, Differs, IsAlike, IsSpent, LearnsMembers};
+ghost use Rattle.steal_return.specs.Members.{is_earlier_run, now_known, raised, Differs, IsAlike, IsRedoable, IsSpent, LearnsHello, LearnsMembers};
 ghost use Rattle.steal_return.specs.Returns.{judged, judgement_of, reply_to, returned, Enters};
 ghost use Rattle.steal_return.specs.Steals.{first_ready, is_older, GivesChild, GivesNothing, IsGiven, MayGive, RedoesChild};
 
@@ -19,10 +19,11 @@ use crate::children::{LAST_ATTEMPT, first_lost, first_ready, is_redoable, redo_l
 use crate::given::Given;
 use crate::guests::{drop_guests, is_open, lost_guests};
 use crate::judged::Judged;
-use crate::known::{is_older, learn};
+use crate::known::Known;
 use crate::learn_fault::LearnFault;
 use crate::redo_fault::RedoFault;
 use crate::return_reply::ReturnReply;
+use crate::told::Told;
 use abort_tree::{Out, Reach, parents_decide};
 use cover_problem::Numbers;
 use spawn_frame::{
@@ -36,7 +37,7 @@ use std::marker::Model;
 pub struct Ledger {
     table: Table,
     nodes: u8,
-    known: Vec<u32>,
+    known: Known,
     alloc: Global,
 }
 
@@ -46,9 +47,9 @@ impl Model for Ledger {
 
     ghost Value = { SeenLedger };
 
-    ghost view = { λ l. record { table = l.table; nodes = l.nodes; known = l.known.items } };
+    ghost view = { λ l. record { table = l.table; nodes = l.nodes; known = l.known } };
 
-    ghost invariant = { λ l. IsLedger (record { table = l.table; nodes = l.nodes; known = l.known.items }) };
+    ghost invariant = { λ l. IsLedger (record { table = l.table; nodes = l.nodes; known = l.known }) };
 }
 
 impl Ledger {
@@ -67,11 +68,10 @@ impl Ledger {
         requires run { 1 ≤ site.incarnation }
         ensures { IfOk result (λ ledger. ledger ≡ opening_ledger site nodes names_limit) }
     {
-        let known = vec![in alloc; 1; nodes as usize + 1]?;
         Ok(Ledger {
             table: Table::start(alloc, site, names_limit),
             nodes,
-            known,
+            known: Known::start(alloc, nodes)?,
             alloc,
         })
     }
@@ -83,11 +83,10 @@ impl Ledger {
         requires most { nodes ≤ 16 }
         ensures { IfOk result (λ ledger. ledger ≡ root_ledger nodes) }
     {
-        let known = vec![in alloc; 1; nodes as usize + 1]?;
         Ok(Ledger {
             table: Table::with_root(alloc)?,
             nodes,
-            known,
+            known: Known::start(alloc, nodes)?,
             alloc,
         })
     }
@@ -112,7 +111,7 @@ impl Ledger {
         requires { node ≤ self.now.nodes }
         ensures { result ≡ slice_index self.now.known node }
     {
-        self.known[node as usize]
+        self.known.of(node)
     }
 
     /// Takes up this unit, which is ready, as `Table::take_up` does.
@@ -200,7 +199,7 @@ impl Ledger {
     pub fn ready_child(&self, thief: Site) -> Option<u32>
         ensures { MatchOption result (GivesNothing self.now thief) (MayGive self.now thief) }
     {
-        if is_older(&self.known, thief) {
+        if self.known.is_older(thief) {
             return None;
         }
         first_ready(&self.table)
@@ -354,7 +353,7 @@ impl Ledger {
         ensures new { OnTrue result (IsNew self.now name attempt) }
         ensures not_new { OnFalse result (IsNotNew self.now name attempt) }
     {
-        !is_older(&self.known, name.site) && self.table.unit(Unit::Guest(name, attempt)).is_none()
+        !self.known.is_older(name.site) && self.table.unit(Unit::Guest(name, attempt)).is_none()
     }
 
     /// A new child of another site becomes a ready guest; the only error is want of memory, which changes nothing.
@@ -421,6 +420,16 @@ impl Ledger {
         Ok(true)
     }
 
+    /// Whether the incarnations of nodes 1, 2, .. can be learnt: no own child that would have to be redone stands at its
+    /// last attempt. It costs a pass through the own children.
+    pub fn may_learn(&self, incarnations: &[u32]) -> bool
+        ensures able { OnTrue result (IsRedoable (is_older (now_known self.now.site.node self.now.known incarnations.now)) self.now.own) }
+        ensures spent { OnFalse result (IsSpent (is_older (now_known self.now.site.node self.now.known incarnations.now)) self.now.own) }
+    {
+        let told = Told::Members(self.table.site().node, incarnations);
+        is_redoable(&self.table, &self.known, told)
+    }
+
     /// Learns the incarnations of nodes 1, 2, ..: of each other node the greater one is kept; what is told beyond the
     /// nodes that there are is passed over. Then each own child that is out to an earlier run than is known now is
     /// redone. Then each open guest of such an owner is dropped, and all open units below these guests become Aborted;
@@ -442,10 +451,10 @@ impl Ledger {
         ensures list { OnErr result (list.new.items ≡ list.old.items) }
     {
         let own = self.table.site().node;
-        if !is_redoable(&self.table, &self.known, own, incarnations) {
+        if !is_redoable(&self.table, &self.known, Told::Members(own, incarnations)) {
             return Err(LearnFault::NamesSpent);
         }
-        let known = learn(self.alloc, &self.known, own, incarnations)?;
+        let known = self.known.learnt(own, incarnations)?;
         let lost = lost_guests(self.alloc, &self.table, &known)?;
         let reach = Reach::below(self.alloc, &self.table, &lost)?;
         list.reserve(reach.outs(&self.table))?;
@@ -458,12 +467,30 @@ impl Ledger {
         Ok(moved)
     }
 
+    /// Learns that a node runs so: the later run of it is kept, and each child that is out to an earlier run of it is
+    /// redone. `NamesSpent`, the only fault, comes exactly where one of them stands at its last attempt; then nothing
+    /// changes. It takes no memory, and costs two passes through the own children.
+    pub fn learn_hello(&mut self, from: Site) -> Result<(), LearnFault>
+        requires { from.node ≤ self.old.nodes }
+        ensures ok { OnOk result (LearnsHello self.old from self.new) }
+        ensures spent { IsErrOf result LearnFault.NamesSpent ↔ IsSpent (is_earlier_run from.node (raised self.old.known from.node from.incarnation)) self.old.own }
+        ensures no_other { OnErr result (IsErrOf result LearnFault.NamesSpent) }
+        ensures err { OnErr result (self.new ≡ self.old) }
+    {
+        if !is_redoable(&self.table, &self.known, Told::Hello(from)) {
+            return Err(LearnFault::NamesSpent);
+        }
+        self.known.raise(from.node, from.incarnation);
+        redo_lost(&mut self.table, &self.known);
+        Ok(())
+    }
+
     /// Whether it makes a difference that these runs are known and these guests lost.
-    fn differs(&self, known: &[u32], lost: &[Unit]) -> bool
+    fn differs(&self, known: &Known, lost: &[Unit]) -> bool
         ensures differs { OnTrue result (Differs self.now known.now lost.now) }
         ensures alike { OnFalse result (IsAlike self.now known.now lost.now) }
     {
-        if known != self.known.as_slice() {
+        if known.as_slice() != self.known.as_slice() {
             return true;
         }
         if !lost.is_empty() {

@@ -32,6 +32,8 @@ enum Step {
     Redo(u32, Result<(), RedoFault>),
     /// A site returns a serial, an attempt and a result: the result that is accepted, or why it is refused.
     Return(Site, (u32, u32, Came), Result<Came, Cause>),
+    /// A node says that it runs so.
+    Hello(Site, Result<(), LearnFault>),
     /// Incarnations are learnt; whether anything changes.
     Learn(&'static [u32], bool),
     /// A guest's owner accepts this result; whether the guest settles.
@@ -204,6 +206,12 @@ fn finishes<R: Abort>(rt: &R, ledger: &mut Ledger, unit: Unit, outs: &mut Vec<Ou
     ledger.finish(unit, outs).is_ok()
 }
 
+/// What is answered where one of the nodes says that it runs so.
+fn greeted<R: Abort>(rt: &R, ledger: &mut Ledger, from: Site) -> Result<(), LearnFault> {
+    assert!(rt; from.node <= ledger.nodes());
+    ledger.learn_hello(from)
+}
+
 /// Whether a node's run is known so.
 fn knows(ledger: &Ledger, node: u8, incarnation: u32) -> bool {
     node <= ledger.nodes() && ledger.known(node) == incarnation
@@ -236,6 +244,7 @@ fn is_done<R: Abort>(
         Finish(unit) => finishes(rt, ledger, unit, outs),
         Give(thief, given) => gives(rt, ledger, thief, given),
         Redo(serial, answer) => ledger.redo(serial) == answer,
+        Hello(from, answer) => greeted(rt, ledger, from) == answer,
         _ => is_shown(rt, alloc, ledger, outs, step),
     }
 }
@@ -521,4 +530,29 @@ static ROOT_LOST: &[Step] = &[
 #[test]
 fn the_root_is_redone_once_its_thief_began_anew(rt: HostRuntime) {
     run_registry(&rt, rt.alloc(), ROOT_LOST);
+}
+
+static ROOT_GREETED: &[Step] = &[
+    Give(NODE_1, Some((0, 1, &[]))),
+    // The thief's own run, and a later run of another node, redo nothing.
+    Hello(NODE_1, Ok(())),
+    Hello(NODE_2_ANEW, Ok(())),
+    Children("O1"),
+    Known(1, 1),
+    Known(2, 2),
+    Hello(NODE_1_ANEW, Ok(())),
+    Children("R2"),
+    Known(1, 2),
+    Give(NODE_1, None),
+    Give(NODE_1_ANEW, Some((0, 2, &[]))),
+    // An earlier run that is heard late is passed over.
+    Hello(NODE_1, Ok(())),
+    Children("O2"),
+    Known(1, 2),
+    Known(2, 2),
+];
+
+#[test]
+fn the_root_is_redone_once_its_thief_greets_anew(rt: HostRuntime) {
+    run_registry(&rt, rt.alloc(), ROOT_GREETED);
 }

@@ -50,6 +50,12 @@ enum Step {
     Next(Option<(ChildName, Attempt)>, Option<(ChildName, Attempt)>),
     /// How many own children there are.
     Issued(u32),
+    /// How many of them are out.
+    Outs(usize),
+    /// Whether a job, at an attempt and with a prefix, is still worked on.
+    Works(Unit, Attempt, &'static [u16], bool),
+    /// The guest at a place, and its attempt.
+    Stands(usize, ChildName, Attempt),
 }
 
 use self::Step::*;
@@ -95,6 +101,26 @@ fn says<R: Abort>(rt: &R, table: &Table, unit: Unit, heard: Heard, winner: Optio
     table.heard(unit) == heard && table.winner(unit) == winner
 }
 
+/// Whether this guest stands at a place.
+fn stands(table: &Table, place: usize, name: ChildName, attempt: Attempt) -> bool {
+    if place < table.guest_count() {
+        let guest = table.guest(place);
+        guest.name == name && guest.attempt == attempt
+    } else {
+        false
+    }
+}
+
+/// Whether the table tells what a step says of jobs, guests and thieves.
+fn is_told(table: &Table, step: &Step) -> bool {
+    match *step {
+        Outs(count) => table.outs() == count,
+        Works(unit, attempt, prefix, is) => table.has_job(Job { unit, attempt }, prefix) == is,
+        Stands(place, name, attempt) => stands(table, place, name, attempt),
+        _ => false,
+    }
+}
+
 /// Whether the table shows what a step says.
 fn is_shown<R: Abort>(rt: &R, alloc: Global, table: &Table, step: &Step) -> bool {
     match *step {
@@ -105,7 +131,7 @@ fn is_shown<R: Abort>(rt: &R, alloc: Global, table: &Table, step: &Step) -> bool
         Parent(serial, parent) => is_parent(table, serial, parent),
         Next(after, next) => table.next_guest(after) == next,
         Issued(count) => table.issued() == count,
-        _ => false,
+        _ => is_told(table, step),
     }
 }
 
@@ -227,15 +253,24 @@ static SPLITS: &[Step] = &[
     Split(Own(1), &[4, 5], Err(SpawnFault::NamesSpent)),
     Issued(2),
     Shows(Own(1), "1 H [1]"),
+    // Its job is known by attempt and prefix.
+    Works(Own(1), 1, &[1], true),
+    Works(Own(1), 2, &[1], false),
+    Works(Own(1), 1, &[0], false),
+    Works(Own(0), 1, &[0], false),
+    Works(Own(2), 1, &[1], false),
     Split(Own(1), &[4], Ok(2)),
     Issued(3),
     Shows(Own(1), "1 S [1]"),
     Shows(Own(2), "1 R [1, 4]"),
     Parent(0, Some(Guest(ROOT, 1))),
     Parent(2, Some(Own(1))),
+    Outs(0),
     Give(0),
+    Outs(1),
     Shows(Own(0), "1 O [0]"),
     Shows(Guest(ROOT, 1), "1 S []"),
+    Works(Own(1), 1, &[1], false),
 ];
 
 #[test]
@@ -346,6 +381,9 @@ static GUESTS: &[Step] = &[
     Next(Some((OF_2, 1)), Some((OF_2, 2))),
     Next(Some((OF_2, 2)), Some((OF_3, 1))),
     Next(Some((OF_3, 1)), None),
+    Stands(0, OF_2, 1),
+    Stands(1, OF_2, 2),
+    Stands(2, OF_3, 1),
     Shows(Guest(OF_2, 2), "2 R [2, 7]"),
     Take(Guest(OF_2, 1), 1),
 ];

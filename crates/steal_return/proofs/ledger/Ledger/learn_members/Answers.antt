@@ -16,61 +16,54 @@ use Rattle.steal_return.specs.Steals.{is_older}
 pub drop_guests-requires : goal.drop_guests-requires
 drop_guests-requires c =
     let guests = c.self.inside.table.guests in
-    subst (λ us. MayDrop us c.redo_lost.new.table.guests) (sym (c.deref-8.ensures.value ∙ c.in_ok-lost.ensures.lost))
-    (subst (λ gs. MayDrop (lost_units c.deref-3.result.now guests) gs) (sym (ap (λ t. t.guests) c.redo_lost.ensures))
-    (lost_may_drop c.deref-3.result.now guests c.in_ok-lost.ensures.ascending))
+    subst (λ us. MayDrop us c.redo_lost.new.table.guests) (sym (c.deref-3.ensures.value ∙ c.in_ok-lost.ensures.lost))
+    (subst (λ gs. MayDrop (lost_units c.in_ok-known.known guests) gs) (sym (ap (λ t. t.guests) c.redo_lost.ensures))
+    (lost_may_drop c.in_ok-known.known guests c.in_ok-lost.ensures.ascending))
 
 pub abort-requires-clause-room : goal.abort-requires-clause-room
 abort-requires-clause-room c =
     let fewer : length (outs_from 0 c.in_ok-reach.reach c.drop_guests.new.table.own) ≤ length (outs_from 0 c.in_ok-reach.reach c.self.inside.table.own) =
     no_more_reached 0 c.in_ok-reach.reach _ _
-    (redone_no_more (is_older c.deref-7.result.now) c.self.inside.table c.redo_lost.new.table c.drop_guests.new.table _ c.redo_lost.ensures c.drop_guests.ensures) in
+    (redone_no_more (is_older c.in_ok-known.known) c.self.inside.table c.redo_lost.new.table c.drop_guests.new.table _ c.redo_lost.ensures c.drop_guests.ensures) in
     omega (arith, fewer, c.in_ok-reserve.ensures.ok, c.outs.ensures)
 
 -- ---- the facts of the calls, in one spelling
 
-known_is : (c : After-drop-lost-2) → c.in_ok-known.known.items ≡ now_known c.self.inside.table.site.node c.self.inside.known.items c.args.incarnations.now
-known_is c =
-    c.in_ok-known.ensures
-    ∙ ap (λ s. now_known s.node c.deref-2.result.now c.args.incarnations.now) c.site-own.ensures
-    ∙ ap (λ k. now_known c.self.inside.table.site.node k c.args.incarnations.now) c.deref-2.ensures.value
+known_is : (c : After-drop-lost-2) → c.in_ok-known.known ≡ now_known c.self.inside.table.site.node c.self.inside.known c.args.incarnations.now
+known_is c = c.in_ok-known.ensures ∙ ap (λ s. now_known s.node c.self.inside.known c.args.incarnations.now) c.site-own.ensures
 
-redoable : (c : After-drop-lost-2) → IsRedoable (is_older c.in_ok-known.known.items) c.self.inside.table.own
-redoable c =
-    subst (λ k. IsRedoable (is_older k) c.self.inside.table.own)
-    (ap (λ k. now_known c.site-own.result.node k c.args.incarnations.now) (c.deref.ensures.value ∙ sym c.deref-2.ensures.value) ∙ sym c.in_ok-known.ensures)
-    c.if-not-is_redoable.ensures.able
+redoable : (c : After-drop-lost-2) → IsRedoable (is_older c.in_ok-known.known) c.self.inside.table.own
+redoable c = subst (λ k. IsRedoable (is_older k) c.self.inside.table.own) (sym c.in_ok-known.ensures) c.if-not-is_redoable.ensures.able
 
-lost_is : (c : After-drop-lost-2) → c.in_ok-lost.lost.items ≡ lost_units c.in_ok-known.known.items c.self.inside.table.guests
-lost_is c = c.in_ok-lost.ensures.lost ∙ ap (λ k. lost_units k c.self.inside.table.guests) c.deref-3.ensures.value
+lost_is : (c : After-drop-lost-2) → c.in_ok-lost.lost.items ≡ lost_units c.in_ok-known.known c.self.inside.table.guests
+lost_is c = c.in_ok-lost.ensures.lost
 
 below : (c : After-drop-lost-2) → MarksBelow (is_among c.in_ok-lost.lost.items) c.self.inside.table.own c.in_ok-reach.reach
-below c = subst (λ us. MarksBelow (is_among us) c.self.inside.table.own c.in_ok-reach.reach) c.deref-4.ensures.value c.in_ok-reach.ensures
+below c = subst (λ us. MarksBelow (is_among us) c.self.inside.table.own c.in_ok-reach.reach) c.deref.ensures.value c.in_ok-reach.ensures
 
-redoes : (c : After-drop-lost-2) → c.redo_lost.new.table ≡ table_own c.self.inside.table (redo_lost (is_older c.in_ok-known.known.items) c.self.inside.table.own)
-redoes c =
-    c.redo_lost.ensures ∙ ap (λ k. table_own c.self.inside.table (redo_lost (is_older k) c.self.inside.table.own)) c.deref-7.ensures.value
+redoes : (c : After-drop-lost-2) → c.redo_lost.new.table ≡ table_own c.self.inside.table (redo_lost (is_older c.in_ok-known.known) c.self.inside.table.own)
+redoes c = c.redo_lost.ensures
 
 drops : (c : After-drop-lost-2) → c.drop_guests.new.table ≡ table_guests c.redo_lost.new.table (dropped c.in_ok-lost.lost.items c.redo_lost.new.table.guests)
 drops c =
-    c.drop_guests.ensures ∙ ap (λ us. table_guests c.redo_lost.new.table (dropped us c.redo_lost.new.table.guests)) c.deref-8.ensures.value
+    c.drop_guests.ensures ∙ ap (λ us. table_guests c.redo_lost.new.table (dropped us c.redo_lost.new.table.guests)) c.deref-3.ensures.value
 
 same_parents : (c : After-drop-lost-2) → parents c.self.inside.table.own ≡ parents c.drop_guests.new.table.own
 same_parents c =
-    parents_same _ c.args.self.now c.self.view_is c.in_ok-known.known.items c.args.incarnations.now c.in_ok-lost.lost.items c.in_ok-reach.reach
+    parents_same _ c.args.self.now c.self.view_is c.in_ok-known.known c.args.incarnations.now c.in_ok-lost.lost.items c.in_ok-reach.reach
     c.redo_lost.new.table c.drop_guests.new.table c.abort.new.table (redoes c) (drops c) c.abort.ensures.table c.in_ok-lost.ensures.ascending (lost_is c)
 
 -- ---- the goals
 
 pub invariant_of-self : goal.invariant_of-self
 invariant_of-self c =
-    let some : 0 < length c.self.inside.known.items = omega (arith, c.self.invariant.each) in
+    let some : 0 < length c.self.inside.known = omega (arith, c.self.invariant.each) in
     let site : c.abort.new.table.site ≡ c.self.inside.table.site =
     ap (λ t. t.site) c.abort.ensures.table ∙ ap (λ t. t.site) (drops c) ∙ ap (λ t. t.site) (redoes c) in
     record {
-      each = ap length (known_is c) ∙ known_length c.self.inside.table.site.node c.self.inside.known.items c.args.incarnations.now some ∙ c.self.invariant.each;
+      each = ap length (known_is c) ∙ known_length c.self.inside.table.site.node c.self.inside.known c.args.incarnations.now some ∙ c.self.invariant.each;
       within = subst (λ s. s.node ≤ c.self.inside.nodes) (sym site) c.self.invariant.within;
-      none_outrun = learns c.in_ok-known.known.items c.self.inside.table c.redo_lost.new.table c.drop_guests.new.table c.abort.new.table _ c.in_ok-reach.reach
+      none_outrun = learns c.in_ok-known.known c.self.inside.table c.redo_lost.new.table c.drop_guests.new.table c.abort.new.table _ c.in_ok-reach.reach
           (redoes c) (drops c) c.abort.ensures.table;
     }
 
@@ -78,7 +71,7 @@ pub returns-clause-learns : goal.returns-clause-learns
 returns-clause-learns c = (
   _,
   appended c.args.list.now.items c.reserve.new.self.items c.abort.new.list.items _ c.abort.ensures.list c.reserve.ensures.items,
-  learns_members _ c.args.self.now c.self.view_is c.in_ok-known.known.items c.args.incarnations.now c.in_ok-lost.lost.items c.in_ok-reach.reach
+  learns_members _ c.args.self.now c.self.view_is c.in_ok-known.known c.args.incarnations.now c.in_ok-lost.lost.items c.in_ok-reach.reach
       c.redo_lost.new.table c.drop_guests.new.table c.abort.new.table (redoes c) (drops c) c.abort.ensures.table c.in_ok-lost.ensures.ascending (lost_is c)
       (known_is c) (redoable c) (c.abort.ensures.below _ (c.parents_decide.ensures _ c.self.inside.table.own _ _ (same_parents c) (below c))),
 )
@@ -86,21 +79,19 @@ returns-clause-learns c = (
 pub returns-clause-moved : goal.returns-clause-moved
 returns-clause-moved c =
     on_true c.differs-moved.result
-    (λ (d : Differs c.args.self.now c.deref-5.result.now c.deref-6.result.now).
-    moves _ c.args.self.now c.self.view_is c.in_ok-known.known.items c.args.incarnations.now c.in_ok-lost.lost.items c.in_ok-reach.reach
+    (λ (d : Differs c.args.self.now c.in_ok-known.known c.deref-2.result.now).
+    moves _ c.args.self.now c.self.view_is c.in_ok-known.known c.args.incarnations.now c.in_ok-lost.lost.items c.in_ok-reach.reach
     c.redo_lost.new.table c.drop_guests.new.table c.abort.new.table (redoes c) (drops c) c.abort.ensures.table c.in_ok-lost.ensures.ascending (lost_is c)
-    (subst (λ k. Differs c.args.self.now k c.in_ok-lost.lost.items) c.deref-5.ensures.value
-    (subst (λ us. Differs c.args.self.now c.deref-5.result.now us) c.deref-6.ensures.value d)))
+    (subst (λ us. Differs c.args.self.now c.in_ok-known.known us) c.deref-2.ensures.value d))
     c.differs-moved.ensures.differs
 
 pub returns-clause-same : goal.returns-clause-same
 returns-clause-same c =
     on_false c.differs-moved.result
-    (λ (a : IsAlike c.args.self.now c.deref-5.result.now c.deref-6.result.now).
-    rests _ c.args.self.now c.self.view_is c.in_ok-known.known.items c.args.incarnations.now c.in_ok-lost.lost.items c.in_ok-reach.reach
+    (λ (a : IsAlike c.args.self.now c.in_ok-known.known c.deref-2.result.now).
+    rests _ c.args.self.now c.self.view_is c.in_ok-known.known c.args.incarnations.now c.in_ok-lost.lost.items c.in_ok-reach.reach
     c.redo_lost.new.table c.drop_guests.new.table c.abort.new.table (redoes c) (drops c) c.abort.ensures.table c.in_ok-lost.ensures.ascending (lost_is c) (below c)
-    (subst (λ k. IsAlike c.args.self.now k c.in_ok-lost.lost.items) c.deref-5.ensures.value
-    (subst (λ us. IsAlike c.args.self.now c.deref-5.result.now us) c.deref-6.ensures.value a)))
+    (subst (λ us. IsAlike c.args.self.now c.in_ok-known.known us) c.deref-2.ensures.value a))
     c.differs-moved.ensures.alike
 
 pub returns-clause-few : goal.returns-clause-few

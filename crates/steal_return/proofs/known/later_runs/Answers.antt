@@ -2,7 +2,7 @@ use Rattle.std.proofs.Common.{◌≡◌, ◌<◌, ◌++◌, ◌∷◌, [], lengt
 use Rattle.std.proofs.Math.Seq.{take-length}
 use Rattle.std.proofs.lemmas.List.{take_more}
 use Rattle.steal_return.proofs.Learning.{known_length}
-use Rattle.steal_return.proofs.known.learn.Goals as goal
+use Rattle.steal_return.proofs.known.later_runs.Goals as goal
 use Rattle.steal_return.specs.Members.{now_known}
 
 pub loop-node-preserved : goal.loop-node-preserved
