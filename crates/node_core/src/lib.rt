@@ -6,6 +6,7 @@ mod arrivals;
 mod core_trait;
 mod event;
 mod laws;
+mod membership;
 mod outgoing;
 mod reply;
 mod requests;
