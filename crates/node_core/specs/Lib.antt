@@ -1,5 +1,6 @@
 pub mod Acting
 pub mod Arrivals
+pub mod Formed
 pub mod Membership
 pub mod NodeStep
 pub mod Outgoing
