@@ -2,6 +2,7 @@ pub mod Acting
 pub mod Again
 pub mod Alike
 pub mod Branches
+pub mod Cores
 pub mod Learning
 pub mod Outs
 pub mod Picking

@@ -6,6 +6,7 @@ use Rattle.cover_problem.specs.Prefix.{is_prefix}
 use Rattle.cover_problem.specs.Problem.{Problem}
 use Rattle.cover_problem.specs.Search.{Barren, Covers, Outcome, Spent}
 use Rattle.node_core.proofs.Branches.{spent_has_children}
+use Rattle.node_core.specs.Acting.{HasPrefixes}
 use Rattle.node_core.specs.Refusal.{is_awaited, is_spent, lacks_names, post_refusal, split_refusal}
 use Rattle.node_core.specs.Results.{IsRight, Leaves, PostStep, SplitStep}
 use Rattle.node_core.specs.SiteView.{View, unit_in}
@@ -15,6 +16,7 @@ use Rattle.spawn_frame.specs.Units.{Entry, Table, unit_of}
 use Rattle.spawn_frame.specs.declared.child_result.ChildResult.{ChildResult}
 use Rattle.spawn_frame.specs.declared.child_result.ChildResult.TheVariants.{Cover, Empty}
 use Rattle.spawn_frame.specs.declared.unit.Job.{Job}
+use Rattle.spawn_frame.specs.declared.unit.Unit.{Unit as WorkUnit}
 
 -- what a search leaves makes the step
 pub posted : (problem : Problem) (old : View) (job : Job) (finding : Finding) (out : List Packet) (new : View) (outcome : Outcome)
@@ -51,3 +53,12 @@ same_work old job finding table prefix t p work =
     let P : List ℕ → Type 0 = λ q. IsAtWork job.attempt q (unit_of old.table job.unit) in
     let Q : Table → Type 0 = λ s. IsAtWork job.attempt prefix (unit_of s job.unit) in
     subst P p (subst Q t work)
+
+-- a unit that is here is of a prefix
+pub here_prefix : (problem : Problem) (view : View) (unit : WorkUnit) → HasPrefixes problem view
+    → has_status is_here (unit_in view unit) ≡ true → is_prefix problem (prefix_in (unit_in view unit)) ≡ true
+here_prefix problem view unit prefixes = by (unit_in view unit) refl
+  where
+    by : (o : Option Entry) → unit_in view unit ≡ o → has_status is_here o ≡ true → is_prefix problem (prefix_in o) ≡ true
+    by None e here = absurd (cc)
+    by (Some entry) e here = prefixes unit entry e

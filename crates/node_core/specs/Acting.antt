@@ -1,9 +1,11 @@
 -- What a core does with an event.
-use Rattle.std.specs.Prelude.{◌≡◌, ℕ, List, Option, Some, None, Result, Ok, Err, ⊤}
+use Rattle.std.specs.Prelude.{◌≡◌, ℕ, Bool, true, false, List, Option, Some, None, Result, Ok, Err, ⊤}
+use Rattle.cover_problem.specs.Prefix.{is_prefix}
 use Rattle.cover_problem.specs.Problem.{Problem}
 use Rattle.node_core.specs.Arrivals.{answer_packet}
+use Rattle.node_core.specs.Formed.{AllFormed}
 use Rattle.node_core.specs.Outgoing.{Lists, Sends}
-use Rattle.node_core.specs.SiteView.{View}
+use Rattle.node_core.specs.SiteView.{View, opening_view, unit_in}
 use Rattle.node_core.specs.declared.act_fault.ActFault.{ActFault}
 use Rattle.node_core.specs.declared.act_fault.ActFault.TheVariants.{Memory}
 use Rattle.node_core.specs.declared.event.Event.{Event}
@@ -12,7 +14,10 @@ use Rattle.node_core.specs.declared.reply.Reply.{Reply}
 use Rattle.packet_wire.specs.declared.packet.Body.{Body}
 use Rattle.packet_wire.specs.declared.packet.Body.TheVariants.{Give, Steal}
 use Rattle.packet_wire.specs.declared.packet.Packet.{Packet}
+use Rattle.spawn_frame.specs.Units.{Entry}
 use Rattle.spawn_frame.specs.declared.site.Site.{Site}
+use Rattle.spawn_frame.specs.declared.unit.Unit.{Unit as WorkUnit}
+use Rattle.steal_return.specs.Ledger.{opening_ledger}
 use Rattle.steal_return.specs.Steals.{first_ready}
 
 -- a step of a machine, by its problem, the view before, the event, the reply, what is put out and the view after
@@ -44,10 +49,11 @@ abbrev pub GivesLeast : View → Event → List Packet → Type 0
 GivesLeast old (Deliver packet) out = AnswersLeast old packet.from packet.body out
 GivesLeast old _ out = ⊤
 
--- An event is a step of the machine.
+-- An event is a step of the machine, and each packet has a spelling.
 pub record Acts (Step : StepOf) (problem : Problem) (old : View) (event : Event) (reply : Reply) (out : List Packet) (new : View) : Type 0 where
   pub steps : Step problem old event reply out new
   pub least : GivesLeast old event out
+  pub formed : AllFormed out
 
 -- packets of which this is so are appended to each list
 abbrev pub Sending : Lists → Lists → (List Packet → Type 0) → Type 0
@@ -56,3 +62,21 @@ Sending old new P = (out : List Packet) × Sends old out new × P out
 -- some packets are appended to each list
 abbrev pub MaySend : Lists → Lists → Type 0
 MaySend old new = (out : List Packet) × Sends old out new
+
+-- a packet is delivered
+abbrev pub is_delivery : Event → Bool
+is_delivery (Deliver packet) = true
+is_delivery _ = false
+
+-- each unit of the site is of a prefix
+abbrev pub HasPrefixes : Problem → View → Type 0
+HasPrefixes problem view = (unit : WorkUnit) (entry : Entry) → unit_in view unit ≡ Some entry → is_prefix problem entry.prefix ≡ true
+
+-- a core as its users see it: the problem, and all that its site knows
+pub record SiteCore : Type 0 where
+  pub problem : Problem
+  pub view : View
+
+-- a node that begins
+abbrev pub opening_core : Problem → Site → ℕ → ℕ → SiteCore
+opening_core problem site nodes limit = record { problem = problem; view = opening_view (opening_ledger site nodes limit) }
