@@ -120,7 +120,7 @@ impl Finding {
         cover
     }
 
-    /// Whether it came to what the other did. (The cover of a search that found none is not looked at.)
+    /// Whether it came to what the other did; where none was found, no cover is looked at.
     fn came_to(&self, other: &Finding) -> bool
         ensures { result ≡ same_outcome self.now.outcome other.now.outcome }
     {

@@ -4,4 +4,5 @@ pub mod Forms
 pub mod Lengths
 pub mod Loop
 pub mod Numbers
+pub mod Sames
 pub mod Whole

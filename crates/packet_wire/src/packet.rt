@@ -1,4 +1,4 @@
-ghost use Rattle.std.specs.Prelude.{◌≡◌, IfOk};
+ghost use Rattle.std.specs.Prelude.{◌≡◌, ◌↔◌, IfOk, IsTrue};
 
 use crate::incarnations::Incarnations;
 use cover_problem::Numbers;
@@ -85,6 +85,13 @@ pub struct Packet {
 }
 
 impl Packet {
+    /// Whether it is the other packet, field by field: what `==` answers.
+    pub fn is_same(&self, other: &Packet) -> bool
+        ensures { IsTrue result ↔ (self.now ≡ other.now) }
+    {
+        self == other
+    }
+
     /// An equal packet; the only error is want of memory.
     pub fn copy(&self) -> Result<Packet, AllocError>
         ensures { IfOk result (λ copied. copied ≡ self.now) }

@@ -1,23 +1,21 @@
 //! Aborts in small tables; what is expected is worked out by hand from the rules.
 
-use super::units::{HERE, ROOT, THIEF, is_here, is_ready, is_split, letter};
+use super::units::{HERE, ROOT, THIEF, is_here, is_ready, is_split};
 use abort_tree::abort_below;
+use spawn_frame::Status::{Aborted, Ready, Split};
 use spawn_frame::Unit::{Guest, Own};
-use spawn_frame::{Out, Table, Unit};
+use spawn_frame::{Out, Status, Table, Unit};
 use std::alloc::Global;
 use std::process::Abort;
 
-/// A letter for the status of each own child, by serial.
-fn letters<R: Abort>(rt: &R, alloc: Global, table: &Table) -> String {
-    let mut letters = String::new(alloc);
+/// Whether these are the statuses of the own children, by serial.
+fn shows_children(table: &Table, statuses: &[Status]) -> bool {
     for serial in 0..table.issued() {
-        let letter = match table.unit(Own(serial)) {
-            Some(view) => letter(view.status),
-            None => '-',
-        };
-        letters.push(letter).expect(rt, "memory");
+        if table.status(Own(serial)) != statuses.get(serial as usize) {
+            return false;
+        }
     }
-    letters
+    statuses.len() == table.issued() as usize
 }
 
 /// Takes up a unit and splits it by these options.
@@ -47,40 +45,38 @@ const OUT: Out = Out {
     thief: THIEF,
 };
 
+/// Its status.
+const GIVEN: Status = Status::Out(THIEF);
+
 /// Whether the own children and the list are so, and the guest is a frame still.
-fn is_left<R: Abort>(
-    rt: &R,
-    alloc: Global,
-    (table, list): (&Table, &[Out]),
-    (letters_after, outs): (&str, &[Out]),
-) -> bool {
-    letters(rt, alloc, table).as_str() == letters_after
-        && list == outs
-        && is_split(table, Guest(ROOT, 1))
+fn is_left(table: &Table, list: &[Out], (statuses, outs): (&[Status], &[Out])) -> bool {
+    shows_children(table, statuses) && list == outs && is_split(table, Guest(ROOT, 1))
 }
 
 /// Whether an abort below the unit leaves these statuses, and a list that had the first child is this then.
-fn reaches<R: Abort>(rt: &R, alloc: Global, unit: Unit, after: (&str, &[Out])) -> bool {
+fn reaches<R: Abort>(rt: &R, alloc: Global, unit: Unit, after: (&[Status], &[Out])) -> bool {
     let mut table = three_deep(rt, alloc);
     let mut list = vec![in alloc; OUT].expect(rt, "memory");
     abort_below(alloc, &mut table, unit, &mut list).expect(rt, "memory");
-    is_left(rt, alloc, (&table, &list), after)
+    is_left(&table, &list, after)
 }
 
 /// The unit, what it leaves of the others, and the list.
-static ABORTS: [(Unit, &str, &[Out]); 5] = [
-    (Guest(ROOT, 1), "AAA", &[OUT, OUT]),
-    (Own(1), "OSA", &[OUT]),
-    (Own(2), "OSR", &[OUT]),
-    (Own(3), "OSR", &[OUT]),
-    (Guest(ROOT, 2), "OSR", &[OUT]),
-];
+fn rows() -> [(Unit, [Status; 3], &'static [Out]); 5] {
+    [
+        (Guest(ROOT, 1), [Aborted, Aborted, Aborted], &[OUT, OUT]),
+        (Own(1), [GIVEN, Split, Aborted], &[OUT]),
+        (Own(2), [GIVEN, Split, Ready], &[OUT]),
+        (Own(3), [GIVEN, Split, Ready], &[OUT]),
+        (Guest(ROOT, 2), [GIVEN, Split, Ready], &[OUT]),
+    ]
+}
 
 #[test]
 fn aborts_reach_all_below_and_no_other(rt: HostRuntime) {
-    for (unit, letters_after, outs) in ABORTS.iter() {
+    for (unit, statuses, outs) in rows().iter() {
         assert!(rt;
-            reaches(&rt, rt.alloc(), *unit, (letters_after, outs)),
+            reaches(&rt, rt.alloc(), *unit, (statuses, outs)),
             "{unit:?}"
         );
     }

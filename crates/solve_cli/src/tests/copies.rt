@@ -1,14 +1,14 @@
-//! Copies tell the same as what was copied.
+//! Copies are equal to what was copied, and to nothing else of these tests.
 
 use super::search::found;
 use super::texts::problem_of;
-use super::units::{Came, is_result, result_of, site};
-use brancher::Finding;
+use super::units::{result_of, site};
 use cover_problem::{Numbers, Problem};
 use node_core::{Event, Reply};
 use packet_wire::{Body, Incarnations, Packet};
 use spawn_frame::{Job, Status, Unit};
 use std::alloc::Global;
+use std::fmt::Debug;
 use std::process::Abort;
 
 const JOB: Job = Job {
@@ -31,86 +31,63 @@ fn a_problem(rt: HostRuntime) {
     assert!(rt; is_problem(&copy.expect(&rt, "memory")));
 }
 
-#[test]
-fn a_result(rt: HostRuntime) {
-    let copy = result_of(&rt, rt.alloc(), Some(7)).copy();
-    assert!(rt; is_result(&copy.expect(&rt, "memory"), Some(7)));
-}
-
-fn is_done(status: &Status, came: Came) -> bool {
-    matches!(status, Status::Done(result) if is_result(result, came))
-}
-
-fn copied<R: Abort>(rt: &R, status: &Status) -> Status {
-    status.copy().expect(rt, "memory")
+/// A copy of the first value is equal to it, and not to the second.
+fn tells_apart<R: Abort, T: Clone + Debug + Drop + PartialEq>(rt: &R, value: &T, other: &T) {
+    let copy = value.clone().expect(rt, "memory");
+    assert!(rt; copy == *value, "{copy:?} {value:?}");
+    assert!(rt; copy != *other, "{copy:?} {other:?}");
 }
 
 #[test]
-fn a_status(rt: HostRuntime) {
+fn results(rt: HostRuntime) {
+    let seven = result_of(&rt, rt.alloc(), Some(7));
+    tells_apart(&rt, &seven, &result_of(&rt, rt.alloc(), Some(8)));
+    tells_apart(&rt, &seven, &result_of(&rt, rt.alloc(), None));
+}
+
+#[test]
+fn statuses(rt: HostRuntime) {
+    let seven = result_of(&rt, rt.alloc(), Some(7));
     let done = Status::Done(result_of(&rt, rt.alloc(), Some(7)));
-    assert!(rt; is_done(&copied(&rt, &done), Some(7)));
+    tells_apart(&rt, &done, &Status::Finished(seven));
+    tells_apart(&rt, &Status::Out(site(2, 1)), &Status::Out(site(2, 2)));
 }
 
-/// The incarnations that the registry tells node 1.
-fn members<R: Abort>(rt: &R, alloc: Global) -> Packet {
+/// The incarnations that the registry tells a node.
+fn members<R: Abort>(rt: &R, alloc: Global, node: u8) -> Packet {
     let known = Incarnations::from_vec(vec![in alloc; 1, 256].expect(rt, "memory"));
     Packet {
         from: site(0, 1),
-        to: site(1, 1),
-        body: Body::Members(known.copy().expect(rt, "memory")),
+        to: site(node, 1),
+        body: Body::Members(known),
     }
 }
 
-fn is_members(packet: &Packet) -> bool {
-    matches!(&packet.body, Body::Members(known) if known.as_slice() == [1, 256].as_slice())
+#[test]
+fn events(rt: HostRuntime) {
+    let alloc = rt.alloc();
+    tells_apart(&rt, &Event::Again, &Event::Greet);
+    tells_apart(
+        &rt,
+        &Event::Deliver(members(&rt, alloc, 1)),
+        &Event::Deliver(members(&rt, alloc, 2)),
+    );
+    tells_apart(
+        &rt,
+        &Event::Post(JOB, found(&rt, alloc, 9)),
+        &Event::Post(JOB, found(&rt, alloc, 5)),
+    );
+    assert!(rt; found(&rt, alloc, 9).cover() == [3, 4, 0].as_slice());
 }
 
-fn is_post(job: Job, finding: &Finding) -> bool {
-    job == JOB && finding.cover() == [3, 4, 0].as_slice()
-}
-
-/// Whether both are the same event of these tests.
-fn is_alike(event: &Event, copy: &Event) -> bool {
-    match event {
-        Event::Again => matches!(copy, Event::Again),
-        Event::Deliver(_) => matches!(copy, Event::Deliver(packet) if is_members(packet)),
-        Event::Post(_, _) => { matches!(copy, Event::Post(job, finding) if is_post(*job, finding)) }
-        _ => false,
-    }
-}
-
-/// Whether a copy of an event is that event again.
-fn is_copied<R: Abort>(rt: &R, event: &Event) -> bool {
-    is_alike(event, &event.copy().expect(rt, "memory"))
+/// What is taken up with this prefix.
+fn taken<R: Abort>(rt: &R, alloc: Global, prefix: &[u16]) -> Reply {
+    let prefix = Vec::from_slice(alloc, prefix).expect(rt, "memory");
+    Reply::Taken(JOB, Numbers::from_vec(prefix))
 }
 
 #[test]
-fn an_event_without_fields(rt: HostRuntime) {
-    assert!(rt; is_copied(&rt, &Event::Again));
-}
-
-#[test]
-fn a_packet(rt: HostRuntime) {
-    assert!(rt; is_copied(&rt, &Event::Deliver(members(&rt, rt.alloc()))));
-}
-
-#[test]
-fn a_post(rt: HostRuntime) {
-    assert!(rt; is_copied(&rt, &Event::Post(JOB, found(&rt, rt.alloc(), 9))));
-}
-
-/// What is taken up with a prefix.
-fn taken<R: Abort>(rt: &R, alloc: Global) -> Reply {
-    let prefix = Numbers::from_vec(vec![in alloc; 5u16, 4].expect(rt, "memory"));
-    Reply::Taken(JOB, prefix.copy().expect(rt, "memory"))
-}
-
-fn is_taken(reply: &Reply, options: &[u16]) -> bool {
-    matches!(reply, Reply::Taken(job, prefix) if *job == JOB && prefix.as_slice() == options)
-}
-
-#[test]
-fn a_reply(rt: HostRuntime) {
-    let copy = taken(&rt, rt.alloc()).copy();
-    assert!(rt; is_taken(&copy.expect(&rt, "memory"), &[5, 4]));
+fn replies(rt: HostRuntime) {
+    let alloc = rt.alloc();
+    tells_apart(&rt, &taken(&rt, alloc, &[5, 4]), &taken(&rt, alloc, &[5]));
 }

@@ -1,7 +1,5 @@
 //! Packets and their bytes, worked out by hand from the format.
 
-ghost use Rattle.std.specs.Prelude.{◌≡◌, ◌↔◌, IsTrue};
-
 use super::units::site;
 use cover_problem::Numbers;
 use packet_wire::WireFault::{Field, Kind, Magic, Short, Trailing, Version};
@@ -125,16 +123,9 @@ fn is_written<R: Abort>(rt: &R, alloc: Global, packet: &Packet, bytes: &[u8]) ->
     matches!(written(rt, alloc, packet).as_slice(), [7, rest @ ..] if rest == bytes)
 }
 
-/// Whether two packets are the same.
-fn is_same(packet: &Packet, other: &Packet) -> bool
-    ensures { IsTrue result ↔ (packet.now ≡ other.now) }
-{
-    packet == other
-}
-
 /// Whether the packet is written so, and a copy of it is the same.
 fn writes<R: Abort>(rt: &R, alloc: Global, packet: &Packet, bytes: &[u8]) -> bool {
-    is_written(rt, alloc, packet, bytes) && is_same(&packet.copy().expect(rt, "memory"), packet)
+    is_written(rt, alloc, packet, bytes) && packet.copy().expect(rt, "memory").is_same(packet)
 }
 
 /// Whether the packet at this place is written so.
@@ -176,10 +167,7 @@ fn reads<R: Abort>(
     (from, to): ((u8, u32), (u8, u32)),
     bytes: &[u8],
 ) -> bool {
-    is_same(
-        &read(rt, alloc, bytes),
-        &packet(from, to, body_of(rt, alloc, place)),
-    )
+    read(rt, alloc, bytes) == packet(from, to, body_of(rt, alloc, place))
 }
 
 #[test]
@@ -194,7 +182,7 @@ fn each_packet_is_read_from_its_bytes(rt: HostRuntime) {
 
 /// Whether the bytes are read as a return of this cover.
 fn reads_return<R: Abort>(rt: &R, alloc: Global, bytes: &[u8], options: &[u16]) -> bool {
-    is_same(&read(rt, alloc, bytes), &cover_returned(rt, alloc, options))
+    read(rt, alloc, bytes) == cover_returned(rt, alloc, options)
 }
 
 #[test]

@@ -68,14 +68,11 @@ pub fn cover(alloc: Global, option: u16) -> Result<ChildResult, AllocError> {
 
 /// Whether a unit has come to this.
 pub fn has_come(table: &Table, unit: Unit, came: Came) -> bool {
-    match table.unit(unit) {
-        Some(view) => match view.status {
-            Status::Done(result) | Status::Finished(result) | Status::Settled(result) => {
-                is_result(result, came)
-            }
-            _ => false,
-        },
-        None => false,
+    match table.status(unit) {
+        Some(Status::Done(result) | Status::Finished(result) | Status::Settled(result)) => {
+            is_result(result, came)
+        }
+        _ => false,
     }
 }
 
@@ -97,8 +94,8 @@ pub fn letter(status: &Status) -> char {
 pub fn is_ready(table: &Table, unit: Unit) -> bool
     ensures { result ≡ has_status is_ready (unit_of table.now unit) }
 {
-    match table.unit(unit) {
-        Some(view) => matches!(view.status, Status::Ready),
+    match table.status(unit) {
+        Some(status) => status.is_ready(),
         None => false,
     }
 }
@@ -106,8 +103,8 @@ pub fn is_ready(table: &Table, unit: Unit) -> bool
 pub fn is_here(table: &Table, unit: Unit) -> bool
     ensures { result ≡ has_status is_here (unit_of table.now unit) }
 {
-    match table.unit(unit) {
-        Some(view) => matches!(view.status, Status::Here),
+    match table.status(unit) {
+        Some(status) => status.is_here(),
         None => false,
     }
 }
@@ -115,8 +112,8 @@ pub fn is_here(table: &Table, unit: Unit) -> bool
 pub fn is_split(table: &Table, unit: Unit) -> bool
     ensures { result ≡ has_status is_split (unit_of table.now unit) }
 {
-    match table.unit(unit) {
-        Some(view) => matches!(view.status, Status::Split),
+    match table.status(unit) {
+        Some(status) => status.is_split(),
         None => false,
     }
 }
@@ -124,11 +121,8 @@ pub fn is_split(table: &Table, unit: Unit) -> bool
 pub fn is_open(table: &Table, unit: Unit) -> bool
     ensures { result ≡ has_status is_open (unit_of table.now unit) }
 {
-    match table.unit(unit) {
-        Some(view) => matches!(
-            view.status,
-            Status::Ready | Status::Here | Status::Split | Status::Out(_) | Status::Finished(_)
-        ),
+    match table.status(unit) {
+        Some(status) => status.is_open(),
         None => false,
     }
 }
@@ -136,8 +130,8 @@ pub fn is_open(table: &Table, unit: Unit) -> bool
 pub fn is_finished(table: &Table, unit: Unit) -> bool
     ensures { result ≡ has_status is_finished (unit_of table.now unit) }
 {
-    match table.unit(unit) {
-        Some(view) => matches!(view.status, Status::Finished(_)),
+    match table.status(unit) {
+        Some(status) => status.is_finished(),
         None => false,
     }
 }
@@ -145,8 +139,8 @@ pub fn is_finished(table: &Table, unit: Unit) -> bool
 pub fn may_end(table: &Table, unit: Unit) -> bool
     ensures { result ≡ has_status may_end (unit_of table.now unit) }
 {
-    match table.unit(unit) {
-        Some(view) => matches!(view.status, Status::Here | Status::Split | Status::Out(_)),
+    match table.status(unit) {
+        Some(status) => status.may_end(),
         None => false,
     }
 }
