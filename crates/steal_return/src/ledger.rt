@@ -14,6 +14,10 @@ ghost use Rattle.steal_return.specs.Ledger.{ledger_gets, ledger_table, opening_l
 ghost use Rattle.steal_return.specs.Members.{is_earlier_run, now_known, raised, Differs, IsAlike, IsSpent, LearnsHello, LearnsMembers};
 ghost use Rattle.steal_return.specs.Returns.{judged, judgement_of, reply_to, returned, Enters};
 ghost use Rattle.steal_return.specs.Steals.{first_ready, is_older, GivesChild, GivesNothing, IsGiven, MayGive, RedoesChild};
+ghost use Rattle.steal_return.specs.Guests.{child_of, DropsIf, StaysUnless, TellsAccept, TellsGive};
+ghost use Rattle.steal_return.specs.Ledger.{ledger_split};
+ghost use Rattle.steal_return.specs.Members.{IsSpentForHello, IsSpentForMembers};
+ghost use Rattle.steal_return.specs.Steals.{IsLastOut, TellsSteal};
 
 use crate::children::{LAST_ATTEMPT, first_lost, first_ready, is_redoable, redo_lost};
 use crate::given::Given;
@@ -139,7 +143,7 @@ impl Ledger {
         requires here { has_status is_here (unit_of self.old.table unit) ≡ true }
         requires some { 0 < length options.now }
         ensures first { IfOk result (λ first. first ≡ length self.old.own) }
-        ensures split { OnOk result (self.new ≡ ledger_table self.old (split_into self.old.table unit (longer_prefixes (prefix_in (unit_of self.old.table unit)) options.now))) }
+        ensures split { OnOk result (self.new ≡ ledger_split self.old unit options.now) }
         ensures spent { IsErrOf result SpawnFault.NamesSpent ↔ (self.old.limit < length self.old.own + length options.now) }
         ensures err { OnErr result (self.new ≡ self.old) }
     {
@@ -237,7 +241,7 @@ impl Ledger {
     /// Gives the ready own child of least serial to a thief, if there is one and no later run of the thief's node is
     /// known; the child is out then. The only error is want of memory, which changes nothing.
     pub fn give(&mut self, thief: Site) -> Result<Option<Given>, AllocError>
-        ensures gives { IfOk result (λ answer. MatchOption answer (GivesNothing self.old thief × (self.new ≡ self.old)) (λ given. GivesChild self.old thief given self.new)) }
+        ensures gives { IfOk result (λ answer. TellsSteal self.old thief answer self.new) }
         ensures least { IfOk result (λ answer. IfSome answer (λ given. first_ready self.old.own ≡ Some given.serial)) }
         ensures err { OnErr result (self.new ≡ self.old) }
     {
@@ -254,7 +258,7 @@ impl Ledger {
     pub fn redo(&mut self, serial: u32) -> Result<(), RedoFault>
         ensures ok { OnOk result (RedoesChild self.old serial self.new) }
         ensures not_out { IsErrOf result RedoFault.NotOut ↔ (has_status is_out (slice_get self.old.own serial) ≡ false) }
-        ensures spent { IsErrOf result RedoFault.NamesSpent ↔ (has_status is_out (slice_get self.old.own serial) ≡ true) × (last_attempt ≤ attempt_in (slice_get self.old.own serial)) }
+        ensures spent { IsErrOf result RedoFault.NamesSpent ↔ IsLastOut (slice_get self.old.own serial) }
         ensures err { OnErr result (self.new ≡ self.old) }
     {
         let Some(view) = self.table.unit(Unit::Own(serial)) else {
@@ -336,7 +340,7 @@ impl Ledger {
         prefix: &[u16],
     ) -> Result<bool, AllocError>
         requires { 1 ≤ attempt }
-        ensures ok { IfOk result (λ moved. MatchBool moved (AdmitsGuest self.old (record { site = from; serial = serial }) attempt prefix.now self.new) (IsNotNew self.old (record { site = from; serial = serial }) attempt × (self.new ≡ self.old))) }
+        ensures ok { IfOk result (λ moved. TellsGive self.old (child_of from serial) attempt prefix.now moved self.new) }
         ensures err { OnErr result (self.new ≡ self.old) }
     {
         let name = ChildName { site: from, serial };
@@ -359,7 +363,7 @@ impl Ledger {
         attempt: Attempt,
         child_result: ChildResult,
     ) -> bool
-        ensures { MatchBool result (SettlesGuest self.old (record { site = from; serial = serial }) attempt child_result self.new) (IsNotFinished self.old (record { site = from; serial = serial }) attempt × (self.new ≡ self.old)) }
+        ensures { TellsAccept self.old (child_of from serial) attempt child_result result self.new }
     {
         let name = ChildName { site: from, serial };
         let Some(view) = self.table.unit(Unit::Guest(name, attempt)) else {
@@ -382,9 +386,9 @@ impl Ledger {
         attempt: Attempt,
         list: &mut Vec<Out>,
     ) -> Result<bool, AllocError>
-        ensures dropped { IfOk result (λ moved. OnTrue moved (Appends list.old.items list.new.items (λ outs. DropsGuest self.old (record { site = from; serial = serial }) attempt outs self.new))) }
+        ensures dropped { IfOk result (λ moved. DropsIf moved self.old (child_of from serial) attempt list.old.items list.new.items self.new) }
         ensures few { OnOk result (length list.new.items ≤ length list.old.items + outs_of self.old.own) }
-        ensures left { IfOk result (λ moved. OnFalse moved (IsNotOpen self.old (record { site = from; serial = serial }) attempt × (self.new ≡ self.old) × (list.new.items ≡ list.old.items))) }
+        ensures left { IfOk result (λ moved. StaysUnless moved self.old (child_of from serial) attempt list.old.items list.new.items self.new) }
         ensures err { OnErr result (self.new ≡ self.old) }
         ensures list { OnErr result (list.new.items ≡ list.old.items) }
     {
@@ -415,7 +419,7 @@ impl Ledger {
         ensures few { OnOk result (length list.new.items ≤ length list.old.items + outs_of self.old.own) }
         ensures moved { IfOk result (λ moved. OnTrue moved (self.new ≢ self.old)) }
         ensures same { IfOk result (λ moved. OnFalse moved (self.new ≡ self.old)) }
-        ensures spent { IsErrOf result LearnFault.NamesSpent ↔ IsSpent (is_older (now_known self.old.site.node self.old.known incarnations.now)) self.old.own }
+        ensures spent { IsErrOf result LearnFault.NamesSpent ↔ IsSpentForMembers self.old incarnations.now }
         ensures err { OnErr result (self.new ≡ self.old) }
         ensures list { OnErr result (list.new.items ≡ list.old.items) }
     {
@@ -442,7 +446,7 @@ impl Ledger {
     pub fn learn_hello(&mut self, from: Site) -> Result<(), LearnFault>
         requires { from.node ≤ self.old.nodes }
         ensures ok { OnOk result (LearnsHello self.old from self.new) }
-        ensures spent { IsErrOf result LearnFault.NamesSpent ↔ IsSpent (is_earlier_run from.node (raised self.old.known from.node from.incarnation)) self.old.own }
+        ensures spent { IsErrOf result LearnFault.NamesSpent ↔ IsSpentForHello self.old from }
         ensures no_other { OnErr result (IsErrOf result LearnFault.NamesSpent) }
         ensures err { OnErr result (self.new ≡ self.old) }
     {
