@@ -40,20 +40,20 @@ use std::marker::Model;
 #[derive(Drop)]
 pub struct Ledger {
     table: Table,
-    nodes: u8,
     known: Known,
     alloc: Global,
 }
 
 impl Model for Ledger {
+    ghost use Rattle.std.specs.Prelude.{◌-◌, length};
     ghost use Rattle.steal_return.specs.Invariant.{IsLedger};
     ghost use Rattle.steal_return.specs.Ledger.{Ledger as SeenLedger};
 
     ghost Value = { SeenLedger };
 
-    ghost view = { λ l. record { table = l.table; nodes = l.nodes; known = l.known } };
+    ghost view = { λ l. record { table = l.table; nodes = length l.known - 1; known = l.known } };
 
-    ghost invariant = { λ l. IsLedger (record { table = l.table; nodes = l.nodes; known = l.known }) };
+    ghost invariant = { λ l. IsLedger (record { table = l.table; nodes = length l.known - 1; known = l.known }) };
 }
 
 impl Ledger {
@@ -74,7 +74,6 @@ impl Ledger {
     {
         Ok(Ledger {
             table: Table::start(alloc, site, names_limit),
-            nodes,
             known: Known::start(alloc, nodes)?,
             alloc,
         })
@@ -89,7 +88,6 @@ impl Ledger {
     {
         Ok(Ledger {
             table: Table::with_root(alloc)?,
-            nodes,
             known: Known::start(alloc, nodes)?,
             alloc,
         })
@@ -107,7 +105,7 @@ impl Ledger {
     pub fn nodes(&self) -> u8
         ensures { result ≡ self.now.nodes }
     {
-        self.nodes
+        self.known.nodes()
     }
 
     /// The known incarnation of a node, or of the registry at 0.
