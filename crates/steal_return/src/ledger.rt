@@ -1,12 +1,12 @@
 //! The ledger of a site: what it gave away, and what came back.
 
-ghost use Rattle.std.specs.Prelude.{◌≡◌, ◌≢◌, ◌+◌, ◌<◌, ◌≤◌, ◌↔◌, length, option_map, slice_get, slice_index, false, true, IfOk, IfSome, IsErrOf, IsSome, MatchBool, MatchOption, OnErr, OnOk, Some};
+ghost use Rattle.std.specs.Prelude.{◌≡◌, ◌≢◌, ◌+◌, ◌<◌, ◌≤◌, ◌↔◌, length, option_map, slice_get, slice_index, false, true, IfOk, IfSome, IsErrOf, IsSome, MatchOption, OnErr, OnOk, Some};
 ghost use Rattle.std.specs.Bool.{OnFalse, OnTrue};
 ghost use Rattle.spawn_frame.specs.Frames.{frame, frame_result};
 ghost use Rattle.spawn_frame.specs.Picks.{is_ready, is_split, ready_unit};
-ghost use Rattle.spawn_frame.specs.Splits.{split_into, with_result};
-ghost use Rattle.spawn_frame.specs.Tables.{attempt_in, has_status, is_here, is_out, longer_prefixes, may_end, outs_of, parent_heard, prefix_in, IsSeen};
-ghost use Rattle.spawn_frame.specs.Units.{last_attempt, unit_of};
+ghost use Rattle.spawn_frame.specs.Splits.{with_result};
+ghost use Rattle.spawn_frame.specs.Tables.{has_status, is_here, is_out, may_end, outs_of, parent_heard, IsSeen};
+ghost use Rattle.spawn_frame.specs.Units.{unit_of};
 ghost use Rattle.steal_return.specs.Finishing.{Appends, FinishesFrame};
 ghost use Rattle.steal_return.specs.Guests.{AdmitsGuest, DropsGuest, IsNotFinished, IsNotNew, IsNotOpen, SettlesGuest};
 ghost use Rattle.steal_return.specs.Invariant.{IsLedger};
