@@ -1,11 +1,11 @@
 -- What is redone once a node says that it runs: the children that are out to earlier runs of that very node.
-use Rattle.std.proofs.Common.{◌≡◌, ℕ, zero, suc, Bool, true, false, ◌&&◌, ◌==◌, nat_le, nat_lt, cond, List, [], ◌∷◌, slice_get, refl, sym, ap, subst, ◌∙◌}
+use Rattle.std.proofs.Common.{◌≡◌, ℕ, zero, suc, ◌-◌, length, Bool, true, false, ◌&&◌, ◌==◌, nat_le, nat_lt, cond, List, [], ◌∷◌, slice_get, refl, sym, ap, subst, ◌∙◌}
 use Rattle.std.proofs.lemmas.Bool.{and_parts, eqb-false}
 use Rattle.spawn_frame.specs.Units.{Entry, Table, last_attempt, redone, table_own}
 use Rattle.spawn_frame.specs.declared.site.Site.{Site}
 use Rattle.spawn_frame.specs.declared.status.Status.{Status}
 use Rattle.spawn_frame.specs.declared.status.Status.TheVariants.{Out, Ready}
-use Rattle.steal_return.proofs.Learning.{raised_other}
+use Rattle.steal_return.proofs.Learning.{raised_length, raised_other}
 use Rattle.steal_return.specs.Invariant.{NoneOutrun}
 use Rattle.steal_return.specs.Ledger.{Ledger}
 use Rattle.steal_return.specs.Members.{IsRedoable, IsSpent, LearnsHello, is_earlier_run, is_out_to, is_spent_at, raised, redo_if, redo_lost}
@@ -50,12 +50,12 @@ module _ (known : List ℕ) (from : Site) where
 
 -- the ledger that is left
 abbrev pub greeted : Ledger → List ℕ → Table → Ledger
-greeted was known table = record { table = table; nodes = was.nodes; known = known }
+greeted was known table = record { table = table; nodes = length known - 1; known = known }
 
-pub learns_hello : (was now : Ledger) → was ≡ now → (from : Site) (known : List ℕ) (table : Table) → NoneOutrun was.known was.own
+pub learns_hello : (was now : Ledger) → was ≡ now → (from : Site) (known : List ℕ) (table : Table) → length was.known - 1 ≡ was.nodes → NoneOutrun was.known was.own
     → known ≡ raised was.known from.node from.incarnation → IsRedoable (is_older (raised was.known from.node from.incarnation)) was.own
     → table ≡ table_own was.table (redo_lost (is_older known) was.own) → LearnsHello now from (greeted was known table)
-learns_hello was now same from known table none is able redoes =
+learns_hello was now same from known table nodes none is able redoes =
     subst (λ l. LearnsHello l from (greeted was known table)) same
     (record {
       known = known;
@@ -65,5 +65,7 @@ learns_hello was now same from known table none is able redoes =
           ap (greeted was known)
           (redoes ∙ ap (λ k. table_own was.table (redo_lost (is_older k) was.own)) is
           ∙ ap (table_own was.table) (redo_same was.known from was.own none)
-          ∙ ap (λ k. table_own was.table (redo_lost (is_earlier_run from.node k) was.own)) (sym is));
+          ∙ ap (λ k. table_own was.table (redo_lost (is_earlier_run from.node k) was.own)) (sym is))
+          ∙ ap (λ n. record { table = table_own was.table (redo_lost (is_earlier_run from.node known) was.own); nodes = n; known = known })
+          (ap (λ n. n - 1) (ap length is ∙ raised_length was.known from.node from.incarnation) ∙ nodes);
     })

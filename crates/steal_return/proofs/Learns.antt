@@ -1,5 +1,5 @@
 -- What is learnt, redone, dropped and aborted in one call.
-use Rattle.std.proofs.Common.{◌≡◌, ◌≢◌, ◌⊎◌, ℕ, zero, suc, ◌<◌, Bool, true, false, ◌&&◌, cond, map, List, [], ◌∷◌, length, Option, Some, None, is_some, not, ◌==◌, slice_get, refl, sym, ap, subst, ◌∙◌, inr, ⊎_elim, arith, true≢false}
+use Rattle.std.proofs.Common.{◌≡◌, ◌≢◌, ◌⊎◌, ℕ, zero, suc, ◌-◌, ◌<◌, Bool, true, false, ◌&&◌, cond, map, List, [], ◌∷◌, length, Option, Some, None, is_some, not, ◌==◌, slice_get, refl, sym, ap, subst, ◌∙◌, inr, ⊎_elim, arith, true≢false}
 use Rattle.std.proofs.lemmas.Bool.{eqb-true}
 use Rattle.std.specs.Bool.{OnFalse, OnTrue}
 use Rattle.std.specs.List.{position_from}
@@ -35,7 +35,7 @@ parents_redo lost (c ∷ cs) = λ i. same_parent lost c c.status i ∷ parents_r
 
 -- the ledger that is left
 abbrev pub left_ledger : Ledger → List ℕ → Table → Ledger
-left_ledger was known table = record { table = table; nodes = was.nodes; known = known }
+left_ledger was known table = record { table = table; nodes = length known - 1; known = known }
 
 abbrev attempts : List Entry → List ℕ
 attempts own = map (λ c. c.attempt) own
@@ -81,7 +81,8 @@ first_of (u ∷ us) h = (u, (us, refl))
 
 module _ (was now : Ledger) (same : was ≡ now) (known incarnations : List ℕ) (lost : List WorkUnit) (marks : List Bool) (first second third : Table)
     (redoes : first ≡ table_own was.table (redo_lost (is_older known) was.own)) (drops : second ≡ table_guests first (dropped lost first.guests))
-    (aborts : third ≡ table_own second (aborted marks second.own)) (ascending : IsAscending was.guests) (lost_is : lost ≡ lost_units known was.guests) where
+    (aborts : third ≡ table_own second (aborted marks second.own)) (ascending : IsAscending was.guests) (lost_is : lost ≡ lost_units known was.guests)
+    (kept : length known - 1 ≡ was.nodes) where
   abbrev own_redone : List Entry
   own_redone = redo_lost (is_older known) was.own
 
@@ -111,7 +112,8 @@ module _ (was now : Ledger) (same : was ≡ now) (known incarnations : List ℕ)
             (subst (λ top. AbortsBelow top second.own third.own) (ap is_among lost_is ∙ lost_tops known was.guests ascending) below);
         after =
             ap (left_ledger was known)
-            (third_is ∙ ap (table_own (table_guests (table_own was.table own_redone) (drop_lost known was.guests))) (sym (ap (λ t. t.own) third_is)));
+            (third_is ∙ ap (table_own (table_guests (table_own was.table own_redone) (drop_lost known was.guests))) (sym (ap (λ t. t.own) third_is)))
+            ∙ ap (λ n. record { table = table_own (table_guests (table_own was.table own_redone) (drop_lost known was.guests)) third.own; nodes = n; known = known }) kept;
         reaches = ap (λ t. reached 0 t.own third.own) second_is;
       })
 
@@ -140,7 +142,7 @@ module _ (was now : Ledger) (same : was ≡ now) (known incarnations : List ℕ)
       ap (left_ledger was known) third_is
       ∙ (λ i. record {
         table = record { site = was.site; limit = was.limit; own = own i; guests = guests i };
-        nodes = was.nodes;
+        nodes = kept i;
         known = alike.same i;
       })
       ∙ same

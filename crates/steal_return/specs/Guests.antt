@@ -1,5 +1,6 @@
 -- Guests: children of other sites that come, settle or are wanted no more.
-use Rattle.std.specs.Prelude.{◌≡◌, ◌⊎◌, ℕ, true, false, List, Some, None, is_some}
+use Rattle.std.specs.Prelude.{◌≡◌, ◌⊎◌, ℕ, Bool, true, false, List, Some, None, is_some}
+use Rattle.std.specs.Bool.{OnFalse, OnTrue}
 use Rattle.spawn_frame.specs.Aborts.{AbortsBelow, Reached, is_open, reached}
 use Rattle.spawn_frame.specs.Names.{same_unit}
 use Rattle.spawn_frame.specs.Picks.{is_finished}
@@ -7,8 +8,10 @@ use Rattle.spawn_frame.specs.Tables.{new_guest}
 use Rattle.spawn_frame.specs.Units.{Entry, guest_in, insert_guest}
 use Rattle.spawn_frame.specs.declared.child_result.ChildResult.{ChildResult}
 use Rattle.spawn_frame.specs.declared.site.ChildName.{ChildName}
+use Rattle.spawn_frame.specs.declared.site.Site.{Site}
 use Rattle.spawn_frame.specs.declared.status.Status.TheVariants.{Dropped, Settled}
 use Rattle.spawn_frame.specs.declared.unit.Unit.TheVariants.{Guest}
+use Rattle.steal_return.specs.Finishing.{Appends}
 use Rattle.steal_return.specs.Ledger.{Ledger, ledger_gets, ledger_guests, ledger_own}
 use Rattle.steal_return.specs.Steals.{is_older}
 
@@ -51,3 +54,25 @@ pub record DropsGuest (old : Ledger) (name : ChildName) (attempt : ℕ) (outs : 
 -- there is no such guest that is open
 abbrev pub IsNotOpen : Ledger → ChildName → ℕ → Type 0
 IsNotOpen old name attempt = (entry : Entry) → guest_in old.guests name attempt ≡ Some entry → is_open entry.status ≡ false
+
+-- the child of this site and serial
+abbrev pub child_of : Site → ℕ → ChildName
+child_of site serial = record { site = site; serial = serial }
+
+-- whether a child that is given to this site becomes a guest
+abbrev pub TellsGive : Ledger → ChildName → ℕ → List ℕ → Bool → Ledger → Type 0
+TellsGive old name attempt prefix true new = AdmitsGuest old name attempt prefix new
+TellsGive old name attempt prefix false new = IsNotNew old name attempt × (new ≡ old)
+
+-- whether a guest settles on the result that its owner accepted
+abbrev pub TellsAccept : Ledger → ChildName → ℕ → ChildResult → Bool → Ledger → Type 0
+TellsAccept old name attempt result true new = SettlesGuest old name attempt result new
+TellsAccept old name attempt result false new = IsNotFinished old name attempt × (new ≡ old)
+
+-- if so, the guest is dropped, and what the aborts below it reach is appended to the list
+abbrev pub DropsIf : Bool → Ledger → ChildName → ℕ → List Reached → List Reached → Ledger → Type 0
+DropsIf moved old name attempt list more new = OnTrue moved (Appends list more (λ outs. DropsGuest old name attempt outs new))
+
+-- unless so, no such guest is open, and ledger and list stay as they are
+abbrev pub StaysUnless : Bool → Ledger → ChildName → ℕ → List Reached → List Reached → Ledger → Type 0
+StaysUnless moved old name attempt list more new = OnFalse moved (IsNotOpen old name attempt × (new ≡ old) × (more ≡ list))

@@ -1,7 +1,8 @@
 -- A site's units of work, with what it knows of the other sites.
 use Rattle.std.specs.Prelude.{ℕ, suc, List, replicate}
-use Rattle.spawn_frame.specs.Tables.{empty_table, root_table}
-use Rattle.spawn_frame.specs.Units.{Entry, GuestEntry, Table, table_gets, table_guests, table_own}
+use Rattle.spawn_frame.specs.Splits.{split_into}
+use Rattle.spawn_frame.specs.Tables.{empty_table, longer_prefixes, prefix_in, root_table}
+use Rattle.spawn_frame.specs.Units.{Entry, GuestEntry, Table, table_gets, table_guests, table_own, unit_of}
 use Rattle.spawn_frame.specs.declared.site.Site.{Site}
 use Rattle.spawn_frame.specs.declared.status.Status.{Status}
 use Rattle.spawn_frame.specs.declared.unit.Unit.{Unit as WorkUnit}
@@ -28,6 +29,11 @@ ledger_guests ledger guests = ledger_table ledger (table_guests ledger.table gue
 -- the ledger in which the unit has this status
 abbrev pub ledger_gets : Ledger → WorkUnit → Status → Ledger
 ledger_gets ledger unit status = ledger_table ledger (table_gets ledger.table unit status)
+
+-- the ledger in which the unit is split: for each option a child whose prefix is the unit's with that option
+abbrev pub ledger_split : Ledger → WorkUnit → List ℕ → Ledger
+ledger_split ledger unit options =
+    ledger_table ledger (split_into ledger.table unit (longer_prefixes (prefix_in (unit_of ledger.table unit)) options))
 
 -- a site that begins: nothing in its table, and the first run known of every node
 abbrev pub opening_ledger : Site → ℕ → ℕ → Ledger

@@ -139,3 +139,11 @@ pub record LearnsHello (old : Ledger) (from : Site) (new : Ledger) : Type 0 wher
     nodes = old.nodes;
     known = known;
   }
+
+-- a child that would have to be redone for these incarnations stands at its last attempt
+abbrev pub IsSpentForMembers : Ledger → List ℕ → Type 0
+IsSpentForMembers old incarnations = IsSpent (is_older (now_known old.site.node old.known incarnations)) old.own
+
+-- a child that would have to be redone for this run stands at its last attempt
+abbrev pub IsSpentForHello : Ledger → Site → Type 0
+IsSpentForHello old from = IsSpent (is_earlier_run from.node (raised old.known from.node from.incarnation)) old.own

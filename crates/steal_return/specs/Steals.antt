@@ -1,8 +1,8 @@
 -- Children that are given to thieves, and given out anew (steals and redo of Cilk-NOW).
-use Rattle.std.specs.Prelude.{◌≡◌, ◌≢◌, ◌⊎◌, ℕ, ◌<◌, Bool, true, false, List, Option, Some, slice_get, slice_index, nat_lt}
+use Rattle.std.specs.Prelude.{◌≡◌, ◌≢◌, ◌⊎◌, ℕ, ◌<◌, ◌≤◌, Bool, true, false, List, Option, Some, None, slice_get, slice_index, nat_lt}
 use Rattle.std.specs.List.{position_from}
 use Rattle.spawn_frame.specs.Picks.{is_ready}
-use Rattle.spawn_frame.specs.Tables.{attempt_in, has_status, prefix_in}
+use Rattle.spawn_frame.specs.Tables.{attempt_in, has_status, is_out, prefix_in}
 use Rattle.spawn_frame.specs.Units.{Entry, change_at, last_attempt, redone, with_status}
 use Rattle.spawn_frame.specs.declared.site.Site.{Site}
 use Rattle.spawn_frame.specs.declared.status.Status.TheVariants.{Out, Ready}
@@ -51,3 +51,12 @@ pub record IsGiven (own : List Entry) (serial : ℕ) (given : Given) : Type 0 wh
   pub serial_is : given.serial ≡ serial
   pub attempt : given.attempt ≡ attempt_in (slice_get own serial)
   pub prefix : given.prefix ≡ prefix_in (slice_get own serial)
+
+-- what a thief gets that asks for work: nothing, or a child
+abbrev pub TellsSteal : Ledger → Site → Option Given → Ledger → Type 0
+TellsSteal old thief None new = GivesNothing old thief × (new ≡ old)
+TellsSteal old thief (Some given) new = GivesChild old thief given new
+
+-- a child is out, and stands at its last attempt
+abbrev pub IsLastOut : Option Entry → Type 0
+IsLastOut child = (has_status is_out child ≡ true) × (last_attempt ≤ attempt_in child)

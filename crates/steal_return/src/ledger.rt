@@ -1,12 +1,12 @@
 //! The ledger of a site: what it gave away, and what came back.
 
-ghost use Rattle.std.specs.Prelude.{◌≡◌, ◌≢◌, ◌+◌, ◌<◌, ◌≤◌, ◌↔◌, length, option_map, slice_get, slice_index, false, true, IfOk, IfSome, IsErrOf, IsSome, MatchBool, MatchOption, OnErr, OnOk, Some};
+ghost use Rattle.std.specs.Prelude.{◌≡◌, ◌≢◌, ◌+◌, ◌<◌, ◌≤◌, ◌↔◌, length, option_map, slice_get, slice_index, false, true, IfOk, IfSome, IsErrOf, IsSome, MatchOption, OnErr, OnOk, Some};
 ghost use Rattle.std.specs.Bool.{OnFalse, OnTrue};
 ghost use Rattle.spawn_frame.specs.Frames.{frame, frame_result};
 ghost use Rattle.spawn_frame.specs.Picks.{is_ready, is_split, ready_unit};
-ghost use Rattle.spawn_frame.specs.Splits.{split_into, with_result};
-ghost use Rattle.spawn_frame.specs.Tables.{attempt_in, has_status, is_here, is_out, longer_prefixes, may_end, outs_of, parent_heard, prefix_in, IsSeen};
-ghost use Rattle.spawn_frame.specs.Units.{last_attempt, unit_of};
+ghost use Rattle.spawn_frame.specs.Splits.{with_result};
+ghost use Rattle.spawn_frame.specs.Tables.{has_status, is_here, is_out, may_end, outs_of, parent_heard, IsSeen};
+ghost use Rattle.spawn_frame.specs.Units.{unit_of};
 ghost use Rattle.steal_return.specs.Finishing.{Appends, FinishesFrame};
 ghost use Rattle.steal_return.specs.Guests.{AdmitsGuest, DropsGuest, IsNew, IsNotFinished, IsNotNew, IsNotOpen, SettlesGuest};
 ghost use Rattle.steal_return.specs.Invariant.{IsLedger};
@@ -14,6 +14,10 @@ ghost use Rattle.steal_return.specs.Ledger.{ledger_gets, ledger_table, opening_l
 ghost use Rattle.steal_return.specs.Members.{is_earlier_run, now_known, raised, Differs, IsAlike, IsRedoable, IsSpent, LearnsHello, LearnsMembers};
 ghost use Rattle.steal_return.specs.Returns.{judged, judgement_of, reply_to, returned, Enters};
 ghost use Rattle.steal_return.specs.Steals.{first_ready, is_older, GivesChild, GivesNothing, IsGiven, MayGive, RedoesChild};
+ghost use Rattle.steal_return.specs.Guests.{child_of, DropsIf, StaysUnless, TellsAccept, TellsGive};
+ghost use Rattle.steal_return.specs.Ledger.{ledger_split};
+ghost use Rattle.steal_return.specs.Members.{IsSpentForHello, IsSpentForMembers};
+ghost use Rattle.steal_return.specs.Steals.{IsLastOut, TellsSteal};
 
 use crate::children::{LAST_ATTEMPT, first_lost, first_ready, is_redoable, redo_lost};
 use crate::given::Given;
@@ -36,20 +40,20 @@ use std::marker::Model;
 #[derive(Drop)]
 pub struct Ledger {
     table: Table,
-    nodes: u8,
     known: Known,
     alloc: Global,
 }
 
 impl Model for Ledger {
+    ghost use Rattle.std.specs.Prelude.{◌-◌, length};
     ghost use Rattle.steal_return.specs.Invariant.{IsLedger};
     ghost use Rattle.steal_return.specs.Ledger.{Ledger as SeenLedger};
 
     ghost Value = { SeenLedger };
 
-    ghost view = { λ l. record { table = l.table; nodes = l.nodes; known = l.known } };
+    ghost view = { λ l. record { table = l.table; nodes = length l.known - 1; known = l.known } };
 
-    ghost invariant = { λ l. IsLedger (record { table = l.table; nodes = l.nodes; known = l.known }) };
+    ghost invariant = { λ l. IsLedger (record { table = l.table; nodes = length l.known - 1; known = l.known }) };
 }
 
 impl Ledger {
@@ -70,7 +74,6 @@ impl Ledger {
     {
         Ok(Ledger {
             table: Table::start(alloc, site, names_limit),
-            nodes,
             known: Known::start(alloc, nodes)?,
             alloc,
         })
@@ -85,7 +88,6 @@ impl Ledger {
     {
         Ok(Ledger {
             table: Table::with_root(alloc)?,
-            nodes,
             known: Known::start(alloc, nodes)?,
             alloc,
         })
@@ -103,7 +105,7 @@ impl Ledger {
     pub fn nodes(&self) -> u8
         ensures { result ≡ self.now.nodes }
     {
-        self.nodes
+        self.known.nodes()
     }
 
     /// The known incarnation of a node, or of the registry at 0.
@@ -139,7 +141,7 @@ impl Ledger {
         requires here { has_status is_here (unit_of self.old.table unit) ≡ true }
         requires some { 0 < length options.now }
         ensures first { IfOk result (λ first. first ≡ length self.old.own) }
-        ensures split { OnOk result (self.new ≡ ledger_table self.old (split_into self.old.table unit (longer_prefixes (prefix_in (unit_of self.old.table unit)) options.now))) }
+        ensures split { OnOk result (self.new ≡ ledger_split self.old unit options.now) }
         ensures spent { IsErrOf result SpawnFault.NamesSpent ↔ (self.old.limit < length self.old.own + length options.now) }
         ensures err { OnErr result (self.new ≡ self.old) }
     {
@@ -237,7 +239,7 @@ impl Ledger {
     /// Gives the ready own child of least serial to a thief, if there is one and no later run of the thief's node is
     /// known; the child is out then. The only error is want of memory, which changes nothing.
     pub fn give(&mut self, thief: Site) -> Result<Option<Given>, AllocError>
-        ensures gives { IfOk result (λ answer. MatchOption answer (GivesNothing self.old thief × (self.new ≡ self.old)) (λ given. GivesChild self.old thief given self.new)) }
+        ensures gives { IfOk result (λ answer. TellsSteal self.old thief answer self.new) }
         ensures least { IfOk result (λ answer. IfSome answer (λ given. first_ready self.old.own ≡ Some given.serial)) }
         ensures err { OnErr result (self.new ≡ self.old) }
     {
@@ -254,7 +256,7 @@ impl Ledger {
     pub fn redo(&mut self, serial: u32) -> Result<(), RedoFault>
         ensures ok { OnOk result (RedoesChild self.old serial self.new) }
         ensures not_out { IsErrOf result RedoFault.NotOut ↔ (has_status is_out (slice_get self.old.own serial) ≡ false) }
-        ensures spent { IsErrOf result RedoFault.NamesSpent ↔ (has_status is_out (slice_get self.old.own serial) ≡ true) × (last_attempt ≤ attempt_in (slice_get self.old.own serial)) }
+        ensures spent { IsErrOf result RedoFault.NamesSpent ↔ IsLastOut (slice_get self.old.own serial) }
         ensures err { OnErr result (self.new ≡ self.old) }
     {
         let Some(view) = self.table.unit(Unit::Own(serial)) else {
@@ -336,7 +338,7 @@ impl Ledger {
         prefix: &[u16],
     ) -> Result<bool, AllocError>
         requires { 1 ≤ attempt }
-        ensures ok { IfOk result (λ moved. MatchBool moved (AdmitsGuest self.old (record { site = from; serial = serial }) attempt prefix.now self.new) (IsNotNew self.old (record { site = from; serial = serial }) attempt × (self.new ≡ self.old))) }
+        ensures ok { IfOk result (λ moved. TellsGive self.old (child_of from serial) attempt prefix.now moved self.new) }
         ensures err { OnErr result (self.new ≡ self.old) }
     {
         let name = ChildName { site: from, serial };
@@ -380,7 +382,7 @@ impl Ledger {
         attempt: Attempt,
         child_result: ChildResult,
     ) -> bool
-        ensures { MatchBool result (SettlesGuest self.old (record { site = from; serial = serial }) attempt child_result self.new) (IsNotFinished self.old (record { site = from; serial = serial }) attempt × (self.new ≡ self.old)) }
+        ensures { TellsAccept self.old (child_of from serial) attempt child_result result self.new }
     {
         let name = ChildName { site: from, serial };
         let Some(view) = self.table.unit(Unit::Guest(name, attempt)) else {
@@ -403,9 +405,9 @@ impl Ledger {
         attempt: Attempt,
         list: &mut Vec<Out>,
     ) -> Result<bool, AllocError>
-        ensures dropped { IfOk result (λ moved. OnTrue moved (Appends list.old.items list.new.items (λ outs. DropsGuest self.old (record { site = from; serial = serial }) attempt outs self.new))) }
+        ensures dropped { IfOk result (λ moved. DropsIf moved self.old (child_of from serial) attempt list.old.items list.new.items self.new) }
         ensures few { OnOk result (length list.new.items ≤ length list.old.items + outs_of self.old.own) }
-        ensures left { IfOk result (λ moved. OnFalse moved (IsNotOpen self.old (record { site = from; serial = serial }) attempt × (self.new ≡ self.old) × (list.new.items ≡ list.old.items))) }
+        ensures left { IfOk result (λ moved. StaysUnless moved self.old (child_of from serial) attempt list.old.items list.new.items self.new) }
         ensures err { OnErr result (self.new ≡ self.old) }
         ensures list { OnErr result (list.new.items ≡ list.old.items) }
     {
@@ -446,7 +448,7 @@ impl Ledger {
         ensures few { OnOk result (length list.new.items ≤ length list.old.items + outs_of self.old.own) }
         ensures moved { IfOk result (λ moved. OnTrue moved (self.new ≢ self.old)) }
         ensures same { IfOk result (λ moved. OnFalse moved (self.new ≡ self.old)) }
-        ensures spent { IsErrOf result LearnFault.NamesSpent ↔ IsSpent (is_older (now_known self.old.site.node self.old.known incarnations.now)) self.old.own }
+        ensures spent { IsErrOf result LearnFault.NamesSpent ↔ IsSpentForMembers self.old incarnations.now }
         ensures err { OnErr result (self.new ≡ self.old) }
         ensures list { OnErr result (list.new.items ≡ list.old.items) }
     {
@@ -473,7 +475,7 @@ impl Ledger {
     pub fn learn_hello(&mut self, from: Site) -> Result<(), LearnFault>
         requires { from.node ≤ self.old.nodes }
         ensures ok { OnOk result (LearnsHello self.old from self.new) }
-        ensures spent { IsErrOf result LearnFault.NamesSpent ↔ IsSpent (is_earlier_run from.node (raised self.old.known from.node from.incarnation)) self.old.own }
+        ensures spent { IsErrOf result LearnFault.NamesSpent ↔ IsSpentForHello self.old from }
         ensures no_other { OnErr result (IsErrOf result LearnFault.NamesSpent) }
         ensures err { OnErr result (self.new ≡ self.old) }
     {

@@ -1,4 +1,4 @@
-use Rattle.std.proofs.Common.{◌≡◌, ◌<◌, ◌≤◌, length, sym, ap, subst, ◌∙◌, arith}
+use Rattle.std.proofs.Common.{◌≡◌, suc, ◌-◌, ◌<◌, ◌≤◌, length, sym, ap, subst, ◌∙◌, arith}
 use Rattle.abort_tree.specs.Below.{MarksBelow, is_among, outs_from}
 use Rattle.spawn_frame.specs.Units.{table_guests, table_own}
 use Rattle.steal_return.proofs.Dropping.{lost_may_drop}
@@ -32,6 +32,14 @@ abort-requires-clause-room c =
 known_is : (c : After-drop-lost-2) → c.in_ok-known.known ≡ now_known c.self.inside.table.site.node c.self.inside.known c.args.incarnations.now
 known_is c = c.in_ok-known.ensures ∙ ap (λ s. now_known s.node c.self.inside.known c.args.incarnations.now) c.site-own.ensures
 
+as_many : (c : After-drop-lost-2) → length c.in_ok-known.known ≡ length c.self.inside.known
+as_many c =
+    let some : 0 < length c.self.inside.known = omega (arith, c.self.invariant.each) in
+    ap length (known_is c) ∙ known_length c.self.inside.table.site.node c.self.inside.known c.args.incarnations.now some
+
+kept : (c : After-drop-lost-2) → length c.in_ok-known.known - 1 ≡ length c.self.inside.known - 1
+kept c = ap (λ n. n - 1) (as_many c)
+
 redoable : (c : After-drop-lost-2) → IsRedoable (is_older c.in_ok-known.known) c.self.inside.table.own
 redoable c = subst (λ k. IsRedoable (is_older k) c.self.inside.table.own) (sym c.in_ok-known.ensures) c.if-not-is_redoable.ensures.able
 
@@ -51,18 +59,17 @@ drops c =
 same_parents : (c : After-drop-lost-2) → parents c.self.inside.table.own ≡ parents c.drop_guests.new.table.own
 same_parents c =
     parents_same _ c.args.self.now c.self.view_is c.in_ok-known.known c.args.incarnations.now c.in_ok-lost.lost.items c.in_ok-reach.reach
-    c.redo_lost.new.table c.drop_guests.new.table c.abort.new.table (redoes c) (drops c) c.abort.ensures.table c.in_ok-lost.ensures.ascending (lost_is c)
+    c.redo_lost.new.table c.drop_guests.new.table c.abort.new.table (redoes c) (drops c) c.abort.ensures.table c.in_ok-lost.ensures.ascending (lost_is c) (kept c)
 
 -- ---- the goals
 
 pub invariant_of-self : goal.invariant_of-self
 invariant_of-self c =
-    let some : 0 < length c.self.inside.known = omega (arith, c.self.invariant.each) in
     let site : c.abort.new.table.site ≡ c.self.inside.table.site =
     ap (λ t. t.site) c.abort.ensures.table ∙ ap (λ t. t.site) (drops c) ∙ ap (λ t. t.site) (redoes c) in
     record {
-      each = ap length (known_is c) ∙ known_length c.self.inside.table.site.node c.self.inside.known c.args.incarnations.now some ∙ c.self.invariant.each;
-      within = subst (λ s. s.node ≤ c.self.inside.nodes) (sym site) c.self.invariant.within;
+      each = as_many c ∙ c.self.invariant.each ∙ ap suc (sym (kept c));
+      within = subst (λ n. c.abort.new.table.site.node ≤ n) (sym (kept c)) (subst (λ s. s.node ≤ length c.self.inside.known - 1) (sym site) c.self.invariant.within);
       none_outrun = learns c.in_ok-known.known c.self.inside.table c.redo_lost.new.table c.drop_guests.new.table c.abort.new.table _ c.in_ok-reach.reach
           (redoes c) (drops c) c.abort.ensures.table;
     }
@@ -72,7 +79,7 @@ returns-clause-learns c = (
   _,
   appended c.args.list.now.items c.reserve.new.self.items c.abort.new.list.items _ c.abort.ensures.list c.reserve.ensures.items,
   learns_members _ c.args.self.now c.self.view_is c.in_ok-known.known c.args.incarnations.now c.in_ok-lost.lost.items c.in_ok-reach.reach
-      c.redo_lost.new.table c.drop_guests.new.table c.abort.new.table (redoes c) (drops c) c.abort.ensures.table c.in_ok-lost.ensures.ascending (lost_is c)
+      c.redo_lost.new.table c.drop_guests.new.table c.abort.new.table (redoes c) (drops c) c.abort.ensures.table c.in_ok-lost.ensures.ascending (lost_is c) (kept c)
       (known_is c) (redoable c) (c.abort.ensures.below _ (c.parents_decide.ensures _ c.self.inside.table.own _ _ (same_parents c) (below c))),
 )
 
@@ -81,7 +88,7 @@ returns-clause-moved c =
     on_true c.differs-moved.result
     (λ (d : Differs c.args.self.now c.in_ok-known.known c.deref-2.result.now).
     moves _ c.args.self.now c.self.view_is c.in_ok-known.known c.args.incarnations.now c.in_ok-lost.lost.items c.in_ok-reach.reach
-    c.redo_lost.new.table c.drop_guests.new.table c.abort.new.table (redoes c) (drops c) c.abort.ensures.table c.in_ok-lost.ensures.ascending (lost_is c)
+    c.redo_lost.new.table c.drop_guests.new.table c.abort.new.table (redoes c) (drops c) c.abort.ensures.table c.in_ok-lost.ensures.ascending (lost_is c) (kept c)
     (subst (λ us. Differs c.args.self.now c.in_ok-known.known us) c.deref-2.ensures.value d))
     c.differs-moved.ensures.differs
 
@@ -90,7 +97,7 @@ returns-clause-same c =
     on_false c.differs-moved.result
     (λ (a : IsAlike c.args.self.now c.in_ok-known.known c.deref-2.result.now).
     rests _ c.args.self.now c.self.view_is c.in_ok-known.known c.args.incarnations.now c.in_ok-lost.lost.items c.in_ok-reach.reach
-    c.redo_lost.new.table c.drop_guests.new.table c.abort.new.table (redoes c) (drops c) c.abort.ensures.table c.in_ok-lost.ensures.ascending (lost_is c) (below c)
+    c.redo_lost.new.table c.drop_guests.new.table c.abort.new.table (redoes c) (drops c) c.abort.ensures.table c.in_ok-lost.ensures.ascending (lost_is c) (kept c) (below c)
     (subst (λ us. IsAlike c.args.self.now c.in_ok-known.known us) c.deref-2.ensures.value a))
     c.differs-moved.ensures.alike
 
