@@ -1,7 +1,12 @@
 pub mod Acting
 pub mod Again
 pub mod Alike
+pub mod Beginning
 pub mod Branches
+pub mod Each
+pub mod Knowing
+pub mod Packets
+pub mod Parents
 pub mod Picking
 pub mod Posting
 pub mod Reaching
@@ -9,3 +14,6 @@ pub mod Sending
 pub mod Spending
 pub mod Splits
 pub mod Stepping
+pub mod Telling
+pub mod Units
+pub mod Walk
