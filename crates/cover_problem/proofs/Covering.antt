@@ -63,7 +63,7 @@ module _ (problem : Problem) where
 
   -- ---- the search
 
-  first_witness : (f : ℕ → Option (List ℕ)) (os : List ℕ) (x : List ℕ) → first_some f os ≡ Some x → (o : ℕ) × (is_in os o ≡ true) × (f o ≡ Some x)
+  pub first_witness : (f : ℕ → Option (List ℕ)) (os : List ℕ) (x : List ℕ) → first_some f os ≡ Some x → (o : ℕ) × (is_in os o ≡ true) × (f o ≡ Some x)
   first_witness f [] x e = absurd (none-some x e)
   first_witness f (o ∷ os) x e = go (f o) refl e (λ q. first_witness f os x q)
     where

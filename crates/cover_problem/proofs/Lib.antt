@@ -6,6 +6,7 @@ pub mod Counts
 pub mod Covering
 pub mod Extending
 pub mod Fewest
+pub mod Firsts
 pub mod Named
 pub mod Ordered
 pub mod Outcomes

@@ -14,7 +14,7 @@ past_barren true o e = absurd (cc)
 past_barren false None e = refl
 past_barren false (Some x) e = absurd (cc)
 
-past_covers : (b : Bool) (o : Option (List ℕ)) (x : List ℕ) → cond b Spent (found_outcome o) ≡ Covers x → o ≡ Some x
+pub past_covers : (b : Bool) (o : Option (List ℕ)) (x : List ℕ) → cond b Spent (found_outcome o) ≡ Covers x → o ≡ Some x
 past_covers true o x e = absurd (cc)
 past_covers false None x e = absurd (cc)
 past_covers false (Some y) x e = cc

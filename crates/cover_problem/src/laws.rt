@@ -1,7 +1,8 @@
 //! What holds of the definitions: each function is a law, and does nothing.
 
 ghost use Rattle.std.specs.Prelude.{◌≡◌, ℕ, ◌+◌, ◌<◌, ◌≤◌, List, [], ◌∷◌, length, count_by, Bool, true, false, Option, Some, None};
-ghost use Rattle.cover_problem.specs.Problem.{Problem as ProblemValue, names_item};
+ghost use Rattle.std.specs.List.{AllByRecursion};
+ghost use Rattle.cover_problem.specs.Problem.{IsProblem, Problem as ProblemValue, names_item};
 ghost use Rattle.cover_problem.specs.Numbers.{is_in, is_distinct};
 ghost use Rattle.cover_problem.specs.ExactCover.{IsExactCover, uses, in_order};
 ghost use Rattle.cover_problem.specs.Prefix.{IsBarren, is_prefix, clash, extends, InFileOrder, IsCoverOver};
@@ -57,6 +58,26 @@ pub fn uses_of_a_list()
 /// The options of a list, taken in file order, are in file order, and none of them stands there twice.
 pub fn in_order_is_in_file_order()
     ensures { (problem : ProblemValue) (options : List ℕ) → InFileOrder problem (in_order problem options) }
+{}
+
+/// A prefix has no more options than there are primary items, which are at most 1,000.
+pub fn prefixes_are_short()
+    ensures { (problem : ProblemValue) (prefix : List ℕ) →
+        IsProblem problem → is_prefix problem prefix ≡ true → length prefix ≤ 1000 }
+{}
+
+/// The children of a prefix are prefixes.
+pub fn children_are_prefixes()
+    ensures { (problem : ProblemValue) (prefix : List ℕ) → is_prefix problem prefix ≡ true →
+        AllByRecursion (λ child. is_prefix problem child ≡ true) (children problem prefix) }
+{}
+
+/// What a search finds is a prefix, and has an option: there is a primary item to cover.
+pub fn first_is_a_prefix()
+    ensures prefix { (problem : ProblemValue) (prefix cover : List ℕ) → is_prefix problem prefix ≡ true →
+        first problem prefix ≡ Some cover → is_prefix problem cover ≡ true }
+    ensures some { (problem : ProblemValue) (prefix cover : List ℕ) → IsProblem problem →
+        is_prefix problem prefix ≡ true → first problem prefix ≡ Some cover → 1 ≤ length cover }
 {}
 
 /// The search of a small problem.

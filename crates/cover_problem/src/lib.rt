@@ -16,9 +16,9 @@ mod verdict;
 pub use answer::Answer;
 pub use check::check_cover;
 pub use laws::{
-    branch_item_is_first_fewest, covers_have_no_clash, first_is_an_exact_cover,
-    in_order_is_in_file_order, one_child_of_each_cover, search_by_children, small_search,
-    uses_of_a_list,
+    branch_item_is_first_fewest, children_are_prefixes, covers_have_no_clash, first_is_a_prefix,
+    first_is_an_exact_cover, in_order_is_in_file_order, one_child_of_each_cover,
+    prefixes_are_short, search_by_children, small_search, uses_of_a_list,
 };
 pub use lists::{Name, Numbers};
 pub use prefix::{clash, in_file_order, is_covered, is_live, is_prefix, option_names};

@@ -1,10 +1,16 @@
+pub mod Aborts
 pub mod Acting
 pub mod Again
 pub mod Alike
+pub mod Beginning
 pub mod Branches
 pub mod Cores
+pub mod Each
+pub mod Knowing
 pub mod Learning
 pub mod Outs
+pub mod Packets
+pub mod Parents
 pub mod Picking
 pub mod Posting
 pub mod Reaching
@@ -13,3 +19,5 @@ pub mod Spending
 pub mod Splits
 pub mod Stepping
 pub mod Telling
+pub mod Units
+pub mod Walk

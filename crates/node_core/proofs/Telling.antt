@@ -1,80 +1,111 @@
--- Thieves that are told of aborts.
-use Rattle.std.proofs.Common.{◌≡◌, ℕ, ◌≤◌, Bool, true, false, List, [], ◌∷◌, ◌++◌, Option, Some, None, refl, sym, ap, ◌∙◌, subst}
-use Rattle.std.specs.Bool.{OnTrue}
-use Rattle.node_core.proofs.Sending.{sends_more}
-use Rattle.node_core.specs.Arrivals.{Drops}
-use Rattle.node_core.specs.Membership.{MembersStep}
-use Rattle.node_core.specs.Outgoing.{IsLoad, Lists, LoadValue, Sends}
-use Rattle.node_core.specs.Results.{FinishStep, IsReturnLoad, return_packets}
-use Rattle.node_core.specs.SiteView.{View, abort_packets, with_ledger}
+-- What has to be true of a packet that a site puts out, so that it has a spelling.
+use Rattle.std.proofs.Common.{◌≡◌, ℕ, suc, ◌<◌, ◌≤◌, Bool, true, ◌&&◌, not, ◌==◌, nat_lt, List, [], ◌∷◌, length, Some, refl, sym, subst, ◌∙◌, arith}
+use Rattle.std.specs.List.{list_all}
+use Rattle.std.proofs.lemmas.Bool.{and_from, and_parts, eqb-false, le-ltb, lt-ltb, ltb-true, ne_eqb, not-true, not_from_false}
+use Rattle.cover_problem.proofs.Firsts.{few_options, found_option, found_prefix}
+use Rattle.cover_problem.specs.Prefix.{are_apart, is_prefix}
+use Rattle.cover_problem.specs.Prefix as prefixes
+use Rattle.cover_problem.specs.Problem.{IsProblem, Problem}
+use Rattle.cover_problem.specs.Search.{first}
+use Rattle.node_core.specs.Formed.{AllFormed, is_another, is_thief}
+use Rattle.packet_wire.specs.Kinds.{is_directed, is_routed, kind_of}
+use Rattle.packet_wire.specs.WellFormed.{are_options, is_body, is_counted, is_option, is_result, is_serial, is_site, is_well_formed}
+use Rattle.packet_wire.specs.declared.packet.Body.{Body}
 use Rattle.packet_wire.specs.declared.packet.Packet.{Packet}
-use Rattle.spawn_frame.specs.Aborts.{Reached}
-use Rattle.spawn_frame.specs.Frames.{frame, frame_result}
-use Rattle.spawn_frame.specs.declared.child_result.ChildResult.{ChildResult}
-use Rattle.spawn_frame.specs.declared.site.ChildName.{ChildName}
+use Rattle.spawn_frame.specs.declared.child_result.ChildResult.TheVariants.{Cover}
 use Rattle.spawn_frame.specs.declared.site.Site.{Site}
-use Rattle.spawn_frame.specs.declared.unit.Unit.{Unit as WorkUnit}
-use Rattle.steal_return.specs.Finishing.{Appends, FinishesFrame}
-use Rattle.steal_return.specs.Guests.{DropsGuest}
-use Rattle.steal_return.specs.Ledger.{Ledger}
-use Rattle.steal_return.specs.Members.{LearnsMembers}
 
--- what holds where a test is true
-pub on_true : (b : Bool) (P : Type 0) → b ≡ true → OnTrue b P → P
-on_true true P e p = p
-on_true false P e p = absurd (cc)
+-- ---- numbers
 
--- what was appended to an empty list is the list
-pub appended_whole : (P : List Reached → Type 0) (old new : List Reached) → old ≡ [] → Appends old new P → P new
-appended_whole P old new none a = subst P (sym (a.1 ∙ ap (λ l. l ++ a.0) none)) a.2
+pub serial_told : (n limit : ℕ) → n < limit → limit < 4294967296 → is_serial n ≡ true
+serial_told n limit l m = lt-ltb n 4294967296 (omega (arith, l, m))
 
--- room is made, and then packets are sent
-pub sends_after : (old mid new : Lists) (ps : List Packet) → Sends old [] mid → Sends mid ps new → Sends old ps new
-sends_after old mid new ps room sends = sends_more old mid new [] ps room sends
+pub counted_told : (n : ℕ) → 1 ≤ n → n < 4294967296 → is_counted n ≡ true
+counted_told n some l = and_from (nat_lt 0 n) (nat_lt n 4294967296) (lt-ltb 0 n (omega (arith, some))) (lt-ltb n 4294967296 l)
 
--- a guest is dropped
-pub drops_step : (old seen : View) (name : ChildName) (attempt : ℕ) (site : Site) (outs : List Reached) (ledger : Ledger)
-    → seen ≡ old → site ≡ old.site → DropsGuest seen.ledger name attempt outs ledger
-    → Drops old name attempt (abort_packets site outs) (with_ledger seen ledger)
-drops_step old seen name attempt site outs ledger same is drops =
-    let P : View → Type 0 = λ v. Drops v name attempt (abort_packets site outs) (with_ledger seen ledger) in
-    subst P same (record {
-      outs = outs;
-      ledger = ledger;
-      drops = drops;
-      after = refl;
-      sends = ap (λ s. abort_packets s outs) (is ∙ sym (ap (λ (v : View). v.site) same));
-    })
+pub counted_some : (n : ℕ) → is_counted n ≡ true → 1 ≤ n
+counted_some n h =
+    let l = ltb-true 0 n (and_parts (nat_lt 0 n) (nat_lt n 4294967296) h).0 in
+    omega (arith, l)
 
--- incarnations are learnt
-pub members_step : (old seen : View) (incarnations : List ℕ) (site : Site) (outs : List Reached) (ledger : Ledger)
-    → seen ≡ old → site ≡ old.site → LearnsMembers seen.ledger incarnations outs ledger
-    → MembersStep old incarnations (abort_packets site outs) (with_ledger seen ledger)
-members_step old seen incarnations site outs ledger same is learns =
-    let P : View → Type 0 = λ v. MembersStep v incarnations (abort_packets site outs) (with_ledger seen ledger) in
-    subst P same (record {
-      outs = outs;
-      ledger = ledger;
-      learns = learns;
-      after = refl;
-      sends = ap (λ s. abort_packets s outs) (is ∙ sym (ap (λ (v : View). v.site) same));
-    })
+pub counted_more : (n : ℕ) → is_counted n ≡ true → n < 4294967295 → is_counted (suc n) ≡ true
+counted_more n h l = counted_told (suc n) (omega arith) (omega (arith, l))
 
--- a frame is finished
-pub finish_step : (old seen : View) (unit : WorkUnit) (site : Site) (outs : List Reached) (ledger : Ledger) (back : List Packet)
-    → seen ≡ old → site ≡ old.site → FinishesFrame seen.ledger unit outs ledger
-    → ((result : ChildResult) → frame_result (frame unit old.own) ≡ Some result → return_packets old.site unit result ≡ back)
-    → FinishStep old unit (abort_packets site outs ++ back) (with_ledger seen ledger)
-finish_step old seen unit site outs ledger back same is finishes returns =
-    let P : View → Type 0 = λ v. FinishStep v unit (abort_packets site outs ++ back) (with_ledger seen ledger) in
-    let at : site ≡ seen.site = is ∙ sym (ap (λ (v : View). v.site) same) in
-    let came : frame_result (frame unit old.own) ≡ Some finishes.result = ap (λ (v : View). frame_result (frame unit v.own)) (sym same) ∙ finishes.settled in
-    subst P same (record {
-      outs = outs;
-      ledger = ledger;
-      finishes = finishes;
-      after = refl;
-      sends =
-        ap (λ s. abort_packets s outs ++ back) at
-        ∙ ap (λ ps. abort_packets seen.site outs ++ ps) (sym (returns finishes.result came) ∙ ap (λ s. return_packets s unit finishes.result) (sym (ap (λ (v : View). v.site) same)));
-    })
+-- ---- options
+
+each_told : (bound : ℕ) → bound ≤ 20000 → (options : List ℕ) → list_all (λ o. nat_lt o bound) options ≡ true → list_all is_option options ≡ true
+each_told bound few [] h = refl
+each_told bound few (o ∷ os) h =
+    let p = and_parts (nat_lt o bound) (list_all (λ x. nat_lt x bound) os) h in
+    let l = ltb-true o bound p.0 in
+    and_from (is_option o) (list_all is_option os) (lt-ltb o 20000 (omega (arith, l, few))) (each_told bound few os p.1)
+
+options_told : (problem : Problem) (options : List ℕ) (least : ℕ) → IsProblem problem → is_prefix problem options ≡ true → least ≤ length options → are_options least options ≡ true
+options_told problem options least p h some =
+    let few = few_options problem options p h in
+    and_from (not (nat_lt (length options) least) && nat_lt (length options) 1001) (list_all is_option options)
+    (and_from (not (nat_lt (length options) least)) (nat_lt (length options) 1001)
+    (not_from_false (nat_lt (length options) least) (le-ltb (length options) least some)) (lt-ltb (length options) 1001 (omega (arith, few))))
+    (each_told (length problem.options) p.options options (and_parts (prefixes.are_options problem options) (are_apart problem options) h).0)
+
+pub prefix_told : (problem : Problem) (prefix : List ℕ) → IsProblem problem → is_prefix problem prefix ≡ true → are_options 0 prefix ≡ true
+prefix_told problem prefix p h = options_told problem prefix 0 p h (omega arith)
+
+-- a cover that a search finds has a spelling
+pub cover_told : (problem : Problem) (prefix cover : List ℕ) → IsProblem problem → is_prefix problem prefix ≡ true → first problem prefix ≡ Some cover → is_result (Cover cover) ≡ true
+cover_told problem prefix cover p h e = options_told problem cover 1 p (found_prefix problem prefix cover h e) (found_option problem prefix cover p h e)
+
+-- ---- sites
+
+other_way : (a b : ℕ) → not (a == b) ≡ true → not (b == a) ≡ true
+other_way a b h = not_from_false (b == a) (ne_eqb b a (λ e. eqb-false a b (not-true (a == b) h) (sym e)))
+
+pub from_another : (kind : Bool) (from to : Site) → is_site from ≡ true → (not (from.node == to.node) && kind) ≡ true → is_another to from ≡ true
+from_another kind from to site routed =
+    and_from (is_site from) (not (to.node == from.node)) site (other_way from.node to.node (and_parts (not (from.node == to.node)) kind routed).0)
+
+pub from_thief : (from to : Site) → is_site from ≡ true → (not (from.node == to.node) && not (from.node == 0)) ≡ true → is_thief to from ≡ true
+from_thief from to site routed =
+    and_from (is_another to from) (not (from.node == 0)) (from_another (not (from.node == 0)) from to site routed) (and_parts (not (from.node == to.node)) (not (from.node == 0)) routed).1
+
+pub not_registry : (n : ℕ) → 1 ≤ n → not (n == 0) ≡ true
+not_registry n some = not_from_false (n == 0) (ne_eqb n 0 (omega (arith, some)))
+
+-- ---- packets
+
+pub packet_told : (from to : Site) (body : Body) → is_site from ≡ true → is_another from to ≡ true → is_directed (kind_of body) from.node to.node ≡ true → is_body body ≡ true
+    → is_well_formed (record { from = from; to = to; body = body }) ≡ true
+packet_told from to body site other directed told =
+    let o = and_parts (is_site to) (not (from.node == to.node)) other in
+    and_from (is_site from) (is_site to && (is_routed (kind_of body) from to && is_body body)) site
+    (and_from (is_site to) (is_routed (kind_of body) from to && is_body body) o.0
+    (and_from (is_routed (kind_of body) from to) (is_body body)
+    (and_from (not (from.node == to.node)) (is_directed (kind_of body) from.node to.node) o.1 directed) told))
+
+-- one that goes to nodes alone
+pub thief_told : (from to : Site) (body : Body) → is_site from ≡ true → is_thief from to ≡ true → is_directed (kind_of body) from.node to.node ≡ not (to.node == 0) → is_body body ≡ true
+    → is_well_formed (record { from = from; to = to; body = body }) ≡ true
+thief_told from to body site thief same told =
+    let o = and_parts (is_another from to) (not (to.node == 0)) thief in
+    packet_told from to body site o.0 (same ∙ o.1) told
+
+pub none_put : (out : List Packet) → out ≡ [] → AllFormed out
+none_put out e = subst AllFormed (sym e) tt
+
+-- ---- what is true of a packet that is well formed
+
+pub record IsWell (from to : Site) (body : Body) : Type 0 where
+  pub sender : is_site from ≡ true
+  pub routed : is_routed (kind_of body) from to ≡ true
+  pub told : is_body body ≡ true
+
+pub well_told : (packet : Packet) (site : Site) → packet.to ≡ site → is_well_formed packet ≡ true → IsWell packet.from site packet.body
+well_told packet site here h =
+    let first = and_parts (is_site packet.from) (is_site packet.to && (is_routed (kind_of packet.body) packet.from packet.to && is_body packet.body)) h in
+    let second = and_parts (is_site packet.to) (is_routed (kind_of packet.body) packet.from packet.to && is_body packet.body) first.1 in
+    let third = and_parts (is_routed (kind_of packet.body) packet.from packet.to) (is_body packet.body) second.1 in
+    record {
+      sender = first.0;
+      routed = subst (λ s. is_routed (kind_of packet.body) packet.from s ≡ true) here third.0;
+      told = third.1;
+    }

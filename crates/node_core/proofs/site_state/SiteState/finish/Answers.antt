@@ -1,6 +1,6 @@
 use Rattle.std.proofs.Common.{◌≡◌, ◌++◌, List, [], refl, sym, subst}
 use Rattle.node_core.proofs.Sending.{sends_more}
-use Rattle.node_core.proofs.Telling.{appended_whole, finish_step, sends_after}
+use Rattle.node_core.proofs.Aborts.{appended_whole, finish_step, sends_after}
 use Rattle.node_core.proofs.site_state.SiteState.finish.Goals as goal
 use Rattle.node_core.specs.Outgoing.{loaded}
 use Rattle.node_core.specs.SiteView.{abort_packets}

@@ -1,6 +1,6 @@
 use Rattle.std.proofs.Common.{◌≡◌, Bool, List, [], Err, Result, refl, sym, ap, ◌∙◌, subst, if◌then◌else◌}
 use Rattle.node_core.proofs.Learning.{members_able, members_learnt, members_refused, members_tell}
-use Rattle.node_core.proofs.Telling.{appended_whole, members_step, sends_after}
+use Rattle.node_core.proofs.Aborts.{appended_whole, members_step, sends_after}
 use Rattle.node_core.proofs.site_state.SiteState.receive_members.Goals as goal
 use Rattle.node_core.proofs.site_state.SiteState.receive_members.Goals.{After-drop-outs}
 use Rattle.node_core.specs.NodeStep.{Tells}

@@ -1,5 +1,5 @@
 use Rattle.std.proofs.Common.{◌≡◌, List, [], true, refl, sym, ◌∙◌, ap, subst}
-use Rattle.node_core.proofs.Telling.{appended_whole, drops_step, on_true, sends_after}
+use Rattle.node_core.proofs.Aborts.{appended_whole, drops_step, on_true, sends_after}
 use Rattle.node_core.proofs.site_state.SiteState.receive_refuse.Goals as goal
 use Rattle.node_core.specs.SiteView.{abort_packets}
 use Rattle.spawn_frame.specs.Aborts.{Reached}
