@@ -13,6 +13,7 @@ pub mod Packets
 pub mod Parents
 pub mod Picking
 pub mod Posting
+pub mod Prefixes
 pub mod Reaching
 pub mod Sending
 pub mod Spending

@@ -64,8 +64,9 @@ impl<'a> NodeCore<'a> {
     {
         let ledger = Ledger::start(alloc, site, nodes, names_limit)?;
         let links = Links::build(alloc, problem)?;
-        // (for what the getter says: that the problem is lawful)
+        // (for what the getter says: that the problem is lawful; and for the range of a run)
         let _items = problem.items();
+        let _run = site.incarnation;
         nodes_stay_formed();
         Ok(NodeCore {
             state: SiteState::new(alloc, ledger),
