@@ -1,6 +1,6 @@
 //! What is true of every view that a node reaches, and of every packet that it puts out.
 
-ghost use Rattle.std.specs.Prelude.{◌≤◌, ◌<◌, ◌^◌, ℕ, List};
+ghost use Rattle.std.specs.Prelude.{ℕ, List};
 ghost use Rattle.cover_problem.specs.Problem.{IsProblem, Problem};
 ghost use Rattle.node_core.specs.Formed.{AllFormed, FormedStep, IsFormedNode, MayBegin};
 ghost use Rattle.node_core.specs.SiteView.{View, opening_view};

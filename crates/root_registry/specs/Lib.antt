@@ -1,2 +1,3 @@
+pub mod Formed
 pub mod Refusal
 pub mod RegistryStep
