@@ -1,11 +1,11 @@
 -- Thieves that are told of aborts.
-use Rattle.std.proofs.Common.{◌≡◌, ℕ, ◌≤◌, Bool, true, false, List, [], ◌∷◌, ◌++◌, Option, Some, None, refl, sym, ap, ◌∙◌, subst}
+use Rattle.std.proofs.Common.{◌≡◌, ℕ, Bool, true, false, List, [], ◌++◌, Some, refl, sym, ap, ◌∙◌, subst}
 use Rattle.std.specs.Bool.{OnTrue}
 use Rattle.node_core.proofs.Sending.{sends_more}
 use Rattle.node_core.specs.Arrivals.{Drops}
 use Rattle.node_core.specs.Membership.{MembersStep}
-use Rattle.node_core.specs.Outgoing.{IsLoad, Lists, LoadValue, Sends}
-use Rattle.node_core.specs.Results.{FinishStep, IsReturnLoad, return_packets}
+use Rattle.node_core.specs.Outgoing.{Lists, Sends}
+use Rattle.node_core.specs.Results.{FinishStep, return_packets}
 use Rattle.node_core.specs.SiteView.{View, abort_packets, with_ledger}
 use Rattle.packet_wire.specs.declared.packet.Packet.{Packet}
 use Rattle.spawn_frame.specs.Aborts.{Reached}
@@ -75,6 +75,6 @@ finish_step old seen unit site outs ledger back same is finishes returns =
       finishes = finishes;
       after = refl;
       sends =
-        ap (λ s. abort_packets s outs ++ back) at
-        ∙ ap (λ ps. abort_packets seen.site outs ++ ps) (sym (returns finishes.result came) ∙ ap (λ s. return_packets s unit finishes.result) (sym (ap (λ (v : View). v.site) same)));
+          ap (λ s. abort_packets s outs ++ back) at
+          ∙ ap (λ ps. abort_packets seen.site outs ++ ps) (sym (returns finishes.result came) ∙ ap (λ s. return_packets s unit finishes.result) (sym (ap (λ (v : View). v.site) same)));
     })

@@ -1,5 +1,5 @@
 -- What is said again, unit by unit.
-use Rattle.std.proofs.Common.{◌≡◌, ℕ, zero, suc, ◌+◌, ◌<◌, ◌≤◌, List, [], ◌∷◌, ◌++◌, length, take, Option, Some, None, slice_get, refl, sym, ap, ◌∙◌, subst, arith, append_assoc, append-nil, add-zero, add-suc}
+use Rattle.std.proofs.Common.{◌≡◌, ℕ, zero, suc, ◌+◌, ◌<◌, List, [], ◌∷◌, ◌++◌, length, take, slice_get, refl, sym, ap, ◌∙◌, subst, arith, append_assoc, append-nil, add-zero}
 use Rattle.node_core.proofs.Sending.{sends_more}
 use Rattle.node_core.specs.Outgoing.{Lists, Sends}
 use Rattle.node_core.specs.Requests.{give_again, given_again, gives_again, moved_by, return_again, returned_again, returns_again}

@@ -1,11 +1,11 @@
 -- What an event leaves of a node.
-use Rattle.std.proofs.Common.{◌≡◌, ℕ, Option, Some, None, List, Result, Ok, Err, refl, sym, ap, ◌∙◌, subst}
+use Rattle.std.proofs.Common.{◌≡◌, List, Result, Ok, Err, sym, subst}
 use Rattle.std.specs.Prelude.{IfOk, OnErr}
 use Rattle.cover_problem.specs.Problem.{Problem}
 use Rattle.node_core.specs.Acting.{Acts, GivesLeast, Sending}
 use Rattle.node_core.specs.Formed.{AllFormed, FormedStep, IsFormedNode}
 use Rattle.node_core.specs.NodeStep.{NodeStep}
-use Rattle.node_core.specs.Outgoing.{Lists, Sends}
+use Rattle.node_core.specs.Outgoing.{Lists}
 use Rattle.node_core.specs.Refusal.{IsFit}
 use Rattle.node_core.specs.SiteView.{View}
 use Rattle.node_core.specs.declared.act_fault.ActFault.{ActFault}

@@ -1,5 +1,5 @@
 -- What Members comes to.
-use Rattle.std.proofs.Common.{◌≡◌, ◌≢◌, ℕ, zero, suc, Bool, true, false, List, [], ◌∷◌, ◌++◌, map, Option, Some, None, refl, sym, ap, ◌∙◌, subst, if◌then◌else◌, cond}
+use Rattle.std.proofs.Common.{◌≡◌, ◌≢◌, ℕ, suc, Bool, true, false, List, [], ◌∷◌, ◌++◌, Some, None, refl, sym, ap, ◌∙◌, subst, if◌then◌else◌}
 use Rattle.std.specs.Bool.{OnFalse, OnTrue}
 use Rattle.node_core.proofs.Spending.{any_is_spent, none_spent, spent_any}
 use Rattle.node_core.specs.NodeStep.{Tells}
@@ -8,12 +8,11 @@ use Rattle.node_core.specs.SiteView.{View, abort_packets, with_ledger}
 use Rattle.node_core.specs.Taking.{Stays}
 use Rattle.node_core.specs.declared.act_fault.ActFault.TheVariants.{NamesSpent}
 use Rattle.node_core.specs.declared.reply.Reply.TheVariants.{Ignored, Moved}
-use Rattle.packet_wire.specs.declared.packet.Packet.{Packet}
 use Rattle.spawn_frame.specs.Aborts.{Reached, reached, reached_one}
-use Rattle.spawn_frame.specs.Units.{Entry, redone}
+use Rattle.spawn_frame.specs.Units.{Entry}
 use Rattle.spawn_frame.specs.declared.site.Site.{Site}
 use Rattle.spawn_frame.specs.declared.status.Status.{Status}
-use Rattle.spawn_frame.specs.declared.status.Status.TheVariants.{Aborted, Done, Dropped, Finished, Here, Out, Ready, Settled, Split}
+use Rattle.spawn_frame.specs.declared.status.Status.TheVariants.{Aborted, Out, Ready}
 use Rattle.steal_return.specs.Ledger.{Ledger}
 use Rattle.steal_return.specs.Members.{IsRedoable, IsSpent, LearnsMembers, now_known, redo_if, redo_lost}
 use Rattle.steal_return.specs.Steals.{is_older}
@@ -48,11 +47,10 @@ pub members_tell : (old seen : View) (incarnations : List ℕ) (site : Site) (ou
 members_tell old seen incarnations site outs ledger true same learns differs alike =
     λ (stays : Stays old (abort_packets site outs) (with_ledger seen ledger)). differs (ap (λ (v : View). v.ledger) (stays.0 ∙ sym same))
 members_tell old seen incarnations site outs ledger false same learns differs alike =
-    let own_is : learns.own ≡ seen.own = ap (λ (l : Ledger). l.own) (sym learns.after ∙ alike) in
-    (
+    let own_is : learns.own ≡ seen.own = ap (λ (l : Ledger). l.own) (sym learns.after ∙ alike) in (
       ap (λ l. with_ledger seen l) alike ∙ same,
       ap (abort_packets site)
-      (learns.reaches ∙ ap (λ o. reached 0 (redo_lost (is_older learns.known) seen.own) o) own_is ∙ none_reached (is_older learns.known) 0 seen.own),
+          (learns.reaches ∙ ap (λ o. reached 0 (redo_lost (is_older learns.known) seen.own) o) own_is ∙ none_reached (is_older learns.known) 0 seen.own),
     )
 
 -- what is told can be learnt where no child is spent

@@ -1,5 +1,5 @@
 -- How many own children are out.
-use Rattle.std.proofs.Common.{ℕ, ◌+◌, ◌≤◌, Bool, true, false, List, [], ◌∷◌, length, count_by, arith, if◌then◌else◌}
+use Rattle.std.proofs.Common.{◌≤◌, List, length}
 use Rattle.std.proofs.lemmas.List.Sums.{count_by-le-length}
 use Rattle.spawn_frame.specs.Tables.{is_out, outs_of}
 use Rattle.spawn_frame.specs.Units.{Entry}

@@ -1,20 +1,17 @@
 -- A finding of a job that the site waits for.
-use Rattle.std.proofs.Common.{◌≡◌, ℕ, ◌≤◌, ◌<◌, Bool, true, false, List, [], length, Option, Some, None, refl, sym, ap, ◌∙◌, subst, arith}
+use Rattle.std.proofs.Common.{◌≡◌, ℕ, ◌<◌, true, List, [], length, Option, Some, None, refl, sym, ◌∙◌, subst}
 use Rattle.brancher.specs.Finding.{Finding}
 use Rattle.cover_problem.specs.Branching.{children}
 use Rattle.cover_problem.specs.Prefix.{is_prefix}
 use Rattle.cover_problem.specs.Problem.{Problem}
-use Rattle.cover_problem.specs.Search.{Barren, Covers, Outcome, Spent}
+use Rattle.cover_problem.specs.Search.{Outcome, Spent}
 use Rattle.node_core.proofs.Branches.{spent_has_children}
 use Rattle.node_core.specs.Acting.{HasPrefixes}
-use Rattle.node_core.specs.Refusal.{is_awaited, is_spent, lacks_names, post_refusal, split_refusal}
 use Rattle.node_core.specs.Results.{IsRight, Leaves, PostStep, SplitStep}
 use Rattle.node_core.specs.SiteView.{View, unit_in}
 use Rattle.packet_wire.specs.declared.packet.Packet.{Packet}
-use Rattle.spawn_frame.specs.Tables.{IsAtWork, has_status, is_at_work, is_here, prefix_in}
+use Rattle.spawn_frame.specs.Tables.{IsAtWork, has_status, is_here, prefix_in}
 use Rattle.spawn_frame.specs.Units.{Entry, Table, unit_of}
-use Rattle.spawn_frame.specs.declared.child_result.ChildResult.{ChildResult}
-use Rattle.spawn_frame.specs.declared.child_result.ChildResult.TheVariants.{Cover, Empty}
 use Rattle.spawn_frame.specs.declared.unit.Job.{Job}
 use Rattle.spawn_frame.specs.declared.unit.Unit.{Unit as WorkUnit}
 

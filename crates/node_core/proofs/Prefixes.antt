@@ -1,5 +1,5 @@
 -- Each unit of a formed node is of a prefix, and each event of its own is refused once it is over.
-use Rattle.std.proofs.Common.{◌≡◌, ℕ, Bool, true, false, List, [], ◌∷◌, Option, Some, None, if◌then◌else◌, refl, sym, ap, ◌∙◌, subst}
+use Rattle.std.proofs.Common.{◌≡◌, ℕ, Bool, true, false, List, [], ◌∷◌, Some, if◌then◌else◌, refl, ap, ◌∙◌, subst}
 use Rattle.std.specs.List.{AllByRecursion}
 use Rattle.std.proofs.lemmas.Option.{none-some, same_Some}
 use Rattle.cover_problem.specs.Prefix.{is_prefix}
@@ -8,8 +8,7 @@ use Rattle.node_core.proofs.Each.{each_at}
 use Rattle.node_core.specs.Acting.{HasPrefixes, is_delivery}
 use Rattle.node_core.specs.Formed.{IsFormedChild, IsFormedGuest, IsFormedNode}
 use Rattle.node_core.specs.Refusal.{event_refusal, node_refusal}
-use Rattle.node_core.specs.SiteView.{View, unit_in}
-use Rattle.node_core.specs.declared.act_fault.ActFault.{ActFault}
+use Rattle.node_core.specs.SiteView.{View}
 use Rattle.node_core.specs.declared.act_fault.ActFault.TheVariants as faults
 use Rattle.node_core.specs.declared.event.Event.{Event}
 use Rattle.node_core.specs.declared.event.Event.TheVariants.{Again, Ask, Deliver, Finish, Greet, Post, Redo, Take}
@@ -17,7 +16,6 @@ use Rattle.packet_wire.specs.declared.packet.Packet.{Packet}
 use Rattle.spawn_frame.specs.Units.{Entry, GuestEntry, guest_in, is_guest}
 use Rattle.spawn_frame.specs.declared.site.ChildName.{ChildName}
 use Rattle.spawn_frame.specs.declared.site.Site.{Site}
-use Rattle.spawn_frame.specs.declared.unit.Unit.{Unit as WorkUnit}
 use Rattle.spawn_frame.specs.declared.unit.Unit.TheVariants.{Guest, Own}
 
 guest_prefix : (problem : Problem) (site : Site) (guests : List GuestEntry) (name : ChildName) (attempt : ℕ) (entry : Entry)

@@ -1,5 +1,5 @@
 -- Packets that are appended to the lists of an event.
-use Rattle.std.proofs.Common.{◌≡◌, Bool, true, false, List, [], ◌∷◌, ◌++◌, refl, sym, ap, ◌∙◌, append_assoc, append-nil}
+use Rattle.std.proofs.Common.{◌≡◌, Bool, true, false, List, [], ◌++◌, refl, sym, ap, ◌∙◌, append_assoc, append-nil}
 use Rattle.node_core.specs.Outgoing.{Lists, Sends, copied}
 use Rattle.packet_wire.specs.declared.packet.Packet.{Packet}
 
@@ -20,10 +20,10 @@ pub sends_more : (old mid new : Lists) (ps qs : List Packet) → Sends old ps mi
 sends_more old mid new ps qs first second = record {
   packets = second.packets ∙ ap (λ l. l ++ qs) first.packets ∙ append_assoc old.packets ps qs;
   copies =
-    second.copies
-    ∙ ap (λ l. l ++ copied mid.both qs) first.copies
-    ∙ ap (λ b. (old.copies ++ copied old.both ps) ++ copied b qs) first.both
-    ∙ append_assoc old.copies (copied old.both ps) (copied old.both qs)
-    ∙ ap (λ l. old.copies ++ l) (copied_more old.both ps qs);
+      second.copies
+      ∙ ap (λ l. l ++ copied mid.both qs) first.copies
+      ∙ ap (λ b. (old.copies ++ copied old.both ps) ++ copied b qs) first.both
+      ∙ append_assoc old.copies (copied old.both ps) (copied old.both qs)
+      ∙ ap (λ l. old.copies ++ l) (copied_more old.both ps qs);
   both = second.both ∙ first.both;
 }

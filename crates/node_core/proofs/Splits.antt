@@ -1,5 +1,5 @@
 -- A unit that is split by its branch item.
-use Rattle.std.proofs.Common.{◌≡◌, ℕ, zero, suc, ◌+◌, ◌≤◌, ◌<◌, Bool, true, false, cond, List, [], ◌∷◌, ◌++◌, map, length, Option, Some, None, refl, sym, ap, ◌∙◌, subst, arith, length-append, nat_lt}
+use Rattle.std.proofs.Common.{◌≡◌, ℕ, List, [], ◌∷◌, ◌++◌, length, Some, None, ap}
 use Rattle.std.proofs.lemmas.List.{length-map}
 use Rattle.cover_problem.specs.Branching.{branch_item, children, children_at, live_options}
 use Rattle.cover_problem.specs.Problem.{Problem}

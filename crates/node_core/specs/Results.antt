@@ -1,5 +1,5 @@
 -- Searches and frames that come to a result.
-use Rattle.std.specs.Prelude.{◌≡◌, ℕ, ◌≤◌, Bool, length, List, [], ◌∷◌, ◌++◌, Option, Some, None}
+use Rattle.std.specs.Prelude.{◌≡◌, ℕ, ◌≤◌, Bool, length, List, [], ◌∷◌, ◌++◌, Option, Some}
 use Rattle.brancher.specs.Finding.{Finding}
 use Rattle.cover_problem.specs.Branching.{children}
 use Rattle.cover_problem.specs.Problem.{Problem}

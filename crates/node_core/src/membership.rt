@@ -57,9 +57,5 @@ impl SiteState {
 fn told_reply(moved: bool) -> Reply
     ensures { result ≡ (if moved then Reply.Moved else Reply.Ignored) }
 {
-    if moved {
-        Reply::Moved
-    } else {
-        Reply::Ignored
-    }
+    if moved { Reply::Moved } else { Reply::Ignored }
 }

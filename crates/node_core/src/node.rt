@@ -161,7 +161,9 @@ fn hear(
             result,
         } => Ok(state.receive_accept(from, serial, attempt, result)),
         Body::Refuse {
-            serial, attempt, ..
+            serial,
+            attempt,
+            ..
         }
         | Body::Abort { serial, attempt } => state.receive_refuse(from, serial, attempt, out),
         Body::Over => Ok(state.receive_over()),

@@ -100,12 +100,7 @@ impl SiteState {
     }
 
     /// Splits a unit into the children of its prefix.
-    fn split(
-        &mut self,
-        links: &mut Links,
-        unit: Unit,
-        prefix: &[u16],
-    ) -> Result<(), ActFault>
+    fn split(&mut self, links: &mut Links, unit: Unit, prefix: &[u16]) -> Result<(), ActFault>
         requires here { has_status is_here (unit_in self.old unit) ≡ true }
         requires prefix { prefix_in (unit_in self.old unit) ≡ prefix.now }
         requires lawful { is_prefix links.old.problem prefix.now ≡ true }

@@ -1,4 +1,4 @@
-use Rattle.std.proofs.Common.{◌≡◌, true, refl, sym, ◌∙◌}
+use Rattle.std.proofs.Common.{refl, sym, ◌∙◌}
 use Rattle.node_core.proofs.Prefixes.{formed_prefixes, not_delivery, over_refuses}
 use Rattle.node_core.proofs.Sending.{sends_none}
 use Rattle.node_core.proofs.node.answer_event.Goals as goal

@@ -1,6 +1,6 @@
-use Rattle.std.proofs.Common.{◌≡◌, sym, ap, ◌∙◌, subst}
+use Rattle.std.proofs.Common.{sym, ap, subst}
 use Rattle.cover_problem.specs.Problem.{Problem}
-use Rattle.node_core.proofs.Cores.{acts, stays}
+use Rattle.node_core.proofs.Cores.{stays}
 use Rattle.node_core.proofs.node.NodeCoreCore.answer.Goals as goal
 use Rattle.node_core.proofs.node.NodeCoreCore.answer.Goals.{After-answer_event}
 use Rattle.node_core.specs.Acting.{SiteCore}

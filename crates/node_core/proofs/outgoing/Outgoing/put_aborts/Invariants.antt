@@ -1,4 +1,4 @@
-use Rattle.std.proofs.Common.{◌≡◌, ◌+◌, length, map, take}
+use Rattle.std.proofs.Common.{◌≡◌, ◌+◌, take}
 use Rattle.node_core.proofs.outgoing.Outgoing.put_aborts.Given as goal
 use Rattle.node_core.specs.Outgoing.{Sends}
 use Rattle.node_core.specs.SiteView.{abort_packets}

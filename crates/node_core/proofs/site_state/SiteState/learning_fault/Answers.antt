@@ -1,4 +1,4 @@
-use Rattle.std.proofs.Common.{◌≡◌, sym, ap, ◌∙◌}
+use Rattle.std.proofs.Common.{sym, ap, ◌∙◌}
 use Rattle.node_core.proofs.Learning.{members_refused, members_unrefused}
 use Rattle.node_core.proofs.site_state.SiteState.learning_fault.Goals as goal
 use Rattle.node_core.specs.Refusal.{members_refusal}

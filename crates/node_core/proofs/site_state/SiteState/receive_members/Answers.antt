@@ -1,4 +1,4 @@
-use Rattle.std.proofs.Common.{◌≡◌, Bool, List, [], Err, Result, refl, sym, ap, ◌∙◌, subst, if◌then◌else◌}
+use Rattle.std.proofs.Common.{◌≡◌, Bool, List, Err, Result, sym, ap, ◌∙◌, subst}
 use Rattle.node_core.proofs.Learning.{members_able, members_learnt, members_refused, members_tell}
 use Rattle.node_core.proofs.Aborts.{appended_whole, members_step, sends_after}
 use Rattle.node_core.proofs.site_state.SiteState.receive_members.Goals as goal
@@ -31,15 +31,14 @@ pub returns-in-Ok-clause-step : goal.returns-in-Ok-clause-step
 returns-in-Ok-clause-step c =
     let seen : View = record { ledger = c.self.inside.ledger; over = c.self.inside.over } in
     let aborts = abort_packets c.site-site.result c.deref.result.now in
-    let tells : Reply → Type 0 = λ reply. Tells c.args.self.now (abort_packets c.site-site.result c.deref.result.now) (with_ledger seen c.learn_members.new.self) reply in
-    (
+    let tells : Reply → Type 0 = λ reply. Tells c.args.self.now (abort_packets c.site-site.result c.deref.result.now) (with_ledger seen c.learn_members.new.self) reply in (
       aborts,
       sends_after c.args.out.now c.reserve.new.self c.put_aborts.new.self aborts c.reserve.ensures.same c.put_aborts.ensures.sends,
       (
         members_step c.args.self.now seen c.args.incarnations.now c.site-site.result c.deref.result.now c.learn_members.new.self c.self.view_is c.site-site.ensures (told c),
         subst tells (sym c.told_reply.ensures)
-        (members_tell c.args.self.now seen c.args.incarnations.now c.site-site.result c.deref.result.now c.learn_members.new.self c.in-Ok.moved c.self.view_is (told c)
-        c.in-Ok.ensures.moved c.in-Ok.ensures.same)
+            (members_tell c.args.self.now seen c.args.incarnations.now c.site-site.result c.deref.result.now c.learn_members.new.self c.in-Ok.moved c.self.view_is (told c)
+            c.in-Ok.ensures.moved c.in-Ok.ensures.same),
       ),
     )
 

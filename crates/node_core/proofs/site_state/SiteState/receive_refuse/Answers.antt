@@ -1,4 +1,4 @@
-use Rattle.std.proofs.Common.{◌≡◌, List, [], true, refl, sym, ◌∙◌, ap, subst}
+use Rattle.std.proofs.Common.{List, sym, subst}
 use Rattle.node_core.proofs.Aborts.{appended_whole, drops_step, on_true, sends_after}
 use Rattle.node_core.proofs.site_state.SiteState.receive_refuse.Goals as goal
 use Rattle.node_core.specs.SiteView.{abort_packets}
@@ -13,8 +13,7 @@ returns-then-dropped-clause-step c =
     let Dropped : List Reached → Type 0 = λ outs. DropsGuest c.self.inside.ledger name c.args.attempt outs c.receive_refuse.new.self in
     let appended = on_true c.in_ok-dropped.dropped (Appends c.new-outs.result.items c.receive_refuse.new.list.items Dropped) c.if-dropped.true c.in_ok-dropped.ensures.dropped in
     let whole = appended_whole Dropped c.new-outs.result.items c.receive_refuse.new.list.items c.new-outs.ensures.items appended in
-    let told : DropsGuest c.self.inside.ledger name c.args.attempt c.deref.result.now c.receive_refuse.new.self = subst Dropped (sym c.deref.ensures.value) whole in
-    (
+    let told : DropsGuest c.self.inside.ledger name c.args.attempt c.deref.result.now c.receive_refuse.new.self = subst Dropped (sym c.deref.ensures.value) whole in (
       abort_packets c.site-site.result c.deref.result.now,
       sends_after c.args.out.now c.reserve.new.self c.put_aborts.new.self (abort_packets c.site-site.result c.deref.result.now) c.reserve.ensures.same c.put_aborts.ensures.sends,
       drops_step c.args.self.now _ name c.args.attempt c.site-site.result c.deref.result.now c.receive_refuse.new.self c.self.view_is c.site-site.ensures told,

@@ -1,4 +1,4 @@
-use Rattle.std.proofs.Common.{◌≡◌, ◌+◌, ◌<◌, List, ◌++◌, length, suc, take, refl, sym, ap, ◌∙◌, subst, arith, slice_get}
+use Rattle.std.proofs.Common.{length, ap, arith}
 use Rattle.node_core.proofs.Again.{returns_sent}
 use Rattle.node_core.specs.SiteView.{View}
 use Rattle.spawn_frame.specs.Units.{Table}

@@ -1,0 +1,3 @@
+//! Cores of nodes, as scripts of events.
+
+mod node;

@@ -1,0 +1,529 @@
+//! Scripts of events of one node; the answers and packets are worked out by hand from the rules of the protocol.
+
+ghost use Rattle.std.specs.Prelude.{◌≡◌};
+
+use brancher::Searcher;
+use cover_problem::{Numbers, Problem, is_prefix};
+use dlx_reader::read_problem;
+use node_core::{ActFault, Core, Event, NodeCore, Reply};
+use packet_wire::{Body, Incarnations, Packet, is_well_formed};
+use spawn_frame::{Attempt, Cause, ChildName, ChildResult, Job, Site, Unit};
+use std::alloc::{AllocError, Global};
+use std::process::Abort;
+
+/// Seven items and six options, with one cover: options 3, 4 and 0.
+const LETTERS: &str = "a b c d e f g\nc e\na d g\nb c f\na d f\nb g\nd e g\n";
+
+/// The node whose core it is, the registry, and other sites.
+const HERE: Site = Site {
+    node: 1,
+    incarnation: 1,
+};
+
+const REGISTRY: Site = Site {
+    node: 0,
+    incarnation: 1,
+};
+
+const NODE_2: Site = Site {
+    node: 2,
+    incarnation: 1,
+};
+
+const NODE_2_ANEW: Site = Site {
+    node: 2,
+    incarnation: 2,
+};
+
+const NODE_5: Site = Site {
+    node: 5,
+    incarnation: 1,
+};
+
+/// The guest that the root is.
+const ROOT: Unit = Unit::Guest(
+    ChildName {
+        site: REGISTRY,
+        serial: 0,
+    },
+    1,
+);
+
+/// What a packet says.
+#[derive(Clone, Copy)]
+enum Said {
+    Hello,
+    Members(&'static [u32]),
+    Steal,
+    Give(u32, Attempt, &'static [u16]),
+    NoWork,
+    /// A result is a cover, or none.
+    Return(u32, Attempt, Option<&'static [u16]>),
+    Accept(u32, Attempt, Option<&'static [u16]>),
+    Refuse(u32, Attempt, Cause),
+    Abort(u32, Attempt),
+    Over,
+}
+
+/// What happens at the node.
+#[derive(Clone, Copy)]
+enum Does {
+    Take,
+    /// The unit that was taken last is searched with so much fuel.
+    Post(u64),
+    Finish(Unit),
+    Ask(u8),
+    Redo(u32),
+    /// A packet from this site arrives.
+    Hears(Site, Said),
+    /// A packet for another site does.
+    Overhears(Site, Said),
+    Again,
+    Greet,
+}
+
+/// What it comes to.
+#[derive(Clone, Copy)]
+enum Comes {
+    /// A unit is taken up with this prefix.
+    Taken(&'static [u16]),
+    Ripe(Unit),
+    Idle,
+    Moved,
+    Ignored,
+    Fault(ActFault),
+}
+
+/// An event, what it comes to, and the packets that it puts out, with their receivers.
+type Row = (Does, Comes, &'static [(Site, Said)]);
+
+/// A list of numbers.
+fn numbers(alloc: Global, list: &[u16]) -> Result<Numbers, AllocError> {
+    Ok(Numbers::from_vec(Vec::from_slice(alloc, list)?))
+}
+
+/// A result.
+fn result_of(alloc: Global, cover: Option<&[u16]>) -> Result<ChildResult, AllocError> {
+    match cover {
+        Some(options) => Ok(ChildResult::Cover(numbers(alloc, options)?)),
+        None => Ok(ChildResult::Empty),
+    }
+}
+
+/// The body that says so.
+fn body_of(alloc: Global, said: Said) -> Result<Body, AllocError> {
+    match said {
+        Said::Hello => Ok(Body::Hello),
+        Said::Members(runs) => {
+            let runs = Vec::from_slice(alloc, runs)?;
+            Ok(Body::Members(Incarnations::from_vec(runs)))
+        }
+        Said::Steal => Ok(Body::Steal),
+        Said::NoWork => Ok(Body::NoWork),
+        Said::Over => Ok(Body::Over),
+        told => child_body(alloc, told),
+    }
+}
+
+/// The same of what names a child.
+fn child_body(alloc: Global, said: Said) -> Result<Body, AllocError> {
+    match said {
+        Said::Give(serial, attempt, prefix) => {
+            let prefix = numbers(alloc, prefix)?;
+            Ok(Body::Give {
+                serial,
+                attempt,
+                prefix,
+            })
+        }
+        Said::Return(serial, attempt, cover) => {
+            let result = result_of(alloc, cover)?;
+            Ok(Body::Return {
+                serial,
+                attempt,
+                result,
+            })
+        }
+        Said::Accept(serial, attempt, cover) => {
+            let result = result_of(alloc, cover)?;
+            Ok(Body::Accept {
+                serial,
+                attempt,
+                result,
+            })
+        }
+        Said::Refuse(serial, attempt, cause) => Ok(Body::Refuse {
+            serial,
+            attempt,
+            cause,
+        }),
+        Said::Abort(serial, attempt) => Ok(Body::Abort { serial, attempt }),
+        Said::Hello | Said::Members(_) | Said::Steal | Said::NoWork | Said::Over => {
+            Ok(Body::NoWork)
+        }
+    }
+}
+
+/// The packet from one site to another that says so.
+fn packet_of(alloc: Global, from: Site, to: Site, said: Said) -> Result<Packet, AllocError> {
+    let body = body_of(alloc, said)?;
+    Ok(Packet { from, to, body })
+}
+
+/// Whether these packets were put out, in this order.
+fn are_sent<R: Abort>(rt: &R, alloc: Global, out: &[Packet], sent: &[(Site, Said)]) -> bool {
+    if out.len() != sent.len() {
+        return false;
+    }
+    for (packet, (to, said)) in out.iter().zip(sent) {
+        let expected = packet_of(alloc, HERE, *to, *said).expect(rt, "memory");
+        if *packet != expected {
+            return false;
+        }
+    }
+    true
+}
+
+/// Whether an event came to this.
+fn has_come(answer: &Result<Reply, ActFault>, comes: Comes) -> bool {
+    match (answer, comes) {
+        (Err(fault), Comes::Fault(expected)) => *fault == expected,
+        (Ok(Reply::Taken(_, prefix)), Comes::Taken(expected)) => prefix.as_slice() == expected,
+        (Ok(Reply::Ripe(unit)), Comes::Ripe(expected)) => *unit == expected,
+        (Ok(reply), Comes::Idle) => *reply == Reply::Idle,
+        (Ok(reply), Comes::Moved) => *reply == Reply::Moved,
+        (Ok(reply), Comes::Ignored) => *reply == Reply::Ignored,
+        _ => false,
+    }
+}
+
+/// A node with all that a script needs.
+#[derive(Drop)]
+struct Stage<'a> {
+    core: NodeCore<'a>,
+    searcher: Searcher<'a>,
+    problem: &'a Problem,
+    taken: Option<Job>,
+    prefix: Vec<u16>,
+    alloc: Global,
+    ghost one: { core.problem ≡ problem.now },
+    ghost same: { searcher.problem ≡ problem.now },
+}
+
+impl<'a> Stage<'a> {
+    /// The node before its first event, with so many names.
+    fn new<R: Abort>(rt: &R, alloc: Global, problem: &'a Problem, names_limit: u32) -> Stage<'a> {
+        let core = NodeCore::start(alloc, problem, HERE, 2, names_limit).expect(rt, "memory");
+        Stage {
+            core,
+            searcher: Searcher::new(alloc, problem).expect(rt, "memory"),
+            problem,
+            taken: None,
+            prefix: Vec::new(alloc),
+            alloc,
+        }
+    }
+
+    /// Lets the event happen, which is no Post.
+    fn act<R: Abort>(
+        &mut self,
+        rt: &R,
+        event: Event,
+        out: &mut Vec<Packet>,
+    ) -> Result<Reply, ActFault> {
+        match event {
+            Event::Deliver(packet) => {
+                assert!(rt; is_well_formed(&packet));
+                self.core.act(Event::Deliver(packet), out)
+            }
+            Event::Post(..) => Err(ActFault::StaleJob),
+            other => self.core.act(other, out),
+        }
+    }
+
+    /// Searches what was taken last, and posts it.
+    fn post<R: Abort>(
+        &mut self,
+        rt: &R,
+        fuel: u64,
+        out: &mut Vec<Packet>,
+    ) -> Result<Reply, ActFault> {
+        let Some(job) = self.taken else {
+            return Err(ActFault::Over);
+        };
+        let prefix = self.prefix.clone().expect(rt, "memory");
+        assert!(rt; is_prefix(self.problem, &prefix));
+        assert!(rt; fuel > 0);
+        match self.searcher.find(prefix, fuel) {
+            Ok(finding) => self.core.act(Event::Post(job, finding), out),
+            Err(_) => Err(ActFault::Memory),
+        }
+    }
+
+    /// The event that the row names, if it is no Post.
+    fn event<R: Abort>(&self, rt: &R, does: Does) -> Event {
+        let packet = |from: Site, to: Site, said: Said| {
+            packet_of(self.alloc, from, to, said).expect(rt, "memory")
+        };
+        match does {
+            Does::Take | Does::Post(_) => Event::Take,
+            Does::Finish(unit) => Event::Finish(unit),
+            Does::Ask(victim) => Event::Ask(victim),
+            Does::Redo(serial) => Event::Redo(serial),
+            Does::Hears(from, said) => Event::Deliver(packet(from, HERE, said)),
+            Does::Overhears(from, said) => Event::Deliver(packet(from, NODE_5, said)),
+            Does::Again => Event::Again,
+            Does::Greet => Event::Greet,
+        }
+    }
+
+    /// Lets one row of a script happen; whether all is as it says.
+    fn plays<R: Abort>(&mut self, rt: &R, row: Row) -> bool {
+        let (does, comes, sent) = row;
+        let mut out = Vec::new(self.alloc);
+        let answer = match does {
+            Does::Post(fuel) => self.post(rt, fuel, &mut out),
+            other => {
+                let event = self.event(rt, other);
+                self.act(rt, event, &mut out)
+            }
+        };
+        if let Ok(Reply::Taken(job, prefix)) = &answer {
+            self.taken = Some(*job);
+            self.prefix = Vec::from_slice(self.alloc, prefix.as_slice()).expect(rt, "memory");
+        }
+        has_come(&answer, comes) && are_sent(rt, self.alloc, &out, sent)
+    }
+}
+
+/// Plays the script at a node with so many names; the first row that isn't as it says ends it.
+fn play<R: Abort>(rt: &R, alloc: Global, names_limit: u32, rows: &[Row]) {
+    let read = read_problem(alloc, LETTERS.as_bytes()).expect(rt, "a problem");
+    let mut stage = Stage::new(rt, alloc, &read.problem, names_limit);
+    for (number, row) in rows.iter().enumerate() {
+        let right = stage.plays(rt, *row);
+        assert!(rt; right, "row {number}");
+    }
+}
+
+use self::Comes::{Fault, Idle, Ignored, Moved, Ripe, Taken};
+use self::Does::{Again, Ask, Finish, Greet, Hears, Overhears, Post, Redo, Take};
+use node_core::ActFault::{
+    BadPrefix, NamesSpent, NotOpen, NotOut, NotSettled, OtherSite, StaleJob,
+};
+
+/// The root is given to the node.
+const ROOT_GIVEN: Row = (Hears(REGISTRY, Said::Give(0, 1, &[])), Moved, &[]);
+
+/// One name: a search that is spent can't be split, and one that isn't ends.
+static ONE_NAME: [Row; 19] = [
+    (Take, Idle, &[]),
+    ROOT_GIVEN,
+    (Take, Taken(&[]), &[]),
+    (Post(1), Fault(NamesSpent), &[]),
+    (
+        Post(6),
+        Moved,
+        &[(REGISTRY, Said::Return(0, 1, Some(&[3, 4, 0])))],
+    ),
+    (Post(6), Fault(StaleJob), &[]),
+    (Finish(ROOT), Fault(NotOpen), &[]),
+    (Ask(1), Fault(OtherSite), &[]),
+    (Ask(3), Fault(OtherSite), &[]),
+    (Ask(2), Moved, &[(NODE_2, Said::Steal)]),
+    (Redo(0), Fault(NotOut), &[]),
+    (
+        Hears(NODE_2, Said::Give(7, 1, &[0, 2])),
+        Fault(BadPrefix),
+        &[],
+    ),
+    (
+        Hears(NODE_2, Said::Give(7, 1, &[3, 3])),
+        Fault(BadPrefix),
+        &[],
+    ),
+    (Hears(NODE_2, Said::Give(7, 1, &[6])), Fault(BadPrefix), &[]),
+    (Hears(NODE_5, Said::Steal), Fault(OtherSite), &[]),
+    (Greet, Moved, &[(REGISTRY, Said::Hello)]),
+    (Hears(REGISTRY, Said::Over), Moved, &[]),
+    (Take, Fault(ActFault::Over), &[]),
+    (Hears(REGISTRY, Said::Over), Fault(ActFault::Over), &[]),
+];
+
+/// Two names: the root is split, one child is stolen, the other found; the thief is told and its result refused.
+static STOLEN: [Row; 18] = [
+    ROOT_GIVEN,
+    (Take, Taken(&[]), &[]),
+    (Post(1), Moved, &[]),
+    (Finish(ROOT), Fault(NotSettled), &[]),
+    (
+        Hears(NODE_2, Said::Steal),
+        Moved,
+        &[(NODE_2, Said::Give(0, 1, &[1]))],
+    ),
+    (Again, Moved, &[(NODE_2, Said::Give(0, 1, &[1]))]),
+    (Redo(7), Fault(NotOut), &[]),
+    (Take, Taken(&[3]), &[]),
+    (Hears(NODE_2, Said::Steal), Moved, &[(NODE_2, Said::NoWork)]),
+    (Post(3), Moved, &[]),
+    (Take, Ripe(ROOT), &[]),
+    (
+        Finish(ROOT),
+        Moved,
+        &[
+            (NODE_2, Said::Abort(0, 1)),
+            (REGISTRY, Said::Return(0, 1, Some(&[3, 4, 0]))),
+        ],
+    ),
+    (
+        Hears(NODE_2, Said::Return(0, 1, None)),
+        Moved,
+        &[(NODE_2, Said::Refuse(0, 1, Cause::Aborted))],
+    ),
+    (
+        Hears(NODE_2, Said::Return(2, 1, None)),
+        Moved,
+        &[(NODE_2, Said::Refuse(2, 1, Cause::Unknown))],
+    ),
+    (
+        Again,
+        Moved,
+        &[(REGISTRY, Said::Return(0, 1, Some(&[3, 4, 0])))],
+    ),
+    (
+        Hears(REGISTRY, Said::Accept(0, 1, Some(&[0, 3, 4]))),
+        Moved,
+        &[],
+    ),
+    (
+        Hears(REGISTRY, Said::Accept(0, 1, Some(&[0, 3, 4]))),
+        Ignored,
+        &[],
+    ),
+    (Again, Ignored, &[]),
+];
+
+/// A thief begins anew: its child is redone, and the result of its earlier run refused; a child that is done tells what it holds.
+static RUNS_ANEW: [Row; 14] = [
+    ROOT_GIVEN,
+    (Take, Taken(&[]), &[]),
+    (Post(1), Moved, &[]),
+    (
+        Hears(NODE_2, Said::Steal),
+        Moved,
+        &[(NODE_2, Said::Give(0, 1, &[1]))],
+    ),
+    (Hears(REGISTRY, Said::Members(&[1, 1])), Ignored, &[]),
+    (Hears(REGISTRY, Said::Members(&[1, 2])), Moved, &[]),
+    (Hears(NODE_2, Said::Steal), Moved, &[(NODE_2, Said::NoWork)]),
+    (Hears(NODE_2, Said::Give(3, 1, &[0])), Ignored, &[]),
+    (
+        Hears(NODE_2, Said::Return(0, 1, None)),
+        Moved,
+        &[(NODE_2, Said::Refuse(0, 1, Cause::Superseded))],
+    ),
+    (
+        Hears(NODE_2_ANEW, Said::Steal),
+        Moved,
+        &[(NODE_2_ANEW, Said::Give(0, 2, &[1]))],
+    ),
+    (
+        Hears(NODE_2_ANEW, Said::Return(0, 2, None)),
+        Moved,
+        &[(NODE_2_ANEW, Said::Accept(0, 2, None))],
+    ),
+    (
+        Hears(NODE_2_ANEW, Said::Return(0, 2, Some(&[1]))),
+        Moved,
+        &[(NODE_2_ANEW, Said::Accept(0, 2, None))],
+    ),
+    (Hears(REGISTRY, Said::NoWork), Ignored, &[]),
+    (Overhears(NODE_2, Said::Steal), Fault(OtherSite), &[]),
+];
+
+/// A guest's owner wants it no more: all below is aborted, and the thief below told.
+static DROPPED: [Row; 9] = [
+    ROOT_GIVEN,
+    (Hears(REGISTRY, Said::Give(0, 1, &[])), Ignored, &[]),
+    (Take, Taken(&[]), &[]),
+    (Post(1), Moved, &[]),
+    (
+        Hears(NODE_2, Said::Steal),
+        Moved,
+        &[(NODE_2, Said::Give(0, 1, &[1]))],
+    ),
+    (
+        Hears(REGISTRY, Said::Abort(0, 1)),
+        Moved,
+        &[(NODE_2, Said::Abort(0, 1))],
+    ),
+    (
+        Hears(REGISTRY, Said::Refuse(0, 1, Cause::Superseded)),
+        Ignored,
+        &[],
+    ),
+    (Take, Idle, &[]),
+    (Finish(ROOT), Fault(NotOpen), &[]),
+];
+
+/// Of two faults that an event meets the first is told.
+static FIRST_FAULTS: [Row; 8] = [
+    ROOT_GIVEN,
+    (Take, Taken(&[]), &[]),
+    (Hears(REGISTRY, Said::Over), Moved, &[]),
+    (Overhears(NODE_2, Said::Steal), Fault(OtherSite), &[]),
+    (Hears(NODE_5, Said::Steal), Fault(OtherSite), &[]),
+    (Post(1), Fault(ActFault::Over), &[]),
+    (Ask(1), Fault(ActFault::Over), &[]),
+    (Redo(0), Fault(ActFault::Over), &[]),
+];
+
+#[test]
+fn a_node_of_one_name(rt: HostRuntime) {
+    play(&rt, rt.alloc(), 1, &ONE_NAME);
+}
+
+#[test]
+fn a_child_is_stolen_and_aborted(rt: HostRuntime) {
+    play(&rt, rt.alloc(), 2, &STOLEN);
+}
+
+#[test]
+fn a_thief_runs_anew(rt: HostRuntime) {
+    play(&rt, rt.alloc(), 2, &RUNS_ANEW);
+}
+
+#[test]
+fn a_guest_is_dropped(rt: HostRuntime) {
+    play(&rt, rt.alloc(), 2, &DROPPED);
+}
+
+#[test]
+fn the_first_fault_is_told(rt: HostRuntime) {
+    play(&rt, rt.alloc(), 1, &FIRST_FAULTS);
+}
+
+/// Whether a Greet puts equal packets into both lists, behind what stands there.
+fn greets_both<R: Abort>(rt: &R, alloc: Global, core: &mut NodeCore<'_>) -> bool {
+    let mut out = Vec::new(alloc);
+    let mut copies = Vec::new(alloc);
+    let first = core.act(Event::Greet, &mut out);
+    let both = core.act_both(Event::Greet, &mut out, &mut copies);
+    first == Ok(Reply::Moved)
+        && both == Ok(Reply::Moved)
+        && are_sent(
+            rt,
+            alloc,
+            &out,
+            &[(REGISTRY, Said::Hello), (REGISTRY, Said::Hello)],
+        )
+        && are_sent(rt, alloc, &copies, &[(REGISTRY, Said::Hello)])
+}
+
+#[test]
+fn two_lists_get_the_same(rt: HostRuntime) {
+    let alloc = rt.alloc();
+    let read = read_problem(alloc, LETTERS.as_bytes()).expect(&rt, "a problem");
+    let mut core = NodeCore::start(alloc, &read.problem, HERE, 2, 1).expect(&rt, "memory");
+    assert!(rt; greets_both(&rt, alloc, &mut core));
+}
