@@ -1,5 +1,5 @@
 -- What a core does with an event.
-use Rattle.std.specs.Prelude.{◌≡◌, ℕ, Bool, true, false, List, Option, Some, None, Result, Ok, Err, ⊤}
+use Rattle.std.specs.Prelude.{◌≡◌, ℕ, Bool, true, false, List, ◌++◌, IfOk, Option, Some, None, Result, Ok, Err, ⊤}
 use Rattle.cover_problem.specs.Prefix.{is_prefix}
 use Rattle.cover_problem.specs.Problem.{Problem}
 use Rattle.node_core.specs.Arrivals.{answer_packet}
@@ -58,6 +58,20 @@ pub record Acts (Step : StepOf) (problem : Problem) (old : View) (event : Event)
 -- packets of which this is so are appended to each list
 abbrev pub Sending : Lists → Lists → (List Packet → Type 0) → Type 0
 Sending old new P = (out : List Packet) × Sends old out new × P out
+
+-- what is so of the answer to an event that isn't refused, and of the packets that it sends
+abbrev pub Answered : {A : Type 0} → Result A ActFault → Lists → Lists → (A → List Packet → Type 0) → Type 0
+Answered result old new P = IfOk result (λ answer. Sending old new (P answer))
+
+-- the same, of packets that are appended to a list
+abbrev pub PutsOut : {A : Type 0} → Result A ActFault → List Packet → List Packet → (A → List Packet → Type 0) → Type 0
+PutsOut result old new P = IfOk result (λ answer. (out : List Packet) × (new ≡ old ++ out) × P answer out)
+
+-- the same, of packets that are appended to two lists
+abbrev pub PutsOutBoth : {A : Type 0} → Result A ActFault → List Packet × List Packet → List Packet × List Packet
+    → (A → List Packet → Type 0) → Type 0
+PutsOutBoth result old new P =
+    IfOk result (λ answer. (out : List Packet) × (new.0 ≡ old.0 ++ out) × (new.1 ≡ old.1 ++ out) × P answer out)
 
 -- some packets are appended to each list
 abbrev pub MaySend : Lists → Lists → Type 0

@@ -1,7 +1,7 @@
 //! Packets that arrive.
 
 ghost use Rattle.std.specs.Prelude.{◌≡◌, ◌≤◌, [], None, IfOk, OnErr};
-ghost use Rattle.node_core.specs.Acting.{refusal_told, GivesLeastTo, MaySend, Sending};
+ghost use Rattle.node_core.specs.Acting.{refusal_told, Answered, GivesLeastTo, MaySend};
 ghost use Rattle.node_core.specs.Arrivals.{AcceptStep, GiveStep, RefuseStep, ReturnStep, StealStep};
 ghost use Rattle.node_core.specs.NodeStep.{over_now};
 ghost use Rattle.node_core.specs.Refusal.{give_refusal};
@@ -64,7 +64,8 @@ impl SiteState {
 
     /// Another site asks for work: it gets the ready own child of least serial, or is told that there is none.
     pub fn receive_steal(&mut self, from: Site, out: &mut Outgoing) -> Result<Reply, ActFault>
-        ensures step { IfOk result (λ reply. Sending out.old out.new (λ sent. (reply ≡ Reply.Moved) × StealStep self.old from sent self.new × GivesLeastTo self.old from sent)) }
+        ensures step { Answered result out.old out.new (λ reply sent.
+            (reply ≡ Reply.Moved) × StealStep self.old from sent self.new × GivesLeastTo self.old from sent) }
         ensures refusal { refusal_told result ≡ None }
         ensures err { OnErr result (self.new ≡ self.old) }
         ensures list { OnErr result (MaySend out.old out.new) }
@@ -89,7 +90,8 @@ impl SiteState {
         child_result: ChildResult,
         out: &mut Outgoing,
     ) -> Result<Reply, ActFault>
-        ensures step { IfOk result (λ reply. Sending out.old out.new (λ sent. (reply ≡ Reply.Moved) × ReturnStep self.old from serial attempt child_result sent self.new)) }
+        ensures step { Answered result out.old out.new (λ reply sent.
+            (reply ≡ Reply.Moved) × ReturnStep self.old from serial attempt child_result sent self.new) }
         ensures refusal { refusal_told result ≡ None }
         ensures err { OnErr result (self.new ≡ self.old) }
         ensures list { OnErr result (MaySend out.old out.new) }
@@ -136,7 +138,8 @@ impl SiteState {
         attempt: Attempt,
         out: &mut Outgoing,
     ) -> Result<Reply, ActFault>
-        ensures step { IfOk result (λ reply. Sending out.old out.new (λ sent. RefuseStep self.old (record { site = from; serial = serial }) attempt reply sent self.new)) }
+        ensures step { Answered result out.old out.new (λ reply sent.
+            RefuseStep self.old (record { site = from; serial = serial }) attempt reply sent self.new) }
         ensures refusal { refusal_told result ≡ None }
         ensures err { OnErr result (self.new ≡ self.old) }
         ensures list { OnErr result (MaySend out.old out.new) }

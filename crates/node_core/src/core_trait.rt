@@ -1,11 +1,10 @@
-ghost use Rattle.std.specs.Prelude.{◌≡◌, ◌++◌, List, Option, IfOk, OnErr};
+ghost use Rattle.std.specs.Prelude.{◌≡◌, Option, OnErr};
 ghost use Rattle.cover_problem.specs.Problem.{Problem};
-ghost use Rattle.node_core.specs.Acting.{refusal_told, Acts, MaySend, Sending, StepOf};
+ghost use Rattle.node_core.specs.Acting.{refusal_told, Acts, Answered, MaySend, PutsOut, PutsOutBoth, StepOf};
 ghost use Rattle.node_core.specs.Refusal.{IsFit};
 ghost use Rattle.node_core.specs.SiteView.{View};
 ghost use Rattle.node_core.specs.declared.act_fault.ActFault.{ActFault};
 ghost use Rattle.node_core.specs.declared.event.Event.{Event};
-ghost use Rattle.packet_wire.specs.declared.packet.Packet.{Packet};
 
 use crate::act_fault::ActFault;
 use crate::event::Event;
@@ -33,23 +32,26 @@ pub trait Core {
     /// Where its memory comes from.
     fn allocator(&self) -> Global;
 
-    /// Takes an event, and puts its packets out. After a fault the lists may have packets more than before.
+    /// Takes an event, and puts its packets out, as `act` and `act_both` do. After a fault the site is as it was, but the lists
+    /// may have more packets than before: those calls take them back.
     fn answer(&mut self, event: Event, out: &mut Outgoing) -> Result<Reply, ActFault>
         requires { IsFit (problem self.old) event }
         ensures problem { problem self.new ≡ problem self.old }
-        ensures acts { IfOk result (λ reply. Sending out.old out.new (λ sent. Acts step (problem self.old) (view self.old) event reply sent (view self.new))) }
+        ensures acts { Answered result out.old out.new (λ reply sent.
+            Acts step (problem self.old) (view self.old) event reply sent (view self.new)) }
         ensures refusal { refusal_told result ≡ refusal (problem self.old) (view self.old) event }
         ensures err { OnErr result (view self.new ≡ view self.old) }
         ensures list { OnErr result (MaySend out.old out.new) };
 
     /// Takes an event, and appends its packets to the list.
     ///
-    /// It is refused exactly where the machine has no step of it, with the first fault that the event meets; `Memory` comes only where memory ran
-    /// out. A fault changes nothing.
+    /// It is refused exactly where the machine has no step of it, with the first fault that the event meets; `Memory` comes
+    /// only where memory ran out. A fault changes nothing.
     fn act(&mut self, event: Event, out: &mut Vec<Packet>) -> Result<Reply, ActFault>
         requires { IsFit (problem self.old) event }
         ensures problem { problem self.new ≡ problem self.old }
-        ensures acts { IfOk result (λ reply. (sent : List Packet) × (out.new.items ≡ out.old.items ++ sent) × Acts step (problem self.old) (view self.old) event reply sent (view self.new)) }
+        ensures acts { PutsOut result out.old.items out.new.items (λ reply sent.
+            Acts step (problem self.old) (view self.old) event reply sent (view self.new)) }
         ensures refusal { refusal_told result ≡ refusal (problem self.old) (view self.old) event }
         ensures err { OnErr result (view self.new ≡ view self.old) }
         ensures list { OnErr result (out.new.items ≡ out.old.items) }
@@ -75,7 +77,8 @@ pub trait Core {
     ) -> Result<Reply, ActFault>
         requires { IsFit (problem self.old) event }
         ensures problem { problem self.new ≡ problem self.old }
-        ensures acts { IfOk result (λ reply. (sent : List Packet) × (out.new.items ≡ out.old.items ++ sent) × (copies.new.items ≡ copies.old.items ++ sent) × Acts step (problem self.old) (view self.old) event reply sent (view self.new)) }
+        ensures acts { PutsOutBoth result (out.old.items, copies.old.items) (out.new.items, copies.new.items) (λ reply sent.
+            Acts step (problem self.old) (view self.old) event reply sent (view self.new)) }
         ensures refusal { refusal_told result ≡ refusal (problem self.old) (view self.old) event }
         ensures err { OnErr result (view self.new ≡ view self.old) }
         ensures list { OnErr result (out.new.items ≡ out.old.items) }

@@ -1,7 +1,7 @@
 //! What a node learns of the others.
 
 ghost use Rattle.std.specs.Prelude.{◌≡◌, if◌then◌else◌, IfOk, OnErr};
-ghost use Rattle.node_core.specs.Acting.{named_fault, refusal_told, MaySend, Sending};
+ghost use Rattle.node_core.specs.Acting.{named_fault, refusal_told, Answered, MaySend};
 ghost use Rattle.node_core.specs.Membership.{MembersStep};
 ghost use Rattle.node_core.specs.NodeStep.{Tells};
 ghost use Rattle.node_core.specs.Refusal.{members_refusal};
@@ -20,7 +20,8 @@ impl SiteState {
         incarnations: &[u32],
         out: &mut Outgoing,
     ) -> Result<Reply, ActFault>
-        ensures step { IfOk result (λ reply. Sending out.old out.new (λ sent. MembersStep self.old incarnations.now sent self.new × Tells self.old sent self.new reply)) }
+        ensures step { Answered result out.old out.new (λ reply sent.
+            MembersStep self.old incarnations.now sent self.new × Tells self.old sent self.new reply) }
         ensures refusal { refusal_told result ≡ members_refusal self.old incarnations.now }
         ensures err { OnErr result (self.new ≡ self.old) }
         ensures list { OnErr result (MaySend out.old out.new) }

@@ -1,5 +1,5 @@
 ghost use Rattle.std.specs.Prelude.{◌≡◌, ◌≢◌, ◌<◌, ◌≤◌, ◌^◌, true, false, IfOk, OnErr};
-ghost use Rattle.node_core.specs.Acting.{is_delivery, refusal_told, AnswersLeast, GivesLeast, HasPrefixes, MaySend, Sending};
+ghost use Rattle.node_core.specs.Acting.{is_delivery, refusal_told, Answered, AnswersLeast, GivesLeast, HasPrefixes, MaySend};
 ghost use Rattle.node_core.specs.Formed.{IsFormedNode};
 ghost use Rattle.node_core.specs.NodeStep.{EventStep, HearStep, NodeStep};
 ghost use Rattle.node_core.specs.Refusal.{event_refusal, hear_refusal, is_misdirected, node_refusal, IsFit};
@@ -111,7 +111,8 @@ fn answer_event(
     requires formed { IsFormedNode links.old.problem state.old }
     requires fit { IsFit links.old.problem event }
     ensures problem { links.new.problem ≡ links.old.problem }
-    ensures step { IfOk result (λ reply. Sending out.old out.new (λ sent. NodeStep links.old.problem state.old event reply sent state.new × GivesLeast state.old event sent)) }
+    ensures step { Answered result out.old out.new (λ reply sent.
+        NodeStep links.old.problem state.old event reply sent state.new × GivesLeast state.old event sent) }
     ensures refusal { refusal_told result ≡ node_refusal links.old.problem state.old event }
     ensures err { OnErr result (state.new ≡ state.old) }
     ensures list { OnErr result (MaySend out.old out.new) }
@@ -135,7 +136,8 @@ fn hear(
 ) -> Result<Reply, ActFault>
     requires formed { is_body body ≡ true }
     requires heard { body ≢ Body.Hello }
-    ensures step { IfOk result (λ reply. Sending out.old out.new (λ sent. HearStep problem.now state.old from body reply sent state.new × AnswersLeast state.old from body sent)) }
+    ensures step { Answered result out.old out.new (λ reply sent.
+        HearStep problem.now state.old from body reply sent state.new × AnswersLeast state.old from body sent) }
     ensures refusal { refusal_told result ≡ hear_refusal problem.now state.old from body }
     ensures err { OnErr result (state.new ≡ state.old) }
     ensures list { OnErr result (MaySend out.old out.new) }
@@ -179,7 +181,8 @@ fn deliver(
 ) -> Result<Reply, ActFault>
     requires fit { is_well_formed packet ≡ true }
     requires node { 1 ≤ state.old.site.node }
-    ensures step { IfOk result (λ reply. Sending out.old out.new (λ sent. NodeStep problem.now state.old (Event.Deliver packet) reply sent state.new × AnswersLeast state.old packet.from packet.body sent)) }
+    ensures step { Answered result out.old out.new (λ reply sent.
+        NodeStep problem.now state.old (Event.Deliver packet) reply sent state.new × AnswersLeast state.old packet.from packet.body sent) }
     ensures refusal { refusal_told result ≡ node_refusal problem.now state.old (Event.Deliver packet) }
     ensures err { OnErr result (state.new ≡ state.old) }
     ensures list { OnErr result (MaySend out.old out.new) }
@@ -211,7 +214,8 @@ fn work(
     requires own { is_delivery event ≡ false }
     requires prefixes { HasPrefixes links.old.problem state.old }
     ensures problem { links.new.problem ≡ links.old.problem }
-    ensures step { IfOk result (λ reply. Sending out.old out.new (λ sent. EventStep links.old.problem state.old event reply sent state.new)) }
+    ensures step { Answered result out.old out.new (λ reply sent.
+        EventStep links.old.problem state.old event reply sent state.new) }
     ensures refusal { refusal_told result ≡ event_refusal links.old.problem state.old event }
     ensures err { OnErr result (state.new ≡ state.old) }
     ensures list { OnErr result (MaySend out.old out.new) }

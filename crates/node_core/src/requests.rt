@@ -1,7 +1,7 @@
 //! What a site does of itself: it asks for work, greets, and gives a child out anew.
 
 ghost use Rattle.std.specs.Prelude.{◌≡◌, ◌<◌, ◌∷◌, [], length, slice_get, IfOk, None, OnErr, OnOk};
-ghost use Rattle.node_core.specs.Acting.{refusal_told, MaySend, Sending};
+ghost use Rattle.node_core.specs.Acting.{refusal_told, Answered, MaySend};
 ghost use Rattle.node_core.specs.Outgoing.{Sends};
 ghost use Rattle.node_core.specs.Refusal.{ask_refusal, redo_refusal};
 ghost use Rattle.node_core.specs.Requests.{all_again, given_again, gives_again, hello_packet, moved_by, returned_again, returns_again, AskStep, RedoStep};
@@ -25,7 +25,8 @@ const REGISTRY: Site = Site {
 impl SiteState {
     /// Asks another node, or the registry, for work.
     pub fn ask(&self, victim: u8, out: &mut Outgoing) -> Result<Reply, ActFault>
-        ensures step { IfOk result (λ reply. Sending out.old out.new (λ sent. (reply ≡ Reply.Moved) × AskStep self.now victim sent self.now)) }
+        ensures step { Answered result out.old out.new (λ reply sent.
+            (reply ≡ Reply.Moved) × AskStep self.now victim sent self.now) }
         ensures refusal { refusal_told result ≡ ask_refusal self.now victim }
         ensures list { OnErr result (MaySend out.old out.new) }
     {
@@ -73,7 +74,8 @@ impl SiteState {
     /// Says again what may have been lost: a Give for each child that is out, by serial, then a Return for each finished
     /// guest, in order.
     pub fn again(&self, out: &mut Outgoing) -> Result<Reply, ActFault>
-        ensures step { IfOk result (λ reply. Sending out.old out.new (λ sent. (sent ≡ all_again self.now) × (reply ≡ moved_by sent))) }
+        ensures step { Answered result out.old out.new (λ reply sent.
+            (sent ≡ all_again self.now) × (reply ≡ moved_by sent)) }
         ensures refusal { refusal_told result ≡ None }
         ensures list { OnErr result (MaySend out.old out.new) }
     {

@@ -3,7 +3,7 @@
 ghost use Rattle.std.specs.Prelude.{◌≡◌, ◌<◌, [], true, length, IfOk, IsSome, None, OnErr, OnOk};
 ghost use Rattle.cover_problem.specs.Branching.{children};
 ghost use Rattle.cover_problem.specs.Prefix.{is_prefix};
-ghost use Rattle.node_core.specs.Acting.{refusal_told, MaySend, Sending};
+ghost use Rattle.node_core.specs.Acting.{refusal_told, Answered, MaySend};
 ghost use Rattle.node_core.specs.Outgoing.{Sends};
 ghost use Rattle.node_core.specs.Refusal.{finish_refusal, post_refusal, split_refusal};
 ghost use Rattle.node_core.specs.Results.{return_packets, split_up, IsRight, EndStep, FinishStep, IsReturnLoad, PostStep, SplitStep};
@@ -35,7 +35,8 @@ impl SiteState {
         requires right { IsRight links.old.problem finding }
         requires prefix { has_status is_here (unit_in self.old job.unit) ≡ true → is_prefix links.old.problem (prefix_in (unit_in self.old job.unit)) ≡ true }
         ensures problem { links.new.problem ≡ links.old.problem }
-        ensures step { IfOk result (λ reply. Sending out.old out.new (λ sent. (reply ≡ Reply.Moved) × PostStep links.old.problem self.old job finding sent self.new)) }
+        ensures step { Answered result out.old out.new (λ reply sent.
+            (reply ≡ Reply.Moved) × PostStep links.old.problem self.old job finding sent self.new) }
         ensures refusal { refusal_told result ≡ post_refusal links.old.problem self.old job finding }
         ensures err { OnErr result (self.new ≡ self.old) }
         ensures list { OnErr result (MaySend out.old out.new) }
@@ -64,7 +65,8 @@ impl SiteState {
         out: &mut Outgoing,
     ) -> Result<Reply, ActFault>
         requires { has_status may_end (unit_in self.old unit) ≡ true }
-        ensures step { IfOk result (λ reply. Sending out.old out.new (λ sent. (reply ≡ Reply.Moved) × EndStep self.old unit child_result sent self.new)) }
+        ensures step { Answered result out.old out.new (λ reply sent.
+            (reply ≡ Reply.Moved) × EndStep self.old unit child_result sent self.new) }
         ensures refusal { refusal_told result ≡ None }
         ensures err { OnErr result (self.new ≡ self.old) }
         ensures list { OnErr result (MaySend out.old out.new) }
@@ -147,7 +149,8 @@ impl SiteState {
     /// Gives a settled frame its result; a guest's goes to its owner, and the thieves below are told that their children
     /// are wanted no more.
     pub fn finish(&mut self, unit: Unit, out: &mut Outgoing) -> Result<Reply, ActFault>
-        ensures step { IfOk result (λ reply. Sending out.old out.new (λ sent. (reply ≡ Reply.Moved) × FinishStep self.old unit sent self.new)) }
+        ensures step { Answered result out.old out.new (λ reply sent.
+            (reply ≡ Reply.Moved) × FinishStep self.old unit sent self.new) }
         ensures refusal { refusal_told result ≡ finish_refusal self.old unit }
         ensures err { OnErr result (self.new ≡ self.old) }
         ensures list { OnErr result (MaySend out.old out.new) }
