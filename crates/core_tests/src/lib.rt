@@ -1,0 +1,6 @@
+//! Tests of what sites take and answer. Nothing else is here, since a crate with tests is proved
+//! twice.
+#![tactic(auto)]
+
+#[cfg(test)]
+mod tests;

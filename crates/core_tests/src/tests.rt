@@ -1,0 +1,3 @@
+//! Values of events and replies.
+
+mod copies;
