@@ -1,4 +1,5 @@
-//! Tests of what sites take and answer; nothing here but tests, since a crate with tests is proved twice.
+//! Tests of what sites take and answer. Nothing else is here, since a crate with tests is proved
+//! twice.
 #![tactic(auto)]
 
 #[cfg(test)]

@@ -1,3 +1,4 @@
-//! Cores of nodes, as scripts of events.
+//! Cores as scripts of events, and the values of events and replies.
 
+mod copies;
 mod node;

@@ -1,20 +1,9 @@
-//! Tests of all crates: public calls over small cases, and the engines over texts in memory. They stand in one place since
-//! a crate with tests is proved twice.
+//! Tests of the program: its engines over texts in memory, and its command line. What needs no
+//! program is tested in crates that have nothing else.
 
-mod aborts;
 mod alone;
-mod answers;
 mod check;
 mod command_line;
-mod copies;
-mod ledgers;
-mod limits;
-mod links;
-mod packets;
-mod plain;
-mod reading;
-mod search;
-mod tables;
+mod long;
 mod texts;
 mod told;
-mod units;

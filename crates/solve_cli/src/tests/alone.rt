@@ -2,7 +2,7 @@
 
 ghost use Rattle.std.specs.Prelude.{◌≤◌};
 
-use super::limits::{lines, names};
+use super::long::{lines, names};
 use super::texts::{LETTERS, NO_COVER};
 use super::told::Told;
 use crate::alone::alone_engine;

@@ -184,8 +184,8 @@ fn drop_guest<R: Abort>(rt: &R, table: &mut Table, name: ChildName) {
     table.drop_guest(name, 1);
 }
 
-/// Makes a step that answers nothing.
-fn change<R: Abort>(rt: &R, alloc: Global, table: &mut Table, step: &Step) {
+/// Makes a step that answers nothing; false of any other, which is left.
+fn is_made<R: Abort>(rt: &R, alloc: Global, table: &mut Table, step: &Step) -> bool {
     match *step {
         Admit(name, attempt, prefix) => admit(rt, table, name, attempt, prefix),
         Give(serial) => give(rt, table, serial),
@@ -193,8 +193,9 @@ fn change<R: Abort>(rt: &R, alloc: Global, table: &mut Table, step: &Step) {
         Cancel(serial) => cancel(rt, table, serial),
         Settle(name, option) => settle(rt, alloc, table, name, option),
         Drop(name) => drop_guest(rt, table, name),
-        _ => {}
+        _ => return false,
     }
+    true
 }
 
 /// What is answered where a unit, which is here, is split.
@@ -224,8 +225,7 @@ fn goes<R: Abort>(rt: &R, alloc: Global, table: &mut Table, step: &Step) -> bool
         Split(unit, options, first) => split(rt, table, unit, options) == first,
         End(unit, came, heard) => ended(rt, alloc, table, unit, came) == heard,
         Admit(..) | Give(_) | Redo(_) | Cancel(_) | Settle(..) | Drop(_) => {
-            change(rt, alloc, table, step);
-            true
+            is_made(rt, alloc, table, step)
         }
         _ => is_shown(rt, alloc, table, step),
     }

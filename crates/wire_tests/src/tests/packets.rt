@@ -1,6 +1,5 @@
 //! Packets and their bytes, worked out by hand from the format.
 
-use super::units::site;
 use cover_problem::Numbers;
 use packet_wire::WireFault::{Field, Kind, Magic, Short, Trailing, Version};
 use packet_wire::*;
@@ -99,6 +98,11 @@ fn body_of<R: Abort>(rt: &R, alloc: Global, place: usize) -> Body {
         },
         _ => Body::Over,
     }
+}
+
+/// A run of a node.
+fn site(node: u8, incarnation: u32) -> Site {
+    Site { node, incarnation }
 }
 
 /// A packet between these sites.

@@ -1,35 +1,22 @@
 //! Copies are equal to what was copied, and to nothing else of these tests.
 
-use super::search::found;
-use super::texts::problem_of;
-use super::units::{result_of, site};
-use cover_problem::{Numbers, Problem};
+use brancher::{Finding, Searcher};
+use cover_problem::Numbers;
+use dlx_reader::read_problem;
 use node_core::{Event, Reply};
 use packet_wire::{Body, Incarnations, Packet};
-use spawn_frame::{Job, Status, Unit};
+use spawn_frame::{Job, Site, Unit};
 use std::alloc::Global;
 use std::fmt::Debug;
 use std::process::Abort;
+
+/// Seven items and six options, of which 3, 4 and 0 are the one exact cover.
+const LETTERS: &str = "a b c d e f g\nc e\na d g\nb c f\na d f\nb g\nd e g\n";
 
 const JOB: Job = Job {
     unit: Unit::Own(3),
     attempt: 2,
 };
-
-/// Whether it is the problem of the test below.
-fn is_problem(problem: &Problem) -> bool {
-    problem.items() == 3
-        && problem.primary() == 2
-        && problem.options() == 2
-        && problem.name(2) == b"x".as_slice()
-        && problem.option(0) == [1, 2].as_slice()
-}
-
-#[test]
-fn a_problem(rt: HostRuntime) {
-    let copy = problem_of(&rt, rt.alloc(), "a b | x\nb x\na\n").copy();
-    assert!(rt; is_problem(&copy.expect(&rt, "memory")));
-}
 
 /// A copy of the first value is equal to it, and not to the second.
 fn tells_apart<R: Abort, T: Clone + Debug + Drop + PartialEq>(rt: &R, value: &T, other: &T) {
@@ -38,19 +25,18 @@ fn tells_apart<R: Abort, T: Clone + Debug + Drop + PartialEq>(rt: &R, value: &T,
     assert!(rt; copy != *other, "{copy:?} {other:?}");
 }
 
-#[test]
-fn results(rt: HostRuntime) {
-    let seven = result_of(&rt, rt.alloc(), Some(7));
-    tells_apart(&rt, &seven, &result_of(&rt, rt.alloc(), Some(8)));
-    tells_apart(&rt, &seven, &result_of(&rt, rt.alloc(), None));
+/// A run of a node.
+fn site(node: u8, incarnation: u32) -> Site {
+    Site { node, incarnation }
 }
 
-#[test]
-fn statuses(rt: HostRuntime) {
-    let seven = result_of(&rt, rt.alloc(), Some(7));
-    let done = Status::Done(result_of(&rt, rt.alloc(), Some(7)));
-    tells_apart(&rt, &done, &Status::Finished(seven));
-    tells_apart(&rt, &Status::Out(site(2, 1)), &Status::Out(site(2, 2)));
+/// The finding of the empty prefix with so much fuel.
+fn found<R: Abort>(rt: &R, alloc: Global, fuel: u64) -> Finding {
+    let read = read_problem(alloc, LETTERS.as_bytes()).expect(rt, "a problem");
+    let mut searcher = Searcher::new(alloc, &read.problem).expect(rt, "memory");
+    searcher
+        .find(Vec::new(alloc), fuel.max(1))
+        .expect(rt, "memory")
 }
 
 /// The incarnations that the registry tells a node.

@@ -8,7 +8,7 @@ use std::alloc::Global;
 use std::process::Abort;
 
 /// So many names.
-pub fn names<R: Abort>(rt: &R, alloc: Global, count: u16) -> String {
+fn names<R: Abort>(rt: &R, alloc: Global, count: u16) -> String {
     let mut text = String::new(alloc);
     for item in 0..count {
         write!(text, "n{item} ").expect(rt, "memory");
@@ -24,7 +24,7 @@ fn repeat<R: Abort>(rt: &R, text: &mut String, line: &str, count: u16) {
 }
 
 /// A line so many times, the first as the item line.
-pub fn lines<R: Abort>(rt: &R, alloc: Global, line: &str, count: u16) -> String {
+fn lines<R: Abort>(rt: &R, alloc: Global, line: &str, count: u16) -> String {
     let mut text = String::new(alloc);
     for _ in 0..count {
         text.push_str(line).expect(rt, "memory");

@@ -212,7 +212,7 @@ fn links_branch(rt: HostRuntime) {
 }
 
 /// The finding of the empty prefix with so much fuel.
-pub fn found<R: Abort>(rt: &R, alloc: Global, fuel: u64) -> Finding {
+fn found<R: Abort>(rt: &R, alloc: Global, fuel: u64) -> Finding {
     let problem = problem_of(rt, alloc, LETTERS);
     let mut searcher = Searcher::new(alloc, &problem).expect(rt, "memory");
     searcher

@@ -1,0 +1,7 @@
+//! Texts of problems and answers, lawful and not.
+
+mod answers;
+mod copies;
+mod limits;
+mod reading;
+mod texts;

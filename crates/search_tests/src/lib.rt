@@ -1,0 +1,6 @@
+//! Tests of links and searches. Nothing else is here, since a crate with tests is proved
+//! twice.
+#![tactic(auto)]
+
+#[cfg(test)]
+mod tests;

@@ -1,0 +1,7 @@
+//! Public calls over small tables, most as scripts.
+
+mod aborts;
+mod copies;
+mod ledgers;
+mod tables;
+mod units;

@@ -1,0 +1,6 @@
+//! Tests of packets and their bytes. Nothing else is here, since a crate with tests is proved
+//! twice.
+#![tactic(auto)]
+
+#[cfg(test)]
+mod tests;

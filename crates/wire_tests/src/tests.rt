@@ -1,0 +1,3 @@
+//! Packets of each kind, lawful and not.
+
+mod packets;
