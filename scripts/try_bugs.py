@@ -1,0 +1,122 @@
+#!/usr/bin/env python3
+"""Puts the bugs of the folder bugs into the code, and tells of each whether the check refuses it.
+
+    python3 scripts/try_bugs.py [CRATE | CRATE/BUG ..]
+
+Without words it tries every bugs/CRATE/BUG.edit, else those of the crates or the single ones that are named. A bug is
+tried as the gate tries those of must-fail/: in a copy of the repository, with what earlier checks have kept of the
+crates below, so that only the bug's own crate is proved anew, once for all of its bugs. Of each bug one line tells
+
+    refused: LINE       a contract, an invariant or a call's requirement is broken, and at which line
+    by its shape: LINE  refused only since a proof names what the bug took away, which says little of the contract
+    PROVED              the crate is proved with the bug in it: a hole in a contract
+    no longer applies   its text doesn't stand exactly once in the file that it names, or can't be read then
+
+and a last line counts them. The exit status is 1 if any was proved, else 2 if any no longer applies or couldn't be
+tried, else 0.
+"""
+import argparse
+import os
+import re
+import shutil
+import subprocess
+import sys
+import tempfile
+
+TOP = os.path.dirname(os.path.dirname(os.path.abspath(__file__)))
+BUGS = os.path.join(TOP, "bugs")
+REFUSED, SHAPE, PROVED, STALE = "refused", "by its shape", "PROVED", "no longer applies"
+
+
+def stop(why):
+    print(f"try_bugs: {why}", file=sys.stderr)
+    sys.exit(2)
+
+
+def chosen_bugs(words):
+    """The names of the bugs to try, by crate."""
+    chosen = {}
+    for word in words or sorted(os.listdir(BUGS)):
+        crate, _, name = word.removesuffix(".edit").partition("/")
+        folder = os.path.join(BUGS, crate)
+        there = sorted(it.removesuffix(".edit") for it in os.listdir(folder)) if os.path.isdir(folder) else []
+        names = [it for it in there if name in ("", it)]
+        if not names:
+            stop(f"there is no bug {word} in bugs/")
+        chosen.setdefault(crate, []).extend(it for it in names if it not in chosen.get(crate, []))
+    return chosen
+
+
+def below(crates):
+    """All crates of the repository that these are built on, by crates.txt."""
+    with open(os.path.join(TOP, "crates.txt"), encoding="utf-8") as opened:
+        lines = [line.partition("#")[0].partition(":") for line in opened]
+    uses = {head.split()[0]: rest.split() for head, _, rest in lines if head.split()}
+    found, left = set(), list(crates)
+    while left:
+        more = [it for it in uses[left.pop()] if it in uses and it not in found]
+        found.update(more)
+        left.extend(more)
+    return found
+
+
+def copy_repository(to, crates):
+    """Copies what the check reads, and of the crates below what earlier checks have kept."""
+    kept = below(crates)
+
+    def left_out(folder, names):
+        inside = os.path.relpath(folder, TOP).split(os.sep)
+        if inside == ["."]:
+            return {it for it in names if it not in ("crates", "crates.txt", "HANDLES")}
+        if inside[0] == "crates" and len(inside) == 2:
+            return {"must-fail"} | (set() if inside[1] in kept else {"out"})
+        return set()
+
+    shutil.copytree(TOP, to, ignore=left_out, symlinks=True)
+
+
+def kind_of(told):
+    """What a line of `rt must-fail` says of a bug, and the place that it names."""
+    if told.startswith("refused, as it must be (only because"):
+        return SHAPE, told.partition("): ")[2]
+    if told.startswith("refused"):
+        return REFUSED, told.partition(": ")[2]
+    return (PROVED, "") if told.startswith("NOT REFUSED") else (STALE, told.partition(": ")[2])
+
+
+def try_crate(top, crate, names):
+    """Tries the bugs of a crate in the copy, prints a line of each, and answers their kinds."""
+    folder = os.path.join(top, "crates", crate, "must-fail")
+    os.makedirs(folder)
+    for name in names:
+        shutil.copy(os.path.join(BUGS, crate, name + ".edit"), folder)
+    ran = subprocess.run(
+        ["rt", "must-fail", crate], cwd=top, stdout=subprocess.PIPE, stderr=subprocess.STDOUT, text=True, errors="replace"
+    )
+    kinds = []
+    for name in names:
+        line = re.search(rf"^(?:rt: )?must-fail {crate}/{re.escape(name)}\.edit: (.*)", ran.stdout, re.MULTILINE)
+        if not line:
+            stop(f"rt must-fail says nothing of {crate}/{name}; it wrote:\n{ran.stdout[-2000:]}")
+        kind, place = kind_of(line[1])
+        print(f"{crate}/{name}: {kind}{': ' if place else ''}{place}", flush=True)
+        kinds.append(kind)
+    return kinds
+
+
+def main():
+    parser = argparse.ArgumentParser(description=__doc__, formatter_class=argparse.RawDescriptionHelpFormatter)
+    parser.add_argument("bugs", nargs="*", metavar="CRATE | CRATE/BUG", help="whose bugs are tried; all where none is named")
+    chosen = chosen_bugs(parser.parse_args().bugs)
+    kinds = []
+    with tempfile.TemporaryDirectory(prefix="try-bugs-") as room:
+        top = os.path.join(room, "repository")
+        copy_repository(top, chosen)
+        for crate, names in chosen.items():
+            kinds += try_crate(top, crate, names)
+    print(", ".join(f"{kinds.count(kind)} {kind}" for kind in (REFUSED, SHAPE, PROVED, STALE)))
+    return 1 if PROVED in kinds else 2 if STALE in kinds else 0
+
+
+if __name__ == "__main__":
+    sys.exit(main())
