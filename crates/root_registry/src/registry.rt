@@ -1,12 +1,11 @@
 ghost use Rattle.std.specs.Prelude.{◌≡◌, ◌≤◌, true, IfOk, OnErr};
-ghost use Rattle.node_core.specs.Acting.{refusal_told, AnswersLeast, GivesLeast, MaySend, Sending};
+ghost use Rattle.node_core.specs.Acting.{refusal_told, MaySend, Sending};
 ghost use Rattle.node_core.specs.Refusal.{IsFit};
 ghost use Rattle.node_core.specs.declared.event.Event.{Event};
 ghost use Rattle.packet_wire.specs.WellFormed.{is_well_formed};
-ghost use Rattle.root_registry.specs.Core.{goes_to_registry};
+ghost use Rattle.root_registry.specs.Core.{goes_to_registry, AnswersBody, AnswersEvent};
 ghost use Rattle.root_registry.specs.Formed.{IsFormedRegistry};
 ghost use Rattle.root_registry.specs.Refusal.{registry_refusal, root_hear_refusal};
-ghost use Rattle.root_registry.specs.RegistryStep.{RegistryStep, RootHears};
 
 use crate::again::say_again;
 use crate::formed::the_registry_stays_formed;
@@ -96,7 +95,7 @@ fn answer_event(
 ) -> Result<Reply, ActFault>
     requires formed { IsFormedRegistry problem.now state.old }
     requires fit { IsFit problem.now event }
-    ensures step { IfOk result (λ reply. Sending out.old out.new (λ sent. RegistryStep problem.now state.old event reply sent state.new × GivesLeast state.old event sent)) }
+    ensures step { IfOk result (λ reply. Sending out.old out.new (AnswersEvent problem.now state.old event state.new reply)) }
     ensures refusal { refusal_told result ≡ registry_refusal problem.now state.old event }
     ensures err { OnErr result (state.new ≡ state.old) }
     ensures list { OnErr result (MaySend out.old out.new) }
@@ -118,7 +117,7 @@ fn deliver(
 ) -> Result<Reply, ActFault>
     requires formed { IsFormedRegistry problem.now state.old }
     requires fit { is_well_formed packet ≡ true }
-    ensures step { IfOk result (λ reply. Sending out.old out.new (λ sent. RegistryStep problem.now state.old (Event.Deliver packet) reply sent state.new × AnswersLeast state.old packet.from packet.body sent)) }
+    ensures step { IfOk result (λ reply. Sending out.old out.new (AnswersEvent problem.now state.old (Event.Deliver packet) state.new reply)) }
     ensures refusal { refusal_told result ≡ registry_refusal problem.now state.old (Event.Deliver packet) }
     ensures err { OnErr result (state.new ≡ state.old) }
     ensures list { OnErr result (MaySend out.old out.new) }
@@ -141,7 +140,7 @@ fn hear(
     requires some { 1 ≤ from.node }
     requires there { from.node ≤ state.old.nodes }
     requires heard { goes_to_registry body ≡ true }
-    ensures step { IfOk result (λ reply. Sending out.old out.new (λ sent. RootHears problem.now state.old from body reply sent state.new × AnswersLeast state.old from body sent)) }
+    ensures step { IfOk result (λ reply. Sending out.old out.new (AnswersBody problem.now state.old from body state.new reply)) }
     ensures refusal { refusal_told result ≡ root_hear_refusal problem.now state.old from body }
     ensures err { OnErr result (state.new ≡ state.old) }
     ensures list { OnErr result (MaySend out.old out.new) }

@@ -2,10 +2,11 @@
 
 ghost use Rattle.std.specs.Prelude.{◌≡◌, ◌≢◌, ◌≤◌, is_some, slice_get, true, IfOk, OnErr};
 ghost use Rattle.std.specs.Bool.{OnFalse, OnTrue};
-ghost use Rattle.node_core.specs.Acting.{refusal_told, AnswersLeast, MaySend, Sending};
+ghost use Rattle.node_core.specs.Acting.{refusal_told, MaySend, Sending};
 ghost use Rattle.packet_wire.specs.declared.packet.Body.{Body};
+ghost use Rattle.root_registry.specs.Core.{AnswersBody};
 ghost use Rattle.root_registry.specs.Refusal.{is_acceptable, root_hear_refusal};
-ghost use Rattle.root_registry.specs.RegistryStep.{root_result, RootHears};
+ghost use Rattle.root_registry.specs.RegistryStep.{root_result};
 ghost use Rattle.spawn_frame.specs.Tables.{has_status, is_out};
 ghost use Rattle.steal_return.specs.Returns.{judged, Enters};
 
@@ -55,7 +56,7 @@ pub(crate) fn receive_steal(
     from: Site,
     out: &mut Outgoing,
 ) -> Result<Reply, ActFault>
-    ensures step { IfOk result (λ reply. Sending out.old out.new (λ sent. RootHears problem.now state.old from Body.Steal reply sent state.new × AnswersLeast state.old from Body.Steal sent)) }
+    ensures step { IfOk result (λ reply. Sending out.old out.new (AnswersBody problem.now state.old from Body.Steal state.new reply)) }
     ensures refusal { refusal_told result ≡ root_hear_refusal problem.now state.old from Body.Steal }
     ensures err { OnErr result (state.new ≡ state.old) }
     ensures list { OnErr result (MaySend out.old out.new) }
@@ -82,7 +83,7 @@ pub(crate) fn receive_return(
     out: &mut Outgoing,
 ) -> Result<Reply, ActFault>
     requires { state.old.nodes ≤ 16 }
-    ensures step { IfOk result (λ reply. Sending out.old out.new (λ sent. RootHears problem.now state.old from (Body.Return serial attempt child_result) reply sent state.new)) }
+    ensures step { IfOk result (λ reply. Sending out.old out.new (AnswersBody problem.now state.old from (Body.Return serial attempt child_result) state.new reply)) }
     ensures refusal { refusal_told result ≡ root_hear_refusal problem.now state.old from (Body.Return serial attempt child_result) }
     ensures err { OnErr result (state.new ≡ state.old) }
     ensures list { OnErr result (MaySend out.old out.new) }
