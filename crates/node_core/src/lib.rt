@@ -13,6 +13,7 @@ mod outgoing;
 mod reply;
 mod requests;
 mod results;
+mod root_calls;
 mod site_state;
 mod taking;
 

@@ -87,11 +87,11 @@ return_acts problem view from serial attempt result is passes =
     (Moved, answer.0, answer.1, (refl, (judgement, refl, answer.2)))
 
 -- a packet that goes to nodes is not for the registry, nor one that comes from it
-not_to_node : (view : View) (from to : Site) → IsRegistryView view → to ≡ view.site → (not (from.node == to.node) && not (to.node == 0)) ≡ true → ⊥
+pub not_to_node : (view : View) (from to : Site) → IsRegistryView view → to ≡ view.site → (not (from.node == to.node) && not (to.node == 0)) ≡ true → ⊥
 not_to_node view from to is here routed =
     true≢false (sym (and_parts (not (from.node == to.node)) (not (to.node == 0)) routed).1 ∙ ap (λ n. not (n == 0)) (ap (λ s. s.node) here ∙ is))
 
-not_from_it : (view : View) (from to : Site) → IsRegistryView view → to ≡ view.site → (not (from.node == to.node) && (from.node == 0)) ≡ true → ⊥
+pub not_from_it : (view : View) (from to : Site) → IsRegistryView view → to ≡ view.site → (not (from.node == to.node) && (from.node == 0)) ≡ true → ⊥
 not_from_it view from to is here routed =
     let parts = and_parts (not (from.node == to.node)) (from.node == 0) routed in
     let zero_there : from.node ≡ 0 = eqb-true from.node 0 parts.1 in

@@ -1,6 +1,11 @@
 pub mod Acceptable
 pub mod Beginning
+pub mod Cores
+pub mod Eaching
+pub mod Entering
+pub mod Hellos
 pub mod Raising
+pub mod Routes
 pub mod Stepping
 pub mod Acting
 pub mod Walk

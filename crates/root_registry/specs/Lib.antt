@@ -1,3 +1,4 @@
+pub mod Core
 pub mod Formed
 pub mod Refusal
 pub mod RegistryStep

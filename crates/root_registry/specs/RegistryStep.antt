@@ -1,5 +1,5 @@
 -- One event of the registry, which has the root and knows who takes part (the clearinghouse of Cilk-NOW).
-use Rattle.std.specs.Prelude.{◌≡◌, ◌⊎◌, ℕ, zero, suc, ◌≤◌, max, Bool, true, ◌&&◌, List, [], ◌∷◌, ◌++◌, drop, Option, Some, None, slice_get, ◌==◌, ⊤}
+use Rattle.std.specs.Prelude.{◌≡◌, ◌⊎◌, ℕ, suc, ◌≤◌, true, List, [], ◌∷◌, ◌++◌, drop, Option, Some, None, slice_get, ⊤}
 use Rattle.cover_problem.specs.ExactCover.{IsExactCover}
 use Rattle.cover_problem.specs.Numbers.{is_distinct, is_in}
 use Rattle.cover_problem.specs.Problem.{Problem}
@@ -22,7 +22,6 @@ use Rattle.spawn_frame.specs.declared.status.Status.TheVariants.{Done}
 use Rattle.steal_return.specs.Members.{IsRedoable, redo_lost}
 pub use Rattle.steal_return.specs.Members.{is_earlier_run, raised}
 use Rattle.steal_return.specs.Returns.{Enters, Judgement, judged, returned}
-use Rattle.steal_return.specs.Steals.{is_older}
 
 -- one packet to each node, ascending, at its known incarnation
 abbrev pub to_each : Site → Body → ℕ → List ℕ → List Packet

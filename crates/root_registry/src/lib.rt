@@ -1,8 +1,14 @@
 //! What the registry does at each event.
 #![tactic(auto)]
 
+mod again;
 mod formed;
+mod greeting;
 mod laws;
+mod registry;
+mod root;
+mod telling;
 
 pub use formed::the_registry_stays_formed;
 pub use laws::the_registry_acts_unless_it_refuses;
+pub use registry::Registry;

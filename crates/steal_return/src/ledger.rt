@@ -116,6 +116,13 @@ impl Ledger {
         self.known.of(node)
     }
 
+    /// The known incarnation of the registry, then of each node.
+    pub fn runs(&self) -> &[u32]
+        ensures { result.now ≡ self.now.known }
+    {
+        self.known.as_slice()
+    }
+
     /// Takes up this unit, which is ready, as `Table::take_up` does.
     pub fn take_up(&mut self, unit: Unit) -> Job
         requires { has_status is_ready (unit_of self.old.table unit) ≡ true }
@@ -467,6 +474,15 @@ impl Ledger {
         reach.abort(&mut self.table, list);
         self.known = known;
         Ok(moved)
+    }
+
+    /// Whether it can be learnt that a node runs so: no child that would have to be redone stands at its last attempt.
+    /// It takes no memory, and costs a pass through the own children.
+    pub fn may_learn_hello(&self, from: Site) -> bool
+        ensures able { OnTrue result (IsRedoable (is_earlier_run from.node (raised self.now.known from.node from.incarnation)) self.now.own) }
+        ensures spent { OnFalse result (IsSpentForHello self.now from) }
+    {
+        is_redoable(&self.table, &self.known, Told::Hello(from))
     }
 
     /// Learns that a node runs so: the later run of it is kept, and each child that is out to an earlier run of it is

@@ -1,0 +1,72 @@
+//! Nodes that tell the registry that they are there.
+
+ghost use Rattle.std.specs.Prelude.{◌≡◌, ◌<◌, ◌≤◌, drop, length, max, IfOk, OnErr, OnOk};
+ghost use Rattle.node_core.specs.Acting.{refusal_told, MaySend, Sending};
+ghost use Rattle.node_core.specs.Outgoing.{Sends};
+ghost use Rattle.root_registry.specs.Core.{members_packets};
+ghost use Rattle.root_registry.specs.Refusal.{hello_refusal};
+ghost use Rattle.root_registry.specs.RegistryStep.{raised, HelloStep};
+
+use crate::telling::send_to_each;
+use node_core::{ActFault, Outgoing, Reply, SiteState};
+use packet_wire::{Body, Incarnations};
+use spawn_frame::Site;
+use std::alloc::{AllocError, Global};
+
+/// The runs of the nodes once it is learnt that one of them runs so; the only error is want of memory.
+fn raised_runs(alloc: Global, runs: &[u32], from: Site) -> Result<Vec<u32>, AllocError>
+    requires some { 1 ≤ from.node }
+    requires there { from.node < length runs.now }
+    ensures { IfOk result (λ later. later.items ≡ drop 1 (raised runs.now from.node from.incarnation)) }
+{
+    let mut later = runs[1..].to_vec(alloc)?;
+    let place = from.node as usize - 1;
+    later[place] = later_of(later[place], from.incarnation);
+    Ok(later)
+}
+
+/// The later of two runs of a node.
+fn later_of(first: u32, second: u32) -> u32
+    ensures { result ≡ max first second }
+{
+    first.max(second)
+}
+
+/// Tells every node which runs there will be; the only error is want of memory.
+fn send_members(state: &SiteState, from: Site, out: &mut Outgoing) -> Result<(), AllocError>
+    requires most { state.now.nodes ≤ 16 }
+    requires some { 1 ≤ from.node }
+    requires there { from.node ≤ state.now.nodes }
+    ensures ok { OnOk result (Sends out.old (members_packets state.now.site (drop 1 (raised state.now.known from.node from.incarnation))) out.new) }
+    ensures err { OnErr result (MaySend out.old out.new) }
+{
+    let ledger = state.ledger();
+    // (for what the getter says: that a run is known of the registry and of each node)
+    let _table = ledger.table();
+    let later = raised_runs(state.allocator(), ledger.runs(), from)?;
+    let incarnations = Incarnations::from_vec(later);
+    let body = Body::Members(incarnations.copy()?);
+    send_to_each(state.site(), &body, incarnations.as_slice(), out)
+}
+
+/// A node tells that it is there: every node is told, then its run is learnt.
+pub(crate) fn receive_hello(
+    state: &mut SiteState,
+    from: Site,
+    out: &mut Outgoing,
+) -> Result<Reply, ActFault>
+    requires most { state.old.nodes ≤ 16 }
+    requires some { 1 ≤ from.node }
+    requires there { from.node ≤ state.old.nodes }
+    ensures step { IfOk result (λ reply. Sending out.old out.new (λ sent. (reply ≡ Reply.Moved) × HelloStep state.old from sent state.new)) }
+    ensures refusal { refusal_told result ≡ hello_refusal state.old from }
+    ensures err { OnErr result (state.new ≡ state.old) }
+    ensures list { OnErr result (MaySend out.old out.new) }
+{
+    if !state.ledger().may_learn_hello(from) {
+        return Err(ActFault::NamesSpent);
+    }
+    send_members(state, from, out)?;
+    state.learn_hello(from)?;
+    Ok(Reply::Moved)
+}

@@ -1,0 +1,158 @@
+ghost use Rattle.std.specs.Prelude.{◌≡◌, ◌≤◌, true, IfOk, OnErr};
+ghost use Rattle.node_core.specs.Acting.{refusal_told, MaySend, Sending};
+ghost use Rattle.node_core.specs.Refusal.{IsFit};
+ghost use Rattle.node_core.specs.declared.event.Event.{Event};
+ghost use Rattle.packet_wire.specs.WellFormed.{is_well_formed};
+ghost use Rattle.root_registry.specs.Core.{goes_to_registry, AnswersBody, AnswersEvent};
+ghost use Rattle.root_registry.specs.Formed.{IsFormedRegistry};
+ghost use Rattle.root_registry.specs.Refusal.{registry_refusal, root_hear_refusal};
+
+use crate::again::say_again;
+use crate::formed::the_registry_stays_formed;
+use crate::greeting::receive_hello;
+use crate::root::{receive_return, receive_steal};
+use cover_problem::Problem;
+use node_core::{ActFault, Core, Event, Outgoing, Reply, SiteState, is_misdirected};
+use packet_wire::{Body, Packet};
+use spawn_frame::Site;
+use std::alloc::{AllocError, Global};
+use std::marker::Model;
+use steal_return::Ledger;
+
+/// The core of the registry.
+///
+/// It has the root, knows which runs of the nodes there are, and does no work of its own.
+#[derive(Drop)]
+pub struct Registry<'a> {
+    state: SiteState,
+    problem: &'a Problem,
+}
+
+impl<'a> Model for Registry<'a> {
+    ghost use Rattle.node_core.specs.Acting.{SiteCore};
+    ghost use Rattle.root_registry.specs.Formed.{IsFormedRegistry};
+
+    ghost Value = { SiteCore };
+
+    ghost view = { λ c. record { problem = c.problem.now; view = c.state } };
+
+    ghost invariant = { λ c. IsFormedRegistry c.problem.now c.state };
+}
+
+impl<'a> Registry<'a> {
+    ghost use Rattle.root_registry.specs.Core.{opening_registry_core};
+
+    /// The registry that begins, of 1 to 16 nodes: it has the root alone, which is ready, and knows the first run of
+    /// every node. The only error is want of memory.
+    pub fn start(alloc: Global, problem: &'a Problem, nodes: u8) -> Result<Registry<'a>, AllocError>
+        requires some { 1 ≤ nodes }
+        requires most { nodes ≤ 16 }
+        ensures { IfOk result (λ registry. registry ≡ opening_registry_core problem.now nodes) }
+    {
+        let ledger = Ledger::with_root(alloc, nodes)?;
+        // (for what the getter says: that the problem is lawful)
+        let _items = problem.items();
+        the_registry_stays_formed();
+        Ok(Registry {
+            state: SiteState::new(alloc, ledger),
+            problem,
+        })
+    }
+}
+
+impl<'a> Core for Registry<'a> {
+    ghost use Rattle.root_registry.specs.Refusal.{registry_refusal};
+    ghost use Rattle.root_registry.specs.RegistryStep.{RegistryStep};
+
+    ghost problem = { λ c. c.problem };
+
+    ghost view = { λ c. c.view };
+
+    ghost step = { RegistryStep };
+
+    ghost refusal = { registry_refusal };
+
+    fn site(&self) -> Site {
+        self.state.site()
+    }
+
+    fn allocator(&self) -> Global {
+        self.state.allocator()
+    }
+
+    fn answer(&mut self, event: Event, out: &mut Outgoing) -> Result<Reply, ActFault> {
+        the_registry_stays_formed();
+        answer_event(&mut self.state, self.problem, event, out)
+    }
+}
+
+/// One event of the registry, which does no work of its own.
+fn answer_event(
+    state: &mut SiteState,
+    problem: &Problem,
+    event: Event,
+    out: &mut Outgoing,
+) -> Result<Reply, ActFault>
+    requires formed { IsFormedRegistry problem.now state.old }
+    requires fit { IsFit problem.now event }
+    ensures step { IfOk result (λ reply. Sending out.old out.new (AnswersEvent problem.now state.old event state.new reply)) }
+    ensures refusal { refusal_told result ≡ registry_refusal problem.now state.old event }
+    ensures err { OnErr result (state.new ≡ state.old) }
+    ensures list { OnErr result (MaySend out.old out.new) }
+{
+    match event {
+        Event::Redo(serial) => state.redo(serial),
+        Event::Deliver(packet) => deliver(state, problem, packet, out),
+        Event::Again => say_again(state, out),
+        _ => Err(ActFault::OtherSite),
+    }
+}
+
+/// A packet is delivered to the registry: it may be misdirected.
+fn deliver(
+    state: &mut SiteState,
+    problem: &Problem,
+    packet: Packet,
+    out: &mut Outgoing,
+) -> Result<Reply, ActFault>
+    requires formed { IsFormedRegistry problem.now state.old }
+    requires fit { is_well_formed packet ≡ true }
+    ensures step { IfOk result (λ reply. Sending out.old out.new (AnswersEvent problem.now state.old (Event.Deliver packet) state.new reply)) }
+    ensures refusal { refusal_told result ≡ registry_refusal problem.now state.old (Event.Deliver packet) }
+    ensures err { OnErr result (state.new ≡ state.old) }
+    ensures list { OnErr result (MaySend out.old out.new) }
+{
+    if is_misdirected(state, &packet) {
+        return Err(ActFault::OtherSite);
+    }
+    hear(state, problem, packet.from, packet.body, out)
+}
+
+/// A packet arrives at the registry from a node.
+fn hear(
+    state: &mut SiteState,
+    problem: &Problem,
+    from: Site,
+    body: Body,
+    out: &mut Outgoing,
+) -> Result<Reply, ActFault>
+    requires most { state.old.nodes ≤ 16 }
+    requires some { 1 ≤ from.node }
+    requires there { from.node ≤ state.old.nodes }
+    requires heard { goes_to_registry body ≡ true }
+    ensures step { IfOk result (λ reply. Sending out.old out.new (AnswersBody problem.now state.old from body state.new reply)) }
+    ensures refusal { refusal_told result ≡ root_hear_refusal problem.now state.old from body }
+    ensures err { OnErr result (state.new ≡ state.old) }
+    ensures list { OnErr result (MaySend out.old out.new) }
+{
+    match body {
+        Body::Hello => receive_hello(state, from, out),
+        Body::Steal => receive_steal(state, problem, from, out),
+        Body::Return {
+            serial,
+            attempt,
+            result,
+        } => receive_return(state, problem, from, serial, attempt, result, out),
+        _ => unreachable!(),
+    }
+}

@@ -1,0 +1,112 @@
+//! The root, and the result that enters for it.
+
+ghost use Rattle.std.specs.Prelude.{◌≡◌, ◌≢◌, ◌≤◌, is_some, slice_get, true, IfOk, OnErr};
+ghost use Rattle.std.specs.Bool.{OnFalse, OnTrue};
+ghost use Rattle.node_core.specs.Acting.{refusal_told, MaySend, Sending};
+ghost use Rattle.packet_wire.specs.declared.packet.Body.{Body};
+ghost use Rattle.root_registry.specs.Core.{AnswersBody};
+ghost use Rattle.root_registry.specs.Refusal.{is_acceptable, root_hear_refusal};
+ghost use Rattle.root_registry.specs.RegistryStep.{root_result};
+ghost use Rattle.spawn_frame.specs.Tables.{has_status, is_out};
+ghost use Rattle.steal_return.specs.Returns.{judged, Enters};
+
+use crate::telling::send_over;
+use cover_problem::{Problem, Verdict, check_cover};
+use node_core::{ActFault, Outgoing, Reply, SiteState};
+use packet_wire::{Body, Packet};
+use spawn_frame::{Attempt, ChildResult, Site, Status, Unit};
+use steal_return::Judged;
+
+/// Whether the root is done.
+pub(crate) fn is_done(state: &SiteState) -> bool
+    ensures { result ≡ is_some (root_result state.now) }
+{
+    matches!(
+        state.ledger().table().status(Unit::Own(0)),
+        Some(Status::Done(_))
+    )
+}
+
+/// Whether a result that a site returns for an own child at an attempt enters.
+fn is_awaited(state: &SiteState, from: Site, serial: u32, attempt: Attempt) -> bool
+    ensures enters { OnTrue result (judged (slice_get state.now.own serial) from attempt ≡ Enters) }
+    ensures out { OnTrue result (has_status is_out (slice_get state.now.own serial) ≡ true) }
+    ensures not_enters { OnFalse result (judged (slice_get state.now.own serial) from attempt ≢ Enters) }
+{
+    matches!(state.ledger().judge(from, serial, attempt), Judged::Enters)
+}
+
+/// Whether a result is no cover, or one that counts right.
+fn is_acceptable(problem: &Problem, child_result: &ChildResult) -> bool
+    ensures { result ≡ is_acceptable problem.now child_result.now }
+{
+    match child_result {
+        ChildResult::Cover(options) => {
+            matches!(check_cover(problem, options.as_slice()), Verdict::Exact)
+        }
+        ChildResult::Empty => true,
+    }
+}
+
+/// A node asks for work: it is told that the search is over where the root is done, and else gets the root if that is
+/// ready.
+pub(crate) fn receive_steal(
+    state: &mut SiteState,
+    problem: &Problem,
+    from: Site,
+    out: &mut Outgoing,
+) -> Result<Reply, ActFault>
+    ensures step { IfOk result (λ reply. Sending out.old out.new (AnswersBody problem.now state.old from Body.Steal state.new reply)) }
+    ensures refusal { refusal_told result ≡ root_hear_refusal problem.now state.old from Body.Steal }
+    ensures err { OnErr result (state.new ≡ state.old) }
+    ensures list { OnErr result (MaySend out.old out.new) }
+{
+    if !is_done(state) {
+        return state.receive_steal(from, out);
+    }
+    out.send(Packet {
+        from: state.site(),
+        to: from,
+        body: Body::Over,
+    })?;
+    Ok(Reply::Moved)
+}
+
+/// A thief returns a result: where it enters, a cover has to count right, and every node is told that the search is over.
+pub(crate) fn receive_return(
+    state: &mut SiteState,
+    problem: &Problem,
+    from: Site,
+    serial: u32,
+    attempt: Attempt,
+    child_result: ChildResult,
+    out: &mut Outgoing,
+) -> Result<Reply, ActFault>
+    requires { state.old.nodes ≤ 16 }
+    ensures step { IfOk result (λ reply. Sending out.old out.new (AnswersBody problem.now state.old from (Body.Return serial attempt child_result) state.new reply)) }
+    ensures refusal { refusal_told result ≡ root_hear_refusal problem.now state.old from (Body.Return serial attempt child_result) }
+    ensures err { OnErr result (state.new ≡ state.old) }
+    ensures list { OnErr result (MaySend out.old out.new) }
+{
+    if !is_awaited(state, from, serial, attempt) {
+        return state.receive_return(from, serial, attempt, child_result, out);
+    }
+    // (for what the getter says: that the problem is lawful)
+    let _items = problem.items();
+    if !is_acceptable(problem, &child_result) {
+        return Err(ActFault::BadCover);
+    }
+    let result = child_result.copy()?;
+    out.send(Packet {
+        from: state.site(),
+        to: from,
+        body: Body::Accept {
+            serial,
+            attempt,
+            result,
+        },
+    })?;
+    send_over(state, out)?;
+    state.enter(serial, child_result);
+    Ok(Reply::Moved)
+}
