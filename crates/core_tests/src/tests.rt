@@ -2,3 +2,5 @@
 
 mod copies;
 mod node;
+mod registry;
+mod said;

@@ -2,17 +2,15 @@
 
 ghost use Rattle.std.specs.Prelude.{◌≡◌};
 
+use super::said::{Comes, LETTERS, Said, are_sent, has_come, packet_of};
 use brancher::Searcher;
-use cover_problem::{Numbers, Problem, is_prefix};
+use cover_problem::{Problem, is_prefix};
 use dlx_reader::read_problem;
 use node_core::{ActFault, Core, Event, NodeCore, Reply};
-use packet_wire::{Body, Incarnations, Packet, is_well_formed};
-use spawn_frame::{Attempt, Cause, ChildName, ChildResult, Job, Site, Unit};
-use std::alloc::{AllocError, Global};
+use packet_wire::{Packet, is_well_formed};
+use spawn_frame::{Cause, ChildName, Job, Site, Unit};
+use std::alloc::Global;
 use std::process::Abort;
-
-/// Seven items and six options, with one cover: options 3, 4 and 0.
-const LETTERS: &str = "a b c d e f g\nc e\na d g\nb c f\na d f\nb g\nd e g\n";
 
 /// The node whose core it is, the registry, and other sites.
 const HERE: Site = Site {
@@ -49,22 +47,6 @@ const ROOT: Unit = Unit::Guest(
     1,
 );
 
-/// What a packet says.
-#[derive(Clone, Copy)]
-enum Said {
-    Hello,
-    Members(&'static [u32]),
-    Steal,
-    Give(u32, Attempt, &'static [u16]),
-    NoWork,
-    /// A result is a cover, or none.
-    Return(u32, Attempt, Option<&'static [u16]>),
-    Accept(u32, Attempt, Option<&'static [u16]>),
-    Refuse(u32, Attempt, Cause),
-    Abort(u32, Attempt),
-    Over,
-}
-
 /// What happens at the node.
 #[derive(Clone, Copy)]
 enum Does {
@@ -82,120 +64,8 @@ enum Does {
     Greet,
 }
 
-/// What it comes to.
-#[derive(Clone, Copy)]
-enum Comes {
-    /// A unit is taken up with this prefix.
-    Taken(&'static [u16]),
-    Ripe(Unit),
-    Idle,
-    Moved,
-    Ignored,
-    Fault(ActFault),
-}
-
 /// An event, what it comes to, and the packets that it puts out, with their receivers.
 type Row = (Does, Comes, &'static [(Site, Said)]);
-
-/// A list of numbers.
-fn numbers(alloc: Global, list: &[u16]) -> Result<Numbers, AllocError> {
-    Ok(Numbers::from_vec(Vec::from_slice(alloc, list)?))
-}
-
-/// A result.
-fn result_of(alloc: Global, cover: Option<&[u16]>) -> Result<ChildResult, AllocError> {
-    match cover {
-        Some(options) => Ok(ChildResult::Cover(numbers(alloc, options)?)),
-        None => Ok(ChildResult::Empty),
-    }
-}
-
-/// The body that says so.
-fn body_of(alloc: Global, said: Said) -> Result<Body, AllocError> {
-    match said {
-        Said::Hello => Ok(Body::Hello),
-        Said::Members(runs) => {
-            let runs = Vec::from_slice(alloc, runs)?;
-            Ok(Body::Members(Incarnations::from_vec(runs)))
-        }
-        Said::Steal => Ok(Body::Steal),
-        Said::NoWork => Ok(Body::NoWork),
-        Said::Over => Ok(Body::Over),
-        told => child_body(alloc, told),
-    }
-}
-
-/// The same of what names a child.
-fn child_body(alloc: Global, said: Said) -> Result<Body, AllocError> {
-    match said {
-        Said::Give(serial, attempt, prefix) => {
-            let prefix = numbers(alloc, prefix)?;
-            Ok(Body::Give {
-                serial,
-                attempt,
-                prefix,
-            })
-        }
-        Said::Return(serial, attempt, cover) => {
-            let result = result_of(alloc, cover)?;
-            Ok(Body::Return {
-                serial,
-                attempt,
-                result,
-            })
-        }
-        Said::Accept(serial, attempt, cover) => {
-            let result = result_of(alloc, cover)?;
-            Ok(Body::Accept {
-                serial,
-                attempt,
-                result,
-            })
-        }
-        Said::Refuse(serial, attempt, cause) => Ok(Body::Refuse {
-            serial,
-            attempt,
-            cause,
-        }),
-        Said::Abort(serial, attempt) => Ok(Body::Abort { serial, attempt }),
-        Said::Hello | Said::Members(_) | Said::Steal | Said::NoWork | Said::Over => {
-            Ok(Body::NoWork)
-        }
-    }
-}
-
-/// The packet from one site to another that says so.
-fn packet_of(alloc: Global, from: Site, to: Site, said: Said) -> Result<Packet, AllocError> {
-    let body = body_of(alloc, said)?;
-    Ok(Packet { from, to, body })
-}
-
-/// Whether these packets were put out, in this order.
-fn are_sent<R: Abort>(rt: &R, alloc: Global, out: &[Packet], sent: &[(Site, Said)]) -> bool {
-    if out.len() != sent.len() {
-        return false;
-    }
-    for (packet, (to, said)) in out.iter().zip(sent) {
-        let expected = packet_of(alloc, HERE, *to, *said).expect(rt, "memory");
-        if *packet != expected {
-            return false;
-        }
-    }
-    true
-}
-
-/// Whether an event came to this.
-fn has_come(answer: &Result<Reply, ActFault>, comes: Comes) -> bool {
-    match (answer, comes) {
-        (Err(fault), Comes::Fault(expected)) => *fault == expected,
-        (Ok(Reply::Taken(_, prefix)), Comes::Taken(expected)) => prefix.as_slice() == expected,
-        (Ok(Reply::Ripe(unit)), Comes::Ripe(expected)) => *unit == expected,
-        (Ok(reply), Comes::Idle) => *reply == Reply::Idle,
-        (Ok(reply), Comes::Moved) => *reply == Reply::Moved,
-        (Ok(reply), Comes::Ignored) => *reply == Reply::Ignored,
-        _ => false,
-    }
-}
 
 /// A node with all that a script needs.
 #[derive(Drop)]
@@ -292,7 +162,7 @@ impl<'a> Stage<'a> {
             self.taken = Some(*job);
             self.prefix = Vec::from_slice(self.alloc, prefix.as_slice()).expect(rt, "memory");
         }
-        has_come(&answer, comes) && are_sent(rt, self.alloc, &out, sent)
+        has_come(&answer, comes) && are_sent(rt, self.alloc, HERE, &out, sent)
     }
 }
 
@@ -514,10 +384,11 @@ fn greets_both<R: Abort>(rt: &R, alloc: Global, core: &mut NodeCore<'_>) -> bool
         && are_sent(
             rt,
             alloc,
+            HERE,
             &out,
             &[(REGISTRY, Said::Hello), (REGISTRY, Said::Hello)],
         )
-        && are_sent(rt, alloc, &copies, &[(REGISTRY, Said::Hello)])
+        && are_sent(rt, alloc, HERE, &copies, &[(REGISTRY, Said::Hello)])
 }
 
 #[test]
