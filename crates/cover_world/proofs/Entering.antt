@@ -24,7 +24,7 @@ use Rattle.spawn_frame.specs.Splits.{new_child}
 use Rattle.node_core.specs.Arrivals.{Answers}
 use Rattle.root_registry.specs.RegistryStep.{RootAnswers, RootHears}
 use Rattle.node_core.specs.NodeStep.{HearStep}
-use Rattle.cover_world.specs.Worlds.{World, WorldEvent, Acts, Restarts, SiteStep, WorldStep, Run, stay, go, EachStep}
+use Rattle.cover_world.specs.Worlds.{World, WorldMove, Acts, Restarts, SiteStep, WorldStep, Run, stay, go, EachStep}
 use Rattle.cover_world.specs.Safety.{HasChild, NoneLate, attempt_in, attempt_of, attempt_at}
 use Rattle.cover_world.proofs.Grows.{Grows, get_front, get_changed}
 use Rattle.cover_world.proofs.Steps.{judged_enters}
@@ -127,7 +127,7 @@ site_attempt (suc node) problem old (Post job finding) reply out new j c h b =
 site_attempt (suc node) problem old _ reply out new j c h b = refl
 
 -- at a step of the world
-pub enters_attempt : (problem : Problem) (old : World) (event : WorldEvent) (new : World) → WorldStep problem old event new
+pub enters_attempt : (problem : Problem) (old : World) (event : WorldMove) (new : World) → WorldStep problem old event new
     → (name : ChildName) (c d : Entry) (r : ChildResult) → HasChild old name c → ((q : ChildResult) → c.status ≢ Done q) → HasChild new name d → d.status ≡ Done r → attempt_at event c.attempt ≡ c.attempt
 enters_attempt problem old (Restarts node incarnation limit) new s name c d r h n i done = refl
 enters_attempt problem old (Acts node event) new s name c d r h n i done =
@@ -151,7 +151,7 @@ enters_attempt problem old (Acts node event) new s name c d r h n i done =
     absurd (n r (ap (λ x. x.status) same ∙ done)))
     (get_set old.sites node s.after name.site.node h.view h.is)
 
-late_step : {problem : Problem} {now old : World} (run : Run problem now old) (event : WorldEvent) (new : World) → WorldStep problem old event new → NoneLate now old event new
+late_step : {problem : Problem} {now old : World} (run : Run problem now old) (event : WorldMove) (new : World) → WorldStep problem old event new → NoneLate now old event new
 late_step {problem} {now} {old} run event new step name entry attempt has enters =
     let before = enters.before in
     let done = enters.done in

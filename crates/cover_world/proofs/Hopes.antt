@@ -20,7 +20,7 @@ use Rattle.packet_wire.specs.declared.packet.Packet.{Packet}
 use Rattle.node_core.specs.declared.event.Event.{Event}
 use Rattle.node_core.specs.declared.event.Event.TheVariants.{Take, Deliver}
 use Rattle.node_core.specs.declared.reply.Reply.{Reply}
-use Rattle.cover_world.specs.Worlds.{World, WorldEvent, Acts, Restarts, SiteStep, WorldStep, WasSent, Run, stay, go, opening_world, opening_nodes, opening_node, opening_registry}
+use Rattle.cover_world.specs.Worlds.{World, WorldMove, Acts, Restarts, SiteStep, WorldStep, WasSent, Run, stay, go, opening_world, opening_nodes, opening_node, opening_registry}
 use Rattle.cover_world.specs.Safety.{HasChild, in_file_order, published}
 use Rattle.cover_world.specs.Coverage.{IsCovered, AllCovered}
 use Rattle.cover_world.proofs.Guests.{Every, every_append, every_at, every_map}
@@ -64,7 +64,7 @@ both_every P Q (g ∷ gs) h k = ((h.0, k.0), both_every P Q gs h.1 k.1)
 
 -- ---- one step
 
-module _ (problem : Problem) (start old new : World) (run : Run problem start old) (event : WorldEvent) (step : WorldStep problem old event new) where
+module _ (problem : Problem) (start old new : World) (run : Run problem start old) (event : WorldMove) (step : WorldStep problem old event new) where
   result_more : (name : ChildName) (r : ChildResult) → ReturnTrue run name r → ReturnTrue (go run event step) name r
   result_more name Empty h = record { entry = h.entry; had = inl h.had; so = h.so }
   result_more name (Cover options) h = tt
@@ -130,7 +130,7 @@ fresh_sound problem nodes node incarnation limit = record {
     none (Own k) e at = absurd (none-some e at)
     none (Guest m b) e at = absurd (none-some e at)
 
-hopeful_step : {problem : Problem} {start old new : World} (run : Run problem start old) (event : WorldEvent) (step : WorldStep problem old event new) → Told run → Told (go run event step) → Hopeful run → Hopeful (go run event step)
+hopeful_step : {problem : Problem} {start old new : World} (run : Run problem start old) (event : WorldMove) (step : WorldStep problem old event new) → Told run → Told (go run event step) → Hopeful run → Hopeful (go run event step)
 hopeful_step {problem} {start} {old} {new} run (Acts node event) step was is hopeful =
     let moved = go run (Acts node event) step in
     let sites : slice_get new.sites ≡ slice_get (slice_set old.sites node step.after) = ap (λ w. slice_get w.sites) step.world in
@@ -203,7 +203,7 @@ record RootThere (view : View) : Type 0 where
   is : slice_get view.own 0 ≡ Some entry
   all : entry.prefix ≡ []
 
-root_step : (problem : Problem) (old : World) (event : WorldEvent) (new : World) → WorldStep problem old event new
+root_step : (problem : Problem) (old : World) (event : WorldMove) (new : World) → WorldStep problem old event new
     → ((view : View) → slice_get old.sites 0 ≡ Some view → RootThere view) → (view : View) → slice_get new.sites 0 ≡ Some view → RootThere view
 root_step problem old (Acts zero event) new s h view at =
     ⊎_elim

@@ -8,7 +8,7 @@ use Rattle.node_core.specs.SiteView.{View}
 use Rattle.packet_wire.specs.declared.packet.Packet.{Packet}
 use Rattle.node_core.specs.declared.event.Event.{Event}
 use Rattle.node_core.specs.declared.reply.Reply.{Reply}
-use Rattle.cover_world.specs.Worlds.{World, WorldEvent, Acts, Restarts, SiteStep, WorldStep, Run, stay, go}
+use Rattle.cover_world.specs.Worlds.{World, WorldMove, Acts, Restarts, SiteStep, WorldStep, Run, stay, go}
 use Rattle.cover_world.specs.Safety.{HasChild}
 use Rattle.cover_world.proofs.Grows.{Grows, grows_same, grows_then}
 use Rattle.cover_world.proofs.Steps.{SiteGrows, node_grows, registry_grows}
@@ -87,7 +87,7 @@ seat_child old node before after sent at name c h there =
     inl (record { now = c; has = record { view = h.view; is = e.1; site = h.site; child = h.child }; grows = grows_same c }))
     (get_set old.sites node after name.site.node h.view h.is)
 
-pub step_keeps : (problem : Problem) (old : World) (event : WorldEvent) (new : World) → WorldStep problem old event new
+pub step_keeps : (problem : Problem) (old : World) (event : WorldMove) (new : World) → WorldStep problem old event new
     → (name : ChildName) (c : Entry) → HasChild old name c → Later new name c ⊎ Gone new name
 step_keeps problem old (Acts node event) new s name c h =
     subst (λ w. Later w name c ⊎ Gone w name) (sym s.world)
@@ -102,7 +102,7 @@ step_keeps problem old (Restarts node incarnation limit) new s name c h =
     (λ there at site child.
     inr (record { view = _; is = at; greater = subst (λ t. t.incarnation < incarnation) site s.greater })))
 
-pub gone_stays : (problem : Problem) (old : World) (event : WorldEvent) (new : World) → WorldStep problem old event new
+pub gone_stays : (problem : Problem) (old : World) (event : WorldMove) (new : World) → WorldStep problem old event new
     → (name : ChildName) → Gone old name → Gone new name
 gone_stays problem old (Acts node event) new s name g =
     subst (λ w. Gone w name) (sym s.world)

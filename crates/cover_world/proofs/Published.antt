@@ -20,7 +20,7 @@ use Rattle.node_core.specs.declared.event.Event.TheVariants.{Redo, Deliver, Agai
 use Rattle.node_core.specs.declared.reply.Reply.{Reply}
 use Rattle.node_core.specs.Arrivals.{Denies, Gives}
 use Rattle.root_registry.specs.RegistryStep.{RootAnswers, RootSteal, RootHears, RegistryStep, IsAcceptable, root_result, entry_result, status_result}
-use Rattle.cover_world.specs.Worlds.{World, WorldEvent, Acts, Restarts, WorldStep, Run, stay, go, opening_world, opening_registry}
+use Rattle.cover_world.specs.Worlds.{World, WorldMove, Acts, Restarts, WorldStep, Run, stay, go, opening_world, opening_registry}
 use Rattle.cover_world.specs.Safety.{published, published_by, in_file_order}
 use Rattle.cover_world.proofs.Steps.{registry_grows}
 use Rattle.cover_world.proofs.Later.{get_set, set_get}
@@ -58,7 +58,7 @@ pub record Registered (world : World) (result : ChildResult) : Type 0 where
   pub is : slice_get world.sites 0 ≡ Some view
   pub has : RootHas view result
 
-step_root : (problem : Problem) (old : World) (event : WorldEvent) (new : World) → WorldStep problem old event new → (r : ChildResult) → Registered old r → Registered new r
+step_root : (problem : Problem) (old : World) (event : WorldMove) (new : World) → WorldStep problem old event new → (r : ChildResult) → Registered old r → Registered new r
 step_root problem old (Acts zero event) new s r h =
     let v : h.view ≡ s.before = same_Some h.view s.before (sym h.is ∙ s.is) in
     let g = registry_grows problem s.before event s.reply s.out s.after s.step in
@@ -212,7 +212,7 @@ module _ (problem : Problem) where
 abbrev pub AllCounted' : Problem → World → Type 0
 AllCounted' problem world = (r : ChildResult) → Registered world r → IsCounted problem r
 
-step_counted : (problem : Problem) (old : World) (event : WorldEvent) (new : World) → WorldStep problem old event new → AllCounted' problem old → AllCounted' problem new
+step_counted : (problem : Problem) (old : World) (event : WorldMove) (new : World) → WorldStep problem old event new → AllCounted' problem old → AllCounted' problem new
 step_counted problem old (Acts zero event) new s h r reg =
     ⊎_elim
     (λ (e : (0 ≡ 0) × (s.after ≡ reg.view)).

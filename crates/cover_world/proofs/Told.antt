@@ -13,7 +13,7 @@ use Rattle.packet_wire.specs.declared.packet.Body.TheVariants.{Hello, Give, Acce
 use Rattle.packet_wire.specs.declared.packet.Packet.{Packet}
 use Rattle.node_core.specs.declared.event.Event.{Event}
 use Rattle.node_core.specs.declared.event.Event.TheVariants.{Take, Deliver}
-use Rattle.cover_world.specs.Worlds.{World, WorldEvent, Acts, Restarts, WorldStep, WasSent, Run, stay, go, SomeTime, opening_world, opening_nodes, opening_node}
+use Rattle.cover_world.specs.Worlds.{World, WorldMove, Acts, Restarts, WorldStep, WasSent, Run, stay, go, SomeTime, opening_world, opening_nodes, opening_node}
 use Rattle.cover_world.specs.Safety.{HasChild, OwnerAccepts, ThiefAccepts, Accepts, OneResult}
 use Rattle.cover_world.proofs.Grows.{Grows, grows_same, grows_then}
 use Rattle.cover_world.proofs.Guests.{Every, every_append, every_at, every_map, every_guest}
@@ -29,7 +29,7 @@ pub had_now : {problem : Problem} {start end : World} (run : Run problem start e
 had_now stay name c h = h
 had_now (go run event step) name c h = inr h
 
-pub later_step : (problem : Problem) (old new : World) (event : WorldEvent) → WorldStep problem old event new → (name : ChildName) (c : Entry) → Later old name c ⊎ Gone old name → Later new name c ⊎ Gone new name
+pub later_step : (problem : Problem) (old new : World) (event : WorldMove) → WorldStep problem old event new → (name : ChildName) (c : Entry) → Later old name c ⊎ Gone old name → Later new name c ⊎ Gone new name
 later_step problem old new event step name c l =
     ⊎_elim
     (λ (l : Later old name c).
@@ -106,7 +106,7 @@ pub record Told {problem : Problem} {start end : World} (run : Run problem start
 
 -- ---- one step
 
-module _ (problem : Problem) (start old new : World) (run : Run problem start old) (event : WorldEvent) (step : WorldStep problem old event new) where
+module _ (problem : Problem) (start old new : World) (run : Run problem start old) (event : WorldMove) (step : WorldStep problem old event new) where
   had_more : (name : ChildName) (P : Entry → Type 0) → HadBy run name P → HadBy (go run event step) name P
   had_more name P h = record { entry = h.entry; had = inl h.had; so = h.so }
 
@@ -151,7 +151,7 @@ module _ (problem : Problem) (start old new : World) (run : Run problem start ol
   body_true view node from to Hello at seat e h = tt
   body_true view node from to _ at seat e h = tt
 
-told_step : {problem : Problem} {start old new : World} (run : Run problem start old) (event : WorldEvent) (step : WorldStep problem old event new) → Told run → Told (go run event step)
+told_step : {problem : Problem} {start old new : World} (run : Run problem start old) (event : WorldMove) (step : WorldStep problem old event new) → Told run → Told (go run event step)
 told_step {problem} {start} {old} {new} run (Acts node event) step told =
     let moved = go run (Acts node event) step in
     let sites : slice_get new.sites ≡ slice_get (slice_set old.sites node step.after) = ap (λ w. slice_get w.sites) step.world in

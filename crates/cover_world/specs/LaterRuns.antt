@@ -1,7 +1,7 @@
 -- A run in which nodes begin anew while the root is out: first a node that hasn't got it, and then the thief.
 use Rattle.std.specs.Prelude.{List, [], ◌∷◌}
 use Rattle.cover_world.specs.Plays.{site0, site1, site1_again, site2_again}
-use Rattle.cover_world.specs.Worlds.{Acts, Restarts, WorldEvent}
+use Rattle.cover_world.specs.Worlds.{Acts, Restarts, WorldMove}
 use Rattle.node_core.specs.declared.event.Event.TheVariants.{Again, Ask, Deliver, Greet}
 use Rattle.packet_wire.specs.declared.packet.Body.TheVariants.{Give, Hello, Members, NoWork, Steal}
 use Rattle.packet_wire.specs.declared.packet.Packet.{Packet}
@@ -51,7 +51,7 @@ abbrev pub packets : List Packet
 packets = p0 ∷ p1 ∷ p2 ∷ p3 ∷ p4 ∷ p1 ∷ p5 ∷ p6 ∷ p7 ∷ p8 ∷ p9 ∷ []
 
 -- the events
-abbrev pub events : List WorldEvent
+abbrev pub events : List WorldMove
 events =
     Acts 1 (Ask 0)
     ∷ Acts 0 (Deliver p0)

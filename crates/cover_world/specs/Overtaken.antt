@@ -3,7 +3,7 @@ use Rattle.std.specs.Prelude.{List, [], ◌∷◌}
 use Rattle.cover_problem.specs.Problem.{Problem}
 use Rattle.cover_problem.specs.Search.{Covers, Spent}
 use Rattle.cover_world.specs.Plays.{root_guest, site0, site1, site2}
-use Rattle.cover_world.specs.Worlds.{Acts, WorldEvent}
+use Rattle.cover_world.specs.Worlds.{Acts, WorldMove}
 use Rattle.node_core.specs.declared.event.Event.TheVariants.{Ask, Deliver, Finish, Post, Redo, Take}
 use Rattle.packet_wire.specs.declared.packet.Body.TheVariants.{Accept, Give, Over, Return, Steal}
 use Rattle.packet_wire.specs.declared.packet.Packet.{Packet}
@@ -59,7 +59,7 @@ abbrev pub packets : List Packet
 packets = p0 ∷ p1 ∷ p2 ∷ p3 ∷ p4 ∷ p5 ∷ p6 ∷ p7 ∷ p8 ∷ p9 ∷ []
 
 -- the events
-abbrev pub events : List WorldEvent
+abbrev pub events : List WorldMove
 events =
     Acts 1 (Ask 0)
     ∷ Acts 0 (Deliver p0)

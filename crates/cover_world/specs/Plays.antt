@@ -1,7 +1,7 @@
 -- Runs that are told event by event, with their packets.
 use Rattle.std.specs.Prelude.{◌≡◌, ℕ, Bool, List, [], ◌∷◌, ◌++◌, Option, Some, None, option_map, slice_get}
 use Rattle.cover_problem.specs.Problem.{Problem}
-use Rattle.cover_world.specs.Worlds.{Run, World, WorldEvent, WorldStep, go, stay}
+use Rattle.cover_world.specs.Worlds.{Run, World, WorldMove, WorldStep, go, stay}
 use Rattle.node_core.specs.SiteView.{View, unit_in}
 use Rattle.packet_wire.specs.declared.packet.Packet.{Packet}
 use Rattle.spawn_frame.specs.Units.{Entry}
@@ -11,12 +11,12 @@ use Rattle.spawn_frame.specs.declared.unit.Unit.{Unit as WorkUnit}
 use Rattle.spawn_frame.specs.declared.unit.Unit.TheVariants.{Guest}
 
 -- the events of a run, in order
-abbrev pub events_of : {problem : Problem} {start end : World} → Run problem start end → List WorldEvent
+abbrev pub events_of : {problem : Problem} {start end : World} → Run problem start end → List WorldMove
 events_of stay = []
 events_of (go run event step) = events_of run ++ event ∷ []
 
 -- There is a run of these events from the world, which sends these packets in this order and ends in a world like that.
-pub record Plays (problem : Problem) (start : World) (events : List WorldEvent) (packets : List Packet) (IsEnd : World → Type 0) : Type 0 where
+pub record Plays (problem : Problem) (start : World) (events : List WorldMove) (packets : List Packet) (IsEnd : World → Type 0) : Type 0 where
   pub end : World
   pub run : Run problem start end
   pub plays : events_of run ≡ events
@@ -24,7 +24,7 @@ pub record Plays (problem : Problem) (start : World) (events : List WorldEvent) 
   pub ends : IsEnd end
 
 -- the world refuses the event: there is no step of it
-abbrev pub IsRefused : Problem → World → WorldEvent → Type 0
+abbrev pub IsRefused : Problem → World → WorldMove → Type 0
 IsRefused problem world event = (new : World) → WorldStep problem world event new → ⊥
 
 -- what a site has of a unit, where there is the site

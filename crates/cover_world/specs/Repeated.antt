@@ -2,7 +2,7 @@
 use Rattle.std.specs.Prelude.{List, [], ◌∷◌}
 use Rattle.cover_problem.specs.Search.{Barren}
 use Rattle.cover_world.specs.Plays.{root_guest, site0, site1, site2}
-use Rattle.cover_world.specs.Worlds.{Acts, WorldEvent}
+use Rattle.cover_world.specs.Worlds.{Acts, WorldMove}
 use Rattle.node_core.specs.declared.event.Event.TheVariants.{Ask, Deliver, Post, Take}
 use Rattle.packet_wire.specs.declared.packet.Body.TheVariants.{Accept, Give, Over, Return, Steal}
 use Rattle.packet_wire.specs.declared.packet.Packet.{Packet}
@@ -37,7 +37,7 @@ abbrev pub packets : List Packet
 packets = p0 ∷ p1 ∷ p2 ∷ p3 ∷ p4 ∷ p5 ∷ p3 ∷ []
 
 -- the events
-abbrev pub events : List WorldEvent
+abbrev pub events : List WorldMove
 events =
     Acts 1 (Ask 0)
     ∷ Acts 0 (Deliver p0)

@@ -3,7 +3,7 @@ use Rattle.std.specs.Prelude.{◌≡◌, ◌≢◌, ◌⊎◌, ℕ, ◌≤◌, B
 use Rattle.cover_problem.specs.ExactCover.{IsExactCover, in_order}
 use Rattle.cover_problem.specs.Numbers.{is_in}
 use Rattle.cover_problem.specs.Problem.{Problem}
-use Rattle.cover_world.specs.Worlds.{Acts, EachStep, Restarts, Run, SomeTime, World, WorldEvent, after}
+use Rattle.cover_world.specs.Worlds.{Acts, EachStep, Restarts, Run, SomeTime, World, WorldMove, after}
 use Rattle.node_core.specs.Requests.{registry}
 use Rattle.node_core.specs.SiteView.{View}
 use Rattle.node_core.specs.declared.event.Event.{Event}
@@ -64,12 +64,12 @@ attempt_in (Deliver packet) own = attempt_of packet.body own
 attempt_in _ own = own
 
 -- the same of an event of the world
-abbrev pub attempt_at : WorldEvent → ℕ → ℕ
+abbrev pub attempt_at : WorldMove → ℕ → ℕ
 attempt_at (Acts node event) own = attempt_in event own
 attempt_at (Restarts node incarnation limit) own = own
 
 -- the child becomes done in this step
-pub record ResultEnters (old : World) (event : WorldEvent) (new : World) (name : ChildName) (attempt : ℕ) : Type 0 where
+pub record ResultEnters (old : World) (event : WorldMove) (new : World) (name : ChildName) (attempt : ℕ) : Type 0 where
   pub before : Entry
   pub has : HasChild old name before
   pub not_done : (result : ChildResult) → before.status ≢ Done result
@@ -78,7 +78,7 @@ pub record ResultEnters (old : World) (event : WorldEvent) (new : World) (name :
   pub attempt_is : attempt ≡ attempt_at event before.attempt
 
 -- no result enters at a child that is aborted in this world, or at an attempt that is superseded in it
-abbrev pub NoneLate : World → World → WorldEvent → World → Type 0
+abbrev pub NoneLate : World → World → WorldMove → World → Type 0
 NoneLate now old event new =
     (name : ChildName) (entry : Entry) (attempt : ℕ) → HasChild now name entry → ResultEnters old event new name attempt
     → (entry.status ≢ Aborted) × (entry.attempt ≤ attempt)

@@ -2,7 +2,7 @@
 use Rattle.std.specs.Prelude.{List, [], ◌∷◌}
 use Rattle.cover_problem.specs.Search.{Barren}
 use Rattle.cover_world.specs.Plays.{root_guest, site0, site1, site2, site2_again}
-use Rattle.cover_world.specs.Worlds.{Acts, Restarts, WorldEvent}
+use Rattle.cover_world.specs.Worlds.{Acts, Restarts, WorldMove}
 use Rattle.node_core.specs.declared.event.Event.TheVariants.{Again, Ask, Deliver, Greet, Post, Redo, Take}
 use Rattle.packet_wire.specs.declared.packet.Body.TheVariants.{Accept, Give, Hello, Members, Over, Return, Steal}
 use Rattle.packet_wire.specs.declared.packet.Packet.{Packet}
@@ -57,7 +57,7 @@ abbrev pub packets : List Packet
 packets = p0 ∷ p1 ∷ p2 ∷ p3 ∷ p2 ∷ p3 ∷ p4 ∷ p5 ∷ p6 ∷ p6 ∷ p7 ∷ p7 ∷ p8 ∷ p9 ∷ p10 ∷ p9 ∷ p10 ∷ p9 ∷ []
 
 -- the events
-abbrev pub events : List WorldEvent
+abbrev pub events : List WorldMove
 events =
     Acts 2 Greet
     ∷ Restarts 2 2 9

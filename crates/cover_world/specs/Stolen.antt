@@ -2,7 +2,7 @@
 use Rattle.std.specs.Prelude.{ℕ, List, [], ◌∷◌, ◌++◌}
 use Rattle.cover_problem.specs.Search.{Barren, Covers, Spent}
 use Rattle.cover_world.specs.Plays.{root_guest, site0, site1, site2, site2_again}
-use Rattle.cover_world.specs.Worlds.{Acts, Restarts, WorldEvent}
+use Rattle.cover_world.specs.Worlds.{Acts, Restarts, WorldMove}
 use Rattle.node_core.specs.declared.event.Event.TheVariants.{Ask, Deliver, Finish, Greet, Post, Take}
 use Rattle.packet_wire.specs.declared.packet.Body.TheVariants.{Abort, Accept, Give, Hello, Members, Over, Refuse, Return, Steal}
 use Rattle.packet_wire.specs.declared.packet.Packet.{Packet}
@@ -46,7 +46,7 @@ abbrev pub packets : List Packet
 packets = p0 ∷ p1 ∷ p2 ∷ p3 ∷ p4 ∷ []
 
 -- the events until then
-abbrev pub events : List WorldEvent
+abbrev pub events : List WorldMove
 events =
     Acts 1 (Ask 0)
     ∷ Acts 0 (Deliver p0)
@@ -91,7 +91,7 @@ abbrev pub late_packets : List Packet
 late_packets = packets ++ late5 ∷ late6 ∷ late7 ∷ late8 ∷ late9 ∷ late10 ∷ []
 
 -- the events
-abbrev pub late_events : List WorldEvent
+abbrev pub late_events : List WorldMove
 late_events =
     events
     ++ Acts 1 Take
@@ -125,7 +125,7 @@ abbrev pub anew_packets : List Packet
 anew_packets = packets ++ anew5 ∷ anew6 ∷ anew7 ∷ anew8 ∷ []
 
 -- the events
-abbrev pub anew_events : List WorldEvent
+abbrev pub anew_events : List WorldMove
 anew_events =
     events
     ++ Restarts 2 2 9

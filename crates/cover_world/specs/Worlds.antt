@@ -36,10 +36,10 @@ opening_nodes nodes node (limit ∷ limits) = opening_node nodes node 1 limit �
 abbrev pub opening_world : ℕ → List ℕ → World
 opening_world nodes limits = record { sites = opening_registry nodes ∷ opening_nodes nodes 1 limits; sent = [] }
 
--- a site has an event, or a node begins anew in this run with this limit on names
-pub data WorldEvent : Type 0 where
-  Acts : (node : ℕ) → (event : Event) → WorldEvent
-  Restarts : (node incarnation limit : ℕ) → WorldEvent
+-- a move of the world: a site has an event, or a node begins anew in this run with this limit on names
+pub data WorldMove : Type 0 where
+  Acts : (node : ℕ) → (event : Event) → WorldMove
+  Restarts : (node incarnation limit : ℕ) → WorldMove
 
 -- a step of the registry at node 0, else of a node
 abbrev pub SiteStep : ℕ → Problem → View → Event → Reply → List Packet → View → Type 0
@@ -71,14 +71,14 @@ pub record SiteRestarts (old : World) (node incarnation limit : ℕ) (new : Worl
   pub world : new ≡ record { sites = slice_set old.sites node (opening_node before.nodes node incarnation limit); sent = old.sent }
 
 -- one step of a world
-abbrev pub WorldStep : Problem → World → WorldEvent → World → Type 0
+abbrev pub WorldStep : Problem → World → WorldMove → World → Type 0
 WorldStep problem old (Acts node event) new = SiteActs problem old node event new
 WorldStep problem old (Restarts node incarnation limit) new = SiteRestarts old node incarnation limit new
 
 -- a run from one world to another, step by step
 pub data Run (problem : Problem) (start : World) : World → Type 0 where
   stay : Run problem start start
-  go : {old new : World} → Run problem start old → (event : WorldEvent) → WorldStep problem old event new → Run problem start new
+  go : {old new : World} → Run problem start old → (event : WorldMove) → WorldStep problem old event new → Run problem start new
 
 -- one run after another
 pub after : {problem : Problem} {start middle end : World} → Run problem start middle → Run problem middle end → Run problem start end
@@ -91,6 +91,6 @@ SomeTime {end = end} P stay = P end
 SomeTime P (go {new = new} run event step) = SomeTime P run ⊎ P new
 
 -- at each step of the run
-abbrev pub EachStep : {problem : Problem} {start end : World} → (World → WorldEvent → World → Type 0) → Run problem start end → Type 0
+abbrev pub EachStep : {problem : Problem} {start end : World} → (World → WorldMove → World → Type 0) → Run problem start end → Type 0
 EachStep P stay = ⊤
 EachStep P (go {old = old} {new = new} run event step) = EachStep P run × P old event new
