@@ -6,7 +6,7 @@ use self::Does::{Again, Ask, Finish, Greet, Hears, Overhears, Post, Redo, Take};
 use super::said::Comes::{Fault, Ignored, Moved};
 use super::said::{Comes, LETTERS, Said, are_sent, has_come, packet_of};
 use brancher::Searcher;
-use cover_problem::Problem;
+use cover_problem::{Answer, Problem};
 use dlx_reader::read_problem;
 use node_core::ActFault::{BadCover, NotOut, OtherSite};
 use node_core::{ActFault, Core, Event, Reply};
@@ -73,6 +73,9 @@ enum Does {
 
 /// An event, what it comes to, and the packets that it puts out, with their receivers.
 type Row = (Does, Comes, &'static [(Site, Said)]);
+
+/// From which row on an answer is published, and the options of its cover, if it is one.
+type Publishes = (usize, Option<&'static [u16]>);
 
 /// The registry with all that a script needs.
 #[derive(Drop)]
@@ -143,17 +146,32 @@ impl<'a> Stage<'a> {
     }
 }
 
+/// Whether so much is published after this row.
+fn is_published(core: &Registry<'_>, number: usize, (row, cover): Publishes) -> bool {
+    match (core.published(), cover) {
+        (Some(Answer::Cover(options)), Some(expected)) => {
+            row <= number && options.as_slice() == expected
+        }
+        (Some(Answer::NoCover), None) => row <= number,
+        (Some(_), _) => false,
+        (None, _) => number < row,
+    }
+}
+
 /// Plays the script at a registry of two nodes.
-fn play<R: Abort>(rt: &R, alloc: Global, rows: &[Row]) {
+fn play<R: Abort>(rt: &R, alloc: Global, rows: &[Row], publishes: Publishes) {
     let read = read_problem(alloc, LETTERS.as_bytes()).expect(rt, "a problem");
     let mut stage = Stage::new(rt, alloc, &read.problem);
     for (number, row) in rows.iter().enumerate() {
         let right = stage.plays(rt, *row);
         assert!(rt; right, "row {number}");
+        let published = is_published(&stage.core, number, publishes);
+        assert!(rt; published, "row {number}");
     }
 }
 
-/// A cover that doesn't count right enters nothing; one that does is accepted, and all nodes are told that it is over.
+/// A cover that doesn't count right enters nothing; one that does is accepted, all nodes are told that it is over, and it
+/// is published, its options in the order of the file, whatever comes later.
 static COVERED: [Row; 17] = [
     (Again, Ignored, &[]),
     (
@@ -283,10 +301,10 @@ static GIVEN_ANEW: [Row; 17] = [
 
 #[test]
 fn a_cover_is_counted_before_it_enters(rt: HostRuntime) {
-    play(&rt, rt.alloc(), &COVERED);
+    play(&rt, rt.alloc(), &COVERED, (10, Some(&[0, 3, 4])));
 }
 
 #[test]
 fn the_root_is_given_out_anew(rt: HostRuntime) {
-    play(&rt, rt.alloc(), &GIVEN_ANEW);
+    play(&rt, rt.alloc(), &GIVEN_ANEW, (16, None));
 }
