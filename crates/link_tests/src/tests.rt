@@ -1,0 +1,118 @@
+//! Two sites talk, over sockets and in memory.
+
+use std::alloc::Global;
+use std::sync::{Arc, Wait};
+use std::test::Fail;
+use std::thread::{self, Threads};
+use udp_node::{Link, LinkFault, MemoryLink, UdpLink, Wires, bound};
+
+/// How many datagrams each site sends.
+const SENT: u8 = 20;
+
+/// How many receives a site waits for them at most.
+const TURNS: u32 = 100_000;
+
+/// Sends its datagrams to the other site.
+fn send_all<L: Link, R: Wait>(rt: &R, link: &mut L, to: u8) -> Result<(), LinkFault> {
+    for number in 0..SENT {
+        link.send(rt, to, &[99, 111, number])?;
+    }
+    Ok(())
+}
+
+/// How many datagrams came that are the other's next.
+fn hear_all<L: Link, R: Wait>(rt: &R, link: &mut L) -> u8 {
+    let mut buffer = [0; 8];
+    let mut came = 0;
+    for _ in 0..TURNS {
+        if link.receive(rt, &mut buffer) == Ok(Some(3)) && buffer[..3] == [99, 111, came] {
+            came = came.saturating_add(1);
+        }
+        if came == SENT {
+            break;
+        }
+    }
+    came
+}
+
+/// Sends all, hears all, and answers how many came.
+fn talk<L: Link, R: Wait>(rt: &R, mut link: L, to: u8) -> u8 {
+    match send_all(rt, &mut link, to) {
+        Ok(()) => hear_all(rt, &mut link),
+        Err(LinkFault) => 0,
+    }
+}
+
+/// Both talk at once, each by a twin of its link; whether all came to both.
+fn both_hear<L: Link + Send, R: Threads + Wait + Sync>(rt: &R, one: L, other: L) -> bool {
+    let heard = thread::join(rt, move || talk(rt, one, 1), move || talk(rt, other, 0));
+    heard == (SENT, SENT)
+}
+
+/// The ends of two sites with sockets.
+fn sockets<R: std::net::Net>(rt: &R, alloc: Global) -> Result<(UdpLink, UdpLink), Fail> {
+    let (one, other) = (bound(rt)?, bound(rt)?);
+    let mut sites = Vec::new(alloc);
+    sites.push(one.local_addr()?)?;
+    sites.push(other.local_addr()?)?;
+    let sites = Arc::new(alloc, sites)?;
+    let copy = Arc::try_clone(&sites)?;
+    let first = UdpLink::new(Arc::new(alloc, one)?, sites);
+    Ok((first, UdpLink::new(Arc::new(alloc, other)?, copy)))
+}
+
+/// The ends of two sites in memory.
+fn wires(alloc: Global) -> Result<(MemoryLink, MemoryLink), Fail> {
+    let wires = Arc::new(alloc, Wires::new(alloc, 2)?)?;
+    let copy = Arc::try_clone(&wires)?;
+    Ok((MemoryLink::new(wires, 0), MemoryLink::new(copy, 1)))
+}
+
+#[test]
+fn over_sockets(rt: HostRuntime) -> Result<(), Fail> {
+    let (one, other) = sockets(&rt, rt.alloc())?;
+    let (first, second) = (one.twin()?, other.twin()?);
+    assert!(rt; both_hear(&rt, first, second));
+    Ok(())
+}
+
+#[test]
+fn in_memory(rt: HostRuntime) -> Result<(), Fail> {
+    let (one, other) = wires(rt.alloc())?;
+    let (first, second) = (one.twin()?, other.twin()?);
+    assert!(rt; both_hear(&rt, first, second));
+    Ok(())
+}
+
+/// What a site without an address, and a twin, tell of failures.
+fn fails_once<L: Link, R: Wait>(rt: &R, mut link: L) -> Result<bool, Fail> {
+    let sent = link.send(rt, 2, &[1]);
+    let twin = link.twin()?;
+    Ok(sent == Err(LinkFault) && link.failures() == 1 && twin.failures() == 0)
+}
+
+#[test]
+fn a_site_that_is_not_there(rt: HostRuntime) -> Result<(), Fail> {
+    let (socket, _) = sockets(&rt, rt.alloc())?;
+    let (wire, _) = wires(rt.alloc())?;
+    assert!(rt; fails_once(&rt, socket)?);
+    assert!(rt; fails_once(&rt, wire)?);
+    Ok(())
+}
+
+/// Of a datagram that is longer than the buffer so much comes as fits.
+fn is_cut<L: Link, R: Wait>(rt: &R, mut one: L, mut other: L) -> bool {
+    let mut buffer = [0; 2];
+    let sent = one.send(rt, 1, &[7, 8, 9]);
+    let came = other.receive(rt, &mut buffer);
+    sent == Ok(()) && came == Ok(Some(2)) && buffer == [7, 8]
+}
+
+#[test]
+fn a_datagram_that_is_too_long(rt: HostRuntime) -> Result<(), Fail> {
+    let (one, other) = sockets(&rt, rt.alloc())?;
+    assert!(rt; is_cut(&rt, one, other));
+    let (one, other) = wires(rt.alloc())?;
+    assert!(rt; is_cut(&rt, one, other));
+    Ok(())
+}

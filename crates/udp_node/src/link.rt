@@ -1,0 +1,37 @@
+ghost use Rattle.std.specs.Prelude.{◌≡◌, ◌≤◌, ℕ, length, IfErr, IfOk, IfSome};
+ghost use Rattle.udp_node.specs.Links.{failed_once};
+
+use std::alloc::AllocError;
+use std::sync::Wait;
+
+/// A datagram was not sent, or none could be received.
+#[derive(Clone, Copy, Debug, PartialEq, Eq)]
+pub struct LinkFault;
+
+/// A site's end of a network of datagrams. What is sent may be lost, come more than once, or in another order.
+pub trait Link: Drop {
+    ghost failed: { Self → ℕ };
+
+    /// How many calls of this value have failed; the greatest number stays once it is reached.
+    fn failures(&self) -> u64
+        ensures { result ≡ failed self.now };
+
+    /// Sends a datagram to the site of a node. Without a fault it may still be lost on its way.
+    fn send<R: Wait>(&mut self, rt: &R, to: u8, bytes: &[u8]) -> Result<(), LinkFault>
+        ensures ok { IfOk result (λ _. failed self.new ≡ failed self.old) }
+        ensures fault { IfErr result (λ _. failed self.new ≡ failed_once (failed self.old)) };
+
+    /// Receives a datagram, and answers how many bytes of it stand at the front of the buffer: all of them, or those that fit.
+    /// None where none came within some 10 milliseconds.
+    fn receive<R: Wait>(&mut self, rt: &R, into: &mut [u8]) -> Result<Option<usize>, LinkFault>
+        ensures fits { IfOk result (λ came. IfSome came (λ bytes. bytes ≤ length into.old)) }
+        ensures whole { length into.new ≡ length into.old }
+        ensures ok { IfOk result (λ _. failed self.new ≡ failed self.old) }
+        ensures fault { IfErr result (λ _. failed self.new ≡ failed_once (failed self.old)) };
+
+    /// A second value on the same end, which has not failed yet. The only error is want of memory.
+    fn twin(&self) -> Result<Self, AllocError>
+    where
+        Self: Sized,
+        ensures { IfOk result (λ twin. failed twin ≡ 0) };
+}

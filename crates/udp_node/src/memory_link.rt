@@ -1,0 +1,95 @@
+//! A network in memory, for tests.
+
+ghost use Rattle.std.specs.Prelude.{◌≡◌, ℕ, IfOk};
+ghost use Rattle.udp_node.specs.Links.{failed_once};
+
+use crate::link::{Link, LinkFault};
+use std::alloc::{AllocError, Global};
+use std::collections::VecDeque;
+use std::sync::{Arc, Mutex, Wait};
+use std::thread;
+
+/// What is on its way to each site, by node: a queue of datagrams each.
+#[derive(Drop)]
+pub struct Wires {
+    queues: Vec<Mutex<VecDeque<Vec<u8>>>>,
+    alloc: Global,
+}
+
+impl Wires {
+    /// Nothing is on its way to so many sites. The only error is want of memory.
+    pub fn new(alloc: Global, sites: u8) -> Result<Wires, AllocError> {
+        let mut queues = Vec::new(alloc);
+        for _ in 0..sites {
+            queues.push(Mutex::new(VecDeque::new(alloc)))?;
+        }
+        Ok(Wires { queues, alloc })
+    }
+
+    /// Puts a datagram on its way; whether there are that site and the memory.
+    fn is_put<R: Wait>(&self, rt: &R, to: u8, bytes: &[u8]) -> bool {
+        let Some(queue) = self.queues.get(usize::from(to)) else {
+            return false;
+        };
+        match Vec::from_slice(self.alloc, bytes) {
+            Ok(copy) => queue.lock(rt).push_back(copy).is_ok(),
+            Err(_) => false,
+        }
+    }
+
+    /// The datagram that has been on its way to the site for longest.
+    fn take<R: Wait>(&self, rt: &R, site: u8) -> Option<Vec<u8>> {
+        self.queues.get(usize::from(site))?.lock(rt).pop_front()
+    }
+}
+
+/// The end of a site on wires in memory. A receive does not wait.
+#[derive(Drop)]
+pub struct MemoryLink {
+    wires: Arc<Wires, Global>,
+    site: u8,
+    failures: u64,
+}
+
+impl MemoryLink {
+    /// The end of this site.
+    pub fn new(wires: Arc<Wires, Global>, site: u8) -> MemoryLink
+        ensures { result.failures ≡ 0 }
+    {
+        MemoryLink {
+            wires,
+            site,
+            failures: 0,
+        }
+    }
+}
+
+impl Link for MemoryLink {
+    ghost failed = { λ l. l.failures };
+
+    fn failures(&self) -> u64 {
+        self.failures
+    }
+
+    fn send<R: Wait>(&mut self, rt: &R, to: u8, bytes: &[u8]) -> Result<(), LinkFault> {
+        if self.wires.is_put(rt, to, bytes) {
+            return Ok(());
+        }
+        self.failures = self.failures.saturating_add(1);
+        Err(LinkFault)
+    }
+
+    fn receive<R: Wait>(&mut self, rt: &R, into: &mut [u8]) -> Result<Option<usize>, LinkFault> {
+        let Some(datagram) = self.wires.take(rt, self.site) else {
+            thread::yield_now();
+            return Ok(None);
+        };
+        let bytes = datagram.len().min(into.len());
+        into[..bytes].copy_from_slice(&datagram[..bytes]);
+        Ok(Some(bytes))
+    }
+
+    fn twin(&self) -> Result<MemoryLink, AllocError> {
+        Ok(MemoryLink::new(Arc::try_clone(&self.wires)?, self.site))
+    }
+}
