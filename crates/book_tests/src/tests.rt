@@ -1,0 +1,3 @@
+//! Parcels in their order.
+
+mod parcels;
