@@ -21,6 +21,6 @@ pub use laws::{
     prefixes_are_short, search_by_children, small_search, uses_of_a_list,
 };
 pub use lists::{Name, Numbers};
-pub use prefix::{clash, in_file_order, is_covered, is_live, is_prefix, option_names};
+pub use prefix::{clash, in_file_order, in_order, is_covered, is_live, is_prefix, option_names};
 pub use problem::Problem;
 pub use verdict::Verdict;

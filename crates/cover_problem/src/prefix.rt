@@ -1,9 +1,13 @@
-ghost use Rattle.std.specs.Prelude.{◌≡◌, ◌<◌, ◌≤◌, ◌+◌, length, ◌↔◌, IsTrue};
+ghost use Rattle.std.specs.Prelude.{◌≡◌, ◌<◌, ◌≤◌, ◌+◌, length, ◌↔◌, IfOk, IsTrue};
+ghost use Rattle.cover_problem.specs.ExactCover.{in_order};
 ghost use Rattle.cover_problem.specs.Problem.{names_item};
 ghost use Rattle.cover_problem.specs.Prefix.{are_options, is_covered, clash, is_live, are_apart, is_prefix, AreOptions, InFileOrder};
 ghost use Rattle.std.specs.List.Sorted.{IsStrictlyIncreasing};
 
+use crate::laws::in_order_is_in_file_order;
+use crate::lists::Numbers;
 use crate::problem::Problem;
+use std::alloc::{AllocError, Global};
 
 /// Whether the option names the item.
 pub fn option_names(problem: &Problem, option: u16, item: u16) -> bool
@@ -83,4 +87,22 @@ pub fn in_file_order(problem: &Problem, options: &[u16]) -> bool
     ensures { IsTrue result ↔ InFileOrder problem.now options.now }
 {
     are_options(problem, options) && ascends(options)
+}
+
+/// The options of the list in the order of the file, each of them once; the only error is want of memory.
+pub fn in_order(alloc: Global, problem: &Problem, chosen: &[u16]) -> Result<Numbers, AllocError>
+    ensures options { IfOk result (λ options. options ≡ in_order problem.now chosen.now) }
+    ensures order { IfOk result (InFileOrder problem.now) }
+{
+    in_order_is_in_file_order();
+    let options = chosen_in_order(alloc, problem, chosen)?;
+    Ok(Numbers::from_vec(options))
+}
+
+fn chosen_in_order(alloc: Global, problem: &Problem, chosen: &[u16]) -> Result<Vec<u16>, AllocError>
+    ensures { IfOk result (λ options. options.items ≡ in_order problem.now chosen.now) }
+{
+    (0..problem.options() as u16)
+        .filter(|option| chosen.contains(option))
+        .collect(alloc)
 }

@@ -21,7 +21,7 @@ use Rattle.node_core.specs.declared.event.Event.{Event}
 use Rattle.node_core.specs.declared.event.Event.TheVariants.{Take, Deliver}
 use Rattle.node_core.specs.declared.reply.Reply.{Reply}
 use Rattle.cover_world.specs.Worlds.{World, WorldMove, Acts, Restarts, SiteStep, WorldStep, WasSent, Run, stay, go, opening_world, opening_nodes, opening_node, opening_registry}
-use Rattle.cover_world.specs.Safety.{HasChild, in_file_order, published}
+use Rattle.cover_world.specs.Safety.{HasChild, published}
 use Rattle.cover_world.specs.Coverage.{IsCovered, AllCovered}
 use Rattle.cover_world.proofs.Guests.{Every, every_append, every_at, every_map}
 use Rattle.cover_world.proofs.Honest.{Honest, IsSo, Returns, here, there, site_honest}
@@ -29,10 +29,12 @@ use Rattle.cover_world.proofs.Later.{get_set, set_get, site_grows}
 use Rattle.cover_world.proofs.Published.{published_from}
 use Rattle.cover_problem.proofs.Extending.{split_count}
 use Rattle.cover_problem.proofs.Sets.{count_map}
+use Rattle.cover_problem.specs.declared.answer.Answer.TheVariants.{NoCover}
 use Rattle.cover_world.proofs.Sound.{Sound, IsSplitUp, FrameOf, Hopes}
 use Rattle.cover_world.proofs.Told.{had_now, had_both, same_prefix, HadBy, GuestTrue, Told, told}
 use Rattle.cover_world.proofs.Walk.{ResultHopes, BodyHopes, EventHopes, site_sound}
 use Rattle.spawn_frame.specs.Tables.{root_entry}
+use Rattle.root_registry.specs.Published.{answer_of}
 
 -- what a returned result says of the child that it names
 abbrev pub ReturnTrue : {problem : Problem} {start end : World} → Run problem start end → ChildName → ChildResult → Type 0
@@ -232,14 +234,14 @@ root_there {problem} nodes limits (go {old = old} {new = new} run event step) vi
 
 -- ---- none is published only where there is none
 
-shown_empty : (problem : Problem) (r : ChildResult) → in_file_order problem r ≡ Empty → r ≡ Empty
+shown_empty : (problem : Problem) (r : ChildResult) → answer_of problem r ≡ NoCover → r ≡ Empty
 shown_empty problem Empty e = refl
 shown_empty problem (Cover options) e = absurd (cc)
 
 pub none_published : {problem : Problem} (nodes : ℕ) (limits : List ℕ) {end : World} → Run problem (opening_world nodes limits) end
-    → published problem end ≡ Some Empty → (chosen : ℕ → Bool) → IsExactCover problem chosen → ⊥
+    → published problem end ≡ Some NoCover → (chosen : ℕ → Bool) → IsExactCover problem chosen → ⊥
 none_published {problem} nodes limits {end} run e chosen cover =
-    let p = published_from problem end Empty e in
+    let p = published_from problem end NoCover e in
     let view = p.registered.view in
     let c = p.registered.has.entry in
     let done : c.status ≡ Done Empty = p.registered.has.done ∙ ap Done (shown_empty problem p.result p.shown) in

@@ -4,6 +4,8 @@ use Rattle.std.proofs.lemmas.Option.{same_Some, none-some}
 use Rattle.cover_problem.specs.Problem.{Problem}
 use Rattle.cover_problem.specs.ExactCover.{IsExactCover, in_order}
 use Rattle.cover_problem.specs.Numbers.{is_in}
+use Rattle.cover_problem.specs.declared.answer.Answer.{Answer}
+use Rattle.cover_problem.specs.declared.answer.Answer.TheVariants as answers
 use Rattle.spawn_frame.specs.declared.site.Site.{Site}
 use Rattle.spawn_frame.specs.declared.child_result.ChildResult.{ChildResult}
 use Rattle.spawn_frame.specs.declared.child_result.ChildResult.TheVariants.{Cover, Empty}
@@ -21,7 +23,8 @@ use Rattle.node_core.specs.declared.reply.Reply.{Reply}
 use Rattle.node_core.specs.Arrivals.{Denies, Gives}
 use Rattle.root_registry.specs.RegistryStep.{RootAnswers, RootSteal, RootHears, RegistryStep, IsAcceptable, root_result, entry_result, status_result}
 use Rattle.cover_world.specs.Worlds.{World, WorldMove, Acts, Restarts, WorldStep, Run, stay, go, opening_world, opening_registry}
-use Rattle.cover_world.specs.Safety.{published, published_by, in_file_order}
+use Rattle.cover_world.specs.Safety.{published, published_at}
+use Rattle.root_registry.specs.Published.{answer_of}
 use Rattle.cover_world.proofs.Steps.{registry_grows}
 use Rattle.cover_world.proofs.Later.{get_set, set_get}
 use Rattle.cover_problem.proofs.Sets.{in_order_same}
@@ -90,30 +93,30 @@ run_root {problem} (go {old = old} {new = new} run event step) r h = step_root p
 
 -- ---- what is published
 
-pub record PublishedAs (problem : Problem) (world : World) (answer : ChildResult) : Type 0 where
+pub record PublishedAs (problem : Problem) (world : World) (answer : Answer) : Type 0 where
   pub result : ChildResult
   pub registered : Registered world result
-  pub shown : in_file_order problem result ≡ answer
+  pub shown : answer_of problem result ≡ answer
 
-mapped_some : (problem : Problem) (o : Option ChildResult) (answer : ChildResult) → option_map (in_file_order problem) o ≡ Some answer → (r : ChildResult) × (o ≡ Some r) × (in_file_order problem r ≡ answer)
+mapped_some : (problem : Problem) (o : Option ChildResult) (answer : Answer) → option_map (answer_of problem) o ≡ Some answer → (r : ChildResult) × (o ≡ Some r) × (answer_of problem r ≡ answer)
 mapped_some problem None answer e = absurd (none-some answer e)
 mapped_some problem (Some r) answer e = (r, refl, same_Some _ answer e)
 
-published_view : (problem : Problem) (world : World) (answer : ChildResult) (o : Option View) → slice_get world.sites 0 ≡ o → published_by problem o ≡ Some answer → PublishedAs problem world answer
+published_view : (problem : Problem) (world : World) (answer : Answer) (o : Option View) → slice_get world.sites 0 ≡ o → published_at problem o ≡ Some answer → PublishedAs problem world answer
 published_view problem world answer None at e = absurd (none-some answer e)
 published_view problem world answer (Some v) at e =
     let m = mapped_some problem (root_result v) answer e in
     record { result = m.0; registered = record { view = v; is = at; has = root_has_from v m.0 m.1 }; shown = m.2 }
 
-pub published_from : (problem : Problem) (world : World) (answer : ChildResult) → published problem world ≡ Some answer → PublishedAs problem world answer
+pub published_from : (problem : Problem) (world : World) (answer : Answer) → published problem world ≡ Some answer → PublishedAs problem world answer
 published_from problem world answer e = published_view problem world answer (slice_get world.sites 0) refl e
 
-pub published_to : (problem : Problem) (world : World) (answer : ChildResult) → PublishedAs problem world answer → published problem world ≡ Some answer
+pub published_to : (problem : Problem) (world : World) (answer : Answer) → PublishedAs problem world answer → published problem world ≡ Some answer
 published_to problem world answer p =
-    ap (published_by problem) p.registered.is ∙ ap (option_map (in_file_order problem)) (root_has_to p.registered.view p.result p.registered.has) ∙ ap Some p.shown
+    ap (published_at problem) p.registered.is ∙ ap (option_map (answer_of problem)) (root_has_to p.registered.view p.result p.registered.has) ∙ ap Some p.shown
 
 -- what is published is published ever after, unchanged
-pub published_stays : {problem : Problem} {now end : World} → Run problem now end → (answer : ChildResult) → published problem now ≡ Some answer → published problem end ≡ Some answer
+pub published_stays : {problem : Problem} {now end : World} → Run problem now end → (answer : Answer) → published problem now ≡ Some answer → published problem end ≡ Some answer
 published_stays {problem} {now} {end} run answer e =
     let p = published_from problem now answer e in
     published_to problem end answer (record { result = p.result; registered = run_root run p.result p.registered; shown = p.shown })
@@ -244,7 +247,7 @@ in_order_counts problem options h = subst (IsExactCover problem) (λ i o. sym (s
     same : (o : ℕ) → is_in (in_order problem options) o ≡ is_in options o
     same o = in_order_same problem options o (h.in_range o)
 
-shown_counts : (problem : Problem) (r : ChildResult) (options : List ℕ) → in_file_order problem r ≡ Cover options → IsCounted problem r → IsExactCover problem (is_in options)
+shown_counts : (problem : Problem) (r : ChildResult) (options : List ℕ) → answer_of problem r ≡ answers.Cover options → IsCounted problem r → IsExactCover problem (is_in options)
 shown_counts problem (Cover chosen) options e h =
     let same : in_order problem chosen ≡ options = cc in
     subst (λ l. IsExactCover problem (is_in l)) same (in_order_counts problem chosen h)
@@ -259,7 +262,7 @@ opening_counted problem nodes limits r reg =
 
 -- every cover that is published is an exact cover
 pub published_counts : {problem : Problem} (nodes : ℕ) (limits : List ℕ) {end : World} → Run problem (opening_world nodes limits) end
-    → (options : List ℕ) → published problem end ≡ Some (Cover options) → IsExactCover problem (is_in options)
+    → (options : List ℕ) → published problem end ≡ Some (answers.Cover options) → IsExactCover problem (is_in options)
 published_counts {problem} nodes limits {end} run options e =
-    let p = published_from problem end (Cover options) e in
+    let p = published_from problem end (answers.Cover options) e in
     shown_counts problem p.result options p.shown (run_counted run (opening_counted problem nodes limits) p.result p.registered)

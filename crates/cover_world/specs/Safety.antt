@@ -1,8 +1,10 @@
 -- What holds of each run.
-use Rattle.std.specs.Prelude.{◌≡◌, ◌≢◌, ◌⊎◌, ℕ, ◌≤◌, Bool, List, Option, Some, None, option_map, slice_get}
-use Rattle.cover_problem.specs.ExactCover.{IsExactCover, in_order}
+use Rattle.std.specs.Prelude.{◌≡◌, ◌≢◌, ◌⊎◌, ℕ, ◌≤◌, Bool, List, Option, Some, None, slice_get}
+use Rattle.cover_problem.specs.ExactCover.{IsExactCover}
 use Rattle.cover_problem.specs.Numbers.{is_in}
 use Rattle.cover_problem.specs.Problem.{Problem}
+use Rattle.cover_problem.specs.declared.answer.Answer.{Answer}
+use Rattle.cover_problem.specs.declared.answer.Answer.TheVariants.{Cover, NoCover}
 use Rattle.cover_world.specs.Worlds.{Acts, EachStep, Restarts, Run, SomeTime, World, WorldMove, after}
 use Rattle.node_core.specs.Requests.{registry}
 use Rattle.node_core.specs.SiteView.{View}
@@ -10,10 +12,9 @@ use Rattle.node_core.specs.declared.event.Event.{Event}
 use Rattle.node_core.specs.declared.event.Event.TheVariants.{Deliver, Post}
 use Rattle.packet_wire.specs.declared.packet.Body.{Body}
 use Rattle.packet_wire.specs.declared.packet.Body.TheVariants.{Return}
-use Rattle.root_registry.specs.RegistryStep.{root_result}
+use Rattle.root_registry.specs.Published.{published_by}
 use Rattle.spawn_frame.specs.Units.{Entry, guest_in}
 use Rattle.spawn_frame.specs.declared.child_result.ChildResult.{ChildResult}
-use Rattle.spawn_frame.specs.declared.child_result.ChildResult.TheVariants.{Cover, Empty}
 use Rattle.spawn_frame.specs.declared.site.ChildName.{ChildName}
 use Rattle.spawn_frame.specs.declared.status.Status.TheVariants.{Aborted, Done, Settled}
 
@@ -83,24 +84,19 @@ NoneLate now old event new =
     (name : ChildName) (entry : Entry) (attempt : ℕ) → HasChild now name entry → ResultEnters old event new name attempt
     → (entry.status ≢ Aborted) × (entry.attempt ≤ attempt)
 
--- the result with the options of its cover ascending
-abbrev pub in_file_order : Problem → ChildResult → ChildResult
-in_file_order problem (Cover options) = Cover (in_order problem options)
-in_file_order problem Empty = Empty
+-- what the registry publishes, where there is the registry
+abbrev pub published_at : Problem → Option View → Option Answer
+published_at problem None = None
+published_at problem (Some registry) = published_by problem registry
 
--- what the registry has published
-abbrev pub published_by : Problem → Option View → Option ChildResult
-published_by problem None = None
-published_by problem (Some registry) = option_map (in_file_order problem) (root_result registry)
-
--- the root's result once it is done: a cover in file order, or Empty for no cover
-abbrev pub published : Problem → World → Option ChildResult
-published problem world = published_by problem (slice_get world.sites 0)
+-- the root's result once it is done: a cover in file order, or that there is none
+abbrev pub published : Problem → World → Option Answer
+published problem world = published_at problem (slice_get world.sites 0)
 
 -- A run, and a run that goes on from its end: one result for each name, none late, covers right, none only where there is none, and published for good.
 pub record Safe {problem : Problem} {start now end : World} (e : Run problem start now) (f : Run problem now end) : Type 0 where
   pub one_result : OneResult (after e f)
   pub none_late : EachStep (NoneLate now) f
   pub covers : (options : List ℕ) → published problem end ≡ Some (Cover options) → IsExactCover problem (is_in options)
-  pub no_cover : published problem end ≡ Some Empty → (chosen : ℕ → Bool) → IsExactCover problem chosen → ⊥
-  pub kept : (answer : ChildResult) → published problem now ≡ Some answer → published problem end ≡ Some answer
+  pub no_cover : published problem end ≡ Some NoCover → (chosen : ℕ → Bool) → IsExactCover problem chosen → ⊥
+  pub kept : (answer : Answer) → published problem now ≡ Some answer → published problem end ≡ Some answer

@@ -2,6 +2,7 @@
 
 ghost use Rattle.std.specs.Prelude.{◌≡◌, ◌∷◌, [], None, Some, true};
 ghost use Rattle.cover_problem.specs.Examples.{bare, small};
+ghost use Rattle.cover_problem.specs.declared.answer.Answer.TheVariants as answers;
 ghost use Rattle.cover_world.specs.LaterRuns as later_runs;
 ghost use Rattle.cover_world.specs.Overtaken as overtaken;
 ghost use Rattle.cover_world.specs.Overtaken.{two_ways};
@@ -20,14 +21,14 @@ ghost use Rattle.spawn_frame.specs.declared.unit.Unit.TheVariants.{Own};
 /// time none is published; the second time the registry sends an equal packet of acceptance and changes nothing.
 pub fn repeated_result()
     ensures run { Plays bare (opening_world 2 limits) repeated.events repeated.packets (λ end.
-        (published bare end ≡ Some Empty) × (status_in end 1 (root_guest 1) ≡ Some (Settled Empty))) }
+        (published bare end ≡ Some answers.NoCover) × (status_in end 1 (root_guest 1) ≡ Some (Settled Empty))) }
 {}
 
 /// One item with two options. The root is given out twice, the thieves find different covers, and the second thief's
 /// comes first. It is published, and both thieves settle on it.
 pub fn overtaken_result()
     ensures run { Plays two_ways (opening_world 2 limits) overtaken.events overtaken.packets (λ end.
-        (published two_ways end ≡ Some (Cover (1 ∷ [])))
+        (published two_ways end ≡ Some (answers.Cover (1 ∷ [])))
         × (status_in end 1 (root_guest 1) ≡ Some (Settled (Cover (1 ∷ []))))
         × (status_in end 2 (root_guest 2) ≡ Some (Settled (Cover (1 ∷ []))))
         × (status_in end 2 (Own 0) ≡ Some Aborted)) }
@@ -37,7 +38,7 @@ pub fn overtaken_result()
 /// refused, the child stays aborted, and the thief drops its guest.
 pub fn late_result()
     ensures run { Plays small (opening_world 2 limits) stolen.late_events stolen.late_packets (λ end.
-        (published small end ≡ Some (Cover (0 ∷ 3 ∷ 4 ∷ [])))
+        (published small end ≡ Some (answers.Cover (0 ∷ 3 ∷ 4 ∷ [])))
         × (status_in end 1 (Own 0) ≡ Some Aborted)
         × (status_in end 2 stolen.stolen ≡ Some Dropped)) }
 {}
@@ -55,7 +56,7 @@ pub fn thief_begins_anew()
 /// result and that the search is over are said again, and a node that asks for work then hears that it is over.
 pub fn said_again()
     ensures run { Plays bare (opening_world 2 limits) said_again.events said_again.packets (λ end.
-        (published bare end ≡ Some Empty) × (over_in end 1 ≡ Some true)) }
+        (published bare end ≡ Some answers.NoCover) × (over_in end 1 ≡ Some true)) }
 {}
 
 /// A node begins anew while the root is out to another one: the root stays out there. The thief is told of the node's later

@@ -5,6 +5,7 @@ pub mod Eaching
 pub mod Entering
 pub mod Hellos
 pub mod Raising
+pub mod Resulting
 pub mod Routes
 pub mod Stepping
 pub mod Acting

@@ -1,4 +1,5 @@
 pub mod Core
 pub mod Formed
+pub mod Published
 pub mod Refusal
 pub mod RegistryStep

@@ -1,17 +1,20 @@
-ghost use Rattle.std.specs.Prelude.{◌≡◌, ◌≤◌, true, IfOk, OnErr};
+ghost use Rattle.std.specs.Prelude.{◌≡◌, ◌≤◌, true, IfOk, OnErr, OnOk, option_map};
 ghost use Rattle.node_core.specs.Acting.{refusal_told, MaySend, Sending};
 ghost use Rattle.node_core.specs.Refusal.{IsFit};
 ghost use Rattle.node_core.specs.declared.event.Event.{Event};
 ghost use Rattle.packet_wire.specs.WellFormed.{is_well_formed};
 ghost use Rattle.root_registry.specs.Core.{goes_to_registry, AnswersBody, AnswersEvent};
 ghost use Rattle.root_registry.specs.Formed.{IsFormedRegistry};
+ghost use Rattle.root_registry.specs.Published.{entering, entering_with, published_by, publishing};
 ghost use Rattle.root_registry.specs.Refusal.{registry_refusal, root_hear_refusal};
 
 use crate::again::say_again;
 use crate::formed::the_registry_stays_formed;
 use crate::greeting::receive_hello;
+use crate::laws::the_root_has_what_enters;
+use crate::publication::Publication;
 use crate::root::{receive_return, receive_steal};
-use cover_problem::Problem;
+use cover_problem::{Answer, Problem};
 use node_core::{ActFault, Core, Event, Outgoing, Reply, SiteState, is_misdirected};
 use packet_wire::{Body, Packet};
 use spawn_frame::Site;
@@ -21,22 +24,22 @@ use steal_return::Ledger;
 
 /// The core of the registry.
 ///
-/// It has the root, knows which runs of the nodes there are, and does no work of its own.
+/// It has the root, knows which runs of the nodes there are, publishes the answer, and does no work of its own.
 #[derive(Drop)]
 pub struct Registry<'a> {
     state: SiteState,
-    problem: &'a Problem,
+    publication: Publication<'a>,
 }
 
 impl<'a> Model for Registry<'a> {
     ghost use Rattle.node_core.specs.Acting.{SiteCore};
-    ghost use Rattle.root_registry.specs.Formed.{IsFormedRegistry};
+    ghost use Rattle.root_registry.specs.Published.{IsPublishing};
 
     ghost Value = { SiteCore };
 
-    ghost view = { λ c. record { problem = c.problem.now; view = c.state } };
+    ghost view = { λ c. record { problem = c.publication.problem; view = c.state } };
 
-    ghost invariant = { λ c. IsFormedRegistry c.problem.now c.state };
+    ghost invariant = { λ c. IsPublishing c.publication.problem c.state c.publication.answer };
 }
 
 impl<'a> Registry<'a> {
@@ -55,8 +58,16 @@ impl<'a> Registry<'a> {
         the_registry_stays_formed();
         Ok(Registry {
             state: SiteState::new(alloc, ledger),
-            problem,
+            publication: Publication::new(problem),
         })
+    }
+
+    /// What is published: the result of the root once that is done, as a cover with its options in the order of the file,
+    /// or that there is none. Once there, it stays.
+    pub fn published(&self) -> Option<&Answer>
+        ensures { option_map (λ answer. answer.now) result ≡ published_by self.now.problem self.now.view }
+    {
+        self.publication.answer()
     }
 }
 
@@ -82,27 +93,31 @@ impl<'a> Core for Registry<'a> {
 
     fn answer(&mut self, event: Event, out: &mut Outgoing) -> Result<Reply, ActFault> {
         the_registry_stays_formed();
-        answer_event(&mut self.state, self.problem, event, out)
+        the_root_has_what_enters();
+        answer_event(&mut self.state, &mut self.publication, event, out)
     }
 }
 
 /// One event of the registry, which does no work of its own.
 fn answer_event(
     state: &mut SiteState,
-    problem: &Problem,
+    publication: &mut Publication,
     event: Event,
     out: &mut Outgoing,
 ) -> Result<Reply, ActFault>
-    requires formed { IsFormedRegistry problem.now state.old }
-    requires fit { IsFit problem.now event }
-    ensures step { IfOk result (λ reply. Sending out.old out.new (AnswersEvent problem.now state.old event state.new reply)) }
-    ensures refusal { refusal_told result ≡ registry_refusal problem.now state.old event }
+    requires formed { IsFormedRegistry publication.old.problem state.old }
+    requires fit { IsFit publication.old.problem event }
+    ensures step { IfOk result (λ reply. Sending out.old out.new
+        (AnswersEvent publication.old.problem state.old event state.new reply)) }
+    ensures refusal { refusal_told result ≡ registry_refusal publication.old.problem state.old event }
     ensures err { OnErr result (state.new ≡ state.old) }
     ensures list { OnErr result (MaySend out.old out.new) }
+    ensures published { OnOk result (publication.new ≡ publishing publication.old (entering state.old event)) }
+    ensures unpublished { OnErr result (publication.new ≡ publication.old) }
 {
     match event {
         Event::Redo(serial) => state.redo(serial),
-        Event::Deliver(packet) => deliver(state, problem, packet, out),
+        Event::Deliver(packet) => deliver(state, publication, packet, out),
         Event::Again => say_again(state, out),
         _ => Err(ActFault::OtherSite),
     }
@@ -111,27 +126,30 @@ fn answer_event(
 /// A packet is delivered to the registry: it may be misdirected.
 fn deliver(
     state: &mut SiteState,
-    problem: &Problem,
+    publication: &mut Publication,
     packet: Packet,
     out: &mut Outgoing,
 ) -> Result<Reply, ActFault>
-    requires formed { IsFormedRegistry problem.now state.old }
+    requires formed { IsFormedRegistry publication.old.problem state.old }
     requires fit { is_well_formed packet ≡ true }
-    ensures step { IfOk result (λ reply. Sending out.old out.new (AnswersEvent problem.now state.old (Event.Deliver packet) state.new reply)) }
-    ensures refusal { refusal_told result ≡ registry_refusal problem.now state.old (Event.Deliver packet) }
+    ensures step { IfOk result (λ reply. Sending out.old out.new
+        (AnswersEvent publication.old.problem state.old (Event.Deliver packet) state.new reply)) }
+    ensures refusal { refusal_told result ≡ registry_refusal publication.old.problem state.old (Event.Deliver packet) }
     ensures err { OnErr result (state.new ≡ state.old) }
     ensures list { OnErr result (MaySend out.old out.new) }
+    ensures published { OnOk result (publication.new ≡ publishing publication.old (entering state.old (Event.Deliver packet))) }
+    ensures unpublished { OnErr result (publication.new ≡ publication.old) }
 {
     if is_misdirected(state, &packet) {
         return Err(ActFault::OtherSite);
     }
-    hear(state, problem, packet.from, packet.body, out)
+    hear(state, publication, packet.from, packet.body, out)
 }
 
 /// A packet arrives at the registry from a node.
 fn hear(
     state: &mut SiteState,
-    problem: &Problem,
+    publication: &mut Publication,
     from: Site,
     body: Body,
     out: &mut Outgoing,
@@ -140,19 +158,22 @@ fn hear(
     requires some { 1 ≤ from.node }
     requires there { from.node ≤ state.old.nodes }
     requires heard { goes_to_registry body ≡ true }
-    ensures step { IfOk result (λ reply. Sending out.old out.new (AnswersBody problem.now state.old from body state.new reply)) }
-    ensures refusal { refusal_told result ≡ root_hear_refusal problem.now state.old from body }
+    ensures step { IfOk result (λ reply. Sending out.old out.new
+        (AnswersBody publication.old.problem state.old from body state.new reply)) }
+    ensures refusal { refusal_told result ≡ root_hear_refusal publication.old.problem state.old from body }
     ensures err { OnErr result (state.new ≡ state.old) }
     ensures list { OnErr result (MaySend out.old out.new) }
+    ensures published { OnOk result (publication.new ≡ publishing publication.old (entering_with state.old from body)) }
+    ensures unpublished { OnErr result (publication.new ≡ publication.old) }
 {
     match body {
         Body::Hello => receive_hello(state, from, out),
-        Body::Steal => receive_steal(state, problem, from, out),
+        Body::Steal => receive_steal(state, publication.problem(), from, out),
         Body::Return {
             serial,
             attempt,
             result,
-        } => receive_return(state, problem, from, serial, attempt, result, out),
+        } => receive_return(state, publication, from, serial, attempt, result, out),
         _ => unreachable!(),
     }
 }

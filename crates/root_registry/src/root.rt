@@ -1,15 +1,17 @@
 //! The root, and the result that enters for it.
 
-ghost use Rattle.std.specs.Prelude.{◌≡◌, ◌≢◌, ◌≤◌, is_some, slice_get, true, IfOk, OnErr};
+ghost use Rattle.std.specs.Prelude.{◌≡◌, ◌≢◌, ◌≤◌, is_some, slice_get, true, IfOk, OnErr, OnOk};
 ghost use Rattle.std.specs.Bool.{OnFalse, OnTrue};
 ghost use Rattle.node_core.specs.Acting.{refusal_told, MaySend, Sending};
 ghost use Rattle.packet_wire.specs.declared.packet.Body.{Body};
 ghost use Rattle.root_registry.specs.Core.{AnswersBody};
+ghost use Rattle.root_registry.specs.Published.{entering_with, publishing};
 ghost use Rattle.root_registry.specs.Refusal.{is_acceptable, root_hear_refusal};
 ghost use Rattle.root_registry.specs.RegistryStep.{root_result};
 ghost use Rattle.spawn_frame.specs.Tables.{has_status, is_out};
 ghost use Rattle.steal_return.specs.Returns.{judged, Enters};
 
+use crate::publication::{Publication, answer_of};
 use crate::telling::send_over;
 use cover_problem::{Problem, Verdict, check_cover};
 use node_core::{ActFault, Outgoing, Reply, SiteState};
@@ -72,10 +74,11 @@ pub(crate) fn receive_steal(
     Ok(Reply::Moved)
 }
 
-/// A thief returns a result: where it enters, a cover has to count right, and every node is told that the search is over.
+/// A thief returns a result: where it enters, a cover has to count right, every node is told that the search is over, and
+/// the result is published.
 pub(crate) fn receive_return(
     state: &mut SiteState,
-    problem: &Problem,
+    publication: &mut Publication,
     from: Site,
     serial: u32,
     attempt: Attempt,
@@ -83,19 +86,26 @@ pub(crate) fn receive_return(
     out: &mut Outgoing,
 ) -> Result<Reply, ActFault>
     requires { state.old.nodes ≤ 16 }
-    ensures step { IfOk result (λ reply. Sending out.old out.new (AnswersBody problem.now state.old from (Body.Return serial attempt child_result) state.new reply)) }
-    ensures refusal { refusal_told result ≡ root_hear_refusal problem.now state.old from (Body.Return serial attempt child_result) }
+    ensures step { IfOk result (λ reply. Sending out.old out.new
+        (AnswersBody publication.old.problem state.old from (Body.Return serial attempt child_result) state.new reply)) }
+    ensures refusal { refusal_told result
+        ≡ root_hear_refusal publication.old.problem state.old from (Body.Return serial attempt child_result) }
     ensures err { OnErr result (state.new ≡ state.old) }
     ensures list { OnErr result (MaySend out.old out.new) }
+    ensures published { OnOk result (publication.new
+        ≡ publishing publication.old (entering_with state.old from (Body.Return serial attempt child_result))) }
+    ensures unpublished { OnErr result (publication.new ≡ publication.old) }
 {
     if !is_awaited(state, from, serial, attempt) {
         return state.receive_return(from, serial, attempt, child_result, out);
     }
+    let problem = publication.problem();
     // (for what the getter says: that the problem is lawful)
     let _items = problem.items();
     if !is_acceptable(problem, &child_result) {
         return Err(ActFault::BadCover);
     }
+    let answer = answer_of(state.allocator(), problem, &child_result)?;
     let result = child_result.copy()?;
     out.send(Packet {
         from: state.site(),
@@ -108,5 +118,6 @@ pub(crate) fn receive_return(
     })?;
     send_over(state, out)?;
     state.enter(serial, child_result);
+    publication.publish(answer);
     Ok(Reply::Moved)
 }

@@ -2,7 +2,6 @@
 
 ghost use Rattle.std.specs.Prelude.{◌≡◌, ◌≢◌, ◌-◌, ◌<◌, ◌≤◌, ◌^◌, IfOk, IfErr, IfSome};
 ghost use Rattle.std.specs.Io.KnownBytes.{IsAtEnd};
-ghost use Rattle.cover_problem.specs.ExactCover.{in_order};
 ghost use Rattle.cover_problem.specs.Search.{Covers};
 ghost use Rattle.solve_cli.specs.Alone.{IsAnswered, IsLeft, alone_text, alone_status, outcome_text};
 ghost use Rattle.solve_cli.specs.Output.{IsOutput};
@@ -11,9 +10,9 @@ use crate::fault::EngineFault;
 use crate::input::{problem_of, read_all};
 use crate::lines::{write_line, write_solution};
 use brancher::{Outcome, Searcher};
-use cover_problem::{Answer, Numbers, Problem};
+use cover_problem::{Answer, Problem, in_order};
 use dlx_reader::{Sink, Source};
-use std::alloc::{AllocError, Global};
+use std::alloc::Global;
 
 /// How a run of `alone` ended.
 #[derive(Clone, Copy, Debug, PartialEq, Eq)]
@@ -22,15 +21,6 @@ pub struct AloneEnd {
     pub status: u8,
     /// How many options of the file were ignored.
     pub ignored: usize,
-}
-
-/// The chosen options, in the order of the file.
-fn in_order(alloc: Global, problem: &Problem, chosen: &[u16]) -> Result<Vec<u16>, AllocError>
-    ensures { IfOk result (λ options. options.items ≡ in_order problem.now chosen.now) }
-{
-    (0..problem.options() as u16)
-        .filter(|option| chosen.contains(option))
-        .collect(alloc)
 }
 
 /// Writes the text of the cover that a search found, with its options in the order of the file.
@@ -48,7 +38,7 @@ fn write_found<W: Sink>(
     let Ok(options) = in_order(alloc, problem, chosen) else {
         return Err(EngineFault::Memory);
     };
-    write_solution(problem, &Answer::Cover(Numbers::from_vec(options)), 0, sink)
+    write_solution(problem, &Answer::Cover(options), 0, sink)
 }
 
 /// Searches the empty prefix, writes what comes of it, and answers the status.

@@ -53,6 +53,8 @@ enum Does {
     Take,
     /// The unit that was taken last is searched with so much fuel.
     Post(u64),
+    /// This prefix is searched with so much fuel, and posted for the job.
+    PostFor(Job, &'static [u16], u64),
     Finish(Unit),
     Ask(u8),
     Redo(u32),
@@ -119,9 +121,21 @@ impl<'a> Stage<'a> {
         out: &mut Vec<Packet>,
     ) -> Result<Reply, ActFault> {
         let Some(job) = self.taken else {
-            return Err(ActFault::Over);
+            return Err(ActFault::Memory);
         };
         let prefix = self.prefix.clone().expect(rt, "memory");
+        self.post_for(rt, job, prefix, fuel, out)
+    }
+
+    /// Searches the prefix, and posts what comes of it for the job.
+    fn post_for<R: Abort>(
+        &mut self,
+        rt: &R,
+        job: Job,
+        prefix: Vec<u16>,
+        fuel: u64,
+        out: &mut Vec<Packet>,
+    ) -> Result<Reply, ActFault> {
         assert!(rt; is_prefix(self.problem, &prefix));
         assert!(rt; fuel > 0);
         match self.searcher.find(prefix, fuel) {
@@ -136,7 +150,7 @@ impl<'a> Stage<'a> {
             packet_of(self.alloc, from, to, said).expect(rt, "memory")
         };
         match does {
-            Does::Take | Does::Post(_) => Event::Take,
+            Does::Take | Does::Post(_) | Does::PostFor(..) => Event::Take,
             Does::Finish(unit) => Event::Finish(unit),
             Does::Ask(victim) => Event::Ask(victim),
             Does::Redo(serial) => Event::Redo(serial),
@@ -153,6 +167,10 @@ impl<'a> Stage<'a> {
         let mut out = Vec::new(self.alloc);
         let answer = match does {
             Does::Post(fuel) => self.post(rt, fuel, &mut out),
+            Does::PostFor(job, prefix, fuel) => {
+                let prefix = Vec::from_slice(self.alloc, prefix).expect(rt, "memory");
+                self.post_for(rt, job, prefix, fuel, &mut out)
+            }
             other => {
                 let event = self.event(rt, other);
                 self.act(rt, event, &mut out)
@@ -177,7 +195,7 @@ fn play<R: Abort>(rt: &R, alloc: Global, names_limit: u32, rows: &[Row]) {
 }
 
 use self::Comes::{Fault, Idle, Ignored, Moved, Ripe, Taken};
-use self::Does::{Again, Ask, Finish, Greet, Hears, Overhears, Post, Redo, Take};
+use self::Does::{Again, Ask, Finish, Greet, Hears, Overhears, Post, PostFor, Redo, Take};
 use node_core::ActFault::{
     BadPrefix, NamesSpent, NotOpen, NotOut, NotSettled, OtherSite, StaleJob,
 };
@@ -185,8 +203,19 @@ use node_core::ActFault::{
 /// The root is given to the node.
 const ROOT_GIVEN: Row = (Hears(REGISTRY, Said::Give(0, 1, &[])), Moved, &[]);
 
+/// The search of the root that was given at the first attempt, and one at an attempt that nobody gave.
+const ROOT_JOB: Job = Job {
+    unit: ROOT,
+    attempt: 1,
+};
+
+const LATER_ROOT_JOB: Job = Job {
+    unit: ROOT,
+    attempt: 2,
+};
+
 /// One name: a search that is spent can't be split, and one that isn't ends.
-static ONE_NAME: [Row; 19] = [
+static ONE_NAME: [Row; 20] = [
     (Take, Idle, &[]),
     ROOT_GIVEN,
     (Take, Taken(&[]), &[]),
@@ -197,6 +226,7 @@ static ONE_NAME: [Row; 19] = [
         &[(REGISTRY, Said::Return(0, 1, Some(&[3, 4, 0])))],
     ),
     (Post(6), Fault(StaleJob), &[]),
+    (Post(1), Fault(StaleJob), &[]),
     (Finish(ROOT), Fault(NotOpen), &[]),
     (Ask(1), Fault(OtherSite), &[]),
     (Ask(3), Fault(OtherSite), &[]),
@@ -274,7 +304,7 @@ static STOLEN: [Row; 18] = [
 ];
 
 /// A thief begins anew: its child is redone, and the result of its earlier run refused; a child that is done tells what it holds.
-static RUNS_ANEW: [Row; 14] = [
+static RUNS_ANEW: [Row; 15] = [
     ROOT_GIVEN,
     (Take, Taken(&[]), &[]),
     (Post(1), Moved, &[]),
@@ -287,6 +317,7 @@ static RUNS_ANEW: [Row; 14] = [
     (Hears(REGISTRY, Said::Members(&[1, 2])), Moved, &[]),
     (Hears(NODE_2, Said::Steal), Moved, &[(NODE_2, Said::NoWork)]),
     (Hears(NODE_2, Said::Give(3, 1, &[0])), Ignored, &[]),
+    (Hears(NODE_2, Said::Give(3, 1, &[0, 2])), Ignored, &[]),
     (
         Hears(NODE_2, Said::Return(0, 1, None)),
         Moved,
@@ -336,16 +367,36 @@ static DROPPED: [Row; 9] = [
     (Finish(ROOT), Fault(NotOpen), &[]),
 ];
 
-/// Of two faults that an event meets the first is told.
-static FIRST_FAULTS: [Row; 8] = [
+/// A result is taken only for a unit that is being searched, at its attempt and for its prefix.
+static STALE: [Row; 7] = [
+    (PostFor(ROOT_JOB, &[], 6), Fault(StaleJob), &[]),
     ROOT_GIVEN,
+    (PostFor(ROOT_JOB, &[], 6), Fault(StaleJob), &[]),
+    (Take, Taken(&[]), &[]),
+    (PostFor(ROOT_JOB, &[0], 6), Fault(StaleJob), &[]),
+    (PostFor(LATER_ROOT_JOB, &[], 6), Fault(StaleJob), &[]),
+    (
+        PostFor(ROOT_JOB, &[], 6),
+        Moved,
+        &[(REGISTRY, Said::Return(0, 1, Some(&[3, 4, 0])))],
+    ),
+];
+
+/// Of two faults that an event meets the first is told, and what is ignored isn't looked at.
+static FIRST_FAULTS: [Row; 13] = [
+    ROOT_GIVEN,
+    (Hears(REGISTRY, Said::Give(0, 1, &[0, 2])), Ignored, &[]),
     (Take, Taken(&[]), &[]),
     (Hears(REGISTRY, Said::Over), Moved, &[]),
     (Overhears(NODE_2, Said::Steal), Fault(OtherSite), &[]),
     (Hears(NODE_5, Said::Steal), Fault(OtherSite), &[]),
     (Post(1), Fault(ActFault::Over), &[]),
+    (PostFor(LATER_ROOT_JOB, &[], 1), Fault(ActFault::Over), &[]),
+    (Finish(ROOT), Fault(ActFault::Over), &[]),
     (Ask(1), Fault(ActFault::Over), &[]),
     (Redo(0), Fault(ActFault::Over), &[]),
+    (Again, Fault(ActFault::Over), &[]),
+    (Greet, Fault(ActFault::Over), &[]),
 ];
 
 #[test]
@@ -366,6 +417,11 @@ fn a_thief_runs_anew(rt: HostRuntime) {
 #[test]
 fn a_guest_is_dropped(rt: HostRuntime) {
     play(&rt, rt.alloc(), 2, &DROPPED);
+}
+
+#[test]
+fn a_stale_job_is_refused(rt: HostRuntime) {
+    play(&rt, rt.alloc(), 1, &STALE);
 }
 
 #[test]

@@ -1,14 +1,18 @@
 //! Scripts of events of the registry; the answers and packets are worked out by hand from the rules of the protocol.
 
-use self::Does::{Again, Greet, Hears, Overhears, Redo, Take};
+ghost use Rattle.std.specs.Prelude.{◌≡◌};
+
+use self::Does::{Again, Ask, Finish, Greet, Hears, Overhears, Post, Redo, Take};
 use super::said::Comes::{Fault, Ignored, Moved};
 use super::said::{Comes, LETTERS, Said, are_sent, has_come, packet_of};
+use brancher::Searcher;
+use cover_problem::{Answer, Problem};
 use dlx_reader::read_problem;
 use node_core::ActFault::{BadCover, NotOut, OtherSite};
 use node_core::{ActFault, Core, Event, Reply};
 use packet_wire::{Packet, is_well_formed};
 use root_registry::Registry;
-use spawn_frame::{Cause, Site};
+use spawn_frame::{Cause, Job, Site, Unit};
 use std::alloc::Global;
 use std::process::Abort;
 
@@ -44,10 +48,20 @@ const ANOTHER: Site = Site {
     incarnation: 1,
 };
 
+/// A search of the root, which the registry gives to others.
+const ROOT_JOB: Job = Job {
+    unit: Unit::Own(0),
+    attempt: 1,
+};
+
 /// What happens at the registry.
 #[derive(Clone, Copy)]
 enum Does {
     Take,
+    /// The root's prefix is searched, and posted.
+    Post,
+    Finish,
+    Ask,
     Redo(u32),
     /// A packet from this site arrives.
     Hears(Site, Said),
@@ -60,60 +74,105 @@ enum Does {
 /// An event, what it comes to, and the packets that it puts out, with their receivers.
 type Row = (Does, Comes, &'static [(Site, Said)]);
 
-/// The event that the row names.
-fn event_of<R: Abort>(rt: &R, alloc: Global, does: Does) -> Event {
-    match does {
-        Take => Event::Take,
-        Redo(serial) => Event::Redo(serial),
-        Hears(from, said) => {
-            Event::Deliver(packet_of(alloc, from, REGISTRY, said).expect(rt, "memory"))
+/// From which row on an answer is published, and the options of its cover, if it is one.
+type Publishes = (usize, Option<&'static [u16]>);
+
+/// The registry with all that a script needs.
+#[derive(Drop)]
+struct Stage<'a> {
+    core: Registry<'a>,
+    searcher: Searcher<'a>,
+    alloc: Global,
+    ghost same: { searcher.problem ≡ core.problem },
+}
+
+impl<'a> Stage<'a> {
+    /// The registry of two nodes before its first event.
+    fn new<R: Abort>(rt: &R, alloc: Global, problem: &'a Problem) -> Stage<'a> {
+        Stage {
+            core: Registry::start(alloc, problem, 2).expect(rt, "memory"),
+            searcher: Searcher::new(alloc, problem).expect(rt, "memory"),
+            alloc,
         }
-        Overhears(from, said) => {
-            Event::Deliver(packet_of(alloc, from, ANOTHER, said).expect(rt, "memory"))
+    }
+
+    /// A packet to this site arrives at the registry.
+    fn hear<R: Abort>(
+        &mut self,
+        rt: &R,
+        from: Site,
+        to: Site,
+        said: Said,
+        out: &mut Vec<Packet>,
+    ) -> Result<Reply, ActFault> {
+        let packet = packet_of(self.alloc, from, to, said).expect(rt, "memory");
+        assert!(rt; is_well_formed(&packet));
+        self.core.act(Event::Deliver(packet), out)
+    }
+
+    /// The root's prefix is searched, and posted.
+    fn post<R: Abort>(&mut self, rt: &R, out: &mut Vec<Packet>) -> Result<Reply, ActFault> {
+        let found = self.searcher.find(Vec::new(self.alloc), 6);
+        let finding = found.expect(rt, "memory");
+        self.core.act(Event::Post(ROOT_JOB, finding), out)
+    }
+
+    /// Lets the event happen that the row names.
+    fn act<R: Abort>(
+        &mut self,
+        rt: &R,
+        does: Does,
+        out: &mut Vec<Packet>,
+    ) -> Result<Reply, ActFault> {
+        match does {
+            Take => self.core.act(Event::Take, out),
+            Post => self.post(rt, out),
+            Finish => self.core.act(Event::Finish(ROOT_JOB.unit), out),
+            Ask => self.core.act(Event::Ask(1), out),
+            Redo(serial) => self.core.act(Event::Redo(serial), out),
+            Hears(from, said) => self.hear(rt, from, REGISTRY, said, out),
+            Overhears(from, said) => self.hear(rt, from, ANOTHER, said, out),
+            Again => self.core.act(Event::Again, out),
+            Greet => self.core.act(Event::Greet, out),
         }
-        Again => Event::Again,
-        Greet => Event::Greet,
+    }
+
+    /// Lets one row of a script happen; whether all is as it says.
+    fn plays<R: Abort>(&mut self, rt: &R, row: Row) -> bool {
+        let (does, comes, sent) = row;
+        let mut out = Vec::new(self.alloc);
+        let answer = self.act(rt, does, &mut out);
+        has_come(&answer, comes) && are_sent(rt, self.alloc, REGISTRY, &out, sent)
     }
 }
 
-/// Lets the event happen.
-fn act<R: Abort>(
-    rt: &R,
-    core: &mut Registry<'_>,
-    event: Event,
-    out: &mut Vec<Packet>,
-) -> Result<Reply, ActFault> {
-    match event {
-        Event::Deliver(packet) => {
-            assert!(rt; is_well_formed(&packet));
-            core.act(Event::Deliver(packet), out)
+/// Whether so much is published after this row.
+fn is_published(core: &Registry<'_>, number: usize, (row, cover): Publishes) -> bool {
+    match (core.published(), cover) {
+        (Some(Answer::Cover(options)), Some(expected)) => {
+            row <= number && options.as_slice() == expected
         }
-        Event::Post(..) => Err(ActFault::StaleJob),
-        other => core.act(other, out),
+        (Some(Answer::NoCover), None) => row <= number,
+        (Some(_), _) => false,
+        (None, _) => number < row,
     }
-}
-
-/// Lets one row of a script happen; whether all is as it says.
-fn plays<R: Abort>(rt: &R, alloc: Global, core: &mut Registry<'_>, row: Row) -> bool {
-    let (does, comes, sent) = row;
-    let mut out = Vec::new(alloc);
-    let event = event_of(rt, alloc, does);
-    let answer = act(rt, core, event, &mut out);
-    has_come(&answer, comes) && are_sent(rt, alloc, REGISTRY, &out, sent)
 }
 
 /// Plays the script at a registry of two nodes.
-fn play<R: Abort>(rt: &R, alloc: Global, rows: &[Row]) {
+fn play<R: Abort>(rt: &R, alloc: Global, rows: &[Row], publishes: Publishes) {
     let read = read_problem(alloc, LETTERS.as_bytes()).expect(rt, "a problem");
-    let mut core = Registry::start(alloc, &read.problem, 2).expect(rt, "memory");
+    let mut stage = Stage::new(rt, alloc, &read.problem);
     for (number, row) in rows.iter().enumerate() {
-        let right = plays(rt, alloc, &mut core, *row);
+        let right = stage.plays(rt, *row);
         assert!(rt; right, "row {number}");
+        let published = is_published(&stage.core, number, publishes);
+        assert!(rt; published, "row {number}");
     }
 }
 
-/// A cover that doesn't count right enters nothing; one that does is accepted, and all nodes are told that it is over.
-static COVERED: [Row; 14] = [
+/// A cover that doesn't count right enters nothing; one that does is accepted, all nodes are told that it is over, and it
+/// is published, its options in the order of the file, whatever comes later.
+static COVERED: [Row; 17] = [
     (Again, Ignored, &[]),
     (
         Hears(NODE_1, Said::Steal),
@@ -125,6 +184,21 @@ static COVERED: [Row; 14] = [
         Hears(NODE_1, Said::Return(0, 1, Some(&[0]))),
         Fault(BadCover),
         &[],
+    ),
+    (
+        Overhears(NODE_1, Said::Return(0, 1, Some(&[0]))),
+        Fault(OtherSite),
+        &[],
+    ),
+    (
+        Hears(NODE_2, Said::Return(0, 1, Some(&[0]))),
+        Moved,
+        &[(NODE_2, Said::Refuse(0, 1, Cause::Superseded))],
+    ),
+    (
+        Hears(NODE_1, Said::Return(0, 2, Some(&[0]))),
+        Moved,
+        &[(NODE_1, Said::Refuse(0, 2, Cause::Unknown))],
     ),
     (Again, Moved, &[(NODE_1, Said::Give(0, 1, &[]))]),
     (
@@ -174,8 +248,11 @@ static COVERED: [Row; 14] = [
 ];
 
 /// The root is given out anew, by a call and since its thief begins anew; it comes to nothing.
-static GIVEN_ANEW: [Row; 14] = [
+static GIVEN_ANEW: [Row; 17] = [
     (Take, Fault(OtherSite), &[]),
+    (Post, Fault(OtherSite), &[]),
+    (Finish, Fault(OtherSite), &[]),
+    (Ask, Fault(OtherSite), &[]),
     (Greet, Fault(OtherSite), &[]),
     (Redo(1), Fault(NotOut), &[]),
     (
@@ -224,10 +301,10 @@ static GIVEN_ANEW: [Row; 14] = [
 
 #[test]
 fn a_cover_is_counted_before_it_enters(rt: HostRuntime) {
-    play(&rt, rt.alloc(), &COVERED);
+    play(&rt, rt.alloc(), &COVERED, (10, Some(&[0, 3, 4])));
 }
 
 #[test]
 fn the_root_is_given_out_anew(rt: HostRuntime) {
-    play(&rt, rt.alloc(), &GIVEN_ANEW);
+    play(&rt, rt.alloc(), &GIVEN_ANEW, (16, None));
 }

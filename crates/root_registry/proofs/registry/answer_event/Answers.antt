@@ -24,7 +24,9 @@ only_nodes problem view Greet redo deliver again = refl
 pub returns : goal.returns
 returns c = record {
   step = tt;
-  refusal = sym (only_nodes c.args.problem.now c.args.state.now c.args.event c.in_default.not-Redo c.in_default.not-Deliver c.in_default.not-Again);
+  refusal = sym (only_nodes c.args.publication.now.problem c.args.state.now c.args.event c.in_default.not-Redo c.in_default.not-Deliver c.in_default.not-Again);
   err = refl;
   list = (_, sends_none c.args.out.now);
+  published = tt;
+  unpublished = refl;
 }

@@ -1,0 +1,39 @@
+#!/usr/bin/env python3
+"""Times the cores: `python3 bench/cores.py`.
+
+`cycle` is a steal from the first packet to the last: eight events and four packets, a thousand and ten thousand times over; each
+leaves one guest more in the node's table. The others are packets that are delivered, a million times each. Beside each, a plain loop only copies the same packets. Both run by turns, three times each, and the least user time of
+the whole process counts. It wants the program built by `rt run` in crates/workbench.
+"""
+import os
+import resource
+import subprocess
+import sys
+
+HERE = os.path.dirname(os.path.abspath(__file__))
+PROGRAM = os.path.join(HERE, "..", "crates", "workbench", "out", "workbench")
+# what happens, how many events it is, and how many times
+ROWS = [("cycle", 8, 1_000), ("cycle", 8, 10_000)] + [
+    (kind, 1, 1_000_000)
+    for kind in ("hello", "members", "steal", "give", "no-work", "return", "accept", "refuse", "abort")
+]
+
+
+def seconds(words):
+    before = resource.getrusage(resource.RUSAGE_CHILDREN).ru_utime
+    subprocess.run([PROGRAM, *words], check=True)
+    return resource.getrusage(resource.RUSAGE_CHILDREN).ru_utime - before
+
+
+def main():
+    print("| Kind | Events | Copies, s | Cores, s | Events a second |")
+    print("|---|---|---|---|---|")
+    for kind, events, times in ROWS:
+        runs = [(seconds(["copy", kind, str(times)]), seconds(["act", kind, str(times)])) for _ in range(3)]
+        copied, acted = min(run[0] for run in runs), min(run[1] for run in runs)
+        count = events * times
+        print(f"| {kind} | {count:,} | {copied:.3f} | {acted:.3f} | {count / max(acted, 0.001):,.0f} |")
+
+
+if __name__ == "__main__":
+    main()

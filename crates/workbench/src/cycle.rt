@@ -1,0 +1,169 @@
+//! A steal from the first packet to the last: the root is asked for, given, searched, returned too late, and refused.
+
+ghost use Rattle.std.specs.Prelude.{◌≡◌, true, IfOk};
+ghost use Rattle.packet_wire.specs.WellFormed.{is_well_formed};
+
+use crate::fault::BenchFault;
+use brancher::Searcher;
+use cover_problem::{Numbers, Problem, is_prefix};
+use node_core::{Core, Event, NodeCore, Reply};
+use packet_wire::{Body, Packet, is_well_formed};
+use root_registry::Registry;
+use spawn_frame::{Cause, ChildResult, Site};
+use std::alloc::{AllocError, Global};
+
+pub const REGISTRY: Site = Site {
+    node: 0,
+    incarnation: 1,
+};
+
+pub const NODE: Site = Site {
+    node: 1,
+    incarnation: 1,
+};
+
+/// How many events and packets a cycle has.
+pub const EVENTS: u64 = 8;
+
+pub const PACKETS: u64 = 4;
+
+/// The registry and its one node.
+#[derive(Drop)]
+pub struct Pair<'a> {
+    registry: Registry<'a>,
+    node: NodeCore<'a>,
+    searcher: Searcher<'a>,
+    problem: &'a Problem,
+    out: Vec<Packet>,
+    alloc: Global,
+    ghost one: { node.problem ≡ problem.now },
+    ghost same: { searcher.problem ≡ problem.now },
+}
+
+impl<'a> Pair<'a> {
+    /// Both before their first event. The only error is want of memory.
+    pub fn new(alloc: Global, problem: &'a Problem) -> Result<Pair<'a>, AllocError> {
+        Ok(Pair {
+            registry: Registry::start(alloc, problem, 1)?,
+            node: NodeCore::start(alloc, problem, NODE, 1, 1)?,
+            searcher: Searcher::new(alloc, problem)?,
+            problem,
+            out: Vec::new(alloc),
+            alloc,
+        })
+    }
+
+    /// The packet that was put out last.
+    fn last(&mut self) -> Result<Packet, BenchFault>
+        ensures { IfOk result (λ packet. is_well_formed packet ≡ true) }
+    {
+        match self.out.pop() {
+            Some(packet) if is_well_formed(&packet) => Ok(packet),
+            _ => Err(BenchFault::Unexpected),
+        }
+    }
+
+    /// The node asks for work, and gets the root.
+    fn steal(&mut self) -> Result<(), BenchFault> {
+        self.node.act(Event::Ask(0), &mut self.out)?;
+        let steal = self.last()?;
+        self.registry.act(Event::Deliver(steal), &mut self.out)?;
+        let give = self.last()?;
+        self.node.act(Event::Deliver(give), &mut self.out)?;
+        Ok(())
+    }
+
+    /// The node takes the root up, searches it with one visit, and returns what comes of it.
+    fn search(&mut self) -> Result<(), BenchFault> {
+        let Reply::Taken(job, prefix) = self.node.act(Event::Take, &mut self.out)? else {
+            return Err(BenchFault::Unexpected);
+        };
+        let prefix = prefix.into_vec();
+        if !is_prefix(self.problem, &prefix) {
+            return Err(BenchFault::Unexpected);
+        }
+        let Ok(finding) = self.searcher.find(prefix, 1) else {
+            return Err(BenchFault::Memory);
+        };
+        self.node.act(Event::Post(job, finding), &mut self.out)?;
+        Ok(())
+    }
+
+    /// The root is given up before its result arrives, which is refused; so the node drops it.
+    fn refuse(&mut self) -> Result<(), BenchFault> {
+        let returned = self.last()?;
+        self.registry.act(Event::Redo(0), &mut self.out)?;
+        self.registry.act(Event::Deliver(returned), &mut self.out)?;
+        let refusal = self.last()?;
+        self.node.act(Event::Deliver(refusal), &mut self.out)?;
+        Ok(())
+    }
+}
+
+/// So many cycles.
+pub fn act_cycles(alloc: Global, problem: &Problem, times: u64) -> Result<(), BenchFault> {
+    let mut pair = Pair::new(alloc, problem)?;
+    for _ in 0..times {
+        pair.steal()?;
+        pair.search()?;
+        pair.refuse()?;
+    }
+    Ok(())
+}
+
+/// The packets of the first cycle.
+pub fn packets(alloc: Global) -> Result<Vec<Packet>, AllocError> {
+    let (serial, attempt) = (0, 1);
+    let between = |from: Site, to: Site, body: Body| Packet { from, to, body };
+    let prefix = Numbers::from_vec(Vec::new(alloc));
+    let result = ChildResult::Empty;
+    let cause = Cause::Superseded;
+    let mut packets = Vec::with_capacity(alloc, 4)?;
+    packets.push(between(NODE, REGISTRY, Body::Steal))?;
+    packets.push(between(
+        REGISTRY,
+        NODE,
+        Body::Give {
+            serial,
+            attempt,
+            prefix,
+        },
+    ))?;
+    packets.push(between(
+        NODE,
+        REGISTRY,
+        Body::Return {
+            serial,
+            attempt,
+            result,
+        },
+    ))?;
+    packets.push(between(
+        REGISTRY,
+        NODE,
+        Body::Refuse {
+            serial,
+            attempt,
+            cause,
+        },
+    ))?;
+    Ok(packets)
+}
+
+/// Copies the packets so many times over.
+pub fn copy_packets(alloc: Global, packets: &[Packet], times: u64) -> Result<(), BenchFault> {
+    let mut out = Vec::new(alloc);
+    for _ in 0..times {
+        copy_all(packets, &mut out)?;
+        out.clear();
+    }
+    Ok(())
+}
+
+/// Appends copies of the packets.
+fn copy_all(packets: &[Packet], out: &mut Vec<Packet>) -> Result<(), AllocError> {
+    for packet in packets {
+        out.push(packet.clone()?)?;
+    }
+    Ok(())
+}

@@ -1,0 +1,25 @@
+use node_core::ActFault;
+use std::alloc::AllocError;
+
+/// Why a count stopped.
+#[derive(Clone, Copy, Debug, PartialEq, Eq)]
+pub enum BenchFault {
+    /// Memory ran out.
+    Memory,
+    /// A core refused an event.
+    Act(ActFault),
+    /// A core put out no packet where one was due, or one without a spelling.
+    Unexpected,
+}
+
+impl From<AllocError> for BenchFault {
+    fn from(_: AllocError) -> BenchFault {
+        BenchFault::Memory
+    }
+}
+
+impl From<ActFault> for BenchFault {
+    fn from(fault: ActFault) -> BenchFault {
+        BenchFault::Act(fault)
+    }
+}
