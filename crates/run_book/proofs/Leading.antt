@@ -16,6 +16,7 @@ pub ends_on : (run : RunName) (site : Site) (limit : ℕ) (entries : List Entry)
     → EndsIn run (record { site = site; entries = entries }) limit old → Enters site.node run.problem old entry new
     → EndsIn run (record { site = site; entries = entries ++ entry ∷ [] }) limit new
 ends_on run site limit entries old entry new ends e = record {
+  lawful = ends.lawful;
   begins = ends.begins;
   leads = leads_on site.node run.problem _ entries old entry new ends.leads e;
 }

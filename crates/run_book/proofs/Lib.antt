@@ -1,3 +1,4 @@
+mod Answering
 mod Counting
 mod Desks
 mod Leading

@@ -1,3 +1,4 @@
+pub mod Answers
 pub mod Beginnings
 pub mod Books
 pub mod Closing

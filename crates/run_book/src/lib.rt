@@ -17,10 +17,10 @@ mod seats;
 mod site_cell;
 mod ticket_rule;
 
-pub use book::Book;
+pub use book::{Book, distinct_sites};
 pub use entry::Entry;
 pub use fault::{BookFault, Missing};
-pub use laws::cores_step_as_their_sites;
+pub use laws::{a_book_tells_what_is_published, cores_step_as_their_sites};
 pub use opened::Opened;
 pub use outbox::{CAPACITY, Drain, Outbox, Pass};
 pub use parcel::Parcel;

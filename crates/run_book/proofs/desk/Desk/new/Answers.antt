@@ -12,7 +12,7 @@ invariant_of-result g c =
       same = c.requires.problem;
       steps = c.requires.steps;
       formed = formed_at_first g.N.Room.site.node g.J.Run.run g.N.Room.site g.N.Room.limit c.requires.run c.requires.begins;
-      book = record { begins = c.requires.begins; leads = refl };
+      book = record { lawful = c.requires.run; begins = c.requires.begins; leads = refl };
       log = refl;
       none_back = refl;
       counted = refl;
