@@ -2,3 +2,4 @@
 
 mod cells;
 mod parcels;
+mod roots;

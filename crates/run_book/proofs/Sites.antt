@@ -125,5 +125,6 @@ pub nodes_step : (n : ℕ) → 1 ≤ n → StepsAt n NodeStep
 nodes_step zero first = absurd (omega arith)
 nodes_step (suc n) first = λ problem old event reply out new s. s
 
-pub registry_steps : StepsAt 0 RegistryStep
-registry_steps = λ problem old event reply out new s. s
+pub registry_steps : (n : ℕ) → n ≡ 0 → StepsAt n RegistryStep
+registry_steps zero is = λ problem old event reply out new s. s
+registry_steps (suc n) is = absurd (omega (arith, is))

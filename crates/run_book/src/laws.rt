@@ -12,7 +12,7 @@ ghost use Rattle.run_book.specs.Sites.{RunName, StepsAt};
 /// Each step of a node's core is one of every site but the registry, and each of the registry's core one of the registry.
 pub fn cores_step_as_their_sites()
     ensures nodes { (node : ℕ) → 1 ≤ node → StepsAt node NodeStep }
-    ensures registry { StepsAt 0 RegistryStep }
+    ensures registry { (node : ℕ) → node ≡ 0 → StepsAt node RegistryStep }
 {}
 
 /// The answer of the registry's book is what its last view publishes: the book's first Accept told the root's result.

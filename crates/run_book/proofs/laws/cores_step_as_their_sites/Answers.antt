@@ -5,4 +5,4 @@ pub returns-clause-nodes : goal.returns-clause-nodes
 returns-clause-nodes c = λ node first. nodes_step node first
 
 pub returns-clause-registry : goal.returns-clause-registry
-returns-clause-registry c = registry_steps
+returns-clause-registry c = λ node is. registry_steps node is
