@@ -1,0 +1,5 @@
+//! Parcels in their order, and books of cells that threads act at.
+
+mod cells;
+mod parcels;
+mod roots;

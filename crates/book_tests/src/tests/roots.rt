@@ -1,0 +1,106 @@
+//! A cell of the registry, and what its book tells.
+
+ghost use Rattle.std.specs.Prelude.{◌≡◌};
+ghost use Rattle.run_book.specs.Sites.{opening_of, IsRun, MayBeginIn};
+
+use cover_problem::{Answer, Numbers, Problem};
+use dlx_reader::read_problem;
+use node_core::{Core, Event};
+use packet_wire::{Body, Packet, is_well_formed};
+use root_registry::Registry;
+use run_book::{
+    Opened, Receipt, Room, Run, Seat, SiteCell, cores_step_as_their_sites, distinct_sites,
+};
+use spawn_frame::{ChildResult, Site};
+use std::alloc::{AllocError, Global};
+use std::marker::Brand;
+use std::slice;
+use std::sync::Wait;
+use std::test::*;
+
+/// Seven items and six options, with one cover: options 3, 4 and 0.
+const LETTERS: &str = "a b c d e f g\nc e\na d g\nb c f\na d f\nb g\nd e g\n";
+
+/// The registry, and a node.
+const REGISTRY: Site = Site {
+    node: 0,
+    incarnation: 1,
+};
+
+const NODE: Site = Site {
+    node: 1,
+    incarnation: 1,
+};
+
+/// Delivers what the node says.
+fn hears<J: Run, C: Core + Drop, N: Room, R: Wait>(
+    rt: &R,
+    cell: &SiteCell<J, C, N>,
+    seat: Seat<N>,
+    receipts: &mut Vec<Receipt<N>>,
+    body: Body,
+) -> Option<Seat<N>> {
+    let packet = Packet {
+        from: NODE,
+        to: REGISTRY,
+        body,
+    };
+    if !is_well_formed(&packet) {
+        return None;
+    }
+    receipts.reserve(1).ok()?;
+    let (seat, receipt) = cell.act(rt, seat, Event::Deliver(packet)).ok()?;
+    receipts.push_reserved(receipt);
+    Some(seat)
+}
+
+/// The cover as the node found it, and as the registry publishes it.
+fn cover(alloc: Global, options: &[u16]) -> Result<Numbers, AllocError> {
+    Ok(Numbers::from_vec(Vec::from_slice(alloc, options)?))
+}
+
+/// Plays a search of one node at a cell of the registry; whether its book tells the cover.
+fn play<J: Run, N: Room, R: Wait>(
+    rt: &R,
+    alloc: Global,
+    opened: Opened,
+    core: Registry,
+    problem: &Problem,
+) -> Option<bool>
+    requires here { opened ≡ record { table = N.table; name = N.name } }
+    requires parts { N.parts ≡ 18446744073709551615 }
+    requires run { IsRun J.run }
+    requires begins { MayBeginIn J.run N.site N.limit }
+    requires registry { N.site.node ≡ 0 }
+    requires core { core ≡ record { problem = J.run.problem; view = opening_of J.run N.site N.limit } }
+    requires problem { problem.now ≡ J.run.problem }
+{
+    cores_step_as_their_sites();
+    let cell: SiteCell<J, Registry, N> = SiteCell::new(opened, core, 2);
+    let mut receipts = Vec::new(alloc);
+    let found = Body::Return {
+        serial: 0,
+        attempt: 1,
+        result: ChildResult::Cover(cover(alloc, &[3, 4, 0]).ok()?),
+    };
+    let seat = hears(rt, &cell, cell.seat(rt).ok()?, &mut receipts, Body::Steal)?;
+    let seat = hears(rt, &cell, seat, &mut receipts, found)?;
+    let mut seats = Vec::new(alloc);
+    seats.push(seat).ok()?;
+    let book = cell.close(seats, receipts).ok()?;
+    let answer = book.answer(alloc, problem).ok()?;
+    let published = Answer::Cover(cover(alloc, &[0, 3, 4]).ok()?);
+    Some(distinct_sites(slice::from_ref(&book)) && answer == Some(published))
+}
+
+#[test]
+fn book_of_the_registry(rt: HostRuntime) -> Result<(), Fail> {
+    let alloc = rt.alloc();
+    let read = read_problem(alloc, LETTERS.as_bytes())?;
+    // (for what the getter says: that the problem is lawful)
+    let _items = read.problem.items();
+    let core = Registry::start(alloc, &read.problem, 1)?;
+    let right = play::<Brand, Brand, _>(&rt, alloc, Opened::new(alloc)?, core, &read.problem);
+    assert_eq!(rt; right, Some(true));
+    Ok(())
+}

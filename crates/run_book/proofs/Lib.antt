@@ -1,0 +1,7 @@
+mod Answering
+mod Counting
+mod Desks
+mod Leading
+mod Order
+mod Sites
+mod Tickets
