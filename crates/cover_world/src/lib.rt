@@ -2,8 +2,13 @@
 #![tactic(auto)]
 
 mod laws;
+mod lookups;
 mod refusals;
 mod runs;
+mod sites;
+mod world;
+mod world_event;
+mod world_fault;
 
 pub use laws::{below_goes_on, safe_over_every_run, step_is_determined, thieves_are_told};
 pub use refusals::{
@@ -15,3 +20,6 @@ pub use refusals::{
 pub use runs::{
     late_result, later_runs, overtaken_result, repeated_result, said_again, thief_begins_anew,
 };
+pub use world::World;
+pub use world_event::WorldEvent;
+pub use world_fault::{Starved, WorldFault};
