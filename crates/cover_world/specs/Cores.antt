@@ -53,10 +53,6 @@ opening_cores problem nodes node (limit ∷ limits) =
 abbrev pub opening_sites : Problem → ℕ → List ℕ → SitesCore
 opening_sites problem nodes limits = record { problem = problem; sites = opening_registry nodes ∷ opening_nodes nodes 1 limits }
 
--- the same sites, with other views
-abbrev pub with_sites : SitesCore → List View → SitesCore
-with_sites core sites = record { problem = core.problem; sites = sites }
-
 -- The site of a node takes a step.
 pub record ActsAt (problem : Problem) (old : List View) (node : ℕ) (event : Event) (reply : Reply) (out : List Packet) (new : List View) : Type 0 where
   pub before : View

@@ -1,5 +1,5 @@
 -- What a world comes to by the events of its caller.
-use Rattle.std.specs.Prelude.{◌≡◌, ℕ, zero, suc, ◌<◌, List, [], ◌∷◌, ◌++◌, Option, Some, length, replicate, take, ⊤}
+use Rattle.std.specs.Prelude.{◌≡◌, ℕ, suc, ◌<◌, Bool, true, false, List, [], ◌∷◌, ◌++◌, Some, length, replicate, take, ⊤}
 use Rattle.cover_problem.specs.Problem.{Problem}
 use Rattle.cover_world.specs.Coverage.{AllCovered}
 use Rattle.cover_world.specs.Moves.{meaning, names_limit, world_refusal}
@@ -22,27 +22,23 @@ pub record WorldCore : Type 0 where
 abbrev pub opening_core : Problem → ℕ → WorldCore
 opening_core problem nodes = record { problem = problem; world = opening_world nodes (replicate nodes names_limit) }
 
--- the same world with other sites and packets
-abbrev pub with_world : WorldCore → World → WorldCore
-with_world core world = record { problem = core.problem; world = world }
-
 -- ---- one event
 
 -- what a step answers: the reply of its site, and of a node that begins anew that something changed
-abbrev pub reply_of : {problem : Problem} {old new : World} → (move : WorldMove) → WorldStep problem old move new → Reply
-reply_of (Acts node event) step = step.reply
-reply_of (Restarts node incarnation limit) step = Moved
+abbrev pub reply_of : (problem : Problem) (old : World) (move : WorldMove) (new : World) → WorldStep problem old move new → Reply
+reply_of problem old (Acts node event) new step = step.reply
+reply_of problem old (Restarts node incarnation limit) new step = Moved
 
 -- of the ready children a Steal gets the one of least serial
-abbrev pub StepGivesLeast : {problem : Problem} {old new : World} → (move : WorldMove) → WorldStep problem old move new → Type 0
-StepGivesLeast (Acts node event) step = GivesLeast step.before event step.out
-StepGivesLeast (Restarts node incarnation limit) step = ⊤
+abbrev pub StepGivesLeast : (problem : Problem) (old : World) (move : WorldMove) (new : World) → WorldStep problem old move new → Type 0
+StepGivesLeast problem old (Acts node event) new step = GivesLeast step.before event step.out
+StepGivesLeast problem old (Restarts node incarnation limit) new step = ⊤
 
 -- A move is a step of the world, with this reply.
 pub record Makes (problem : Problem) (old : World) (move : WorldMove) (reply : Reply) (new : World) : Type 0 where
   pub step : WorldStep problem old move new
-  pub reply_is : reply ≡ reply_of move step
-  pub least : StepGivesLeast move step
+  pub reply_is : reply ≡ reply_of problem old move new step
+  pub least : StepGivesLeast problem old move new step
 
 -- An event of the caller is a step of the world, with this reply.
 pub record Stepped (problem : Problem) (old : World) (event : WorldEvent) (reply : Reply) (new : World) : Type 0 where
@@ -55,6 +51,11 @@ pub record IsPassedOver (problem : Problem) (old : World) (event : WorldEvent) :
   pub fault : WorldFault
   pub refused : world_refusal problem old event ≡ Some fault
   pub none : (move : WorldMove) → meaning problem old event ≡ Some move → IsRefused problem old move
+
+-- An event is a step, or is passed over and the world stays.
+abbrev pub MayPass : Problem → World → WorldEvent → Bool → World → Type 0
+MayPass problem old event true new = (reply : Reply) × Stepped problem old event reply new
+MayPass problem old event false new = IsPassedOver problem old event × (new ≡ old)
 
 -- ---- a list of events
 

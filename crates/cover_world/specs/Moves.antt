@@ -5,12 +5,13 @@ use Rattle.brancher.specs.Finding.{Finding, finding_by}
 use Rattle.cover_problem.specs.Problem.{Problem}
 use Rattle.cover_problem.specs.Search.{outcome}
 use Rattle.cover_world.specs.Plays.{entry_in}
-use Rattle.cover_world.specs.Worlds.{Acts, Restarts, World, WorldMove}
+use Rattle.cover_world.specs.Worlds.{Acts, Restarts, World, WorldMove, WorldStep}
 use Rattle.cover_world.specs.declared.world_event.WorldEvent.{WorldEvent}
 use Rattle.cover_world.specs.declared.world_event.WorldEvent.TheVariants as calls
 use Rattle.cover_world.specs.declared.world_fault.WorldFault.{WorldFault}
 use Rattle.cover_world.specs.declared.world_fault.WorldFault.TheVariants as faults
-use Rattle.node_core.specs.Refusal.{node_refusal}
+use Rattle.node_core.specs.Formed.{AllFormed}
+use Rattle.node_core.specs.Refusal.{IsNodeView, node_refusal}
 use Rattle.node_core.specs.SiteView.{View}
 use Rattle.node_core.specs.declared.act_fault.ActFault.{ActFault}
 use Rattle.node_core.specs.declared.act_fault.ActFault.TheVariants as act_faults
@@ -18,7 +19,7 @@ use Rattle.node_core.specs.declared.event.Event.{Event}
 use Rattle.node_core.specs.declared.event.Event.TheVariants as events
 use Rattle.node_core.specs.declared.reply.Reply.{Reply}
 use Rattle.packet_wire.specs.declared.packet.Packet.{Packet}
-use Rattle.root_registry.specs.Refusal.{registry_refusal}
+use Rattle.root_registry.specs.Refusal.{IsRegistryView, registry_refusal}
 use Rattle.spawn_frame.specs.Tables.{prefix_in}
 use Rattle.spawn_frame.specs.declared.unit.Job.{Job}
 
@@ -79,12 +80,36 @@ move_refusal problem world (Restarts node incarnation limit) = restart_refusal (
 abbrev pub world_refusal : Problem → World → WorldEvent → Option WorldFault
 world_refusal problem world event = option_map_or (move_refusal problem world) (meaning problem world event) (Some faults.NoSuchPacket)
 
+-- ---- when there is a step
+
+-- what is true of the view of each site: the registry's is at node 0
+abbrev pub IsSiteView : ℕ → View → Type 0
+IsSiteView zero view = IsRegistryView view
+IsSiteView (suc node) view = IsNodeView view
+
+-- What is true of each world: its sites stand by their nodes, and every packet that was sent has a spelling.
+pub record IsWorldView (world : World) : Type 0 where
+  pub sites : (node : ℕ) (view : View) → slice_get world.sites node ≡ Some view → IsSiteView node view
+  pub formed : AllFormed world.sent
+
+-- The world has a step of the event.
+pub record WorldActs (problem : Problem) (old : World) (event : WorldEvent) : Type 0 where
+  pub move : WorldMove
+  pub new : World
+  pub is : meaning problem old event ≡ Some move
+  pub step : WorldStep problem old move new
+
 -- ---- which fault is told
 
 -- the fault of a site, as one of the world
 abbrev pub world_fault : ActFault → WorldFault
 world_fault act_faults.Memory = faults.Memory
 world_fault fault = faults.Core fault
+
+-- what a site answers, as an answer of the world
+abbrev pub world_answer : Result Reply ActFault → Result Reply WorldFault
+world_answer (Ok reply) = Ok reply
+world_answer (Err fault) = Err (world_fault fault)
 
 -- what a fault tells of the refusal: want of memory tells nothing
 abbrev pub FaultTells : WorldFault → Option WorldFault → Type 0

@@ -1,8 +1,7 @@
 -- What is looked up at the site of a node.
-use Rattle.std.specs.Prelude.{ℕ, List, Option, Some, None, find, option_map, slice_get}
+use Rattle.std.specs.Prelude.{ℕ, Bool, List, Option, Some, None, find, option_map, slice_get}
 use Rattle.std.specs.List.{position_from}
 use Rattle.node_core.specs.SiteView.{View}
-use Rattle.spawn_frame.specs.Picks.{ripe_unit}
 use Rattle.spawn_frame.specs.Tables.{attempt_in, is_here, is_out}
 use Rattle.spawn_frame.specs.Units.{Entry, GuestEntry, Table}
 use Rattle.spawn_frame.specs.declared.unit.Job.{Job}
@@ -21,13 +20,21 @@ child_job own serial = job_of (Own serial) (attempt_in (slice_get own serial))
 abbrev pub guest_job : GuestEntry → Job
 guest_job g = job_of (Guest g.name g.entry.attempt) g.entry.attempt
 
--- the job of the own child of least serial that a worker has
+-- the own child of least serial that a worker has
+abbrev pub first_here : List Entry → Option ℕ
+first_here own = position_from (λ c. is_here c.status) 0 own
+
+-- its job
 abbrev pub here_child : List Entry → Option Job
-here_child own = option_map (child_job own) (position_from (λ c. is_here c.status) 0 own)
+here_child own = option_map (child_job own) (first_here own)
+
+-- a worker has the guest
+abbrev pub is_here_guest : GuestEntry → Bool
+is_here_guest g = is_here g.entry.status
 
 -- the job of the first guest that a worker has
 abbrev pub here_guest : List GuestEntry → Option Job
-here_guest guests = option_map guest_job (find (λ g. is_here g.entry.status) guests)
+here_guest guests = option_map guest_job (find is_here_guest guests)
 
 -- the first of two jobs that is there
 abbrev pub either_job : Option Job → Option Job → Option Job

@@ -1,7 +1,7 @@
 //! What is looked up in a table: each is a pass through units.
 
-ghost use Rattle.std.specs.Prelude.{◌≡◌, slice_get};
-ghost use Rattle.cover_world.specs.Views.{first_out, here_child, here_guest, here_job};
+ghost use Rattle.std.specs.Prelude.{◌≡◌, slice_get, true, IfSome};
+ghost use Rattle.cover_world.specs.Views.{first_here, first_out, here_child, here_guest, here_job};
 ghost use Rattle.spawn_frame.specs.Tables.{has_status, is_here, is_out};
 
 use spawn_frame::{Job, Table, Unit};
@@ -20,16 +20,37 @@ pub fn here_job(table: &Table) -> Option<Job>
 fn here_child(table: &Table) -> Option<Job>
     ensures { result ≡ here_child table.now.own }
 {
-    for serial in 0..table.issued() {
-        let unit = Unit::Own(serial);
-        if let Some(view) = table.unit(unit)
-            && view.status.is_here()
-        {
+    let unit = Unit::Own(first_here(table)?);
+    match table.unit(unit) {
+        Some(view) => {
             let attempt = view.attempt;
-            return Some(Job { unit, attempt });
+            Some(Job { unit, attempt })
+        }
+        None => unreachable!(),
+    }
+}
+
+/// The own child of least serial that a worker has.
+fn first_here(table: &Table) -> Option<u32>
+    ensures least { result ≡ first_here table.now.own }
+    ensures here { IfSome result (λ serial. has_status is_here (slice_get table.now.own serial) ≡ true) }
+{
+    for serial in 0..table.issued() {
+        if is_here(table, serial) {
+            return Some(serial);
         }
     }
     None
+}
+
+/// Whether a child is there and a worker has it.
+fn is_here(table: &Table, serial: u32) -> bool
+    ensures { result ≡ has_status is_here (slice_get table.now.own serial) }
+{
+    match table.unit(Unit::Own(serial)) {
+        Some(view) => view.status.is_here(),
+        None => false,
+    }
 }
 
 /// The job of the first guest that a worker has.

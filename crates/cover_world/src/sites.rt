@@ -2,7 +2,7 @@
 
 ghost use Rattle.std.specs.Prelude.{◌≡◌, ◌<◌, ◌≤◌, option_map, replicate, slice_get, IfErr, IfOk, IfSome, OnErr, OnOk};
 ghost use Rattle.cover_world.specs.Cores.{has_job, opening_cores, opening_sites, ActsAt, Appends, BeginsAnew, IsSearchable, NoneIsTaken};
-ghost use Rattle.cover_world.specs.Moves.{acting_refusal, names_limit, restart_refusal, AnswerTells};
+ghost use Rattle.cover_world.specs.Moves.{acting_refusal, names_limit, restart_refusal, world_answer, AnswerTells};
 ghost use Rattle.node_core.specs.Formed.{IsFormed};
 ghost use Rattle.node_core.specs.Refusal.{IsFit};
 
@@ -56,6 +56,7 @@ impl<'a> Sites<'a> {
     /// All that the site of a node knows; none where there is no such node.
     pub fn state(&self, node: u8) -> Option<&SiteState>
         ensures state { option_map (λ s. s.now) result ≡ slice_get self.now.sites node }
+        ensures node { IfSome result (λ s. s.now.site.node ≡ node) }
         ensures formed { IfSome result (λ s. IsFormed self.now.problem s.now) }
     {
         if node == 0 {
@@ -81,13 +82,13 @@ impl<'a> Sites<'a> {
         ensures list { OnErr result (out.new.items ≡ out.old.items) }
     {
         if node == 0 {
-            return Ok(self.registry.act(event, out)?);
+            return world_answer(self.registry.act(event, out));
         }
         let place = node as usize - 1;
         if place >= self.nodes.len() {
             return Err(WorldFault::NoSuchNode);
         }
-        Ok(self.nodes[place].act(event, out)?)
+        world_answer(self.nodes[place].act(event, out))
     }
 
     /// A node begins anew under a greater incarnation.
@@ -133,6 +134,16 @@ impl<'a> Sites<'a> {
         let mut prefix = Vec::new(self.alloc);
         table.prefix_into(job.unit, &mut prefix)?;
         Ok(prefix)
+    }
+}
+
+/// What a site answers, as an answer of the world.
+fn world_answer(answer: Result<Reply, ActFault>) -> Result<Reply, WorldFault>
+    ensures { result ≡ world_answer answer }
+{
+    match answer {
+        Ok(reply) => Ok(reply),
+        Err(fault) => Err(WorldFault::from(fault)),
     }
 }
 

@@ -1,5 +1,5 @@
 ghost use Rattle.std.specs.Prelude.{◌≡◌, ◌<◌, ◌≤◌, length, option_map, slice_get, IfErr, IfOk, MatchOption, None, OnErr, Some};
-ghost use Rattle.cover_world.specs.Courses.{opening_core, HoldsThroughout, IsPassedOver, Makes, Stepped, StopsAt, TakesAll};
+ghost use Rattle.cover_world.specs.Courses.{opening_core, HoldsThroughout, Makes, MayPass, Stepped, StopsAt, TakesAll};
 ghost use Rattle.cover_world.specs.Moves.{move_refusal, world_refusal, AnswerTells};
 ghost use Rattle.cover_world.specs.Plays.{entry_in};
 ghost use Rattle.cover_world.specs.Views.{first_out, here_job, looked_up};
@@ -8,7 +8,7 @@ ghost use Rattle.node_core.specs.Refusal.{IsFit};
 ghost use Rattle.spawn_frame.specs.Picks.{ripe_unit};
 ghost use Rattle.spawn_frame.specs.Tables.{IsSeen};
 
-use crate::laws::safe_over_every_run;
+use crate::laws::{safe_over_every_run, the_world_acts_unless_it_refuses};
 use crate::lookups::{first_out, here_job};
 use crate::sites::Sites;
 use crate::world_event::WorldEvent;
@@ -76,6 +76,16 @@ impl<'a> World<'a> {
         ensures holds { HoldsThroughout self.old.problem self.old.world self.new.world }
     {
         safe_over_every_run();
+        self.happen(event)
+    }
+
+    /// Lets one event happen.
+    fn happen(&mut self, event: WorldEvent) -> Result<Reply, WorldFault>
+        ensures problem { self.new.problem ≡ self.old.problem }
+        ensures step { IfOk result (λ reply. Stepped self.old.problem self.old.world event reply self.new.world) }
+        ensures refusal { AnswerTells result (world_refusal self.old.problem self.old.world event) }
+        ensures err { OnErr result (self.new ≡ self.old) }
+    {
         match event {
             WorldEvent::Take(node) => self.act(node, Event::Take),
             WorldEvent::Post(node, job, fuel) => self.post(node, job, fuel),
@@ -99,15 +109,38 @@ impl<'a> World<'a> {
         ensures holds { HoldsThroughout self.old.problem self.old.world self.new.world }
     {
         safe_over_every_run();
+        self.go_through(events)
+    }
+
+    /// Lets the events happen in order.
+    fn go_through(&mut self, events: &[WorldEvent]) -> Result<usize, Starved>
+        ensures problem { self.new.problem ≡ self.old.problem }
+        ensures taken { IfOk result (λ done. TakesAll self.old.problem self.old.world events.now done self.new.world) }
+        ensures starved { IfErr result (λ starved. StopsAt self.old.problem self.old.world events.now starved self.new.world) }
+    {
         let mut done = 0;
-        for (at, event) in events.iter().enumerate() {
-            match self.step(*event) {
-                Ok(_) => done += 1,
-                Err(WorldFault::Memory) => return Err(Starved { at, done }),
-                Err(_) => {}
+        for at in 0..events.len() {
+            let event = events[at];
+            match self.pass(event) {
+                Ok(took) => done += usize::from(took),
+                Err(_) => return Err(Starved { at, done }),
             }
         }
         Ok(done)
+    }
+
+    /// Lets one event happen, or passes it over where it is refused: whether it was a step. The only error is want of memory.
+    fn pass(&mut self, event: WorldEvent) -> Result<bool, WorldFault>
+        ensures problem { self.new.problem ≡ self.old.problem }
+        ensures passes { IfOk result (λ took. MayPass self.old.problem self.old.world event took self.new.world) }
+        ensures err { OnErr result (self.new ≡ self.old) }
+    {
+        the_world_acts_unless_it_refuses();
+        match self.happen(event) {
+            Ok(_) => Ok(true),
+            Err(WorldFault::Memory) => Err(WorldFault::Memory),
+            Err(_) => Ok(false),
+        }
     }
 
     /// How many packets were ever sent.
