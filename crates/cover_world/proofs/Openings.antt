@@ -45,10 +45,13 @@ module _ (problem : Problem) (nodes limit : ℕ) where
 
   module _ (registry : SiteCore) (cores : List SiteCore) (registry_is : registry ≡ opening_registry_core problem nodes)
       (cores_are : cores ≡ opening_cores problem nodes 1 (replicate nodes limit)) where
-    pub sites_open : nodes ≤ 16 → AreSites problem registry cores
-    sites_open few = record {
+    pub sites_open : 1 ≤ nodes → nodes ≤ 16 → AreSites problem registry cores
+    sites_open some few = record {
       registry_is = ap (λ (c : SiteCore). c.problem) registry_is;
       nodes_are = subst (AreNodes problem 1) (sym cores_are) (are_nodes 1 nodes);
+      some =
+          let count = ap length cores_are ∙ how_many 1 nodes in
+          omega (arith, count, some);
       few =
           let count = ap length cores_are ∙ how_many 1 nodes in
           omega (arith, count, few);

@@ -225,6 +225,9 @@ sites_put problem registry nodes node after l are is = record {
   nodes_are =
       let here : node ≡ 1 + (node - 1) = omega (arith, l) in
       nodes_put problem 1 nodes (node - 1) after are.nodes_are (subst (λ k. IsCoreOf problem k after) here is);
+  some =
+      let length_is = length-set nodes (node - 1) after in
+      omega (arith, length_is, are.some);
   few =
       let length_is = length-set nodes (node - 1) after in
       omega (arith, length_is, are.few);

@@ -37,10 +37,11 @@ abbrev pub AreNodes : Problem → ℕ → List SiteCore → Type 0
 AreNodes problem node [] = ⊤
 AreNodes problem node (core ∷ cores) = IsCoreOf problem node core × AreNodes problem (suc node) cores
 
--- Each site has its core, and there are at most sixteen nodes.
+-- Each site has its core, and there are one to sixteen nodes.
 pub record AreSites (problem : Problem) (registry : SiteCore) (nodes : List SiteCore) : Type 0 where
   pub registry_is : registry.problem ≡ problem
   pub nodes_are : AreNodes problem 1 nodes
+  pub some : 1 ≤ length nodes
   pub few : length nodes ≤ 16
 
 -- the cores of nodes that begin, from this number on, each with a names limit

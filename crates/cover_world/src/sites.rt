@@ -1,6 +1,6 @@
 //! The cores of the sites of a world.
 
-ghost use Rattle.std.specs.Prelude.{◌≡◌, ◌<◌, ◌≤◌, option_map, replicate, slice_get, IfErr, IfOk, IfSome, OnErr, OnOk};
+ghost use Rattle.std.specs.Prelude.{◌≡◌, ◌<◌, ◌≤◌, length, option_map, replicate, slice_get, suc, IfErr, IfOk, IfSome, OnErr, OnOk};
 ghost use Rattle.cover_world.specs.Cores.{has_job, opening_cores, opening_sites, ActsAt, Appends, BeginsAnew, IsSearchable, NoneIsTaken};
 ghost use Rattle.cover_world.specs.Moves.{acting_refusal, names_limit, restart_refusal, world_answer, AnswerTells};
 ghost use Rattle.node_core.specs.Formed.{IsFormed};
@@ -51,6 +51,15 @@ impl<'a> Sites<'a> {
             problem,
             alloc,
         })
+    }
+
+    /// How many nodes there are beside the registry.
+    pub fn nodes(&self) -> u8
+        ensures count { suc result ≡ length self.now.sites }
+        ensures some { 1 ≤ result }
+        ensures most { result ≤ 16 }
+    {
+        self.nodes.len() as u8
     }
 
     /// All that the site of a node knows; none where there is no such node.

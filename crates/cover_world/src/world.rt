@@ -1,4 +1,4 @@
-ghost use Rattle.std.specs.Prelude.{◌≡◌, ◌<◌, ◌≤◌, length, option_map, slice_get, IfErr, IfOk, MatchOption, None, OnErr, Some};
+ghost use Rattle.std.specs.Prelude.{◌≡◌, ◌<◌, ◌≤◌, length, option_map, slice_get, suc, IfErr, IfOk, MatchOption, None, OnErr, Some};
 ghost use Rattle.cover_world.specs.Courses.{opening_core, HoldsThroughout, Makes, MayPass, Stepped, StopsAt, TakesAll};
 ghost use Rattle.cover_world.specs.Moves.{move_refusal, world_refusal, AnswerTells};
 ghost use Rattle.cover_world.specs.Plays.{entry_in};
@@ -141,6 +141,15 @@ impl<'a> World<'a> {
             Err(WorldFault::Memory) => Err(WorldFault::Memory),
             Err(_) => Ok(false),
         }
+    }
+
+    /// How many nodes there are beside the registry.
+    pub fn nodes(&self) -> u8
+        ensures count { suc result ≡ length self.now.world.sites }
+        ensures some { 1 ≤ result }
+        ensures most { result ≤ 16 }
+    {
+        self.sites.nodes()
     }
 
     /// How many packets were ever sent.

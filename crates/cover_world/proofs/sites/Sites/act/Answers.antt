@@ -53,6 +53,9 @@ invariant_of-self-2 c =
       registry_is = c.self.invariant.registry_is;
       nodes_are = nodes_set c.self.inside.problem.now 1 c.self.inside.nodes.items (c.args.node - 1) c.index_mut.result.now c.act-2.new.self
           c.self.invariant.nodes_are (stands c).at keeps;
+      some =
+          let length_is = length-set c.self.inside.nodes.items (c.args.node - 1) c.act-2.new.self in
+          omega (arith, length_is, c.self.invariant.some);
       few =
           let length_is = length-set c.self.inside.nodes.items (c.args.node - 1) c.act-2.new.self in
           omega (arith, length_is, c.self.invariant.few);

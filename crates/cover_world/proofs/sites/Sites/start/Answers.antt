@@ -5,7 +5,7 @@ use Rattle.cover_world.proofs.sites.Sites.start.Goals as goal
 pub invariant_of-result : goal.invariant_of-result
 invariant_of-result c =
     sites_open c.args.problem.now c.args.nodes _ c.in_ok-registry.registry c.in_ok-first_nodes.field-0.items c.in_ok-registry.ensures c.in_ok-first_nodes.ensures
-    c.requires.most
+    c.requires.some c.requires.most
 
 pub returns : goal.returns
 returns c =
