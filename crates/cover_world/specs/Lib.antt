@@ -1,6 +1,9 @@
+pub mod Cores
+pub mod Courses
 pub mod Coverage
 pub mod Determined
 pub mod LaterRuns
+pub mod Moves
 pub mod Overtaken
 pub mod Plays
 pub mod Refusals
@@ -9,4 +12,5 @@ pub mod Safety
 pub mod SaidAgain
 pub mod Stolen
 pub mod Thieves
+pub mod Views
 pub mod Worlds

@@ -1,12 +1,14 @@
 //! What holds of every run: each function is a law, and does nothing.
 
-ghost use Rattle.std.specs.Prelude.{◌≡◌, ℕ, Bool, true, false, List};
-ghost use Rattle.cover_problem.specs.Problem.{Problem};
+ghost use Rattle.std.specs.Prelude.{◌≡◌, ℕ, Bool, true, false, List, None, Some};
+ghost use Rattle.cover_problem.specs.Problem.{IsProblem, Problem};
 ghost use Rattle.cover_world.specs.Coverage.{AllCovered};
 ghost use Rattle.cover_world.specs.Determined.{SameStep, given_by, may_choose};
+ghost use Rattle.cover_world.specs.Moves.{meaning, world_refusal, IsWorldView, WorldActs};
 ghost use Rattle.cover_world.specs.Safety.{Safe};
 ghost use Rattle.cover_world.specs.Thieves.{CallsOff, PutsOut};
-ghost use Rattle.cover_world.specs.Worlds.{World, Run, opening_world};
+ghost use Rattle.cover_world.specs.Worlds.{opening_world, Run, World, WorldMove, WorldStep};
+ghost use Rattle.cover_world.specs.declared.world_event.WorldEvent.{WorldEvent};
 ghost use Rattle.node_core.specs.NodeStep.{NodeStep};
 ghost use Rattle.node_core.specs.SiteView.{View, abort_packet};
 ghost use Rattle.node_core.specs.declared.event.Event.{Event};
@@ -19,6 +21,9 @@ ghost use Rattle.spawn_frame.specs.Units.{Entry};
 ghost use Rattle.spawn_frame.specs.declared.site.Site.{Site};
 ghost use Rattle.spawn_frame.specs.declared.unit.Unit.{Unit as WorkUnit};
 ghost use Rattle.spawn_frame.specs.declared.unit.Unit.TheVariants.{Own};
+
+use node_core::nodes_act_unless_they_refuse;
+use root_registry::the_registry_acts_unless_it_refuses;
 
 /// Whatever list of searches, deliveries, losses, repeats, reorderings, steals, aborts and restarts
 /// a world of sites runs through, its registry never restarted: no child has two accepted results, no
@@ -66,3 +71,17 @@ pub fn thieves_are_told()
         (entry : Entry) (thief : Site) → CallsOff old new serial entry thief → NodeStep problem old event reply out new →
         PutsOut out (abort_packet old.site (record { serial = serial; attempt = entry.attempt; thief = thief })) }
 {}
+
+/// An event of a world has a step exactly where nothing refuses it: none where there is a fault, and
+/// some where there is none.
+pub fn the_world_acts_unless_it_refuses()
+    ensures unrefused { (problem : Problem) (old new : World) (event : WorldEvent) (move : WorldMove) →
+        meaning problem old event ≡ Some move → WorldStep problem old move new →
+        world_refusal problem old event ≡ None }
+    ensures acts { (problem : Problem) (old : World) (event : WorldEvent) →
+        IsProblem problem → IsWorldView old → world_refusal problem old event ≡ None →
+        WorldActs problem old event }
+{
+    nodes_act_unless_they_refuse();
+    the_registry_acts_unless_it_refuses();
+}

@@ -2,10 +2,18 @@
 #![tactic(auto)]
 
 mod laws;
+mod lookups;
 mod refusals;
 mod runs;
+mod sites;
+mod world;
+mod world_event;
+mod world_fault;
 
-pub use laws::{below_goes_on, safe_over_every_run, step_is_determined, thieves_are_told};
+pub use laws::{
+    below_goes_on, safe_over_every_run, step_is_determined, the_world_acts_unless_it_refuses,
+    thieves_are_told,
+};
 pub use refusals::{
     finding_without_fuel, lost_at_the_last_attempt, names_spent, no_prefix_given, no_such_victim,
     node_that_is_over, packet_for_another_site, packet_of_no_node, redo_of_no_use,
@@ -15,3 +23,6 @@ pub use refusals::{
 pub use runs::{
     late_result, later_runs, overtaken_result, repeated_result, said_again, thief_begins_anew,
 };
+pub use world::World;
+pub use world_event::WorldEvent;
+pub use world_fault::{Starved, WorldFault};

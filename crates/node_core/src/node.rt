@@ -73,6 +73,14 @@ impl<'a> NodeCore<'a> {
             links,
         })
     }
+
+    /// All that the node knows. The other clause says what is true of it.
+    pub fn state(&self) -> &SiteState
+        ensures state { result.now ≡ self.now.view }
+        ensures formed { IsFormedNode self.now.problem self.now.view }
+    {
+        &self.state
+    }
 }
 
 impl<'a> Core for NodeCore<'a> {

@@ -69,6 +69,14 @@ impl<'a> Registry<'a> {
     {
         self.publication.answer()
     }
+
+    /// All that the registry knows. The other clause says what is true of it.
+    pub fn state(&self) -> &SiteState
+        ensures state { result.now ≡ self.now.view }
+        ensures formed { IsFormedRegistry self.now.problem self.now.view }
+    {
+        &self.state
+    }
 }
 
 impl<'a> Core for Registry<'a> {

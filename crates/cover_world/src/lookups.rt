@@ -1,0 +1,91 @@
+//! What is looked up in a table: each is a pass through units.
+
+ghost use Rattle.std.specs.Prelude.{◌≡◌, slice_get, true, IfSome};
+ghost use Rattle.cover_world.specs.Views.{first_here, first_out, here_child, here_guest, here_job};
+ghost use Rattle.spawn_frame.specs.Tables.{has_status, is_here, is_out};
+
+use spawn_frame::{Job, Table, Unit};
+
+/// The job of the least unit that a worker has: own children by serial, then guests in order.
+pub fn here_job(table: &Table) -> Option<Job>
+    ensures { result ≡ here_job table.now }
+{
+    match here_child(table) {
+        Some(job) => Some(job),
+        None => here_guest(table),
+    }
+}
+
+/// The job of the own child of least serial that a worker has.
+fn here_child(table: &Table) -> Option<Job>
+    ensures { result ≡ here_child table.now.own }
+{
+    let unit = Unit::Own(first_here(table)?);
+    match table.unit(unit) {
+        Some(view) => {
+            let attempt = view.attempt;
+            Some(Job { unit, attempt })
+        }
+        None => unreachable!(),
+    }
+}
+
+/// The own child of least serial that a worker has.
+fn first_here(table: &Table) -> Option<u32>
+    ensures least { result ≡ first_here table.now.own }
+    ensures here { IfSome result (λ serial. has_status is_here (slice_get table.now.own serial) ≡ true) }
+{
+    for serial in 0..table.issued() {
+        if is_here(table, serial) {
+            return Some(serial);
+        }
+    }
+    None
+}
+
+/// Whether a child is there and a worker has it.
+fn is_here(table: &Table, serial: u32) -> bool
+    ensures { result ≡ has_status is_here (slice_get table.now.own serial) }
+{
+    match table.unit(Unit::Own(serial)) {
+        Some(view) => view.status.is_here(),
+        None => false,
+    }
+}
+
+/// The job of the first guest that a worker has.
+fn here_guest(table: &Table) -> Option<Job>
+    ensures { result ≡ here_guest table.now.guests }
+{
+    for place in 0..table.guest_count() {
+        let guest = table.guest(place);
+        if guest.status.is_here() {
+            let unit = Unit::Guest(guest.name, guest.attempt);
+            let attempt = guest.attempt;
+            return Some(Job { unit, attempt });
+        }
+    }
+    None
+}
+
+/// The own child of least serial that is out.
+pub fn first_out(table: &Table) -> Option<u32>
+    ensures { result ≡ first_out table.now.own }
+{
+    for serial in 0..table.issued() {
+        if is_out(table, serial) {
+            return Some(serial);
+        }
+    }
+    None
+}
+
+/// Whether a child is there and out.
+fn is_out(table: &Table, serial: u32) -> bool
+    ensures { result ≡ has_status is_out (slice_get table.now.own serial) }
+{
+    match table.unit(Unit::Own(serial)) {
+        Some(view) => view.status.is_out(),
+        None => false,
+    }
+}

@@ -1,0 +1,4 @@
+//! Worlds as scripts of events.
+
+mod runs;
+mod said;
