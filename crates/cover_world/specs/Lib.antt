@@ -2,6 +2,7 @@ pub mod Cores
 pub mod Courses
 pub mod Coverage
 pub mod Determined
+pub mod Draws
 pub mod LaterRuns
 pub mod Moves
 pub mod Overtaken
@@ -10,6 +11,7 @@ pub mod Refusals
 pub mod Repeated
 pub mod Safety
 pub mod SaidAgain
+pub mod Simulation
 pub mod Stolen
 pub mod Thieves
 pub mod Views

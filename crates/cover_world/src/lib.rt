@@ -1,10 +1,12 @@
 //! The registry and the nodes as one world, and what holds of each of its runs.
 #![tactic(auto)]
 
+mod draws;
 mod laws;
 mod lookups;
 mod refusals;
 mod runs;
+mod simulation;
 mod sites;
 mod world;
 mod world_event;
@@ -23,6 +25,7 @@ pub use refusals::{
 pub use runs::{
     late_result, later_runs, overtaken_result, repeated_result, said_again, thief_begins_anew,
 };
+pub use simulation::simulate;
 pub use world::World;
 pub use world_event::WorldEvent;
 pub use world_fault::{Starved, WorldFault};

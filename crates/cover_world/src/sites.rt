@@ -3,11 +3,12 @@
 ghost use Rattle.std.specs.Prelude.{◌≡◌, ◌<◌, ◌≤◌, length, option_map, replicate, slice_get, suc, IfErr, IfOk, IfSome, OnErr, OnOk};
 ghost use Rattle.cover_world.specs.Cores.{has_job, opening_cores, opening_sites, ActsAt, Appends, BeginsAnew, IsSearchable, NoneIsTaken};
 ghost use Rattle.cover_world.specs.Moves.{acting_refusal, names_limit, restart_refusal, world_answer, AnswerTells};
+ghost use Rattle.cover_world.specs.Safety.{published_at};
 ghost use Rattle.node_core.specs.Formed.{IsFormed};
 ghost use Rattle.node_core.specs.Refusal.{IsFit};
 
 use crate::world_fault::WorldFault;
-use cover_problem::Problem;
+use cover_problem::{Answer, Problem};
 use node_core::{ActFault, Core, Event, NodeCore, Reply, SiteState};
 use packet_wire::Packet;
 use root_registry::Registry;
@@ -60,6 +61,13 @@ impl<'a> Sites<'a> {
         ensures most { result ≤ 16 }
     {
         self.nodes.len() as u8
+    }
+
+    /// What the registry publishes.
+    pub fn published(&self) -> Option<&Answer>
+        ensures { option_map (λ answer. answer.now) result ≡ published_at self.now.problem (slice_get self.now.sites 0) }
+    {
+        self.registry.published()
     }
 
     /// All that the site of a node knows; none where there is no such node.

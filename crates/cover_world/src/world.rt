@@ -2,6 +2,7 @@ ghost use Rattle.std.specs.Prelude.{◌≡◌, ◌<◌, ◌≤◌, length, optio
 ghost use Rattle.cover_world.specs.Courses.{opening_core, HoldsThroughout, Makes, MayPass, Stepped, StopsAt, TakesAll};
 ghost use Rattle.cover_world.specs.Moves.{move_refusal, world_refusal, AnswerTells};
 ghost use Rattle.cover_world.specs.Plays.{entry_in};
+ghost use Rattle.cover_world.specs.Safety.{published};
 ghost use Rattle.cover_world.specs.Views.{first_out, here_job, looked_up};
 ghost use Rattle.cover_world.specs.Worlds.{Acts, Restarts, WasSent};
 ghost use Rattle.node_core.specs.Refusal.{IsFit};
@@ -14,7 +15,7 @@ use crate::sites::Sites;
 use crate::world_event::WorldEvent;
 use crate::world_fault::{Starved, WorldFault};
 use brancher::Searcher;
-use cover_problem::Problem;
+use cover_problem::{Answer, Problem};
 use node_core::{Event, Reply};
 use packet_wire::Packet;
 use spawn_frame::{Job, Unit, UnitView};
@@ -130,7 +131,7 @@ impl<'a> World<'a> {
     }
 
     /// Lets one event happen, or passes it over where it is refused: whether it was a step. The only error is want of memory.
-    fn pass(&mut self, event: WorldEvent) -> Result<bool, WorldFault>
+    pub(crate) fn pass(&mut self, event: WorldEvent) -> Result<bool, WorldFault>
         ensures problem { self.new.problem ≡ self.old.problem }
         ensures passes { IfOk result (λ took. MayPass self.old.problem self.old.world event took self.new.world) }
         ensures err { OnErr result (self.new ≡ self.old) }
@@ -150,6 +151,14 @@ impl<'a> World<'a> {
         ensures most { result ≤ 16 }
     {
         self.sites.nodes()
+    }
+
+    /// What is published: the root's result once it is done, a cover with its options in the order of the file, or that
+    /// there is none.
+    pub fn published(&self) -> Option<&Answer>
+        ensures { option_map (λ answer. answer.now) result ≡ published self.now.problem self.now.world }
+    {
+        self.sites.published()
     }
 
     /// How many packets were ever sent.

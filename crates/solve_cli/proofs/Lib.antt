@@ -1,3 +1,4 @@
 pub mod Told
 pub mod Pairs
+pub mod Publishing
 pub mod Listed

@@ -1,9 +1,10 @@
 -- The command line of the program, as the shape of a clap command, and what its words spell.
-use Rattle.std.specs.Prelude.{◌≡◌, ◌≤◌, ℕ, List, [], ◌∷◌, Option, Some, None, codes, true}
+use Rattle.std.specs.Prelude.{◌≡◌, ◌≤◌, ℕ, List, [], ◌∷◌, Option, Some, None, codes, option_map, true}
 use Rattle.std.specs.Str.Parse.{IsNumeral, digits_value}
 use Rattle.clap.specs.Words.{App, Row, Rule, Text, new_app, new_rule, with_rule, with_subcommand, first_of}
 use Rattle.solve_cli.specs.declared.settings.Mode.{Mode}
 use Rattle.solve_cli.specs.declared.settings.Mode.TheVariants as modes
+use Rattle.solve_cli.specs.declared.settings.Settings.{Settings}
 
 -- a positional that has to be given
 abbrev pub file_rule : Text → Rule
@@ -22,16 +23,31 @@ alone_app = with_rule (with_rule (new_app (codes "alone")) (file_rule (codes "fi
 abbrev pub check_app : App
 check_app = with_rule (with_rule (with_rule (new_app (codes "check")) (file_rule (codes "file"))) (file_rule (codes "answer"))) greatest_fuel_rule
 
+-- what a simulation searches, with how many nodes
+abbrev pub world_app : App
+world_app =
+    with_rule (with_rule (with_rule (new_app (codes "simulate")) (file_rule (codes "file"))) (number_rule (codes "fuel") (codes "1000"))) (number_rule (codes "nodes") (codes "4"))
+
+-- the same with what is drawn
+abbrev pub simulate_app : App
+simulate_app =
+    with_rule (with_rule (with_rule world_app (number_rule (codes "seed") (codes "1"))) (number_rule (codes "turns") (codes "10000"))) (number_rule (codes "restarts") (codes "0"))
+
 -- a command that has a version, and wants one of its subcommands
 abbrev pub wanting_subcommand : App → App
 wanting_subcommand app = record app { top = record app.top { has_version = true; subcommand_required = true } }
 
+-- what one thread does
+abbrev pub one_thread_app : App
+one_thread_app = with_subcommand (with_subcommand (wanting_subcommand (new_app (codes "solve_cli"))) alone_app.top) check_app.top
+
 abbrev pub solver_app : App
-solver_app = with_subcommand (with_subcommand (wanting_subcommand (new_app (codes "solve_cli"))) alone_app.top) check_app.top
+solver_app = with_subcommand one_thread_app simulate_app.top
 
 abbrev pub mode_word : Mode → Text
 mode_word modes.Alone = codes "alone"
 mode_word modes.Check = codes "check"
+mode_word modes.Simulate = codes "simulate"
 
 -- The text is decimal digits, of which the number is the value.
 pub record Spells (text : Text) (number : ℕ) : Type 0 where
@@ -41,15 +57,24 @@ pub record Spells (text : Text) (number : ℕ) : Type 0 where
 abbrev pub SpellsFuel : Option Text → ℕ → Type 0
 SpellsFuel given fuel = (text : Text) × (given ≡ Some text) × Spells text fuel × (1 ≤ fuel)
 
+-- the number that an option spells; a subcommand that lacks the option has its default
+abbrev pub SpellsOr : ℕ → Option Text → ℕ → Type 0
+SpellsOr default None number = number ≡ default
+SpellsOr default (Some text) number = Spells text number
+
 -- a check has the answer that was given, and no other mode has one
 abbrev pub IsAnswerFile : Mode → Option Text → Option Text → Type 0
-IsAnswerFile modes.Alone answer given = answer ≡ None
 IsAnswerFile modes.Check answer given = (text : Text) × (given ≡ Some text) × (answer ≡ Some text)
+IsAnswerFile _ answer given = answer ≡ None
 
 -- The subcommand that clap's definition of a simple command's matches gives for the words, with its values.
-pub record AreMet (met : Option (Text × List Row)) (mode : Mode) (file : Text) (answer : Option Text) (fuel : ℕ) : Type 0 where
+pub record AreMet (met : Option (Text × List Row)) (settings : Settings) : Type 0 where
   pub rows : List Row
-  pub subcommand : met ≡ Some (mode_word mode, rows)
-  pub file_given : first_of (codes "file") rows ≡ Some file
-  pub answer_given : IsAnswerFile mode answer (first_of (codes "answer") rows)
-  pub fuel_given : SpellsFuel (first_of (codes "fuel") rows) fuel
+  pub subcommand : met ≡ Some (mode_word settings.mode, rows)
+  pub file_given : first_of (codes "file") rows ≡ Some settings.file.now
+  pub answer_given : IsAnswerFile settings.mode (option_map (λ answer. answer.now) settings.answer) (first_of (codes "answer") rows)
+  pub fuel_given : SpellsFuel (first_of (codes "fuel") rows) settings.fuel
+  pub nodes_given : SpellsOr 4 (first_of (codes "nodes") rows) settings.nodes
+  pub seed_given : SpellsOr 1 (first_of (codes "seed") rows) settings.seed
+  pub turns_given : SpellsOr 10000 (first_of (codes "turns") rows) settings.turns
+  pub restarts_given : SpellsOr 0 (first_of (codes "restarts") rows) settings.restarts

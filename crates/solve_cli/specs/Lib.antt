@@ -2,4 +2,5 @@ pub mod Alone
 pub mod Check
 pub mod CommandLine
 pub mod Output
+pub mod Simulate
 pub mod Status

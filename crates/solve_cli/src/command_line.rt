@@ -4,12 +4,16 @@ ghost use Rattle.std.specs.Prelude.{◌≡◌, ◌≤◌, ◌<◌, ◌^◌, Some
 ghost use Rattle.std.specs.Str.Parse.{IsNumeral, digits_value};
 ghost use Rattle.clap.specs.Words.{Row, app_of, first_of, first_value, found_of, rule_of, subcommand_of};
 ghost use Rattle.clap.specs.declared.builder.command.Command.TheViews.{out-Command};
-ghost use Rattle.solve_cli.specs.CommandLine.{AreMet, IsAnswerFile, Spells, SpellsFuel, alone_app, check_app, file_rule, greatest_fuel_rule, solver_app, mode_word};
+ghost use Rattle.solve_cli.specs.CommandLine.{AreMet, IsAnswerFile, Spells, SpellsFuel, SpellsOr, alone_app, check_app, file_rule, greatest_fuel_rule, mode_word, number_rule, one_thread_app, simulate_app, solver_app, world_app};
 
 use crate::settings::{Mode, Settings};
 use clap::error::ErrorKind;
 use clap::{Arg, ArgMatches, Command, Error};
 use std::alloc::{AllocError, Global};
+
+/// What is told of a number that is out of its range.
+const RANGES: &str =
+    "a number is out of its range: --fuel takes 1 to 18446744073709551615, --nodes 1 to 16, --seed 0 to 18446744073709551615, --turns 0 to 10000000, --restarts 0 to 100";
 
 /// Why there are no settings.
 #[derive(Debug, Drop)]
@@ -48,6 +52,17 @@ fn fuel_argument<'a>(alloc: Global) -> Arg<'a>
         .help("How many prefixes the search may visit, from 1")
 }
 
+/// An option of a simulation, whose value is a number.
+fn number_argument<'a>(alloc: Global, id: &'a str, default: &'a str, help: &'a str) -> Arg<'a>
+    ensures rule { rule_of result ≡ number_rule id.now default.now }
+    ensures own { result.global ≡ false }
+{
+    Arg::new(alloc, id)
+        .long(id)
+        .default_value(default)
+        .help(help)
+}
+
 fn alone_command<'a>(alloc: Global) -> Result<Command<'a>, AllocError>
     ensures app { IfOk result (λ command. app_of command ≡ alone_app) }
     ensures local { IfOk result (λ command. (out-Command command).has_globals ≡ false) }
@@ -69,8 +84,48 @@ fn check_command<'a>(alloc: Global) -> Result<Command<'a>, AllocError>
         .arg(fuel_argument(alloc))
 }
 
-fn solver_command<'a>(alloc: Global) -> Result<Command<'a>, AllocError>
-    ensures { IfOk result (λ command. app_of command ≡ solver_app) }
+/// What a simulation searches, with how many nodes.
+fn world_command<'a>(alloc: Global) -> Result<Command<'a>, AllocError>
+    ensures app { IfOk result (λ command. app_of command ≡ world_app) }
+    ensures local { IfOk result (λ command. (out-Command command).has_globals ≡ false) }
+{
+    let fuel = number_argument(
+        alloc,
+        "fuel",
+        "1000",
+        "How many prefixes a search may visit, from 1",
+    );
+    let nodes = number_argument(alloc, "nodes", "4", "How many nodes there are, 1 to 16");
+    Command::new(alloc, "simulate")
+        .about("Lets a world of nodes search the problem, by chance, and writes what it publishes")
+        .arg(file_argument(alloc))?
+        .arg(fuel)?
+        .arg(nodes)
+}
+
+fn simulate_command<'a>(alloc: Global) -> Result<Command<'a>, AllocError>
+    ensures app { IfOk result (λ command. app_of command ≡ simulate_app) }
+    ensures local { IfOk result (λ command. (out-Command command).has_globals ≡ false) }
+{
+    let seed = number_argument(alloc, "seed", "1", "The seed of what is drawn");
+    let turns = number_argument(
+        alloc,
+        "turns",
+        "10000",
+        "How many turns are taken, up to 10000000",
+    );
+    let restarts = number_argument(
+        alloc,
+        "restarts",
+        "0",
+        "How many restarts are drawn, up to 100",
+    );
+    world_command(alloc)?.arg(seed)?.arg(turns)?.arg(restarts)
+}
+
+/// What one thread does.
+fn one_thread_command<'a>(alloc: Global) -> Result<Command<'a>, AllocError>
+    ensures { IfOk result (λ command. app_of command ≡ one_thread_app) }
 {
     let alone = alone_command(alloc)?;
     let check = check_command(alloc)?;
@@ -80,6 +135,13 @@ fn solver_command<'a>(alloc: Global) -> Result<Command<'a>, AllocError>
         .subcommand_required(true)
         .subcommand(alone)?
         .subcommand(check)
+}
+
+fn solver_command<'a>(alloc: Global) -> Result<Command<'a>, AllocError>
+    ensures { IfOk result (λ command. app_of command ≡ solver_app) }
+{
+    let simulate = simulate_command(alloc)?;
+    one_thread_command(alloc)?.subcommand(simulate)
 }
 
 /// The number that decimal digits spell, without a sign.
@@ -102,6 +164,9 @@ fn mode_of(name: &str) -> Option<Mode>
     if name == "check" {
         return Some(Mode::Check);
     }
+    if name == "simulate" {
+        return Some(Mode::Simulate);
+    }
     None
 }
 
@@ -114,37 +179,107 @@ fn fault_of(error: Error) -> SettingsFault {
     }
 }
 
-/// The settings that a subcommand's matches spell; none where a number is out of its range.
-fn spelled<'a>(name: &'a str, inner: &ArgMatches<'a>) -> Option<Settings<'a>>
-    ensures mode { IfSome result (λ s. mode_word s.mode ≡ name.now) }
-    ensures file { IfSome result (λ s. first_value (found_of inner.now) (codes "file") ≡ Some s.file.now) }
-    ensures answer { IfSome result (λ s. IsAnswerFile s.mode (option_map (λ answer. answer.now) s.answer) (first_value (found_of inner.now) (codes "answer"))) }
-    ensures fuel { IfSome result (λ s. SpellsFuel (first_value (found_of inner.now) (codes "fuel")) s.fuel) }
+/// The number that an option spells, or its default where the subcommand lacks the option.
+fn number_or(inner: &ArgMatches<'_>, id: &str, default: u64) -> Option<u64>
+    ensures { IfSome result (SpellsOr default (first_value (found_of inner.now) id.now)) }
 {
-    let mode = mode_of(name)?;
-    let file = inner.get_str("file")?;
-    let answer = match mode {
-        Mode::Alone => None,
-        Mode::Check => Some(inner.get_str("answer")?),
-    };
+    match inner.get_str(id) {
+        Some(text) => number(text),
+        None => Some(default),
+    }
+}
+
+/// How many nodes there are, from 1 to 16.
+fn nodes(inner: &ArgMatches<'_>) -> Option<u8>
+    ensures given { IfSome result (SpellsOr 4 (first_value (found_of inner.now) (codes "nodes"))) }
+    ensures some { IfSome result (λ nodes. 1 ≤ nodes) }
+    ensures most { IfSome result (λ nodes. nodes ≤ 16) }
+{
+    let nodes = number_or(inner, "nodes", 4)?;
+    if nodes == 0 || nodes > 16 {
+        return None;
+    }
+    Some(nodes as u8)
+}
+
+/// How many turns are taken, up to 10,000,000.
+fn turns(inner: &ArgMatches<'_>) -> Option<u32>
+    ensures given { IfSome result (SpellsOr 10000 (first_value (found_of inner.now) (codes "turns"))) }
+    ensures most { IfSome result (λ turns. turns ≤ 10000000) }
+{
+    let turns = number_or(inner, "turns", 10_000)?;
+    if turns > 10_000_000 {
+        return None;
+    }
+    Some(turns as u32)
+}
+
+/// How many restarts are drawn, up to 100.
+fn restarts(inner: &ArgMatches<'_>) -> Option<u32>
+    ensures given { IfSome result (SpellsOr 0 (first_value (found_of inner.now) (codes "restarts"))) }
+    ensures most { IfSome result (λ restarts. restarts ≤ 100) }
+{
+    let restarts = number_or(inner, "restarts", 0)?;
+    if restarts > 100 {
+        return None;
+    }
+    Some(restarts as u32)
+}
+
+/// How many visits a search may take, from 1.
+fn fuel(inner: &ArgMatches<'_>) -> Option<u64>
+    ensures given { IfSome result (SpellsFuel (first_value (found_of inner.now) (codes "fuel"))) }
+    ensures some { IfSome result (λ fuel. 1 ≤ fuel) }
+{
     let fuel = number(inner.get_str("fuel")?)?;
     if fuel == 0 {
         return None;
     }
+    Some(fuel)
+}
+
+/// The answer's file, for a check alone.
+fn answer_file<'a>(mode: Mode, inner: &ArgMatches<'a>) -> Option<Option<&'a str>>
+    ensures { IfSome result (λ given. IsAnswerFile mode (option_map (λ answer. answer.now) given)
+        (first_value (found_of inner.now) (codes "answer"))) }
+{
+    match mode {
+        Mode::Check => Some(Some(inner.get_str("answer")?)),
+        Mode::Alone | Mode::Simulate => Some(None),
+    }
+}
+
+/// The settings that a subcommand's matches spell; none where a number is out of its range.
+fn spelled<'a>(name: &'a str, inner: &ArgMatches<'a>) -> Option<Settings<'a>>
+    ensures mode { IfSome result (λ s. mode_word s.mode ≡ name.now) }
+    ensures file { IfSome result (λ s. first_value (found_of inner.now) (codes "file") ≡ Some s.file.now) }
+    ensures answer { IfSome result (λ s. IsAnswerFile s.mode (option_map (λ answer. answer.now) s.answer)
+        (first_value (found_of inner.now) (codes "answer"))) }
+    ensures fuel { IfSome result (λ s. SpellsFuel (first_value (found_of inner.now) (codes "fuel")) s.fuel) }
+    ensures nodes { IfSome result (λ s. SpellsOr 4 (first_value (found_of inner.now) (codes "nodes")) s.nodes) }
+    ensures seed { IfSome result (λ s. SpellsOr 1 (first_value (found_of inner.now) (codes "seed")) s.seed) }
+    ensures turns { IfSome result (λ s. SpellsOr 10000 (first_value (found_of inner.now) (codes "turns")) s.turns) }
+    ensures restarts { IfSome result (λ s. SpellsOr 0 (first_value (found_of inner.now) (codes "restarts")) s.restarts) }
+{
+    let mode = mode_of(name)?;
     Some(Settings {
         mode,
-        file,
-        answer,
-        fuel,
+        file: inner.get_str("file")?,
+        answer: answer_file(mode, inner)?,
+        fuel: fuel(inner)?,
+        nodes: nodes(inner)?,
+        seed: number_or(inner, "seed", 1)?,
+        turns: turns(inner)?,
+        restarts: restarts(inner)?,
     })
 }
 
 /// The settings that the words of a command line spell; the first word is the program's name.
 ///
-/// `Line` is clap's fault for words that are no command line, or a fuel that is no number of its range, and its text
+/// `Line` is clap's fault for words that are no command line, or a value that is no number of its range, and its text
 /// for help and version. `Memory` comes where memory was refused, by clap too.
 pub fn settings<'a>(alloc: Global, words: &'a [&'a str]) -> Result<Settings<'a>, SettingsFault>
-    ensures { IfOk result (λ s. AreMet (subcommand_of solver_app (map (λ word. word.now) words.now)) s.mode s.file.now (option_map (λ answer. answer.now) s.answer) s.fuel) }
+    ensures { IfOk result (AreMet (subcommand_of solver_app (map (λ word. word.now) words.now))) }
 {
     let Ok(mut command) = solver_command(alloc) else {
         return Err(SettingsFault::Memory);
@@ -158,10 +293,7 @@ pub fn settings<'a>(alloc: Global, words: &'a [&'a str]) -> Result<Settings<'a>,
             return Ok(settings);
         }
     }
-    match command.error(
-        ErrorKind::ValueValidation,
-        "--fuel takes a number from 1 to 18446744073709551615",
-    ) {
+    match command.error(ErrorKind::ValueValidation, RANGES) {
         Ok(error) => Err(fault_of(error)),
         Err(_) => Err(SettingsFault::Memory),
     }

@@ -10,12 +10,15 @@ mod fault;
 mod input;
 mod lines;
 mod settings;
+mod simulate;
 mod tell;
 
 use crate::alone::alone_engine;
 use crate::check::check_engine;
 use crate::command_line::{SettingsFault, settings};
 use crate::fault::EngineFault;
+use crate::settings::{Mode, Settings};
+use crate::simulate::simulate_engine;
 use crate::tell::{tell, tell_fault};
 use dlx_reader::{CountedReader, CountedWriter};
 use std::fs::File;
@@ -58,13 +61,33 @@ fn run_check(rt: &HostRuntime, file: &str, answer: &str, fuel: u64) -> u8
     }
 }
 
+/// Runs `simulate` on a file, and answers the exit status.
+fn run_simulate(rt: &HostRuntime, settings: &Settings<'_>) -> u8 {
+    let mut errors = CountedWriter::new(rt.stderr());
+    let Ok(file) = File::open(rt, settings.file) else {
+        return tell_fault(&EngineFault::Read, &mut errors);
+    };
+    let mut source = CountedReader::new(file);
+    let mut sink = CountedWriter::new(rt.stdout());
+    match simulate_engine(rt.alloc(), settings, &mut source, &mut sink) {
+        Ok(end) => tell(end.status, end.ignored, &mut errors),
+        Err(fault) => tell_fault(&fault, &mut errors),
+    }
+}
+
+/// Runs what the settings ask for, and answers the exit status.
+fn run_settings(rt: &HostRuntime, settings: &Settings<'_>) -> u8 {
+    match (settings.mode, settings.answer) {
+        (Mode::Simulate, _) => run_simulate(rt, settings),
+        (_, Some(answer)) => run_check(rt, settings.file, answer, settings.fuel),
+        (_, None) => run_alone(rt, settings.file, settings.fuel),
+    }
+}
+
 /// Runs what a command line asks for, and answers the exit status: 2 for a fault of the command line, 0 for help.
 fn run_words(rt: &HostRuntime, words: &[&str]) -> u8 {
     match settings(rt.alloc(), words) {
-        Ok(settings) => match settings.answer {
-            None => run_alone(rt, settings.file, settings.fuel),
-            Some(answer) => run_check(rt, settings.file, answer, settings.fuel),
-        },
+        Ok(settings) => run_settings(rt, &settings),
         Err(SettingsFault::Line(error)) => {
             let _ = error.print(rt);
             if error.use_stderr() { 2 } else { 0 }

@@ -9,9 +9,11 @@ pub enum Mode {
     Alone,
     /// Test an answer to a problem.
     Check,
+    /// Let a world of sites search a problem, by chance.
+    Simulate,
 }
 
-/// The settings of a run.
+/// The settings of a run. A number that goes with another subcommand has its default.
 #[derive(Clone, Copy)]
 pub struct Settings<'a> {
     /// What is to be done.
@@ -22,5 +24,17 @@ pub struct Settings<'a> {
     pub answer: Option<&'a str>,
     /// How many visits a search may take, from 1.
     pub fuel: u64,
+    /// How many nodes there are, from 1 to 16.
+    pub nodes: u8,
+    /// The seed of what is drawn.
+    pub seed: u64,
+    /// How many turns a simulation may take, up to 10,000,000.
+    pub turns: u32,
+    /// How many restarts may be drawn, up to 100.
+    pub restarts: u32,
     pub ghost some_fuel: { 1 ≤ fuel },
+    pub ghost some_nodes: { 1 ≤ nodes },
+    pub ghost most_nodes: { nodes ≤ 16 },
+    pub ghost most_turns: { turns ≤ 10000000 },
+    pub ghost most_restarts: { restarts ≤ 100 },
 }

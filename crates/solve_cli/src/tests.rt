@@ -5,5 +5,6 @@ mod alone;
 mod check;
 mod command_line;
 mod long;
+mod simulate;
 mod texts;
 mod told;

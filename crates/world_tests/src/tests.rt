@@ -1,4 +1,5 @@
 //! Worlds as scripts of events.
 
+mod chance;
 mod runs;
 mod said;

@@ -22,37 +22,63 @@ fn status_of(alloc: Global, words: &[&str]) -> u8 {
     }
 }
 
-/// Whether the words are read so.
+/// Whether the words are read so: what is to be done with which files, and the numbers.
 fn is_read<R: Abort>(
     rt: &R,
     alloc: Global,
     words: &[&str],
-    (mode, file): (Mode, &str),
-    (answer, fuel): (Option<&str>, u64),
+    (mode, file, answer): (Mode, &str, Option<&str>),
+    (fuel, nodes, seed, turns, restarts): (u64, u8, u64, u32, u32),
 ) -> bool {
     let settings = settings(alloc, words).expect(rt, "lawful words");
     settings.mode == mode
         && settings.file == file
         && settings.answer == answer
         && settings.fuel == fuel
+        && settings.nodes == nodes
+        && settings.seed == seed
+        && settings.turns == turns
+        && settings.restarts == restarts
 }
 
 #[test]
 fn reads_words(rt: HostRuntime) {
     let words = ["solve_cli", "alone", "a.dlx"].as_slice();
-    let lacks = (None, u64::MAX);
-    assert!(rt; is_read(&rt, rt.alloc(), words, (Mode::Alone, "a.dlx"), lacks));
+    let asked = (Mode::Alone, "a.dlx", None);
+    let numbers = (u64::MAX, 4, 1, 10000, 0);
+    assert!(rt; is_read(&rt, rt.alloc(), words, asked, numbers));
+    let words = ["solve_cli", "simulate", "a.dlx"].as_slice();
+    let asked = (Mode::Simulate, "a.dlx", None);
+    let numbers = (1000, 4, 1, 10000, 0);
+    assert!(rt; is_read(&rt, rt.alloc(), words, asked, numbers));
 }
 
 #[test]
 fn reads_all_words(rt: HostRuntime) {
     let words = ["solve_cli", "check", "--fuel", "0007", "a.dlx", "b.txt"].as_slice();
-    let rest = (Some("b.txt"), 7);
-    assert!(rt; is_read(&rt, rt.alloc(), words, (Mode::Check, "a.dlx"), rest));
+    let asked = (Mode::Check, "a.dlx", Some("b.txt"));
+    let numbers = (7, 4, 1, 10000, 0);
+    assert!(rt; is_read(&rt, rt.alloc(), words, asked, numbers));
+    let words = [
+        "solve_cli",
+        "simulate",
+        "a.dlx",
+        "--nodes",
+        "16",
+        "--seed",
+        "18446744073709551615",
+        "--turns",
+        "0",
+        "--restarts",
+        "100",
+    ];
+    let asked = (Mode::Simulate, "a.dlx", None);
+    let numbers = (1000, 16, u64::MAX, 0, 100);
+    assert!(rt; is_read(&rt, rt.alloc(), words.as_slice(), asked, numbers));
 }
 
 /// Each with the status.
-static WORDS: [(&[&str], u8); 19] = [
+static WORDS: [(&[&str], u8); 23] = [
     (&["solve_cli"], 2),
     (&["solve_cli", "--help"], 0),
     (&["solve_cli", "--version"], 0),
@@ -60,7 +86,11 @@ static WORDS: [(&[&str], u8); 19] = [
     (&["solve_cli", "alone"], 2),
     (&["solve_cli", "alone", "a", "b"], 2),
     (&["solve_cli", "check", "a"], 2),
-    (&["solve_cli", "simulate", "a"], 2),
+    (&["solve_cli", "simulate", "a"], 9),
+    (&["solve_cli", "simulate", "a", "--nodes", "0"], 2),
+    (&["solve_cli", "simulate", "a", "--nodes", "17"], 2),
+    (&["solve_cli", "simulate", "a", "--turns", "10000001"], 2),
+    (&["solve_cli", "simulate", "a", "--restarts", "101"], 2),
     (&["solve_cli", "solve", "a"], 2),
     (&["solve_cli", "alone", "a", "--fuel"], 2),
     (&["solve_cli", "alone", "a", "--fuel", "0"], 2),

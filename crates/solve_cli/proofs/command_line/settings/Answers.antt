@@ -2,7 +2,7 @@ use Rattle.std.proofs.Common.{◌≡◌, ◌∙◌, ap, refl, sym, subst, codes,
 use Rattle.clap.specs.Words.{App, Text, app_of, is_simple, subcommand_of, subcommand_rows_of, found_of, rows_of}
 use Rattle.clap.proofs.OnLiterals.{clap_on_literals}
 use Rattle.clap.proofs.WalkLemmas.{first_value-rows}
-use Rattle.solve_cli.specs.CommandLine.{solver_app, IsAnswerFile, SpellsFuel}
+use Rattle.solve_cli.specs.CommandLine.{solver_app, IsAnswerFile, SpellsFuel, SpellsOr}
 use Rattle.solve_cli.proofs.Pairs.{met_pair}
 use Rattle.solve_cli.proofs.command_line.settings.Goals as goal
 
@@ -27,4 +27,8 @@ returns-in-Some-spelled c =
       file_given = sym (first_value-rows f (codes "file")) ∙ s.file;
       answer_given = subst Answered (first_value-rows f (codes "answer")) s.answer;
       fuel_given = subst Fuelled (first_value-rows f (codes "fuel")) s.fuel;
+      nodes_given = subst (λ (given : Option Text). SpellsOr 4 given c.in-Some-spelled.settings.nodes) (first_value-rows f (codes "nodes")) s.nodes;
+      seed_given = subst (λ (given : Option Text). SpellsOr 1 given c.in-Some-spelled.settings.seed) (first_value-rows f (codes "seed")) s.seed;
+      turns_given = subst (λ (given : Option Text). SpellsOr 10000 given c.in-Some-spelled.settings.turns) (first_value-rows f (codes "turns")) s.turns;
+      restarts_given = subst (λ (given : Option Text). SpellsOr 0 given c.in-Some-spelled.settings.restarts) (first_value-rows f (codes "restarts")) s.restarts;
     }
