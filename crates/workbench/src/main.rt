@@ -3,19 +3,29 @@
 //! `workbench act KIND TIMES` lets cores take events, so many times over; `workbench copy KIND TIMES` only copies the packets
 //! that go with them. A KIND is `cycle`, a steal from the first packet to the last, or the name of a packet that is
 //! delivered. `bench/cores.py` takes the times of both.
+//!
+//! `workbench tell FILE NODES SEED FUEL RESTARTS TURNS` tells a simulated search of a file's problem, event by event, with all
+//! packets.
 #![tactic(auto)]
+
+ghost use Rattle.std.specs.Prelude.{◌≤◌, IfSome};
 
 mod cycle;
 mod deliveries;
 mod fault;
+mod story;
+mod told;
 
 use crate::cycle::{act_cycles, copy_packets, packets};
 use crate::deliveries::{act_deliveries, packet_of};
 use crate::fault::BenchFault;
+use crate::story::{Plan, tell};
 use dlx_reader::read_problem;
 use std::alloc::Global;
+use std::env;
+use std::fs::File;
+use std::io::{self, Read};
 use std::process::ExitCode;
-use std::{env, io};
 
 /// One item and no option: the search of the root is short, and there is no cover.
 const ONE_ITEM: &str = "a\n";
@@ -39,8 +49,8 @@ fn copy(alloc: Global, kind: &str, times: u64) -> Result<(), BenchFault> {
     copy_packets(alloc, &[packet_of(alloc, kind)?], times)
 }
 
-/// Runs what the words ask for.
-fn run(alloc: Global, what: &str, kind: &str, times: &str) -> Result<(), BenchFault> {
+/// Runs a count.
+fn count(alloc: Global, what: &str, kind: &str, times: &str) -> Result<(), BenchFault> {
     let Ok(times) = times.parse::<u64>() else {
         return Err(BenchFault::Unexpected);
     };
@@ -48,6 +58,36 @@ fn run(alloc: Global, what: &str, kind: &str, times: &str) -> Result<(), BenchFa
         "act" => act(alloc, kind, times),
         "copy" => copy(alloc, kind, times),
         _ => Err(BenchFault::Unexpected),
+    }
+}
+
+/// The plan that the numbers spell: nodes, seed, fuel, restarts, turns.
+fn plan_of(nodes: &str, seed: &str, fuel: &str, restarts: &str, turns: &str) -> Option<Plan>
+    ensures { IfSome result (λ plan. (1 ≤ plan.nodes) × (plan.nodes ≤ 16)) }
+{
+    let nodes = nodes.parse::<u8>().ok()?;
+    if nodes == 0 || nodes > 16 {
+        return None;
+    }
+    Some(Plan {
+        nodes,
+        seed: seed.parse::<u64>().ok()?,
+        fuel: fuel.parse::<u64>().ok()?,
+        restarts: restarts.parse::<u32>().ok()?,
+        turns: turns.parse::<u32>().ok()?,
+    })
+}
+
+/// Tells the search of a problem's file.
+fn tell_file(rt: &HostRuntime, file: &str, plan: Plan) -> io::Result<()>
+    requires some { 1 ≤ plan.nodes }
+    requires most { plan.nodes ≤ 16 }
+{
+    let mut text = Vec::new(rt.alloc());
+    File::open(rt, file)?.read_to_end(&mut text)?;
+    match read_problem(rt.alloc(), &text) {
+        Ok(read) => tell(rt.alloc(), &read.problem, plan, &mut rt.stdout()),
+        Err(fault) => println!(rt; "{fault:?}"),
     }
 }
 
@@ -60,17 +100,30 @@ fn given_words(rt: &HostRuntime) -> io::Result<Vec<String>> {
     Ok(given)
 }
 
+/// How it is called.
+const USAGE: &str = "workbench act|copy KIND TIMES
+workbench tell FILE NODES SEED FUEL RESTARTS TURNS";
+
 fn main(rt: HostRuntime) -> io::Result<ExitCode> {
     let words = given_words(&rt)?;
-    let [what, kind, times] = words.as_slice() else {
-        println!(rt; "workbench act|copy KIND TIMES")?;
-        return Ok(ExitCode::from(2));
+    let counted = match words.as_slice() {
+        [what, kind, times] => count(rt.alloc(), what, kind, times),
+        [what, file, nodes, seed, fuel, restarts, turns] if what.as_str() == "tell" => {
+            match plan_of(nodes, seed, fuel, restarts, turns) {
+                Some(plan) => {
+                    tell_file(&rt, file, plan)?;
+                    Ok(())
+                }
+                None => Err(BenchFault::Unexpected),
+            }
+        }
+        _ => Err(BenchFault::Unexpected),
     };
-    match run(rt.alloc(), what, kind, times) {
+    match counted {
         Ok(()) => Ok(ExitCode::from(0)),
         Err(fault) => {
-            println!(rt; "{fault:?}")?;
-            Ok(ExitCode::from(1))
+            println!(rt; "{fault:?}\n{USAGE}")?;
+            Ok(ExitCode::from(2))
         }
     }
 }

@@ -1,12 +1,12 @@
 //! Whole runs of worlds of two nodes; what is expected is worked out by hand from the rules of the protocol.
 
-use self::Step::{Finds, Happens, Holds};
+use self::Step::{Finds, Happens, Holds, Publishes};
 use super::said::Comes::{Fault, Moved, Ripe, Taken};
 use super::said::Held::{Aborted, Done, Dropped, Finished, Out, Ready, Settled};
 use super::said::Said::{
     Abort as CallOff, Accept, Give, Hello, Members, Over, Refuse, Return, Steal,
 };
-use super::said::{Comes, Held, Said, has_come, is_held, is_packet};
+use super::said::{Came, Comes, Held, Said, has_come, is_held, is_packet, is_published};
 use cover_world::WorldEvent::{Ask, Deliver, Finish, Greet, Post, Redo, Restart, Take};
 use cover_world::WorldFault::{Core, NoSuchNode, NoSuchPacket, OldIncarnation};
 use cover_world::{World, WorldEvent};
@@ -108,6 +108,8 @@ enum Step {
     Happens(WorldEvent, Comes, &'static [Sent]),
     /// The node has the unit at this attempt and so far.
     Holds(u8, Unit, Attempt, Held),
+    /// The registry publishes a cover, or that there is none, or nothing yet.
+    Publishes(Option<Came>),
     /// At the node the least unit that is here, the frame that is ripe, and the least child that is out are these.
     Finds(u8, Option<Job>, Option<Unit>, Option<u32>),
 }
@@ -140,6 +142,7 @@ fn goes(world: &mut World<'_>, step: Step) -> bool {
             Some(view) => view.attempt == attempt && is_held(view.status, held),
             None => false,
         },
+        Publishes(expected) => is_published(world.published(), expected),
         Finds(node, here, ripe, out) => {
             world.here(node) == here && world.ripe(node) == ripe && world.out(node) == out
         }
@@ -237,6 +240,7 @@ static OVERTAKEN: &[Step] = &[
         ],
     ),
     Holds(0, Unit::Own(0), 2, Done(Some(&[1]))),
+    Publishes(Some(Some(&[1]))),
     Happens(
         Deliver(4),
         Moved,
@@ -301,6 +305,7 @@ static LATE_RESULT: &[Step] = &[
         ],
     ),
     Holds(0, Unit::Own(0), 1, Done(Some(&[3, 4, 0]))),
+    Publishes(Some(Some(&[0, 3, 4]))),
 ];
 
 /// The thief begins anew before its result comes.
@@ -324,6 +329,7 @@ static THIEF_ANEW: &[Step] = &[
     ),
     Happens(Deliver(3), Fault(Core(OtherSite)), &[]),
     Happens(Deliver(8), Fault(Core(OtherSite)), &[]),
+    Publishes(None),
 ];
 
 /// Events without a step, each of which leaves the world as it was.

@@ -1,5 +1,6 @@
 //! What worlds are seen to do, for scripts of events.
 
+use cover_problem::Answer;
 use cover_world::WorldFault;
 use node_core::Reply;
 use packet_wire::{Body, Packet};
@@ -42,6 +43,16 @@ pub enum Held {
     Finished(Came),
     Settled(Came),
     Dropped,
+}
+
+/// Whether this is published.
+pub fn is_published(answer: Option<&Answer>, expected: Option<Came>) -> bool {
+    match (answer, expected) {
+        (Some(Answer::Cover(options)), Some(Some(cover))) => options.as_slice() == cover,
+        (Some(Answer::NoCover), Some(None)) => true,
+        (None, None) => true,
+        _ => false,
+    }
 }
 
 /// Whether it is this result.
