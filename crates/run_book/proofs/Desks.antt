@@ -9,9 +9,9 @@ use Rattle.node_core.specs.declared.reply.Reply.{Reply}
 use Rattle.packet_wire.specs.declared.packet.Packet.{Packet}
 use Rattle.run_book.proofs.Counting.{are_below}
 use Rattle.run_book.proofs.Leading.{ends_on}
-use Rattle.run_book.proofs.Sites.{formed_next, reply_fits}
+use Rattle.run_book.proofs.Sites.{formed_next, reply_fits, reply_prefix}
 use Rattle.run_book.specs.Books.{EndsIn, Enters}
-use Rattle.run_book.specs.Desks.{DeskView, IsDesk, prefix_in, room_for}
+use Rattle.run_book.specs.Desks.{DeskView, IsDesk, IsLawful, prefix_in, room_for}
 use Rattle.run_book.specs.Entries.{Entry, Placed}
 use Rattle.run_book.specs.Places.{AreBelow, places}
 use Rattle.run_book.specs.Sites.{RunName}
@@ -35,6 +35,14 @@ module _ (run : RunName) (site : Site) (names : ℕ) (Step : StepOf) (problem : 
       → Acts Step problem view event reply out new → length (prefix_in reply) ≤ room_for event
   desk_reply_fits event reply out new fit acts =
       reply_fits site.node run.problem view new event reply out is.formed (enters event reply out new fit acts).acts.steps
+
+  -- it is lawful
+  pub desk_lawful : (entry : Entry) (event : Event) (reply : Reply) (out : List Packet) (new : View) → IsFit run.problem event
+      → Acts Step problem view event reply out new → entry ≡ record { event = event; reply = reply; packets = out } → IsLawful run.problem entry
+  desk_lawful entry event reply out new fit acts entry_is =
+      let acted = (enters event reply out new fit acts).acts in
+      subst (λ (e : Entry). IsLawful run.problem e) (sym entry_is)
+      (record { formed = acted.formed; prefix = reply_prefix site.node run.problem view new event reply out is.formed acted.steps })
 
   -- the desk with one entry more
   pub desk_next : (entry : Entry) (event : Event) (reply : Reply) (out : List Packet) (problem' : Problem) (new : View) (entries : List Entry)

@@ -1,8 +1,8 @@
 -- Sites of a run: what is true of each when it begins and stays true, and how long the prefixes are that it tells.
-use Rattle.std.proofs.Common.{◌≡◌, ℕ, zero, suc, ◌≤◌, List, [], ◌∷◌, length, refl, sym, ap, subst, arith, true}
+use Rattle.std.proofs.Common.{◌≡◌, ℕ, zero, suc, ◌≤◌, List, [], ◌∷◌, length, refl, sym, ap, subst, arith, true, inl, inr, ⊎_elim, ◌⊎◌}
 use Rattle.cover_problem.proofs.Firsts.{few_options}
 use Rattle.cover_problem.specs.Prefix.{is_prefix}
-use Rattle.cover_problem.specs.Problem.{Problem}
+use Rattle.cover_problem.specs.Problem.{IsProblem, Problem}
 use Rattle.node_core.proofs.Beginning.{begins_formed}
 use Rattle.node_core.proofs.Prefixes.{formed_prefixes}
 use Rattle.node_core.proofs.Walk.{node_kept}
@@ -83,41 +83,63 @@ root_hearing_holds problem old new from Over reply out s = absurd s
 no_longer : (prefix : List ℕ) (n : ℕ) → prefix ≡ [] → length prefix ≤ n
 no_longer prefix n is = subst (λ (l : List ℕ). length l ≤ n) (sym is) (omega arith)
 
-root_fits : (problem : Problem) (old new : View) (event : Event) (reply : Reply) (out : List Packet)
-    → RegistryStep problem old event reply out new → length (prefix_in reply) ≤ room_for event
-root_fits problem old new Take reply out s = absurd s
-root_fits problem old new (Post job finding) reply out s = absurd s
-root_fits problem old new (Finish unit) reply out s = absurd s
-root_fits problem old new (Ask victim) reply out s = absurd s
-root_fits problem old new (Redo serial) reply out s = no_longer _ 0 (moved_holds reply s.0)
-root_fits problem old new (Deliver packet) reply out s = no_longer _ 0 (root_hearing_holds problem old new packet.from packet.body reply out s.2)
-root_fits problem old new Again reply out s = no_longer _ 0 (moved_by_holds reply out s.2)
-root_fits problem old new Greet reply out s = absurd s
+root_holds_none : (problem : Problem) (old new : View) (event : Event) (reply : Reply) (out : List Packet)
+    → RegistryStep problem old event reply out new → prefix_in reply ≡ []
+root_holds_none problem old new Take reply out s = absurd s
+root_holds_none problem old new (Post job finding) reply out s = absurd s
+root_holds_none problem old new (Finish unit) reply out s = absurd s
+root_holds_none problem old new (Ask victim) reply out s = absurd s
+root_holds_none problem old new (Redo serial) reply out s = moved_holds reply s.0
+root_holds_none problem old new (Deliver packet) reply out s = root_hearing_holds problem old new packet.from packet.body reply out s.2
+root_holds_none problem old new Again reply out s = moved_by_holds reply out s.2
+root_holds_none problem old new Greet reply out s = absurd s
 
-node_fits : (problem : Problem) (old new : View) (event : Event) (reply : Reply) (out : List Packet)
-    → FormedAt 1 problem old → NodeStep problem old event reply out new → length (prefix_in reply) ≤ room_for event
-node_fits problem old new Take (Taken job prefix) out formed s =
+-- a reply holds no prefix, or it is that to a Take, whose prefix is one
+abbrev HoldsPrefix : Problem → Event → Reply → Type 0
+HoldsPrefix problem event reply = (prefix_in reply ≡ []) ⊎ ((event ≡ Take) × (is_prefix problem (prefix_in reply) ≡ true))
+
+node_holds : (problem : Problem) (old new : View) (event : Event) (reply : Reply) (out : List Packet)
+    → FormedAt 1 problem old → NodeStep problem old event reply out new → HoldsPrefix problem event reply
+node_holds problem old new Take (Taken job prefix) out formed s =
     let is = s.1 in
-    few_options problem prefix formed.formed.lawful
-    (subst (λ (l : List ℕ). is_prefix problem l ≡ true) (sym is.prefix_is) (formed_prefixes problem old formed job.unit is.entry is.is))
-node_fits problem old new Take (Ripe unit) out formed s = omega arith
-node_fits problem old new Take Idle out formed s = omega arith
-node_fits problem old new Take Moved out formed s = omega arith
-node_fits problem old new Take Ignored out formed s = omega arith
-node_fits problem old new (Post job finding) reply out formed s = no_longer _ 0 (moved_holds reply s.1.0)
-node_fits problem old new (Finish unit) reply out formed s = no_longer _ 0 (moved_holds reply s.1.0)
-node_fits problem old new (Ask victim) reply out formed s = no_longer _ 0 (moved_holds reply s.1.0)
-node_fits problem old new (Redo serial) reply out formed s = no_longer _ 0 (moved_holds reply s.1.0)
-node_fits problem old new (Deliver packet) reply out formed s =
-    no_longer _ 0 (hearing_holds problem old new packet.from packet.body reply out s.1.2)
-node_fits problem old new Again reply out formed s = no_longer _ 0 (moved_by_holds reply out s.1.2)
-node_fits problem old new Greet reply out formed s = no_longer _ 0 (moved_holds reply s.1.0)
+    inr (refl, subst (λ (l : List ℕ). is_prefix problem l ≡ true) (sym is.prefix_is) (formed_prefixes problem old formed job.unit is.entry is.is))
+node_holds problem old new Take (Ripe unit) out formed s = inl refl
+node_holds problem old new Take Idle out formed s = inl refl
+node_holds problem old new Take Moved out formed s = inl refl
+node_holds problem old new Take Ignored out formed s = inl refl
+node_holds problem old new (Post job finding) reply out formed s = inl (moved_holds reply s.1.0)
+node_holds problem old new (Finish unit) reply out formed s = inl (moved_holds reply s.1.0)
+node_holds problem old new (Ask victim) reply out formed s = inl (moved_holds reply s.1.0)
+node_holds problem old new (Redo serial) reply out formed s = inl (moved_holds reply s.1.0)
+node_holds problem old new (Deliver packet) reply out formed s = inl (hearing_holds problem old new packet.from packet.body reply out s.1.2)
+node_holds problem old new Again reply out formed s = inl (moved_by_holds reply out s.1.2)
+node_holds problem old new Greet reply out formed s = inl (moved_holds reply s.1.0)
+
+reply_holds : (n : ℕ) (problem : Problem) (old new : View) (event : Event) (reply : Reply) (out : List Packet)
+    → FormedAt n problem old → StepAt n problem old event reply out new → HoldsPrefix problem event reply
+reply_holds zero problem old new event reply out formed s = inl (root_holds_none problem old new event reply out s)
+reply_holds (suc n) problem old new event reply out formed s = node_holds problem old new event reply out formed s
+
+lawful_at : (n : ℕ) (problem : Problem) (view : View) → FormedAt n problem view → IsProblem problem
+lawful_at zero problem view formed = formed.formed.lawful
+lawful_at (suc n) problem view formed = formed.formed.lawful
 
 -- the prefix of a reply fits into the room that is made for it
 pub reply_fits : (n : ℕ) (problem : Problem) (old new : View) (event : Event) (reply : Reply) (out : List Packet)
     → FormedAt n problem old → StepAt n problem old event reply out new → length (prefix_in reply) ≤ room_for event
-reply_fits zero problem old new event reply out formed s = root_fits problem old new event reply out s
-reply_fits (suc n) problem old new event reply out formed s = node_fits problem old new event reply out formed s
+reply_fits n problem old new event reply out formed s = ⊎_elim
+    (λ (none : prefix_in reply ≡ []). no_longer _ (room_for event) none)
+    (λ (p : (event ≡ Take) × (is_prefix problem (prefix_in reply) ≡ true)).
+    subst (λ (e : Event). length (prefix_in reply) ≤ room_for e) (sym p.0) (few_options problem (prefix_in reply) (lawful_at n problem old formed) p.1))
+    (reply_holds n problem old new event reply out formed s)
+
+-- it is a prefix
+pub reply_prefix : (n : ℕ) (problem : Problem) (old new : View) (event : Event) (reply : Reply) (out : List Packet)
+    → FormedAt n problem old → StepAt n problem old event reply out new → is_prefix problem (prefix_in reply) ≡ true
+reply_prefix n problem old new event reply out formed s = ⊎_elim
+    (λ (none : prefix_in reply ≡ []). ap (is_prefix problem) none)
+    (λ (p : (event ≡ Take) × (is_prefix problem (prefix_in reply) ≡ true)). p.1)
+    (reply_holds n problem old new event reply out formed s)
 
 -- ---- the steps of the cores
 

@@ -1,7 +1,9 @@
 -- What stands under the lock of a cell.
-use Rattle.std.specs.Prelude.{◌≡◌, ℕ, ◌<◌, ◌≤◌, List, [], length}
+use Rattle.std.specs.Prelude.{◌≡◌, ℕ, ◌<◌, ◌≤◌, true, List, [], length}
+use Rattle.cover_problem.specs.Prefix.{is_prefix}
 use Rattle.cover_problem.specs.Problem.{Problem}
 use Rattle.node_core.specs.Acting.{StepOf}
+use Rattle.node_core.specs.Formed.{AllFormed}
 use Rattle.node_core.specs.SiteView.{View}
 use Rattle.node_core.specs.declared.event.Event.{Event}
 use Rattle.node_core.specs.declared.event.Event.TheVariants.{Take}
@@ -47,3 +49,8 @@ room_for _ = 0
 abbrev pub prefix_in : Reply → List ℕ
 prefix_in (Taken job prefix) = prefix
 prefix_in _ = []
+
+-- What a core does with an event: each packet that it puts out has a spelling, and a prefix that it tells is one.
+pub record IsLawful (problem : Problem) (entry : Entry) : Type 0 where
+  pub formed : AllFormed entry.packets
+  pub prefix : is_prefix problem (prefix_in entry.reply) ≡ true

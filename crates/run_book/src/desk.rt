@@ -2,7 +2,7 @@ ghost use Rattle.std.specs.Prelude.{◌≡◌, ℕ, ◌+◌, ◌<◌, ◌≤◌,
 ghost use Rattle.node_core.specs.Acting.{Acts};
 ghost use Rattle.node_core.specs.Refusal.{IsFit};
 ghost use Rattle.run_book.specs.Closing.{IsMissing};
-ghost use Rattle.run_book.specs.Desks.{IsTold};
+ghost use Rattle.run_book.specs.Desks.{IsLawful, IsTold};
 ghost use Rattle.run_book.specs.Places.{AllStand, AreBelow, places};
 ghost use Rattle.run_book.specs.Sites.{opening_of, IsRun, MayBeginIn, StepsAt};
 
@@ -114,6 +114,7 @@ impl<J: Run, C: Core + Drop, N: Room> Desk<J, C, N> {
         ensures entered { IfOk result (λ done. self.new.entries ≡ self.old.entries ++ done.1.entry ∷ []) }
         ensures place { IfOk result (λ done. done.1.place ≡ length self.old.entries) }
         ensures event { IfOk result (λ done. done.1.entry.event ≡ prepared.event) }
+        ensures lawful { IfOk result (λ done. IsLawful J.run.problem done.1.entry) }
         ensures seat { IfOk result (λ done. done.0 ≡ seat + 1) }
         ensures room { OnOk result (length self.old.entries < self.old.limit) }
         ensures refused { OnErr result (self.new ≡ self.old) }

@@ -1,6 +1,7 @@
 ghost use Rattle.std.specs.Prelude.{◌≡◌, ℕ, ◌+◌, length, sum, vec_len, IfErr, IfOk};
 ghost use Rattle.node_core.specs.Refusal.{IsFit};
 ghost use Rattle.run_book.specs.Closing.{IsMissing};
+ghost use Rattle.run_book.specs.Desks.{IsLawful};
 ghost use Rattle.run_book.specs.Places.{AllStand, AreBelow, places};
 ghost use Rattle.run_book.specs.Sites.{opening_of, IsRun, MayBeginIn, StepsAt};
 
@@ -88,6 +89,7 @@ impl<J: Run, C: Core + Drop, N: Room> SiteCell<J, C, N> {
     ) -> Result<(Seat<N>, Receipt<N>), (Seat<N>, Event, BookFault)>
         requires fit { IsFit J.run.problem event }
         ensures event { IfOk result (λ done. done.1.entry.event ≡ event) }
+        ensures lawful { IfOk result (λ done. IsLawful J.run.problem done.1.entry) }
         ensures seat { IfOk result (λ done. done.0 ≡ seat + 1) }
         ensures back { IfErr result (λ back. (back.0 ≡ seat) × (back.1 ≡ event)) }
     {
