@@ -5,7 +5,7 @@
 //! delivered. `bench/cores.py` takes the times of both.
 //!
 //! `workbench tell FILE NODES SEED FUEL RESTARTS TURNS` tells a simulated search of a file's problem, event by event, with all
-//! packets.
+//! packets; `workbench measure ..` plays the same and prints its turns, its packets, and whether an answer was published.
 #![tactic(auto)]
 
 ghost use Rattle.std.specs.Prelude.{◌≤◌, IfSome};
@@ -19,7 +19,7 @@ mod told;
 use crate::cycle::{act_cycles, copy_packets, packets};
 use crate::deliveries::{act_deliveries, packet_of};
 use crate::fault::BenchFault;
-use crate::story::{Plan, tell};
+use crate::story::{Plan, measure, tell};
 use dlx_reader::read_problem;
 use std::alloc::Global;
 use std::env;
@@ -78,15 +78,20 @@ fn plan_of(nodes: &str, seed: &str, fuel: &str, restarts: &str, turns: &str) -> 
     })
 }
 
-/// Tells the search of a problem's file.
-fn tell_file(rt: &HostRuntime, file: &str, plan: Plan) -> io::Result<()>
+/// Tells the search of a problem's file, or only measures it.
+fn tell_file(rt: &HostRuntime, file: &str, plan: Plan, is_told: bool) -> io::Result<()>
     requires some { 1 ≤ plan.nodes }
     requires most { plan.nodes ≤ 16 }
 {
     let mut text = Vec::new(rt.alloc());
     File::open(rt, file)?.read_to_end(&mut text)?;
     match read_problem(rt.alloc(), &text) {
-        Ok(read) => tell(rt.alloc(), &read.problem, plan, &mut rt.stdout()),
+        Ok(read) if is_told => tell(rt.alloc(), &read.problem, plan, &mut rt.stdout()),
+        Ok(read) => {
+            let measured = measure(rt.alloc(), &read.problem, plan)?;
+            let (turns, packets) = (measured.turns, measured.packets);
+            println!(rt; "{turns} {packets} {}", measured.is_published)
+        }
         Err(fault) => println!(rt; "{fault:?}"),
     }
 }
@@ -102,16 +107,16 @@ fn given_words(rt: &HostRuntime) -> io::Result<Vec<String>> {
 
 /// How it is called.
 const USAGE: &str = "workbench act|copy KIND TIMES
-workbench tell FILE NODES SEED FUEL RESTARTS TURNS";
+workbench tell|measure FILE NODES SEED FUEL RESTARTS TURNS";
 
 fn main(rt: HostRuntime) -> io::Result<ExitCode> {
     let words = given_words(&rt)?;
     let counted = match words.as_slice() {
         [what, kind, times] => count(rt.alloc(), what, kind, times),
-        [what, file, nodes, seed, fuel, restarts, turns] if what.as_str() == "tell" => {
+        [what, file, nodes, seed, fuel, restarts, turns] => {
             match plan_of(nodes, seed, fuel, restarts, turns) {
                 Some(plan) => {
-                    tell_file(&rt, file, plan)?;
+                    tell_file(&rt, file, plan, what.as_str() == "tell")?;
                     Ok(())
                 }
                 None => Err(BenchFault::Unexpected),

@@ -55,6 +55,46 @@ pub fn tell<W: Write>(alloc: Global, problem: &Problem, plan: Plan, out: &mut W)
     story.tell_end(out)
 }
 
+/// How a search went.
+#[derive(Clone, Copy, Debug, PartialEq, Eq)]
+pub struct Measured {
+    /// How many events were drawn.
+    pub turns: u32,
+    /// How many packets were sent.
+    pub packets: usize,
+    /// Whether an answer was published.
+    pub is_published: bool,
+}
+
+/// Lets a search go on until an answer is published, or so many turns are over, and measures it.
+pub fn measure(alloc: Global, problem: &Problem, plan: Plan) -> io::Result<Measured>
+    requires some { 1 ≤ plan.nodes }
+    requires most { plan.nodes ≤ 16 }
+{
+    let mut world = World::start(alloc, problem, plan.nodes)?;
+    let mut rng = Pcg32::seed_from_u64(plan.seed);
+    let mut restarts = plan.restarts;
+    let mut turns = 0;
+    for turn in 0..plan.turns {
+        if world.published().is_some() {
+            break;
+        }
+        let event = world.draw_event(&mut rng, plan.fuel, restarts);
+        if matches!(event, WorldEvent::Restart(..)) {
+            restarts = restarts.saturating_sub(1);
+        }
+        if world.step(event) == Err(WorldFault::Memory) {
+            return Err(io::Error::from(io::ErrorKind::OutOfMemory));
+        }
+        turns = turn + 1;
+    }
+    Ok(Measured {
+        turns,
+        packets: world.sent(),
+        is_published: world.published().is_some(),
+    })
+}
+
 impl Story<'_> {
     /// Tells an event and what it comes to, unless it is refused or nothing comes of it.
     fn tell_event<W: Write>(
@@ -144,7 +184,7 @@ impl Story<'_> {
 
     /// Keeps that a packet has come to a site.
     fn note_arrival(&mut self, event: WorldEvent) -> Result<(), AllocError> {
-        while self.arrived.len() < self.world.sent() {
+        for _ in self.arrived.len()..self.world.sent() {
             self.arrived.push(false)?;
         }
         if let WorldEvent::Deliver(place) = event
