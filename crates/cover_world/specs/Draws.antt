@@ -1,5 +1,5 @@
 -- The events that a simulation draws, by the words of a generator of random numbers.
-use Rattle.std.specs.Prelude.{ℕ, zero, suc, ◌-◌, ◌%◌, ◌<◌, Bool, not, ◌&&◌, Option, Some, None, List, length, slice_get, min, nat_lt, ◌==◌, if◌then◌else◌}
+use Rattle.std.specs.Prelude.{ℕ, zero, suc, ◌-◌, ◌%◌, Bool, not, ◌&&◌, Option, Some, None, length, slice_get, min, nat_lt, ◌==◌, if◌then◌else◌}
 use Rattle.cover_world.specs.Views.{first_out, here_job, looked_up}
 use Rattle.cover_world.specs.Worlds.{World}
 use Rattle.cover_world.specs.declared.world_event.WorldEvent.{WorldEvent}

@@ -2,7 +2,7 @@
 use Rattle.std.specs.Prelude.{◌≡◌, ℕ, zero, suc, ◌-◌, min, Bool, Option, Some, None, length, slice_get}
 use Rattle.cover_problem.specs.Problem.{Problem}
 use Rattle.cover_problem.specs.declared.answer.Answer.{Answer}
-use Rattle.cover_world.specs.Courses.{MayPass, WorldCore, opening_core}
+use Rattle.cover_world.specs.Courses.{MayPass}
 use Rattle.cover_world.specs.Draws.{Drawn, deck, draw, last_incarnation, node_count, present}
 use Rattle.cover_world.specs.Safety.{published}
 use Rattle.cover_world.specs.Views.{here_job, looked_up}

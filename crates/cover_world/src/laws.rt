@@ -6,6 +6,7 @@ ghost use Rattle.cover_world.specs.Coverage.{AllCovered};
 ghost use Rattle.cover_world.specs.Determined.{SameStep, given_by, may_choose};
 ghost use Rattle.cover_world.specs.Moves.{meaning, world_refusal, IsWorldView, WorldActs};
 ghost use Rattle.cover_world.specs.Safety.{Safe};
+ghost use Rattle.cover_world.specs.Simulation.{Simulated, Simulation};
 ghost use Rattle.cover_world.specs.Thieves.{CallsOff, PutsOut};
 ghost use Rattle.cover_world.specs.Worlds.{opening_world, Run, World, WorldMove, WorldStep};
 ghost use Rattle.cover_world.specs.declared.world_event.WorldEvent.{WorldEvent};
@@ -70,6 +71,12 @@ pub fn thieves_are_told()
     ensures { (problem : Problem) (old new : View) (event : Event) (reply : Reply) (out : List Packet) (serial : ℕ)
         (entry : Entry) (thief : Site) → CallsOff old new serial entry thief → NodeStep problem old event reply out new →
         PutsOut out (abort_packet old.site (record { serial = serial; attempt = entry.attempt; thief = thief })) }
+{}
+
+/// A world that a simulation comes to is reached by a run, so all that holds of every run holds of it.
+pub fn a_simulation_is_a_run()
+    ensures { (problem : Problem) (fuel turns : ℕ) (old : Simulation) (new : World) →
+        Simulated problem fuel turns old new → Run problem old.world new }
 {}
 
 /// An event of a world has a step exactly where nothing refuses it: none where there is a fault, and

@@ -1,4 +1,4 @@
-use Rattle.std.proofs.Common.{◌≡◌, Bool, is_some, sym, ap, ◌∙◌, subst, arith}
+use Rattle.std.proofs.Common.{is_some, sym, ap, ◌∙◌, subst, arith}
 use Rattle.cover_problem.specs.Problem.{Problem}
 use Rattle.cover_world.proofs.Simulating.{one_more, stands}
 use Rattle.cover_world.proofs.simulation.play.Goals as goal
