@@ -1,0 +1,66 @@
+#!/usr/bin/env python3
+"""Simulates a search of every example: `python3 scripts/try_simulate.py [SEEDS]` (20 seeds where no number is given).
+
+Each file under examples/ is searched by simulated worlds of four nodes, for each seed with searches of 1, 10 and 1,000 visits,
+without restarts and with five. Every answer is given to `check`, which has to call it right. A table tells, file by file, in how
+many of the runs an answer was published within 10,000 turns, without the closing phase, and the turns and packets that the middle one of
+these took. It wants the programs built by `rt run` in crates/solve_cli and in crates/workbench.
+"""
+import glob
+import os
+import statistics
+import subprocess
+import sys
+import tempfile
+
+ROOT = os.path.join(os.path.dirname(os.path.abspath(__file__)), "..")
+PROGRAM = os.path.join(ROOT, "crates", "solve_cli", "out", "solve_cli")
+WORKBENCH = os.path.join(ROOT, "crates", "workbench", "out", "workbench")
+NODES, TURNS = 4, 10_000
+
+
+def output(words):
+    return subprocess.run(words, capture_output=True, text=True)
+
+
+def is_right(file, answer_file, seed, fuel, restarts):
+    words = [PROGRAM, "simulate", file, "--seed", seed, "--fuel", fuel, "--restarts", restarts]
+    answered = output(words)
+    if answered.returncode not in (0, 1):
+        return False
+    with open(answer_file, "w") as answer:
+        answer.write(answered.stdout)
+    checked = output([PROGRAM, "check", file, answer_file])
+    return checked.returncode == 0 and checked.stdout == "right\n"
+
+
+def measured(file, seed, fuel, restarts):
+    words = [WORKBENCH, "measure", file, str(NODES), seed, fuel, restarts, str(TURNS)]
+    turns, packets, published = output(words).stdout.split()
+    return int(turns), int(packets), published == "true"
+
+
+def main():
+    seeds = int(sys.argv[1]) if len(sys.argv) > 1 else 20
+    plans = [(str(seed), fuel, restarts) for seed in range(1, seeds + 1)
+             for fuel in ("1", "10", "1000") for restarts in ("0", "5")]
+    wrong = 0
+    print("| File | Runs | Wrong | Published by chance | Turns | Packets |")
+    print("|---|---|---|---|---|---|")
+    with tempfile.TemporaryDirectory() as folder:
+        for file in sorted(glob.glob(os.path.join(ROOT, "examples", "*.dlx"))):
+            answer_file = os.path.join(folder, "answer")
+            bad = [plan for plan in plans if not is_right(file, answer_file, *plan)]
+            runs = [run for run in (measured(file, *plan) for plan in plans) if run[2]]
+            turns = statistics.median_low([run[0] for run in runs]) if runs else "-"
+            packets = statistics.median_low([run[1] for run in runs]) if runs else "-"
+            name = os.path.basename(file)
+            print(f"| {name} | {len(plans)} | {len(bad)} | {len(runs)} | {turns} | {packets} |", flush=True)
+            for seed, fuel, restarts in bad:
+                print(f"wrong: {name} --seed {seed} --fuel {fuel} --restarts {restarts}")
+            wrong += len(bad)
+    sys.exit(1 if wrong else 0)
+
+
+if __name__ == "__main__":
+    main()
