@@ -1,0 +1,4 @@
+//! Parcels in their order, and books of cells that threads act at.
+
+mod cells;
+mod parcels;

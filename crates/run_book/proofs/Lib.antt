@@ -1,0 +1,6 @@
+mod Counting
+mod Desks
+mod Leading
+mod Order
+mod Sites
+mod Tickets

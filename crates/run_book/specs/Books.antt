@@ -1,0 +1,34 @@
+-- Books: what happened at a site, from its beginning on.
+use Rattle.std.specs.Prelude.{◌≡◌, ℕ, List, [], ◌∷◌}
+use Rattle.cover_problem.specs.Problem.{Problem}
+use Rattle.node_core.specs.Acting.{Acts}
+use Rattle.node_core.specs.Refusal.{IsFit}
+use Rattle.node_core.specs.SiteView.{View}
+use Rattle.run_book.specs.Entries.{Entry}
+use Rattle.run_book.specs.Sites.{MayBeginIn, RunName, StepAt, opening_of}
+use Rattle.spawn_frame.specs.declared.site.Site.{Site}
+
+-- An entry takes a site from one view to the next: its event is fit, and is a step with its reply and packets.
+pub record Enters (node : ℕ) (problem : Problem) (old : View) (entry : Entry) (new : View) : Type 0 where
+  pub fit : IsFit problem entry.event
+  pub acts : Acts (StepAt node) problem old entry.event entry.reply entry.packets new
+
+-- there are views from the first to the last, each next one by the next entry
+abbrev pub LeadsTo : ℕ → Problem → View → List Entry → View → Type 0
+LeadsTo node problem first [] last = first ≡ last
+LeadsTo node problem first (entry ∷ entries) last =
+    (next : View) × Enters node problem first entry next × LeadsTo node problem next entries last
+
+-- a site, and what happened there in turn
+pub record BookView : Type 0 where
+  pub site : Site
+  pub entries : List Entry
+
+-- The site began in the run with this limit on names, and its entries led it to this view.
+pub record EndsIn (run : RunName) (book : BookView) (limit : ℕ) (last : View) : Type 0 where
+  pub begins : MayBeginIn run book.site limit
+  pub leads : LeadsTo book.site.node run.problem (opening_of run book.site limit) book.entries last
+
+-- a book: there are views from the site's beginning to a last one, each next one by the next entry
+abbrev pub IsBook : RunName → BookView → Type 0
+IsBook run book = (limit : ℕ) × (last : View) × EndsIn run book limit last

@@ -1,0 +1,49 @@
+-- What stands under the lock of a cell.
+use Rattle.std.specs.Prelude.{◌≡◌, ℕ, ◌<◌, ◌≤◌, List, [], length}
+use Rattle.cover_problem.specs.Problem.{Problem}
+use Rattle.node_core.specs.Acting.{StepOf}
+use Rattle.node_core.specs.SiteView.{View}
+use Rattle.node_core.specs.declared.event.Event.{Event}
+use Rattle.node_core.specs.declared.event.Event.TheVariants.{Take}
+use Rattle.node_core.specs.declared.reply.Reply.{Reply}
+use Rattle.node_core.specs.declared.reply.Reply.TheVariants.{Taken}
+use Rattle.run_book.specs.Books.{EndsIn}
+use Rattle.run_book.specs.Entries.{Entry}
+use Rattle.run_book.specs.Sites.{FormedAt, RunName, StepsAt}
+use Rattle.run_book.specs.Tickets.{RegisterView}
+use Rattle.run_book.specs.declared.fault.BookFault.{BookFault}
+use Rattle.run_book.specs.declared.fault.BookFault.TheVariants.{BookFull}
+use Rattle.spawn_frame.specs.declared.site.Site.{Site}
+
+-- a core's history: its entries, how many it may have, and how many seats were given out
+pub record DeskView : Type 0 where
+  pub entries : List Entry
+  pub limit : ℕ
+  pub given : ℕ
+
+-- The core is of the run and the site, and the entries, which the register has too, led it to its view.
+pub record IsDesk (run : RunName) (site : Site) (names : ℕ) (Step : StepOf) (problem : Problem) (view : View) (desk : DeskView)
+    (register : RegisterView) (total : ℕ) : Type 0 where
+  pub same : problem ≡ run.problem
+  pub steps : StepsAt site.node Step
+  pub formed : FormedAt site.node run.problem view
+  pub book : EndsIn run (record { site = site; entries = desk.entries }) names view
+  pub log : register.log ≡ desk.entries
+  pub none_back : register.back ≡ []
+  pub counted : total ≡ length desk.entries
+  pub within : length desk.entries ≤ desk.limit
+
+-- a book of so many entries, of at most so many, is told to be full exactly where no more fit
+abbrev pub IsTold : BookFault → ℕ → ℕ → Type 0
+IsTold (BookFull told) many limit = (told ≡ many) × (many ≡ limit)
+IsTold _ many limit = many < limit
+
+-- the most numbers that the reply to an event may hold: only a Take is told a prefix
+abbrev pub room_for : Event → ℕ
+room_for Take = 1000
+room_for _ = 0
+
+-- the prefix that a reply holds
+abbrev pub prefix_in : Reply → List ℕ
+prefix_in (Taken job prefix) = prefix
+prefix_in _ = []

@@ -1,0 +1,11 @@
+pub mod Beginnings
+pub mod Books
+pub mod Closing
+pub mod Desks
+pub mod Entries
+pub mod Merges
+pub mod Outbox
+pub mod Places
+pub mod Seats
+pub mod Sites
+pub mod Tickets

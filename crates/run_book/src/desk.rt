@@ -1,0 +1,250 @@
+ghost use Rattle.std.specs.Prelude.{◌≡◌, ℕ, ◌+◌, ◌<◌, ◌≤◌, [], ◌∷◌, ◌++◌, length, sum, vec_len, IfErr, IfNone, IfOk, IfSome, OnErr, OnOk};
+ghost use Rattle.node_core.specs.Acting.{Acts};
+ghost use Rattle.node_core.specs.Refusal.{IsFit};
+ghost use Rattle.run_book.specs.Closing.{IsMissing};
+ghost use Rattle.run_book.specs.Desks.{IsTold};
+ghost use Rattle.run_book.specs.Places.{AllStand, AreBelow, places};
+ghost use Rattle.run_book.specs.Sites.{opening_of, IsRun, MayBeginIn, StepsAt};
+
+use crate::book::Book;
+use crate::entry::Entry;
+use crate::fault::{BookFault, Missing};
+use crate::opened::Opened;
+use crate::prepared::{Prepared, copied_reply};
+use crate::register::{Receipt, Register};
+use crate::room::{Room, Run};
+use crate::seats::{Seat, Seats};
+use node_core::{ActFault, Core, Event, Reply};
+use packet_wire::Packet;
+use spawn_frame::Site;
+use std::alloc::AllocError;
+use std::marker::{Model, PhantomData};
+
+/// A core with its history.
+#[derive(Drop)]
+pub struct Desk<J: Run, C: Core + Drop, N: Room> {
+    core: C,
+    entries: Vec<Entry>,
+    limit: u64,
+    register: Register<N>,
+    seats: Seats<N>,
+    run: PhantomData<J>,
+}
+
+impl<J: Run, C: Core + Drop, N: Room> Model for Desk<J, C, N> {
+    ghost use Rattle.run_book.specs.Desks.{DeskView, IsDesk};
+
+    ghost Value = { DeskView };
+
+    ghost view = { λ d. record { entries = d.entries.items; limit = d.limit; given = d.seats.given } };
+
+    ghost invariant = { λ d. IsDesk J.run N.site N.limit C.step (C.problem d.core) (C.view d.core)
+        (record { entries = d.entries.items; limit = d.limit; given = d.seats.given }) d.register d.seats.total };
+}
+
+/// What a core did at an event.
+#[derive(Drop)]
+struct Done {
+    reply: Reply,
+    packets: Vec<Packet>,
+    copies: Vec<Packet>,
+    ghost same: { copies.items ≡ packets.items },
+}
+
+/// All that was handed in to `close`, and what is missing.
+#[derive(Drop)]
+pub struct Unclosed<J: Run, C: Core + Drop, N: Room> {
+    pub desk: Desk<J, C, N>,
+    pub seats: Vec<Seat<N>>,
+    pub receipts: Vec<Receipt<N>>,
+    pub cause: Missing,
+}
+
+impl<J: Run, C: Core + Drop, N: Room> Desk<J, C, N> {
+    /// The desk of a core that begins, for so many entries at most.
+    pub fn new(opened: Opened, core: C, limit: u64) -> Desk<J, C, N>
+        requires here { opened ≡ record { table = N.table; name = N.name } }
+        requires parts { N.parts ≡ 18446744073709551615 }
+        requires run { IsRun J.run }
+        requires begins { MayBeginIn J.run N.site N.limit }
+        requires steps { StepsAt N.site.node C.step }
+        requires problem { C.problem core ≡ J.run.problem }
+        requires view { C.view core ≡ opening_of J.run N.site N.limit }
+        ensures { result ≡ record { entries = []; limit = limit; given = 0 } }
+    {
+        let alloc = core.allocator();
+        let (register, seats) = opened.open();
+        Desk {
+            core,
+            entries: Vec::new(alloc),
+            limit,
+            register,
+            seats,
+            run: PhantomData,
+        }
+    }
+
+    /// A seat that has acted not yet, where one is left.
+    pub fn seat(&mut self) -> Option<Seat<N>>
+        ensures fresh { IfSome result (λ seat. seat ≡ 0) }
+        ensures entries { self.new.entries ≡ self.old.entries }
+    {
+        self.seats.seat()
+    }
+
+    /// Why an event can't be entered for which memory ran out.
+    pub fn fault(&self) -> BookFault
+        ensures { IsTold result (length self.now.entries) self.now.limit }
+    {
+        let many = self.entries.len() as u64;
+        if many >= self.limit {
+            BookFault::BookFull(many)
+        } else {
+            BookFault::Memory
+        }
+    }
+
+    /// Lets the core act, and enters what it did.
+    pub fn act(
+        &mut self,
+        seat: Seat<N>,
+        prepared: Prepared,
+    ) -> Result<(Seat<N>, Receipt<N>), (Seat<N>, Event, BookFault)>
+        requires fit { IsFit J.run.problem prepared.event }
+        ensures entered { IfOk result (λ done. self.new.entries ≡ self.old.entries ++ done.1.entry ∷ []) }
+        ensures place { IfOk result (λ done. done.1.place ≡ length self.old.entries) }
+        ensures event { IfOk result (λ done. done.1.entry.event ≡ prepared.event) }
+        ensures seat { IfOk result (λ done. done.0 ≡ seat + 1) }
+        ensures room { OnOk result (length self.old.entries < self.old.limit) }
+        ensures refused { OnErr result (self.new ≡ self.old) }
+        ensures back { IfErr result (λ back. (back.0 ≡ seat) × (back.1 ≡ prepared.event)) }
+        ensures fault { IfErr result (λ back. IsTold back.2 (length self.old.entries) self.old.limit) }
+    {
+        let place = self.entries.len() as u64;
+        let Prepared {
+            event,
+            kept,
+            told,
+            room,
+        } = prepared;
+        if place >= self.limit {
+            return Err((seat, event, BookFault::BookFull(place)));
+        }
+        if self.entries.reserve(1).is_err() {
+            return Err((seat, event, BookFault::Memory));
+        }
+        let Done {
+            reply,
+            packets,
+            copies,
+        } = match run(&mut self.core, event) {
+            Ok(done) => done,
+            Err(fault) => return Err((seat, told, of_core(fault))),
+        };
+        let entry = Entry {
+            event: kept,
+            reply: copied_reply(&reply, room),
+            packets: copies,
+        };
+        let told = Entry {
+            event: told,
+            reply,
+            packets,
+        };
+        let receipt = self.register.enter(place, &entry, told);
+        self.entries.push_reserved(entry);
+        Ok((self.seats.count(seat), receipt))
+    }
+
+    /// The book, with all seats and receipts back.
+    pub fn close(
+        self,
+        site: Site,
+        seats: Vec<Seat<N>>,
+        receipts: Vec<Receipt<N>>,
+    ) -> Result<Book<J>, Unclosed<J, C, N>>
+        requires { site ≡ N.site }
+        ensures book { IfOk result (λ book. book ≡ record { site = site; entries = self.entries }) }
+        ensures stand { IfOk result (λ _. AllStand self.entries receipts.items) }
+        ensures each { IfOk result (λ _. AreBelow (length self.entries) (places receipts.items)) }
+        ensures counted { IfOk result (λ _. sum seats.items ≡ length self.entries) }
+        ensures cause { IfErr result (λ back. IsMissing back.cause seats.items (vec_len receipts) self.given) }
+        ensures desk { IfErr result (λ back. back.desk ≡ self) }
+        ensures back { IfErr result (λ back. (back.seats.items ≡ seats.items) × (back.receipts.items ≡ receipts.items)) }
+    {
+        if let Some(cause) = missing(self.seats.given(), seats.as_slice(), receipts.len()) {
+            return Err(Unclosed {
+                desk: self,
+                seats,
+                receipts,
+                cause,
+            });
+        }
+        let Desk {
+            core: _,
+            entries,
+            limit: _,
+            register,
+            seats: all,
+            run: _,
+        } = self;
+        all.close(seats);
+        let mut register = register.take_back(receipts);
+        register.look();
+        Ok(Book::new(site, entries))
+    }
+}
+
+/// Lets a core act.
+fn run<C: Core>(core: &mut C, event: Event) -> Result<Done, ActFault>
+    requires fit { IsFit (C.problem core.old) event }
+    ensures problem { C.problem core.new ≡ C.problem core.old }
+    ensures acts { IfOk result (λ done. Acts C.step (C.problem core.old) (C.view core.old) event done.reply done.packets.items (C.view core.new)) }
+    ensures err { OnErr result (C.view core.new ≡ C.view core.old) }
+{
+    let alloc = core.allocator();
+    let mut packets = Vec::new(alloc);
+    let mut copies = Vec::new(alloc);
+    let reply = core.act_both(event, &mut packets, &mut copies)?;
+    Ok(Done {
+        reply,
+        packets,
+        copies,
+    })
+}
+
+/// A core's fault as one of a book: want of memory is the same here.
+fn of_core(fault: ActFault) -> BookFault
+    ensures told { (many limit : ℕ) → many < limit → IsTold result many limit }
+{
+    match fault {
+        ActFault::Memory => BookFault::Memory,
+        _ => BookFault::Core(fault),
+    }
+}
+
+/// What is missing, seats before receipts.
+fn missing<N: Room>(given: u64, seats: &[Seat<N>], receipts: usize) -> Option<Missing>
+    ensures missing { IfSome result (λ cause. IsMissing cause seats.now receipts given) }
+    ensures seats { IfNone result (given ≤ length seats.now) }
+    ensures receipts { IfNone result (sum seats.now ≤ receipts) }
+{
+    if (seats.len() as u64) < given {
+        return Some(Missing::SeatsMissing(given));
+    }
+    if (receipts as u128) < counted(seats) {
+        return Some(Missing::ReceiptsMissing);
+    }
+    None
+}
+
+/// How many receipts the seats count together.
+fn counted<N: Room>(seats: &[Seat<N>]) -> u128
+    ensures { result ≡ sum seats.now }
+{
+    let mut all = 0u128;
+    for seat in seats {
+        all += u128::from(seat.count());
+    }
+    all
+}

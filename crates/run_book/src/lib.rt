@@ -1,0 +1,30 @@
+//! What threads share: the parcels that wait to be sent, and the locked book of a site.
+#![tactic(auto)]
+
+mod book;
+mod desk;
+mod entry;
+mod fault;
+mod laws;
+mod opened;
+mod outbox;
+mod parcel;
+mod parcel_rule;
+mod prepared;
+mod register;
+mod room;
+mod seats;
+mod site_cell;
+mod ticket_rule;
+
+pub use book::Book;
+pub use entry::Entry;
+pub use fault::{BookFault, Missing};
+pub use laws::cores_step_as_their_sites;
+pub use opened::Opened;
+pub use outbox::{CAPACITY, Drain, Outbox, Pass};
+pub use parcel::Parcel;
+pub use register::Receipt;
+pub use room::{Room, Run};
+pub use seats::Seat;
+pub use site_cell::{SiteCell, Unclosed};

@@ -1,0 +1,57 @@
+ghost use Rattle.std.specs.Prelude.{◌≡◌, []};
+
+use crate::register::Register;
+use crate::room::Room;
+use crate::seats::Seats;
+use crate::ticket_rule::{Carrier, Token};
+use std::alloc::{AllocError, Global};
+use std::marker::Model;
+use std::sync::ledger::Blank;
+
+/// What a cell is made of before a type stands for it. Contracts see it as its names, which the caller puts into the type.
+#[derive(Drop)]
+pub struct Opened {
+    carrier: Carrier,
+    keeper: Token,
+    blank: Blank,
+}
+
+impl Model for Opened {
+    ghost use Rattle.std.specs.Prelude.{◌≡◌};
+    ghost use Rattle.crossbeam_queue.specs.Passes.{view as known, IsPassOf};
+    ghost use Rattle.run_book.specs.Tickets.{keeper_of_none};
+    ghost use Rattle.run_book.specs.Seats.{RoomName};
+
+    ghost Value = { RoomName };
+
+    ghost view = { λ o. record { table = o.keeper.table_id; name = o.blank.name } };
+
+    ghost invariant = { λ o. IsPassOf o.carrier o.keeper × (known o.keeper ≡ keeper_of_none) × (o.blank.parts ≡ 18446744073709551615) };
+}
+
+impl Opened {
+    /// A new table of receipts, and a new ledger of seats. The only error is want of memory.
+    pub fn new(alloc: Global) -> Result<Opened, AllocError> {
+        let (carrier, keeper) = Carrier::ruled(alloc, 1)?;
+        Ok(Opened {
+            carrier,
+            keeper,
+            blank: Blank::new(u64::MAX),
+        })
+    }
+
+    /// The register and the seats of the cell that the type now names.
+    pub fn open<N: Room>(self) -> (Register<N>, Seats<N>)
+        requires here { self ≡ record { table = N.table; name = N.name } }
+        requires parts { N.parts ≡ 18446744073709551615 }
+        ensures register { result.0 ≡ record { log = []; back = [] } }
+        ensures seats { result.1 ≡ record { given = 0; total = 0 } }
+    {
+        let Opened {
+            carrier,
+            keeper,
+            blank,
+        } = self;
+        (Register::new(carrier, keeper), Seats::new(blank))
+    }
+}

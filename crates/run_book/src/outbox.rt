@@ -1,0 +1,110 @@
+ghost use Rattle.std.specs.Prelude.{◌≡◌, [], None, IfErr, IfOk, IfSome};
+ghost use Rattle.run_book.specs.Outbox.{has_taken, FoundEmpty, FoundFull, HasPut};
+
+use crate::parcel::Parcel;
+use crate::parcel_rule::{InOrder, Knows, Puts, Takes};
+use crossbeam_queue::RuledArrayQueue;
+use std::alloc::{AllocError, Global};
+use std::marker::Model;
+use std::sync::Wait;
+
+/// How many parcels fit into an outbox.
+pub const CAPACITY: usize = 1024;
+
+/// A right to put parcels into one outbox. It knows a beginning of all that was put in.
+#[derive(Drop)]
+pub struct Pass {
+    inner: crossbeam_queue::Pass<Parcel, Knows>,
+}
+
+impl Model for Pass {
+    ghost use Rattle.std.specs.Prelude.{◌≡◌, []};
+    ghost use Rattle.run_book.specs.Outbox.{PassView, pass_view};
+
+    ghost Value = { PassView };
+
+    ghost view = { λ p. pass_view p.inner };
+
+    ghost invariant = { λ p. p.inner.me.1 ≡ [] };
+}
+
+/// The right to take parcels out of one outbox. It knows all that was taken out.
+#[derive(Drop)]
+pub struct Drain {
+    inner: crossbeam_queue::Pass<Parcel, Knows>,
+}
+
+impl Model for Drain {
+    ghost use Rattle.std.specs.Prelude.{◌≡◌, []};
+    ghost use Rattle.run_book.specs.Outbox.{DrainView, drain_view};
+
+    ghost Value = { DrainView };
+
+    ghost view = { λ d. drain_view d.inner };
+
+    ghost invariant = { λ d. (d.inner.id ≡ 0) × (d.inner.me.1 ≡ []) };
+}
+
+/// A bounded queue of parcels, which leave in the order in which they came. Contracts see it as its name.
+#[derive(Drop)]
+pub struct Outbox {
+    queue: RuledArrayQueue<Parcel, Knows, InOrder>,
+}
+
+impl Model for Outbox {
+    ghost use Rattle.std.specs.Prelude.{◌≡◌};
+    ghost use Rattle.atomic_table.specs.Seated.{TableId};
+    ghost use Rattle.crossbeam_queue.specs.Passes.{ruled_capacity};
+    ghost use Rattle.run_book.specs.Outbox.{name_of};
+
+    ghost Value = { TableId };
+
+    ghost view = { λ o. name_of o.queue };
+
+    ghost invariant = { λ o. ruled_capacity o.queue ≡ 1024 };
+}
+
+impl Outbox {
+    /// An empty outbox and its one drain. The only error is want of memory.
+    pub fn new(alloc: Global) -> Result<(Outbox, Drain), AllocError>
+        ensures drain { IfOk result (λ made. made.1 ≡ record { outbox = made.0; taken = [] }) }
+    {
+        let (queue, inner) = RuledArrayQueue::ruled(alloc, CAPACITY)?;
+        Ok((Outbox { queue }, Drain { inner }))
+    }
+
+    /// A new pass, which has seen nothing. It takes no memory.
+    pub fn pass(&self) -> Pass
+        ensures { result ≡ record { outbox = self.now; seen = [] } }
+    {
+        Pass {
+            inner: self.queue.pass(),
+        }
+    }
+
+    /// Puts a parcel in behind all others. It comes back only if the outbox was full at one moment of the call.
+    pub fn push<R: Wait>(&self, rt: &R, pass: Pass, parcel: Parcel) -> Result<Pass, (Pass, Parcel)>
+        requires here { pass.outbox ≡ self.now }
+        ensures put { IfOk result (λ after. HasPut pass parcel after) }
+        ensures back { IfErr result (λ back. back ≡ (pass, parcel)) }
+        ensures full { IfErr result (λ _. FoundFull pass.seen) }
+    {
+        let Pass { mut inner } = pass;
+        match self.queue.push_as::<Puts, R>(rt, &mut inner, parcel) {
+            Ok(()) => Ok(Pass { inner }),
+            Err(parcel) => Err((Pass { inner }, parcel)),
+        }
+    }
+
+    /// Takes out the first parcel. There is none only if the outbox was empty at one moment of the call.
+    pub fn pop<R: Wait>(&self, rt: &R, drain: Drain) -> (Drain, Option<Parcel>)
+        requires here { drain.outbox ≡ self.now }
+        ensures taken { IfSome result.1 (λ parcel. result.0 ≡ has_taken drain parcel) }
+        ensures none { result.1 ≡ None → result.0 ≡ drain }
+        ensures empty { result.1 ≡ None → FoundEmpty drain.taken }
+    {
+        let Drain { mut inner } = drain;
+        let parcel = self.queue.pop_as::<Takes, R>(rt, &mut inner);
+        (Drain { inner }, parcel)
+    }
+}

@@ -1,0 +1,78 @@
+ghost use Rattle.std.specs.Prelude.{◌≡◌, ◌≤◌, [], length, vec_capacity, IfErr, IfOk};
+ghost use Rattle.run_book.specs.Desks.{prefix_in, room_for};
+
+use cover_problem::Numbers;
+use node_core::{Event, Reply};
+use std::alloc::Global;
+
+/// An event with all that is to be made before a core acts on it: two copies, and the room for a copy of a reply's prefix.
+#[derive(Drop)]
+pub struct Prepared {
+    pub event: Event,
+    pub kept: Event,
+    pub told: Event,
+    pub room: Vec<u16>,
+    pub ghost kept_same: { kept ≡ event },
+    pub ghost told_same: { told ≡ event },
+    pub ghost empty: { room.items ≡ [] },
+    pub ghost wide: { room_for event ≤ vec_capacity room },
+}
+
+impl Prepared {
+    /// The event, prepared. It comes back where memory ran out.
+    pub fn new(alloc: Global, event: Event) -> Result<Prepared, Event>
+        ensures event { IfOk result (λ prepared. prepared.event ≡ event) }
+        ensures back { IfErr result (λ back. back ≡ event) }
+    {
+        let Ok(kept) = event.copy() else {
+            return Err(event);
+        };
+        let Ok(told) = event.copy() else {
+            return Err(event);
+        };
+        let Ok(room) = Vec::with_capacity(alloc, numbers_for(&event)) else {
+            return Err(event);
+        };
+        Ok(Prepared {
+            event,
+            kept,
+            told,
+            room,
+        })
+    }
+}
+
+/// The most numbers that the reply to an event may hold: only a Take is told a prefix, which has at most 1,000.
+fn numbers_for(event: &Event) -> usize
+    ensures { result ≡ room_for event.now }
+{
+    if let Event::Take = event { 1000 } else { 0 }
+}
+
+/// An equal reply, whose prefix goes into the room.
+pub fn copied_reply(reply: &Reply, room: Vec<u16>) -> Reply
+    requires empty { room.items ≡ [] }
+    requires fits { length (prefix_in reply.now) ≤ vec_capacity room }
+    ensures { result ≡ reply.now }
+{
+    match reply {
+        Reply::Taken(job, prefix) => Reply::Taken(*job, copied(prefix.as_slice(), room)),
+        Reply::Ripe(unit) => Reply::Ripe(*unit),
+        Reply::Idle => Reply::Idle,
+        Reply::Moved => Reply::Moved,
+        Reply::Ignored => Reply::Ignored,
+    }
+}
+
+/// The numbers, in the room.
+fn copied(numbers: &[u16], room: Vec<u16>) -> Numbers
+    requires empty { room.items ≡ [] }
+    requires fits { length numbers.now ≤ vec_capacity room }
+    ensures { result ≡ numbers.now }
+{
+    let mut copy = room;
+    for number in numbers {
+        copy.push_reserved(*number);
+    }
+    Numbers::from_vec(copy)
+}

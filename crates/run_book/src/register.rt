@@ -1,0 +1,161 @@
+ghost use Rattle.std.specs.Prelude.{◌≡◌, [], ◌∷◌, ◌++◌, length};
+ghost use Rattle.crossbeam_queue.specs.Passes.{view, IsPassOf, IsSamePass};
+ghost use Rattle.run_book.specs.Tickets.{entered, keeper_of_none, receipt_of, taken_back, AreApart, IsKeeper};
+
+use crate::entry::Entry;
+use crate::room::Room;
+use crate::ticket_rule::{Carrier, Enter, Entered, Looks, TakeBack, Token};
+use node_core::{Event, Reply};
+use packet_wire::Packet;
+use std::marker::{Brand, Model, PhantomData};
+
+/// What was entered by one call, and where.
+///
+/// The packets are those to be sent.
+#[derive(Drop)]
+pub struct Receipt<N: Room> {
+    /// The number of the entries before it.
+    pub place: u64,
+    /// The event that was handed in.
+    pub event: Event,
+    /// What it came to.
+    pub reply: Reply,
+    /// The packets that were put out, in their order.
+    pub packets: Vec<Packet>,
+    token: Token,
+    room: PhantomData<N>,
+}
+
+impl<N: Room> Model for Receipt<N> {
+    ghost use Rattle.std.specs.Prelude.{◌≡◌, []};
+    ghost use Rattle.crossbeam_queue.specs.Passes.{view as known};
+    ghost use Rattle.run_book.specs.Entries.{Placed, placed};
+    ghost use Rattle.run_book.specs.Tickets.{HasReceipt};
+
+    ghost Value = { Placed };
+
+    ghost view = { λ r. placed r.place r.event r.reply r.packets.items };
+
+    ghost invariant = { λ r. (r.token.table_id ≡ N.table) × (r.token.me.1 ≡ [])
+        × HasReceipt (known r.token) (placed r.place r.event r.reply r.packets.items) };
+}
+
+/// What makes the receipts of a log's entries, and takes them back.
+#[derive(Drop)]
+pub struct Register<N: Room> {
+    carrier: Carrier,
+    keeper: Token,
+    room: PhantomData<N>,
+}
+
+impl<N: Room> Model for Register<N> {
+    ghost use Rattle.std.specs.Prelude.{◌≡◌};
+    ghost use Rattle.crossbeam_queue.specs.Passes.{view as known, IsPassOf};
+    ghost use Rattle.run_book.specs.Tickets.{register_view, IsKeeper, RegisterView};
+
+    ghost Value = { RegisterView };
+
+    ghost view = { λ r. register_view (known r.keeper) };
+
+    ghost invariant = { λ r. (r.keeper.table_id ≡ N.table) × IsPassOf r.carrier r.keeper × IsKeeper (known r.keeper) };
+}
+
+impl<N: Room> Register<N> {
+    /// The register of an empty log.
+    pub fn new(carrier: Carrier, keeper: Token) -> Register<N>
+        requires here { keeper.table_id ≡ N.table }
+        requires carrier { IsPassOf carrier keeper }
+        requires empty { view keeper ≡ keeper_of_none }
+        ensures { result ≡ record { log = []; back = [] } }
+    {
+        Register {
+            carrier,
+            keeper,
+            room: PhantomData,
+        }
+    }
+
+    /// Enters an entry at the end of the log, and gives its receipt, which is told the same.
+    pub fn enter(&mut self, place: u64, entry: &Entry, told: Entry) -> Receipt<N>
+        requires next { place ≡ length self.old.log }
+        requires same { told ≡ entry.now }
+        ensures receipt { result ≡ record { place = place; entry = entry.now } }
+        ensures log { self.new.log ≡ self.old.log ++ entry.now ∷ [] }
+        ensures back { self.new.back ≡ self.old.back }
+    {
+        let token = ticket::<Brand>(&self.carrier, &mut self.keeper, entry);
+        let Entry {
+            event,
+            reply,
+            packets,
+        } = told;
+        Receipt {
+            place,
+            event,
+            reply,
+            packets,
+            token,
+            room: PhantomData,
+        }
+    }
+
+    /// Takes receipts back.
+    pub fn take_back(self, receipts: Vec<Receipt<N>>) -> Register<N>
+        ensures log { result.log ≡ self.log }
+        ensures back { result.back ≡ self.back ++ receipts.items }
+    {
+        let Register {
+            carrier,
+            mut keeper,
+            room: _,
+        } = self;
+        for receipt in receipts {
+            take_in(&carrier, &mut keeper, receipt);
+        }
+        Register {
+            carrier,
+            keeper,
+            room: PhantomData,
+        }
+    }
+
+    /// Looks: each receipt that is back stands at its place, and no two at one.
+    pub fn look(&mut self)
+        ensures same { self.new ≡ self.old }
+        ensures apart { AreApart self.old.log self.old.back }
+    {
+        self.carrier.learn_as::<Looks>(&mut self.keeper);
+    }
+}
+
+/// The keeper enters the entry, and the new holder has its receipt.
+fn ticket<E: Entered>(carrier: &Carrier, keeper: &mut Token, entry: &Entry) -> Token
+    requires entry { entry.now ≡ E.entry }
+    requires carrier { IsPassOf carrier.now keeper.old }
+    requires keeper { IsKeeper (view keeper.old) }
+    ensures same { IsSamePass keeper.old keeper.new }
+    ensures carrier { IsPassOf carrier.now result }
+    ensures keeper { view keeper.new ≡ entered (view keeper.old) entry.now }
+    ensures receipt { view result ≡ receipt_of (view keeper.old) entry.now }
+{
+    carrier.another::<Enter<E>>(keeper)
+}
+
+/// The keeper takes a receipt back.
+fn take_in<N: Room>(carrier: &Carrier, keeper: &mut Token, receipt: Receipt<N>)
+    requires here { keeper.old.table_id ≡ N.table }
+    requires carrier { IsPassOf carrier.now keeper.old }
+    requires keeper { IsKeeper (view keeper.old) }
+    ensures same { IsSamePass keeper.old keeper.new }
+    ensures keeper { view keeper.new ≡ taken_back (view keeper.old) receipt }
+{
+    let Receipt {
+        place: _,
+        event: _,
+        reply: _,
+        packets: _,
+        token,
+        room: _,
+    } = receipt;
+    carrier.absorb::<TakeBack>(keeper, token);
+}

@@ -1,0 +1,141 @@
+ghost use Rattle.std.specs.Prelude.{◌≡◌, ℕ, ◌+◌, length, sum, vec_len, IfErr, IfOk};
+ghost use Rattle.node_core.specs.Refusal.{IsFit};
+ghost use Rattle.run_book.specs.Closing.{IsMissing};
+ghost use Rattle.run_book.specs.Places.{AllStand, AreBelow, places};
+ghost use Rattle.run_book.specs.Sites.{opening_of, IsRun, MayBeginIn, StepsAt};
+
+use crate::book::Book;
+use crate::desk;
+use crate::desk::Desk;
+use crate::fault::{BookFault, Missing};
+use crate::opened::Opened;
+use crate::prepared::Prepared;
+use crate::register::Receipt;
+use crate::room::{Room, Run};
+use crate::seats::Seat;
+use node_core::{Core, Event};
+use spawn_frame::Site;
+use std::alloc::{AllocError, Global};
+use std::sync::{Mutex, Wait};
+
+/// The core of a site with its history, under one lock.
+///
+/// Whenever the lock is free, what it holds is a book of the site, with the core in the view to which the book leads. `J` names
+/// the run, `N` this cell.
+#[derive(Drop)]
+pub struct SiteCell<J: Run, C: Core + Drop, N: Room> {
+    site: Site,
+    alloc: Global,
+    lock: Mutex<Desk<J, C, N>>,
+    ghost here: { site ≡ N.site },
+}
+
+/// All that was handed in to `close`, and what is missing.
+#[derive(Drop)]
+pub struct Unclosed<J: Run, C: Core + Drop, N: Room> {
+    /// The cell.
+    pub cell: SiteCell<J, C, N>,
+    /// The seats.
+    pub seats: Vec<Seat<N>>,
+    /// The receipts.
+    pub receipts: Vec<Receipt<N>>,
+    /// What is missing.
+    pub cause: Missing,
+}
+
+impl<J: Run, C: Core + Drop, N: Room> SiteCell<J, C, N> {
+    /// The cell of a core that begins, for so many entries at most. The types have the names of what was opened, of the
+    /// core's run and of its site.
+    pub fn new(opened: Opened, core: C, limit: u64) -> SiteCell<J, C, N>
+        requires here { opened ≡ record { table = N.table; name = N.name } }
+        requires parts { N.parts ≡ 18446744073709551615 }
+        requires run { IsRun J.run }
+        requires begins { MayBeginIn J.run N.site N.limit }
+        requires steps { StepsAt N.site.node C.step }
+        requires problem { C.problem core ≡ J.run.problem }
+        requires view { C.view core ≡ opening_of J.run N.site N.limit }
+    {
+        SiteCell {
+            site: core.site(),
+            alloc: core.allocator(),
+            lock: Mutex::new(Desk::new(opened, core, limit)),
+        }
+    }
+
+    /// The site. It stands beside the lock.
+    pub fn site(&self) -> Site
+        ensures { result ≡ N.site }
+    {
+        self.site
+    }
+
+    /// A seat, which counts nothing yet. The only error is that 18,446,744,073,709,551,615 were given out.
+    pub fn seat<R: Wait>(&self, rt: &R) -> Result<Seat<N>, AllocError>
+        ensures { IfOk result (λ seat. seat ≡ 0) }
+    {
+        self.lock.lock(rt).seat().ok_or(AllocError)
+    }
+
+    /// Hands an event to the core. It is entered with what the core did, and the receipt tells the same.
+    ///
+    /// `BookFull` comes exactly where the book has as many entries as it may have. The core may refuse the event: it then
+    /// enters nothing. Where memory ran out nothing has happened. With each fault the seat and the event come back.
+    pub fn act<R: Wait>(
+        &self,
+        rt: &R,
+        seat: Seat<N>,
+        event: Event,
+    ) -> Result<(Seat<N>, Receipt<N>), (Seat<N>, Event, BookFault)>
+        requires fit { IsFit J.run.problem event }
+        ensures event { IfOk result (λ done. done.1.entry.event ≡ event) }
+        ensures seat { IfOk result (λ done. done.0 ≡ seat + 1) }
+        ensures back { IfErr result (λ back. (back.0 ≡ seat) × (back.1 ≡ event)) }
+    {
+        match Prepared::new(self.alloc, event) {
+            Ok(prepared) => self.lock.lock(rt).act(seat, prepared),
+            Err(event) => {
+                let fault = self.lock.lock(rt).fault();
+                Err((seat, event, fault))
+            }
+        }
+    }
+
+    /// The book, once all seats and receipts are back: each receipt stands in it at its place, and no entry is without one.
+    ///
+    /// Seats are counted before receipts. What is handed in comes back where something is missing. It takes no memory.
+    pub fn close(
+        self,
+        seats: Vec<Seat<N>>,
+        receipts: Vec<Receipt<N>>,
+    ) -> Result<Book<J>, Unclosed<J, C, N>>
+        ensures site { IfOk result (λ book. book.site ≡ N.site) }
+        ensures stand { IfOk result (λ book. AllStand book.entries receipts.items) }
+        ensures each { IfOk result (λ book. AreBelow (length book.entries) (places receipts.items)) }
+        ensures counted { IfOk result (λ book. sum seats.items ≡ length book.entries) }
+        ensures cause { IfErr result (λ back. (given : ℕ) × IsMissing back.cause seats.items (vec_len receipts) given) }
+        ensures back { IfErr result (λ back. (back.seats.items ≡ seats.items) × (back.receipts.items ≡ receipts.items)) }
+    {
+        let SiteCell { site, alloc, lock } = self;
+        match lock.into_inner().close(site, seats, receipts) {
+            Ok(book) => Ok(book),
+            Err(unclosed) => {
+                let desk::Unclosed {
+                    desk,
+                    seats,
+                    receipts,
+                    cause,
+                } = unclosed;
+                Err(Unclosed {
+                    cell: SiteCell {
+                        site,
+                        alloc,
+                        lock: Mutex::new(desk),
+                    },
+                    seats,
+                    receipts,
+                    cause,
+                })
+            }
+        }
+    }
+}
