@@ -1,7 +1,9 @@
 //! The threads of a site, from their start to their end.
 
 ghost use Rattle.std.specs.List.{All};
-ghost use Rattle.std.specs.Prelude.{◌≡◌, ◌+◌, IfOk, IsSome, vec_len};
+ghost use Rattle.std.specs.Prelude.{◌≡◌, ◌+◌, ◌<◌, ◌≤◌, ◌⊎◌, IfOk, IsSome, vec_len};
+ghost use Rattle.std.specs.Vec.{vec_capacity};
+ghost use Rattle.udp_node.specs.declared.cause.Cause.TheVariants.{Memory};
 
 use crate::actor::Actor;
 use crate::cause::Cause;
@@ -10,7 +12,7 @@ use crate::link::Link;
 use crate::node_end::NodeEnd;
 use crate::plan::Plan;
 use crate::receiver::Receiver;
-use crate::sender::{Sent, send_all};
+use crate::sender::{Sender, Sent, send_all};
 use crate::shared::Shared;
 use crate::stand::Stand;
 use crate::worker::Worker;
@@ -135,7 +137,8 @@ fn receive<J: Run, C: Core + Drop, N: Room, L: Link, G: Gate, R: Wait + Clock>(
     (actor, Cause::Turns)
 }
 
-/// Runs the threads of a node: its workers, one that receives and one that sends.
+/// Runs the threads of a node to their ends: its workers, one that receives and one that sends. All seats come back, unless there
+/// is no memory to start with: then no thread ran.
 pub fn run_node<
     J: Run + Send + Sync,
     C: Core + Drop + Send,
@@ -153,11 +156,13 @@ pub fn run_node<
     gate: &G,
 ) -> NodeEnd<N>
     requires { problem.now ≡ J.run.problem }
+    ensures { (vec_len result.stands ≡ plan.workers + 1) ⊎ (result.cause ≡ Memory) }
 {
     run_threads(rt, alloc, cell, problem, link, plan, gate, plan.workers)
 }
 
-/// Runs the threads of the registry: one that receives and one that sends.
+/// Runs the threads of the registry to their ends: one that receives and one that sends. The seat comes back, unless there is no
+/// memory to start with: then no thread ran.
 pub fn run_root<
     J: Run + Send + Sync,
     C: Core + Drop + Send,
@@ -173,6 +178,7 @@ pub fn run_root<
     plan: Plan,
 ) -> NodeEnd<N>
     requires { problem.now ≡ J.run.problem }
+    ensures { (vec_len result.stands ≡ 1) ⊎ (result.cause ≡ Memory) }
 {
     run_threads(rt, alloc, cell, problem, link, plan, &Open, 0)
 }
@@ -196,18 +202,15 @@ fn run_threads<
     workers: u8,
 ) -> NodeEnd<N>
     requires { problem.now ≡ J.run.problem }
+    ensures { (vec_len result.stands ≡ workers + 1) ⊎ (result.cause ≡ Memory) }
 {
     let (Ok((outbox, drain)), Ok(twin)) = (Outbox::new(alloc), link.twin()) else {
         return NodeEnd::starved(alloc);
     };
-    let Ok(mut places) = places_for(rt, alloc, cell, twin, workers) else {
+    let Ok(crew) = Crew::new(rt, alloc, cell, twin, workers) else {
         return NodeEnd::starved(alloc);
     };
-    let count = places.len();
-    let Ok(stands) = Vec::with_capacity(alloc, count) else {
-        return NodeEnd::starved(alloc);
-    };
-    let running = AtomicU64::new(count as u64);
+    let running = AtomicU64::new(crew.places.len() as u64);
     let shared = Shared {
         cell,
         problem,
@@ -217,20 +220,99 @@ fn run_threads<
         plan,
         alloc,
     };
-    let mut link = link;
-    let (sent, ()) = thread::join(
+    let sender = Sender {
+        outbox: &outbox,
+        drain,
+        link,
+        running: &running,
+        turns: plan.turns,
+    };
+    let (sent, crew) = thread::join(rt, move || send_all(rt, sender), || crew.run(rt, &shared));
+    ended(crew, sent)
+}
+
+/// The threads of a site that act, with the room for what comes of them.
+#[derive(Drop)]
+struct Crew<N: Room, L: Link> {
+    places: Vec<Place<N, L>>,
+    stands: Vec<Stand<N>>,
+    workers: u8,
+    ghost all: { All (λ place. IsSome place.stand) places.items },
+    ghost many: { vec_len places ≡ workers + 1 },
+    ghost none: { vec_len stands ≡ 0 },
+    ghost room: { vec_len places ≤ vec_capacity stands },
+}
+
+impl<N: Room, L: Link> Crew<N, L> {
+    /// The threads before their start: the one that receives, and so many workers. The only error is want of memory, or that no
+    /// seats are left.
+    fn new<J: Run, C: Core + Drop, R: Wait>(
+        rt: &R,
+        alloc: Global,
+        cell: &SiteCell<J, C, N>,
+        twin: L,
+        workers: u8,
+    ) -> Result<Crew<N, L>, AllocError>
+        ensures { IfOk result (λ crew. crew.workers ≡ workers) }
+    {
+        let places = places_for(rt, alloc, cell, twin, workers)?;
+        let stands = Vec::with_capacity(alloc, places.len())?;
+        Ok(Crew {
+            places,
+            stands,
+            workers,
+        })
+    }
+
+    /// Runs them to their ends.
+    fn run<
+        J: Run + Send + Sync,
+        C: Core + Drop + Send,
+        G: Gate + Sync,
+        R: Threads + Wait + Clock + Sync,
+    >(self, rt: &R, shared: &Shared<'_, '_, '_, '_, '_, J, C, N, G>) -> Crew<N, L>
+    where
+        N: Send + Sync,
+        L: Send,
+        ensures { result.workers ≡ self.workers }
+    {
+        let Crew {
+            mut places,
+            stands,
+            workers,
+        } = self;
+        run_places(rt, shared, &mut places);
+        Crew {
+            places,
+            stands,
+            workers,
+        }
+    }
+}
+
+/// Runs the threads that act, each to its end, at once.
+fn run_places<
+    J: Run + Send + Sync,
+    C: Core + Drop + Send,
+    N: Room + Send + Sync,
+    L: Link + Send,
+    G: Gate + Sync,
+    R: Threads + Wait + Clock + Sync,
+>(rt: &R, shared: &Shared<'_, '_, '_, '_, '_, J, C, N, G>, places: &mut Vec<Place<N, L>>)
+    requires { All (λ place. IsSome place.stand) places.old.items }
+    ensures all { All (λ place. IsSome place.stand) places.new.items }
+    ensures many { vec_len places.new ≡ vec_len places.old }
+{
+    let count = places.len();
+    if count == 0 {
+        return;
+    }
+    thread::for_each_mut(
         rt,
-        || send_all(rt, &outbox, drain, &mut link, &running, plan.turns),
-        || {
-            thread::for_each_mut(
-                rt,
-                places.as_mut_slice(),
-                count,
-                &|_, place| { place.run(rt, &shared) },
-            )
-        },
+        places.as_mut_slice(),
+        count,
+        &|_, place| { place.run(rt, shared) },
     );
-    ended(places, stands, sent)
 }
 
 /// The threads before their start: the one that receives, and so many workers. The only error is want of memory, or that no seats
@@ -255,12 +337,15 @@ fn places_for<J: Run, C: Core + Drop, N: Room, L: Link, R: Wait>(
     Ok(places)
 }
 
-/// What came of all threads, with the room for their stands.
-fn ended<N: Room, L: Link>(
-    places: Vec<Place<N, L>>,
-    stands: Vec<Stand<N>>,
-    sent: Sent,
-) -> NodeEnd<N> {
+/// What came of all threads.
+fn ended<N: Room, L: Link>(crew: Crew<N, L>, sent: Sent) -> NodeEnd<N>
+    ensures { vec_len result.stands ≡ crew.workers + 1 }
+{
+    let Crew {
+        places,
+        stands,
+        workers: _,
+    } = crew;
     let mut end = NodeEnd {
         stands,
         losses: sent.losses,
@@ -275,7 +360,12 @@ fn ended<N: Room, L: Link>(
 }
 
 /// The end of a site with that of one thread more.
-fn with_place<N: Room, L: Link>(end: NodeEnd<N>, place: Place<N, L>) -> NodeEnd<N> {
+fn with_place<N: Room, L: Link>(end: NodeEnd<N>, place: Place<N, L>) -> NodeEnd<N>
+    requires stand { IsSome place.stand }
+    requires room { vec_len end.stands < vec_capacity end.stands }
+    ensures one { vec_len result.stands ≡ vec_len end.stands + 1 }
+    ensures capacity { vec_capacity result.stands ≡ vec_capacity end.stands }
+{
     let Place {
         task,
         stand,

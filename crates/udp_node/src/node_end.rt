@@ -1,4 +1,6 @@
-ghost use Rattle.std.specs.Prelude.{◌≡◌, sum, vec_len, IfErr, IfOk};
+ghost use Rattle.std.specs.Prelude.{◌≡◌, ◌+◌, ◌≤◌, sum, sum_by, vec_len, IfErr, IfOk, IfSome};
+ghost use Rattle.std.specs.Vec.{vec_capacity};
+ghost use Rattle.udp_node.specs.declared.cause.Cause.TheVariants.{Memory};
 
 use crate::cause::Cause;
 use crate::stand::Stand;
@@ -22,7 +24,9 @@ pub struct NodeEnd<N: Room> {
 
 impl<N: Room> NodeEnd<N> {
     /// There was no memory to start a thread.
-    pub(crate) fn starved(alloc: Global) -> NodeEnd<N> {
+    pub(crate) fn starved(alloc: Global) -> NodeEnd<N>
+        ensures { result.cause ≡ Memory }
+    {
         NodeEnd {
             stands: Vec::new(alloc),
             losses: 0,
@@ -32,13 +36,16 @@ impl<N: Room> NodeEnd<N> {
         }
     }
 
-    /// All seats, and all receipts. It comes back whole where memory ran out.
+    /// All seats, and all receipts. It comes back whole where memory ran out, or no list has room
+    /// for so many.
     pub fn into_lists(self, alloc: Global) -> Result<(Vec<Seat<N>>, Vec<Receipt<N>>), NodeEnd<N>>
         ensures seats { IfOk result (λ lists. vec_len lists.0 ≡ vec_len self.stands) }
         ensures counted { IfOk result (λ lists. sum lists.0.items ≡ vec_len lists.1) }
         ensures back { IfErr result (λ back. back.stands.items ≡ self.stands.items) }
     {
-        let many = receipts_of(&self.stands);
+        let Some(many) = receipts_of(&self.stands) else {
+            return Err(self);
+        };
         let (Ok(seats), Ok(receipts)) = (
             Vec::with_capacity(alloc, self.stands.len()),
             Vec::with_capacity(alloc, many),
@@ -49,13 +56,15 @@ impl<N: Room> NodeEnd<N> {
     }
 }
 
-/// How many receipts there are.
-fn receipts_of<N: Room>(stands: &[Stand<N>]) -> usize {
+/// How many receipts there are; none where that is no length.
+fn receipts_of<N: Room>(stands: &[Stand<N>]) -> Option<usize>
+    ensures { IfSome result (λ many. many ≡ sum_by (λ stand. stand.seat) stands.now) }
+{
     let mut many = 0usize;
     for stand in stands {
-        many = many.saturating_add(stand.count());
+        many = many.checked_add(stand.count())?;
     }
-    many
+    Some(many)
 }
 
 /// Puts the seats and receipts of all stands into these lists, which have room for them.
@@ -63,13 +72,29 @@ fn parted<N: Room>(
     stands: Vec<Stand<N>>,
     mut seats: Vec<Seat<N>>,
     mut receipts: Vec<Receipt<N>>,
-) -> (Vec<Seat<N>>, Vec<Receipt<N>>) {
+) -> (Vec<Seat<N>>, Vec<Receipt<N>>)
+    requires empty { (vec_len seats ≡ 0) × (vec_len receipts ≡ 0) }
+    requires seats { vec_len stands ≤ vec_capacity seats }
+    requires receipts { sum_by (λ stand. stand.seat) stands.items ≤ vec_capacity receipts }
+    ensures seats { vec_len result.0 ≡ vec_len stands }
+    ensures counted { sum result.0.items ≡ vec_len result.1 }
+{
     for stand in stands {
         let (seat, own) = stand.into_parts();
         seats.push_reserved(seat);
-        for receipt in own {
-            receipts.push_reserved(receipt);
-        }
+        receipts = with_all(receipts, own);
     }
     (seats, receipts)
+}
+
+/// The receipts with these after them, for which there is room.
+fn with_all<N: Room>(mut receipts: Vec<Receipt<N>>, own: Vec<Receipt<N>>) -> Vec<Receipt<N>>
+    requires { vec_len receipts + vec_len own ≤ vec_capacity receipts }
+    ensures many { vec_len result ≡ vec_len receipts + vec_len own }
+    ensures capacity { vec_capacity result ≡ vec_capacity receipts }
+{
+    for receipt in own {
+        receipts.push_reserved(receipt);
+    }
+    receipts
 }

@@ -12,7 +12,8 @@ use node_core::{Core, Event};
 use packet_wire::{Body, Packet, read_packet};
 use run_book::{Room, Run};
 use std::sync::Wait;
-use std::time::Clock;
+use std::thread;
+use std::time::{Clock, Duration};
 
 /// How many bytes a receive takes: one more than the longest packet has, so that a longer datagram is seen.
 const BUFFER: usize = 2026;
@@ -22,6 +23,9 @@ const AGAIN: u64 = 20;
 
 /// How many failed receives in a row end a site.
 const FAULTS: u32 = 100;
+
+/// How long the thread waits after an empty receive, in microseconds: a link in memory doesn't wait by itself.
+const NAP: u64 = 20;
 
 /// How many turns lie between two greetings of a node.
 const GREETING: u64 = 1_000;
@@ -126,7 +130,7 @@ impl<L: Link> Receiver<L> {
             return (actor, None);
         };
         let (actor, acted) = actor.act(rt, shared, Event::Deliver(packet));
-        if acted.is_ok() && tells_end(actor.stand.packets()) {
+        if acted.is_ok() && shared.cell.site().node == 0 && tells_end(actor.stand.packets()) {
             self.over = true;
         }
         (actor, end_of(acted))
@@ -143,6 +147,7 @@ impl<L: Link> Receiver<L> {
         requires here { actor.pass.outbox ≡ shared.now.outbox.now }
         ensures here { result.0.pass.outbox ≡ shared.now.outbox.now }
     {
+        thread::sleep(rt, Duration::from_micros(NAP));
         self.empty = self.empty.saturating_add(1);
         if self.over && self.empty >= AGAIN {
             return (actor, Some(Cause::Over));
@@ -158,9 +163,7 @@ impl<L: Link> Receiver<L> {
     }
 }
 
-/// Whether a site that puts these packets out has its answer.
+/// Whether the registry, where it puts these packets out, has published an answer: it accepts none but the root's result.
 fn tells_end(packets: &[Packet]) -> bool {
-    packets
-        .iter()
-        .any(|packet| matches!(packet.body, Body::Over))
+    packets.iter().any(|packet| matches!(packet.body, Body::Over | Body::Accept { .. }))
 }

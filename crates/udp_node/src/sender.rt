@@ -24,19 +24,32 @@ pub struct Sent {
     pub failures: u64,
 }
 
+/// What the thread that sends is given.
+#[derive(Drop)]
+pub struct Sender<'a, 'b, L: Link> {
+    /// What waits to be sent.
+    pub outbox: &'a Outbox,
+    /// The right to take it out.
+    pub drain: Drain,
+    /// Where it is sent.
+    pub link: L,
+    /// How many threads are at work that put parcels into the outbox.
+    pub running: &'b AtomicU64,
+    /// How many parcels it sends at most.
+    pub turns: u64,
+    pub ghost same: { drain.outbox ≡ outbox.now },
+}
+
 /// Sends what is in the outbox, in its order, until no other thread of the site is at work and the outbox is empty; at most so many
 /// parcels, and a thousand times as many looks that find it empty.
-pub fn send_all<L: Link, R: Wait + Clock>(
-    rt: &R,
-    outbox: &Outbox,
-    drain: Drain,
-    link: &mut L,
-    running: &AtomicU64,
-    turns: u64,
-) -> Sent
-    requires { drain.outbox ≡ outbox.now }
-{
-    let mut drain = drain;
+pub fn send_all<L: Link, R: Wait + Clock>(rt: &R, sender: Sender<'_, '_, L>) -> Sent {
+    let Sender {
+        outbox,
+        mut drain,
+        mut link,
+        running,
+        turns,
+    } = sender;
     let mut looks = turns.saturating_mul(LOOKS);
     let mut losses = 0u64;
     let mut left = turns;

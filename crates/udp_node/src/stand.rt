@@ -88,7 +88,8 @@ impl<N: Room> Stand<N> {
 
     /// Its seat and receipts.
     pub fn into_parts(self) -> (Seat<N>, Vec<Receipt<N>>)
-        ensures { result.0 ≡ vec_len result.1 }
+        ensures seat { result.0 ≡ self.seat }
+        ensures receipts { result.0 ≡ vec_len result.1 }
     {
         let Stand { seat, receipts } = self;
         (seat, receipts)
