@@ -1,0 +1,14 @@
+/// Why a thread of a site ended. Of several the first of this list is the site's.
+#[derive(Clone, Copy, Debug, PartialEq, Eq, PartialOrd, Ord)]
+pub enum Cause {
+    /// The search is over.
+    Over,
+    /// The site's book has as many entries as it may have.
+    BookFull,
+    /// A hundred receives in a row failed.
+    Faults,
+    /// Memory ran out outside the core.
+    Memory,
+    /// Its turns are over, or nothing came for long.
+    Turns,
+}

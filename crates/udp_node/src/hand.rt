@@ -1,0 +1,29 @@
+ghost use Rattle.std.specs.Prelude.{◌≡◌, ◌≤◌};
+ghost use Rattle.cover_problem.specs.Search.{outcome};
+
+use brancher::Finding;
+use cover_problem::Numbers;
+use run_book::Run;
+use spawn_frame::Job;
+use std::marker::PhantomData;
+
+/// A job that was searched, with what came of it in the run's problem.
+#[derive(Drop)]
+pub struct Searched<J: Run> {
+    pub job: Job,
+    pub finding: Finding,
+    pub run: PhantomData<J>,
+    pub ghost fuel: { 1 ≤ finding.fuel },
+    pub ghost outcome: { finding.outcome ≡ outcome J.run.problem finding.prefix finding.fuel },
+}
+
+/// What a worker has in hand between its turns.
+#[derive(Drop)]
+pub enum Hand<J: Run> {
+    /// Nothing: it takes up work.
+    Nothing,
+    /// A job that is to be searched: its prefix, with so many visits.
+    Search(Job, Numbers, u64),
+    /// What came of a search, which is to be posted.
+    Post(Searched<J>),
+}

@@ -1,0 +1,388 @@
+//! The threads of a site, from their start to their end.
+
+ghost use Rattle.std.specs.List.{All};
+ghost use Rattle.std.specs.Prelude.{◌≡◌, ◌+◌, ◌<◌, ◌≤◌, ◌⊎◌, IfOk, IsSome, vec_len};
+ghost use Rattle.std.specs.Vec.{vec_capacity};
+ghost use Rattle.udp_node.specs.declared.cause.Cause.TheVariants.{Memory};
+
+use crate::actor::Actor;
+use crate::cause::Cause;
+use crate::gate::{Gate, Open};
+use crate::link::Link;
+use crate::node_end::NodeEnd;
+use crate::plan::Plan;
+use crate::receiver::Receiver;
+use crate::sender::{Sender, Sent, send_all};
+use crate::shared::Shared;
+use crate::stand::Stand;
+use crate::worker::Worker;
+use cover_problem::Problem;
+use node_core::Core;
+use run_book::{Outbox, Room, Run, SiteCell};
+use std::alloc::{AllocError, Global};
+use std::sync::Wait;
+use std::sync::atomic::{AtomicU64, Ordering};
+use std::thread::{self, Threads};
+use std::time::Clock;
+
+/// What a thread is for.
+#[derive(Drop)]
+enum Task<L: Link> {
+    /// The worker of this number.
+    Work(u8),
+    /// It receives.
+    Receive(Receiver<L>),
+}
+
+/// A thread of a site that acts: its stand while it doesn't run.
+#[derive(Drop)]
+struct Place<N: Room, L: Link> {
+    task: Task<L>,
+    stand: Option<Stand<N>>,
+    losses: u64,
+    cause: Cause,
+}
+
+impl<N: Room, L: Link> Place<N, L> {
+    /// A thread before its start.
+    fn new(task: Task<L>, stand: Stand<N>) -> Place<N, L>
+        ensures { IsSome result.stand }
+    {
+        Place {
+            task,
+            stand: Some(stand),
+            losses: 0,
+            cause: Cause::Turns,
+        }
+    }
+
+    /// Runs the thread to its end.
+    fn run<J: Run, C: Core + Drop, G: Gate, R: Wait + Clock>(
+        &mut self,
+        rt: &R,
+        shared: &Shared<'_, '_, '_, '_, '_, J, C, N, G>,
+    )
+        ensures { IsSome self.old.stand → IsSome self.new.stand }
+    {
+        let Place {
+            task,
+            stand: place,
+            losses: lost,
+            cause: why,
+        } = self;
+        if let Some(stand) = place.take() {
+            let actor = Actor {
+                stand,
+                pass: shared.outbox.pass(),
+                losses: 0,
+            };
+            let (actor, cause) = match task {
+                Task::Work(number) => work(rt, shared, actor, *number),
+                Task::Receive(receiver) => receive(rt, shared, actor, receiver),
+            };
+            let Actor {
+                stand,
+                pass: _,
+                losses,
+            } = actor;
+            *lost = losses;
+            *why = cause;
+            *place = Some(stand);
+        }
+        shared.running.fetch_sub(1, Ordering::SeqCst);
+    }
+}
+
+/// A worker's turns.
+fn work<J: Run, C: Core + Drop, N: Room, G: Gate, R: Wait + Clock>(
+    rt: &R,
+    shared: &Shared<'_, '_, '_, '_, '_, J, C, N, G>,
+    actor: Actor<N>,
+    number: u8,
+) -> (Actor<N>, Cause)
+    requires here { actor.pass.outbox ≡ shared.now.outbox.now }
+{
+    let node = shared.cell.site().node;
+    let Ok(mut worker) = Worker::new(shared.alloc, shared.problem, shared.plan, node, number) else {
+        return (actor, Cause::Memory);
+    };
+    let mut actor = actor;
+    for _turn in 0..shared.plan.turns {
+        let (after, end) = worker.turn(rt, shared, actor);
+        actor = after;
+        if let Some(cause) = end {
+            return (actor, cause);
+        }
+    }
+    (actor, Cause::Turns)
+}
+
+/// The turns of the thread that receives.
+fn receive<J: Run, C: Core + Drop, N: Room, L: Link, G: Gate, R: Wait + Clock>(
+    rt: &R,
+    shared: &Shared<'_, '_, '_, '_, '_, J, C, N, G>,
+    actor: Actor<N>,
+    receiver: &mut Receiver<L>,
+) -> (Actor<N>, Cause)
+    requires here { actor.pass.outbox ≡ shared.now.outbox.now }
+{
+    let mut actor = actor;
+    for number in 0..shared.plan.turns {
+        let (after, end) = receiver.turn(rt, shared, actor, number);
+        actor = after;
+        if let Some(cause) = end {
+            return (actor, cause);
+        }
+    }
+    (actor, Cause::Turns)
+}
+
+/// Runs the threads of a node to their ends: its workers, one that receives and one that sends. All seats come back, unless there
+/// is no memory to start with: then no thread ran.
+pub fn run_node<
+    J: Run + Send + Sync,
+    C: Core + Drop + Send,
+    N: Room + Send + Sync,
+    L: Link + Send,
+    G: Gate + Sync,
+    R: Threads + Wait + Clock + Sync,
+>(
+    rt: &R,
+    alloc: Global,
+    cell: &SiteCell<J, C, N>,
+    problem: &Problem,
+    link: L,
+    plan: Plan,
+    gate: &G,
+) -> NodeEnd<N>
+    requires { problem.now ≡ J.run.problem }
+    ensures { (vec_len result.stands ≡ plan.workers + 1) ⊎ (result.cause ≡ Memory) }
+{
+    run_threads(rt, alloc, cell, problem, link, plan, gate, plan.workers)
+}
+
+/// Runs the threads of the registry to their ends: one that receives and one that sends. The seat comes back, unless there is no
+/// memory to start with: then no thread ran.
+pub fn run_root<
+    J: Run + Send + Sync,
+    C: Core + Drop + Send,
+    N: Room + Send + Sync,
+    L: Link + Send,
+    R: Threads + Wait + Clock + Sync,
+>(
+    rt: &R,
+    alloc: Global,
+    cell: &SiteCell<J, C, N>,
+    problem: &Problem,
+    link: L,
+    plan: Plan,
+) -> NodeEnd<N>
+    requires { problem.now ≡ J.run.problem }
+    ensures { (vec_len result.stands ≡ 1) ⊎ (result.cause ≡ Memory) }
+{
+    run_threads(rt, alloc, cell, problem, link, plan, &Open, 0)
+}
+
+/// Runs the threads of a site with so many workers.
+fn run_threads<
+    J: Run + Send + Sync,
+    C: Core + Drop + Send,
+    N: Room + Send + Sync,
+    L: Link + Send,
+    G: Gate + Sync,
+    R: Threads + Wait + Clock + Sync,
+>(
+    rt: &R,
+    alloc: Global,
+    cell: &SiteCell<J, C, N>,
+    problem: &Problem,
+    link: L,
+    plan: Plan,
+    gate: &G,
+    workers: u8,
+) -> NodeEnd<N>
+    requires { problem.now ≡ J.run.problem }
+    ensures { (vec_len result.stands ≡ workers + 1) ⊎ (result.cause ≡ Memory) }
+{
+    let (Ok((outbox, drain)), Ok(twin)) = (Outbox::new(alloc), link.twin()) else {
+        return NodeEnd::starved(alloc);
+    };
+    let Ok(crew) = Crew::new(rt, alloc, cell, twin, workers) else {
+        return NodeEnd::starved(alloc);
+    };
+    let running = AtomicU64::new(crew.places.len() as u64);
+    let shared = Shared {
+        cell,
+        problem,
+        outbox: &outbox,
+        gate,
+        running: &running,
+        plan,
+        alloc,
+    };
+    let sender = Sender {
+        outbox: &outbox,
+        drain,
+        link,
+        running: &running,
+        turns: plan.turns,
+    };
+    let (sent, crew) = thread::join(rt, move || send_all(rt, sender), || crew.run(rt, &shared));
+    ended(crew, sent)
+}
+
+/// The threads of a site that act, with the room for what comes of them.
+#[derive(Drop)]
+struct Crew<N: Room, L: Link> {
+    places: Vec<Place<N, L>>,
+    stands: Vec<Stand<N>>,
+    workers: u8,
+    ghost all: { All (λ place. IsSome place.stand) places.items },
+    ghost many: { vec_len places ≡ workers + 1 },
+    ghost none: { vec_len stands ≡ 0 },
+    ghost room: { vec_len places ≤ vec_capacity stands },
+}
+
+impl<N: Room, L: Link> Crew<N, L> {
+    /// The threads before their start: the one that receives, and so many workers. The only error is want of memory, or that no
+    /// seats are left.
+    fn new<J: Run, C: Core + Drop, R: Wait>(
+        rt: &R,
+        alloc: Global,
+        cell: &SiteCell<J, C, N>,
+        twin: L,
+        workers: u8,
+    ) -> Result<Crew<N, L>, AllocError>
+        ensures { IfOk result (λ crew. crew.workers ≡ workers) }
+    {
+        let places = places_for(rt, alloc, cell, twin, workers)?;
+        let stands = Vec::with_capacity(alloc, places.len())?;
+        Ok(Crew {
+            places,
+            stands,
+            workers,
+        })
+    }
+
+    /// Runs them to their ends.
+    fn run<
+        J: Run + Send + Sync,
+        C: Core + Drop + Send,
+        G: Gate + Sync,
+        R: Threads + Wait + Clock + Sync,
+    >(self, rt: &R, shared: &Shared<'_, '_, '_, '_, '_, J, C, N, G>) -> Crew<N, L>
+    where
+        N: Send + Sync,
+        L: Send,
+        ensures { result.workers ≡ self.workers }
+    {
+        let Crew {
+            mut places,
+            stands,
+            workers,
+        } = self;
+        run_places(rt, shared, &mut places);
+        Crew {
+            places,
+            stands,
+            workers,
+        }
+    }
+}
+
+/// Runs the threads that act, each to its end, at once.
+fn run_places<
+    J: Run + Send + Sync,
+    C: Core + Drop + Send,
+    N: Room + Send + Sync,
+    L: Link + Send,
+    G: Gate + Sync,
+    R: Threads + Wait + Clock + Sync,
+>(rt: &R, shared: &Shared<'_, '_, '_, '_, '_, J, C, N, G>, places: &mut Vec<Place<N, L>>)
+    requires { All (λ place. IsSome place.stand) places.old.items }
+    ensures all { All (λ place. IsSome place.stand) places.new.items }
+    ensures many { vec_len places.new ≡ vec_len places.old }
+{
+    let count = places.len();
+    if count == 0 {
+        return;
+    }
+    thread::for_each_mut(
+        rt,
+        places.as_mut_slice(),
+        count,
+        &|_, place| { place.run(rt, shared) },
+    );
+}
+
+/// The threads before their start: the one that receives, and so many workers. The only error is want of memory, or that no seats
+/// are left.
+fn places_for<J: Run, C: Core + Drop, N: Room, L: Link, R: Wait>(
+    rt: &R,
+    alloc: Global,
+    cell: &SiteCell<J, C, N>,
+    twin: L,
+    workers: u8,
+) -> Result<Vec<Place<N, L>>, AllocError>
+    ensures all { IfOk result (λ places. All (λ place. IsSome place.stand) places.items) }
+    ensures many { IfOk result (λ places. vec_len places ≡ workers + 1) }
+{
+    let mut places = Vec::with_capacity(alloc, usize::from(workers) + 1)?;
+    let receiver = Task::Receive(Receiver::new(twin));
+    places.push(Place::new(receiver, Stand::new(rt, alloc, cell)?))?;
+    for worker in 0..workers {
+        let stand = Stand::new(rt, alloc, cell)?;
+        places.push(Place::new(Task::Work(worker), stand))?;
+    }
+    Ok(places)
+}
+
+/// What came of all threads.
+fn ended<N: Room, L: Link>(crew: Crew<N, L>, sent: Sent) -> NodeEnd<N>
+    ensures { vec_len result.stands ≡ crew.workers + 1 }
+{
+    let Crew {
+        places,
+        stands,
+        workers: _,
+    } = crew;
+    let mut end = NodeEnd {
+        stands,
+        losses: sent.losses,
+        dropped: 0,
+        failures: sent.failures,
+        cause: Cause::Turns,
+    };
+    for place in places {
+        end = with_place(end, place);
+    }
+    end
+}
+
+/// The end of a site with that of one thread more.
+fn with_place<N: Room, L: Link>(end: NodeEnd<N>, place: Place<N, L>) -> NodeEnd<N>
+    requires stand { IsSome place.stand }
+    requires room { vec_len end.stands < vec_capacity end.stands }
+    ensures one { vec_len result.stands ≡ vec_len end.stands + 1 }
+    ensures capacity { vec_capacity result.stands ≡ vec_capacity end.stands }
+{
+    let Place {
+        task,
+        stand,
+        losses,
+        cause,
+    } = place;
+    let (dropped, failures) = match &task {
+        Task::Receive(receiver) => receiver.counts(),
+        Task::Work(_) => (0, 0),
+    };
+    let mut end = end;
+    end.losses = end.losses.saturating_add(losses);
+    end.dropped = end.dropped.saturating_add(dropped);
+    end.failures = end.failures.saturating_add(failures);
+    end.cause = end.cause.min(cause);
+    if let Some(stand) = stand {
+        end.stands.push_reserved(stand);
+    }
+    end
+}

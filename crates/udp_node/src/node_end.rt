@@ -1,0 +1,100 @@
+ghost use Rattle.std.specs.Prelude.{◌≡◌, ◌+◌, ◌≤◌, sum, sum_by, vec_len, IfErr, IfOk, IfSome};
+ghost use Rattle.std.specs.Vec.{vec_capacity};
+ghost use Rattle.udp_node.specs.declared.cause.Cause.TheVariants.{Memory};
+
+use crate::cause::Cause;
+use crate::stand::Stand;
+use run_book::{Receipt, Room, Seat};
+use std::alloc::Global;
+
+/// How the threads of a site ended. The greatest numbers stay.
+#[derive(Drop)]
+pub struct NodeEnd<N: Room> {
+    /// All their seats, each with as many receipts as it counts.
+    pub stands: Vec<Stand<N>>,
+    /// How many parcels were lost: the outbox was full, or the link didn't send them.
+    pub losses: u64,
+    /// How many datagrams came that are no packets.
+    pub dropped: u64,
+    /// How many calls of the link failed.
+    pub failures: u64,
+    /// Why they ended: the first of all causes in the order of that type.
+    pub cause: Cause,
+}
+
+impl<N: Room> NodeEnd<N> {
+    /// There was no memory to start a thread.
+    pub(crate) fn starved(alloc: Global) -> NodeEnd<N>
+        ensures { result.cause ≡ Memory }
+    {
+        NodeEnd {
+            stands: Vec::new(alloc),
+            losses: 0,
+            dropped: 0,
+            failures: 0,
+            cause: Cause::Memory,
+        }
+    }
+
+    /// All seats, and all receipts. It comes back whole where memory ran out, or no list has room
+    /// for so many.
+    pub fn into_lists(self, alloc: Global) -> Result<(Vec<Seat<N>>, Vec<Receipt<N>>), NodeEnd<N>>
+        ensures seats { IfOk result (λ lists. vec_len lists.0 ≡ vec_len self.stands) }
+        ensures counted { IfOk result (λ lists. sum lists.0.items ≡ vec_len lists.1) }
+        ensures back { IfErr result (λ back. back.stands.items ≡ self.stands.items) }
+    {
+        let Some(many) = receipts_of(&self.stands) else {
+            return Err(self);
+        };
+        let (Ok(seats), Ok(receipts)) = (
+            Vec::with_capacity(alloc, self.stands.len()),
+            Vec::with_capacity(alloc, many),
+        ) else {
+            return Err(self);
+        };
+        Ok(parted(self.stands, seats, receipts))
+    }
+}
+
+/// How many receipts there are; none where that is no length.
+fn receipts_of<N: Room>(stands: &[Stand<N>]) -> Option<usize>
+    ensures { IfSome result (λ many. many ≡ sum_by (λ stand. stand.seat) stands.now) }
+{
+    let mut many = 0usize;
+    for stand in stands {
+        many = many.checked_add(stand.count())?;
+    }
+    Some(many)
+}
+
+/// Puts the seats and receipts of all stands into these lists, which have room for them.
+fn parted<N: Room>(
+    stands: Vec<Stand<N>>,
+    mut seats: Vec<Seat<N>>,
+    mut receipts: Vec<Receipt<N>>,
+) -> (Vec<Seat<N>>, Vec<Receipt<N>>)
+    requires empty { (vec_len seats ≡ 0) × (vec_len receipts ≡ 0) }
+    requires seats { vec_len stands ≤ vec_capacity seats }
+    requires receipts { sum_by (λ stand. stand.seat) stands.items ≤ vec_capacity receipts }
+    ensures seats { vec_len result.0 ≡ vec_len stands }
+    ensures counted { sum result.0.items ≡ vec_len result.1 }
+{
+    for stand in stands {
+        let (seat, own) = stand.into_parts();
+        seats.push_reserved(seat);
+        receipts = with_all(receipts, own);
+    }
+    (seats, receipts)
+}
+
+/// The receipts with these after them, for which there is room.
+fn with_all<N: Room>(mut receipts: Vec<Receipt<N>>, own: Vec<Receipt<N>>) -> Vec<Receipt<N>>
+    requires { vec_len receipts + vec_len own ≤ vec_capacity receipts }
+    ensures many { vec_len result ≡ vec_len receipts + vec_len own }
+    ensures capacity { vec_capacity result ≡ vec_capacity receipts }
+{
+    for receipt in own {
+        receipts.push_reserved(receipt);
+    }
+    receipts
+}

@@ -1,0 +1,16 @@
+/// How a site works.
+#[derive(Clone, Copy, Debug, PartialEq, Eq)]
+pub struct Plan {
+    /// How many workers a node has, from 1 to 8.
+    pub workers: u8,
+    /// How many nodes there are beside the registry, from 1 to 16.
+    pub nodes: u8,
+    /// How many visits a search has at first, at least 1.
+    pub fuel: u64,
+    /// What the victims are drawn from.
+    pub seed: u64,
+    /// How many turns each thread has at most.
+    pub turns: u64,
+    /// After how many receives in a row without a datagram a site gives up.
+    pub quiet: u64,
+}

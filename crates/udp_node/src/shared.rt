@@ -1,0 +1,29 @@
+ghost use Rattle.std.specs.Prelude.{◌≡◌};
+
+use crate::gate::Gate;
+use crate::plan::Plan;
+use cover_problem::Problem;
+use node_core::Core;
+use run_book::{Outbox, Room, Run, SiteCell};
+use std::alloc::Global;
+use std::sync::atomic::AtomicU64;
+
+/// What the threads of a site share.
+#[derive(Drop)]
+pub struct Shared<'a, 'b, 'c, 'd, 'e, J: Run, C: Core + Drop, N: Room, G: Gate> {
+    /// The core and its history.
+    pub cell: &'a SiteCell<J, C, N>,
+    /// What is searched.
+    pub problem: &'b Problem,
+    /// What waits to be sent.
+    pub outbox: &'c Outbox,
+    /// What holds workers back.
+    pub gate: &'d G,
+    /// How many threads are at work that put parcels into the outbox.
+    pub running: &'e AtomicU64,
+    /// How the site works.
+    pub plan: Plan,
+    /// Where memory comes from.
+    pub alloc: Global,
+    pub ghost same: { problem.now ≡ J.run.problem },
+}
