@@ -1,11 +1,12 @@
-ghost use Rattle.std.specs.Prelude.{◌≡◌, ◌<◌, ◌≤◌, ℕ, List, [], length, Some, true, IfOk, IfErr};
+ghost use Rattle.std.specs.Prelude.{◌≡◌, ◌<◌, ◌≤◌, ℕ, List, [], length, Some, true, IfOk, IfErr, IfSome};
 ghost use Rattle.cover_problem.specs.Prefix.{is_prefix, IsBarren, IsCoverOver};
-ghost use Rattle.cover_problem.specs.Search.{Covers, outcome};
+ghost use Rattle.cover_problem.specs.Search.{Covers, first, outcome, visits};
 
 use crate::branching::choose_prefix;
 use crate::finding::Finding;
 use crate::outcome::Outcome;
 use crate::visit::{Visit, visit_prefix};
+use crate::watch::{Unwatched, Watch};
 use cover_problem::Problem;
 use dancing_links::Links;
 use std::alloc::{AllocError, Global};
@@ -28,7 +29,7 @@ impl<'a> Model for Searcher<'a> {
 
 impl<'a> Searcher<'a> {
     ghost use Rattle.brancher.specs.Finding.{finding_by};
-    ghost use Rattle.brancher.specs.Visit.{outcome_told};
+    ghost use Rattle.brancher.specs.Visit.{outcome_told, IsVisit, took};
 
     /// A search over the problem; the only error is want of memory.
     pub fn new(alloc: Global, problem: &'a Problem) -> Result<Searcher<'a>, AllocError>
@@ -47,13 +48,25 @@ impl<'a> Searcher<'a> {
         ensures cover { result ≡ Outcome.Cover → IsCoverOver self.old.problem prefix.now self.new.found }
         ensures barren { result ≡ Outcome.Barren → IsBarren self.old.problem prefix.now }
     {
-        let depth = self.links.problem().primary();
-        choose_prefix(&mut self.links, prefix);
-        match visit_prefix(&mut self.links, depth, fuel) {
+        match self.visit(prefix, fuel, &Unwatched) {
             Visit::Found => Outcome::Cover,
             Visit::Barren(_) => Outcome::Barren,
             Visit::Spent => Outcome::Spent,
+            Visit::Stopped => unreachable!(),
         }
+    }
+
+    /// Visits a prefix and what is below it, until the watch stops it.
+    fn visit<W: Watch>(&mut self, prefix: &[u16], fuel: u64, watch: &W) -> Visit
+        requires prefix { is_prefix self.old.problem prefix.now ≡ true }
+        requires fuel { 1 ≤ fuel }
+        ensures problem { self.new.problem ≡ self.old.problem }
+        ensures visit { IsVisit (first self.old.problem prefix.now) (visits self.old.problem prefix.now) fuel prefix.now self.new.found result }
+        ensures stopped { result ≡ Visit.Stopped → W.may_stop ≡ true }
+    {
+        let depth = self.links.problem().primary();
+        choose_prefix(&mut self.links, prefix);
+        visit_prefix(&mut self.links, depth, fuel, watch)
     }
 
     /// Searches as `search` does, and copies out what it came to; `found` is the cover then, too. At want of memory the
@@ -67,6 +80,39 @@ impl<'a> Searcher<'a> {
         ensures back { IfErr result (λ list. list.items ≡ prefix.items) }
     {
         let outcome = self.search(&prefix, fuel);
+        self.copied_out(prefix, fuel, outcome)
+    }
+
+    /// Searches as `find` does until the watch stops it; none where it did. With the finding it tells how many visits were made: all
+    /// those of a prefix without a cover, else the fuel.
+    pub fn find_until<W: Watch>(
+        &mut self,
+        prefix: Vec<u16>,
+        fuel: u64,
+        watch: &W,
+    ) -> Result<Option<(Finding, u64)>, Vec<u16>>
+        requires prefix { is_prefix self.old.problem prefix.items ≡ true }
+        requires fuel { 1 ≤ fuel }
+        ensures problem { self.new.problem ≡ self.old.problem }
+        ensures finding { IfOk result (λ ended. IfSome ended (λ found. found.0 ≡ finding_by prefix.items fuel (outcome self.old.problem prefix.items fuel))) }
+        ensures visits { IfOk result (λ ended. IfSome ended (λ found. found.1 ≡ took found.0.outcome (visits self.old.problem prefix.items) fuel)) }
+        ensures back { IfErr result (λ list. list.items ≡ prefix.items) }
+    {
+        let (outcome, made) = match self.visit(&prefix, fuel, watch) {
+            Visit::Found => (Outcome::Cover, fuel),
+            Visit::Barren(left) => (Outcome::Barren, fuel - left),
+            Visit::Spent => (Outcome::Spent, fuel),
+            Visit::Stopped => return Ok(None),
+        };
+        let finding = self.copied_out(prefix, fuel, outcome)?;
+        Ok(Some((finding, made)))
+    }
+
+    /// What a search of the prefix came to, copied out; at want of memory the prefix comes back.
+    fn copied_out(&self, prefix: Vec<u16>, fuel: u64, outcome: Outcome) -> Result<Finding, Vec<u16>>
+        ensures finding { IfOk result (λ finding. finding ≡ finding_by prefix.items fuel (outcome_told outcome self.now.found)) }
+        ensures back { IfErr result (λ list. list.items ≡ prefix.items) }
+    {
         let cover = match outcome {
             Outcome::Cover => copied(self.alloc, self.found()),
             Outcome::Barren | Outcome::Spent => Ok(Vec::new(self.alloc)),

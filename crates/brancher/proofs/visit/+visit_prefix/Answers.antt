@@ -9,21 +9,21 @@ use Rattle.brancher.proofs.Visits.{so_far_start, so_far_found, so_far_spent, so_
 use Rattle.brancher.proofs.visit.+visit_prefix.Goals as goal
 
 pub returns-then-fuel-eq0-clause-visit : goal.returns-then-fuel-eq0-clause-visit
-returns-then-fuel-eq0-clause-visit t c = omega (arith, some_visits c.args.links.now.problem c.args.depth c.args.links.now.chosen, c.if-fuel-eq0.true)
+returns-then-fuel-eq0-clause-visit g t c = omega (arith, some_visits c.args.links.now.problem c.args.depth c.args.links.now.chosen, c.if-fuel-eq0.true)
 
 pub returns-then-depth-eq0-clause-visit : goal.returns-then-depth-eq0-clause-visit
-returns-then-depth-eq0-clause-visit t c =
+returns-then-depth-eq0-clause-visit g t c =
     let came = within_zero c.args.links.now.problem c.args.depth c.args.links.now.chosen c.if-depth-eq0.true in
     (omega (arith, came.visits, c.if-fuel-eq0.false), came.found)
 
 pub returns-in_default-item-clause-visit : goal.returns-in_default-item-clause-visit
-returns-in_default-item-clause-visit t c =
+returns-in_default-item-clause-visit g t c =
     let e : branch_item c.args.links.now.problem c.args.links.now.chosen ≡ None = sym c.branch-item.ensures.item ∙ ap branch_told c.in_default-item.is in
     let came = within_none c.args.links.now.problem c.args.depth c.args.links.now.chosen e in
     (omega (arith, came.visits, c.if-fuel-eq0.false), came.found)
 
 pub loop-option-init : goal.loop-option-init
-loop-option-init t c =
+loop-option-init g t c =
     let p = c.args.links.now.problem in
     let xs = c.args.links.now.chosen in
     let e : branch_item c.args.links.now.problem c.args.links.now.chosen ≡ Some c.in_Item-item.item = sym c.in_Item-item.ensures.item in
@@ -31,7 +31,7 @@ loop-option-init t c =
     record { kept = refl; child = c.first_option-next.ensures.child; found = far.found; visits = far.visits }
 
 pub visit_prefix-requires : goal.visit_prefix-requires
-visit_prefix-requires t c =
+visit_prefix-requires g t c =
     let p = c.args.links.now.problem in
     let xs = c.args.links.now.chosen in
     let i = c.in_Item-item.item in
@@ -41,10 +41,10 @@ visit_prefix-requires t c =
     let child = next_child p xs i o c.loop-option.next taken c.loop-option.invariant.child in
     let same : c.choose.new.self ≡ with_choice c.args.links.now c.in-Some.option = c.choose.ensures ∙ ap (λ (v : Choices). with_choice v c.in-Some.option) c.loop-option.invariant.kept in
     let P : Choices → Type 0 = λ v. length (open_items v.problem v.chosen) ≤ c.args.depth - 1 in
-    (omega arith, subst P (sym same) (child_deeper p xs i o c.args.depth e child c.requires))
+    λ κs below. (omega arith, (below, subst P (sym same) (child_deeper p xs i o c.args.depth e child c.requires)))
 
 pub returns-in-Found-clause-visit : goal.returns-in-Found-clause-visit
-returns-in-Found-clause-visit t c =
+returns-in-Found-clause-visit g t c =
     let p = c.args.links.now.problem in
     let xs = c.args.links.now.chosen in
     let i = c.in_Item-item.item in
@@ -57,7 +57,7 @@ returns-in-Found-clause-visit t c =
     so_far_found p c.args.depth xs c.visit_prefix.new.links.chosen i o c.args.fuel c.loop-option.left c.loop-option.next taken child below.0 below.1 (record { found = c.loop-option.invariant.found; visits = c.loop-option.invariant.visits })
 
 pub returns-in-Spent-clause-visit : goal.returns-in-Spent-clause-visit
-returns-in-Spent-clause-visit t c =
+returns-in-Spent-clause-visit g t c =
     let p = c.args.links.now.problem in
     let xs = c.args.links.now.chosen in
     let i = c.in_Item-item.item in
@@ -70,7 +70,7 @@ returns-in-Spent-clause-visit t c =
     so_far_spent p c.args.depth xs i o c.args.fuel c.loop-option.left c.loop-option.next taken child below (record { found = c.loop-option.invariant.found; visits = c.loop-option.invariant.visits })
 
 pub loop-option-preserved : goal.loop-option-preserved
-loop-option-preserved t c =
+loop-option-preserved g t c =
     let p = c.args.links.now.problem in
     let xs = c.args.links.now.chosen in
     let i = c.in_Item-item.item in
@@ -90,7 +90,7 @@ loop-option-preserved t c =
     record { kept = kept; child = subst C c.loop-option.invariant.kept c.take_child.ensures.child; found = far.found; visits = far.visits }
 
 pub loop-option-smaller : goal.loop-option-smaller
-loop-option-smaller t c =
+loop-option-smaller g t c =
     let p = c.args.links.now.problem in
     let xs = c.args.links.now.chosen in
     let i = c.in_Item-item.item in
@@ -101,6 +101,6 @@ loop-option-smaller t c =
     options_fewer p xs i o c.loop-option.next c.take_child.new.next taken child (subst N c.loop-option.invariant.kept c.in-Some.ensures.next)
 
 pub returns-clause-visit : goal.returns-clause-visit
-returns-clause-visit t c =
+returns-clause-visit g t c =
     let far = so_far_end c.args.links.now.problem c.args.depth c.args.links.now.chosen c.in_Item-item.item c.args.fuel c.loop-option.left c.loop-option.next (sym c.take_child.ensures.taken ∙ c.in_default.is) (record { found = c.loop-option.invariant.found; visits = c.loop-option.invariant.visits }) in
     (far.0, far.1, ap (λ (v : Choices). v.chosen) c.loop-option.invariant.kept)
