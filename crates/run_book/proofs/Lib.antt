@@ -1,4 +1,5 @@
 mod Answering
+mod Counted
 mod Counting
 mod Desks
 mod Leading

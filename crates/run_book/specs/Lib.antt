@@ -7,6 +7,7 @@ pub mod Entries
 pub mod Merges
 pub mod Outbox
 pub mod Places
+pub mod Runs
 pub mod Seats
 pub mod Sites
 pub mod Tickets

@@ -1,11 +1,12 @@
-ghost use Rattle.std.specs.Prelude.{◌≡◌, ℕ, option_map, IfOk};
+ghost use Rattle.std.specs.Prelude.{◌≡◌, ℕ, option_map, IfOk, IfSome};
 ghost use Rattle.node_core.specs.SiteView.{View};
 ghost use Rattle.root_registry.specs.Published.{answer_of, published_by};
 ghost use Rattle.run_book.specs.Answers.{book_answer, first_accepted, first_result};
 ghost use Rattle.run_book.specs.Books.{are_distinct, has_site, EndsIn};
+ghost use Rattle.run_book.specs.Runs.{CountsRight};
 
 use crate::entry::Entry;
-use crate::laws::a_book_tells_what_is_published;
+use crate::laws::{a_book_tells_what_is_published, what_is_published_counts_right};
 use crate::room::Run;
 use cover_problem::{Answer, Problem, in_order};
 use packet_wire::{Body, Packet};
@@ -62,7 +63,8 @@ impl<J: Run> Book<J> {
     }
 
     /// What the registry published, by its book: the result that the first Accept tells, as a cover with its options in the
-    /// order of the file, or that there is none; nothing where there is no Accept. The only error is want of memory.
+    /// order of the file, or that there is none; nothing where there is no Accept. A cover is exact. The only error is want of
+    /// memory.
     ///
     /// It asks for the registry's book, and for the problem of the book's run, which a book doesn't hold.
     pub fn answer(&self, alloc: Global, problem: &Problem) -> Result<Option<Answer>, AllocError>
@@ -71,8 +73,10 @@ impl<J: Run> Book<J> {
         ensures first { IfOk result (λ answer. answer ≡ book_answer J.run.problem self.now.entries) }
         ensures published { IfOk result (λ answer. (limit : ℕ) (last : View) → EndsIn J.run self.now limit last →
             answer ≡ published_by J.run.problem last) }
+        ensures counts_right { IfOk result (λ answer. IfSome answer (CountsRight J.run.problem)) }
     {
         a_book_tells_what_is_published();
+        what_is_published_counts_right();
         match first_result(self.entries.as_slice()) {
             Some(child_result) => {
                 let answer = answer_of(alloc, problem, child_result)?;

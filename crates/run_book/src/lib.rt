@@ -13,6 +13,7 @@ mod parcel_rule;
 mod prepared;
 mod register;
 mod room;
+mod run_books;
 mod seats;
 mod site_cell;
 mod ticket_rule;
@@ -20,11 +21,15 @@ mod ticket_rule;
 pub use book::{Book, distinct_sites};
 pub use entry::Entry;
 pub use fault::{BookFault, Missing};
-pub use laws::{a_book_tells_what_is_published, cores_step_as_their_sites};
+pub use laws::{
+    a_book_tells_what_is_published, cores_step_as_their_sites, sites_begin,
+    what_is_published_counts_right,
+};
 pub use opened::Opened;
 pub use outbox::{CAPACITY, Drain, Outbox, Pass};
 pub use parcel::Parcel;
 pub use register::Receipt;
 pub use room::{Room, Run};
+pub use run_books::{published, registry_book};
 pub use seats::Seat;
 pub use site_cell::{SiteCell, Unclosed};
