@@ -3,9 +3,10 @@ ghost use Rattle.node_core.specs.Refusal.{IsFit};
 
 use crate::gate::Gate;
 use crate::shared::Shared;
+use crate::signals::Signals;
 use crate::stand::{Refused, Stand};
-use node_core::{Core, Event};
-use packet_wire::{Packet, is_well_formed, write_packet};
+use node_core::{Core, Event, Reply};
+use packet_wire::{Body, Packet, is_well_formed, write_packet};
 use run_book::{Outbox, Parcel, Pass, Room, Run};
 use std::alloc::Global;
 use std::sync::Wait;
@@ -40,6 +41,7 @@ impl<N: Room> Actor<N> {
             pass,
             losses,
         } = self;
+        let stirs = may_stir(&event);
         let (stand, acted) = stand.act(rt, shared.cell, event);
         let actor = Actor {
             stand,
@@ -47,8 +49,22 @@ impl<N: Room> Actor<N> {
             losses,
         };
         match acted {
-            Ok(()) => (actor.put_last(rt, shared.alloc, shared.outbox), Ok(())),
+            Ok(()) => {
+                actor.signal(shared.signals, stirs, shared.plan.workers);
+                (actor.put_last(rt, shared.alloc, shared.outbox), Ok(()))
+            }
             Err(back) => (actor, Err(back)),
+        }
+    }
+
+    /// Tells the other threads of the site what came of the last event: that there may be something to do, or that work is short.
+    fn signal(&self, signals: &Signals, stirs: bool, workers: u8) {
+        let reply = self.stand.reply();
+        if stirs && matches!(reply, Some(Reply::Moved)) {
+            signals.stir();
+        }
+        if matches!(reply, Some(Reply::Idle)) || tells_no_work(self.stand.packets()) {
+            signals.starve(u64::from(workers) * 2);
         }
     }
 
@@ -69,6 +85,22 @@ impl<N: Room> Actor<N> {
             losses: losses.saturating_add(lost),
         }
     }
+}
+
+/// Whether an idle worker may have something to do after the event. What asks others, or tells that they ask, leaves none.
+fn may_stir(event: &Event) -> bool {
+    match event {
+        Event::Take | Event::Ask(_) | Event::Again | Event::Greet => false,
+        Event::Deliver(packet) => !matches!(packet.body, Body::Steal | Body::NoWork),
+        Event::Post(_, _) | Event::Finish(_) | Event::Redo(_) => true,
+    }
+}
+
+/// Whether someone who asked for work is told that there is none.
+fn tells_no_work(packets: &[Packet]) -> bool {
+    packets
+        .iter()
+        .any(|packet| matches!(packet.body, Body::NoWork))
 }
 
 /// Puts the packets into the outbox, in their order; answers how many did not get there.

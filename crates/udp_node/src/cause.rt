@@ -9,6 +9,6 @@ pub enum Cause {
     Faults,
     /// Memory ran out outside the core.
     Memory,
-    /// Its turns are over, or nothing came for long.
+    /// Its turns are over, nothing came for long, or the site's other threads have ended.
     Turns,
 }

@@ -1,4 +1,4 @@
-//! The threads of a site, and the datagrams between the sites of one host.
+//! The threads of a site, the datagrams between the sites of one host, and a whole run of them.
 #![tactic(auto)]
 
 mod actor;
@@ -9,11 +9,16 @@ mod link;
 mod memory_link;
 mod node;
 mod node_end;
+mod pace;
 mod plan;
 mod receiver;
+mod run;
 mod sender;
 mod shared;
+mod signals;
+mod site_run;
 mod stand;
+mod turn;
 mod udp_link;
 mod worker;
 
@@ -23,6 +28,9 @@ pub use link::{Link, LinkFault};
 pub use memory_link::{MemoryLink, Wires};
 pub use node::{run_node, run_root};
 pub use node_end::NodeEnd;
+pub use pace::Pace;
 pub use plan::Plan;
+pub use run::{RunEnd, run_sites};
+pub use site_run::SiteEnd;
 pub use stand::Stand;
 pub use udp_link::{UdpLink, bound};

@@ -14,16 +14,23 @@ use crate::plan::Plan;
 use crate::receiver::Receiver;
 use crate::sender::{Sender, Sent, send_all};
 use crate::shared::Shared;
+use crate::signals::Signals;
 use crate::stand::Stand;
+use crate::turn::{Limits, Turn};
 use crate::worker::Worker;
 use cover_problem::Problem;
 use node_core::Core;
 use run_book::{Outbox, Room, Run, SiteCell};
 use std::alloc::{AllocError, Global};
 use std::sync::Wait;
-use std::sync::atomic::{AtomicU64, Ordering};
 use std::thread::{self, Threads};
 use std::time::Clock;
+
+/// How many turns without work a worker has for each of its turns.
+const REST: u64 = 1_000;
+
+/// How many empty receives there are for each turn of the thread that receives.
+const SILENCE: u64 = 10;
 
 /// What a thread is for.
 #[derive(Drop)]
@@ -78,7 +85,12 @@ impl<N: Room, L: Link> Place<N, L> {
             };
             let (actor, cause) = match task {
                 Task::Work(number) => work(rt, shared, actor, *number),
-                Task::Receive(receiver) => receive(rt, shared, actor, receiver),
+                Task::Receive(receiver) => {
+                    let ended = receive(rt, shared, actor, receiver);
+                    // (nothing that others have for this site gets here any more)
+                    shared.signals.end();
+                    ended
+                }
             };
             let Actor {
                 stand,
@@ -89,7 +101,7 @@ impl<N: Room, L: Link> Place<N, L> {
             *why = cause;
             *place = Some(stand);
         }
-        shared.running.fetch_sub(1, Ordering::SeqCst);
+        shared.signals.leave();
     }
 }
 
@@ -107,11 +119,17 @@ fn work<J: Run, C: Core + Drop, N: Room, G: Gate, R: Wait + Clock>(
         return (actor, Cause::Memory);
     };
     let mut actor = actor;
-    for _turn in 0..shared.plan.turns {
-        let (after, end) = worker.turn(rt, shared, actor);
+    let mut left = Limits::new(shared.plan.turns, REST);
+    for _turn in 0..u64::MAX {
+        if left.is_spent() {
+            break;
+        }
+        let (after, turn) = worker.turn(rt, shared, actor);
         actor = after;
-        if let Some(cause) = end {
-            return (actor, cause);
+        match turn {
+            Turn::Used => left.use_turn(),
+            Turn::Waited => left.wait(),
+            Turn::Ended(cause) => return (actor, cause),
         }
     }
     (actor, Cause::Turns)
@@ -127,11 +145,17 @@ fn receive<J: Run, C: Core + Drop, N: Room, L: Link, G: Gate, R: Wait + Clock>(
     requires here { actor.pass.outbox ≡ shared.now.outbox.now }
 {
     let mut actor = actor;
-    for number in 0..shared.plan.turns {
-        let (after, end) = receiver.turn(rt, shared, actor, number);
+    let mut left = Limits::new(shared.plan.turns, SILENCE);
+    for number in 0..u64::MAX {
+        if left.is_spent() {
+            break;
+        }
+        let (after, turn) = receiver.turn(rt, shared, actor, number);
         actor = after;
-        if let Some(cause) = end {
-            return (actor, cause);
+        match turn {
+            Turn::Used => left.use_turn(),
+            Turn::Waited => left.wait(),
+            Turn::Ended(cause) => return (actor, cause),
         }
     }
     (actor, Cause::Turns)
@@ -210,13 +234,13 @@ fn run_threads<
     let Ok(crew) = Crew::new(rt, alloc, cell, twin, workers) else {
         return NodeEnd::starved(alloc);
     };
-    let running = AtomicU64::new(crew.places.len() as u64);
+    let signals = Signals::new(crew.places.len() as u64);
     let shared = Shared {
         cell,
         problem,
         outbox: &outbox,
         gate,
-        running: &running,
+        signals: &signals,
         plan,
         alloc,
     };
@@ -224,7 +248,7 @@ fn run_threads<
         outbox: &outbox,
         drain,
         link,
-        running: &running,
+        signals: &signals,
         turns: plan.turns,
     };
     let (sent, crew) = thread::join(rt, move || send_all(rt, sender), || crew.run(rt, &shared));
@@ -255,8 +279,8 @@ impl<N: Room, L: Link> Crew<N, L> {
     ) -> Result<Crew<N, L>, AllocError>
         ensures { IfOk result (λ crew. crew.workers ≡ workers) }
     {
+        let stands = Vec::with_capacity(alloc, usize::from(workers) + 1)?;
         let places = places_for(rt, alloc, cell, twin, workers)?;
-        let stands = Vec::with_capacity(alloc, places.len())?;
         Ok(Crew {
             places,
             stands,

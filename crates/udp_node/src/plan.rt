@@ -9,7 +9,8 @@ pub struct Plan {
     pub fuel: u64,
     /// What the victims are drawn from.
     pub seed: u64,
-    /// How many turns each thread has at most.
+    /// How many turns each thread has at most. Those in which it had nothing to do and waited are counted apart: the thread that
+    /// receives has ten times as many, the others a thousand times as many.
     pub turns: u64,
     /// After how many receives in a row without a datagram a site gives up.
     pub quiet: u64,

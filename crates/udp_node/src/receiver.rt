@@ -7,7 +7,8 @@ use crate::cause::Cause;
 use crate::gate::Gate;
 use crate::link::Link;
 use crate::shared::Shared;
-use crate::worker::end_of;
+use crate::turn::Turn;
+use crate::worker::after;
 use node_core::{Core, Event};
 use packet_wire::{Body, Packet, read_packet};
 use run_book::{Room, Run};
@@ -18,8 +19,11 @@ use std::time::{Clock, Duration};
 /// How many bytes a receive takes: one more than the longest packet has, so that a longer datagram is seen.
 const BUFFER: usize = 2026;
 
-/// After how many empty receives a site says again what may be lost.
+/// After how many empty receives a site says again what may be lost, and after how many in a row the registry ends.
 const AGAIN: u64 = 20;
+
+/// After how many datagrams it is said again too: where they come without a pause, no receive is empty.
+const HEARD: u64 = 256;
 
 /// How many failed receives in a row end a site.
 const FAULTS: u32 = 100;
@@ -36,6 +40,10 @@ pub struct Receiver<L: Link> {
     link: L,
     /// How many receives in a row were empty.
     empty: u64,
+    /// How many receives were empty since something was said again last.
+    pauses: u64,
+    /// How many datagrams came since then.
+    heard: u64,
     /// How many receives in a row failed.
     faults: u32,
     /// How many datagrams were no packets; the greatest number stays.
@@ -50,6 +58,8 @@ impl<L: Link> Receiver<L> {
         Receiver {
             link,
             empty: 0,
+            pauses: 0,
+            heard: 0,
             faults: 0,
             dropped: 0,
             over: false,
@@ -61,14 +71,14 @@ impl<L: Link> Receiver<L> {
         (self.dropped, self.link.failures())
     }
 
-    /// The turn of this number: greets the registry now and then, and receives. Answers why the thread ends, if it does.
+    /// The turn of this number: greets the registry now and then, and receives.
     pub fn turn<J: Run, C: Core + Drop, N: Room, G: Gate, R: Wait + Clock>(
         &mut self,
         rt: &R,
         shared: &Shared<'_, '_, '_, '_, '_, J, C, N, G>,
         actor: Actor<N>,
         number: u64,
-    ) -> (Actor<N>, Option<Cause>)
+    ) -> (Actor<N>, Turn)
         requires here { actor.pass.outbox ≡ shared.now.outbox.now }
         ensures here { result.0.pass.outbox ≡ shared.now.outbox.now }
     {
@@ -76,9 +86,9 @@ impl<L: Link> Receiver<L> {
             return self.receive(rt, shared, actor);
         }
         let (actor, acted) = actor.act(rt, shared, Event::Greet);
-        match end_of(acted) {
-            Some(cause) => (actor, Some(cause)),
-            None => self.receive(rt, shared, actor),
+        match after(acted) {
+            Turn::Ended(cause) => (actor, Turn::Ended(cause)),
+            Turn::Used | Turn::Waited => self.receive(rt, shared, actor),
         }
     }
 
@@ -88,7 +98,7 @@ impl<L: Link> Receiver<L> {
         rt: &R,
         shared: &Shared<'_, '_, '_, '_, '_, J, C, N, G>,
         actor: Actor<N>,
-    ) -> (Actor<N>, Option<Cause>)
+    ) -> (Actor<N>, Turn)
         requires here { actor.pass.outbox ≡ shared.now.outbox.now }
         ensures here { result.0.pass.outbox ≡ shared.now.outbox.now }
     {
@@ -105,7 +115,10 @@ impl<L: Link> Receiver<L> {
             }
             Err(_) => {
                 self.faults = self.faults.saturating_add(1);
-                (actor, (self.faults >= FAULTS).then_some(Cause::Faults))
+                if self.faults >= FAULTS {
+                    return (actor, Turn::Ended(Cause::Faults));
+                }
+                (actor, Turn::Used)
             }
         }
     }
@@ -117,49 +130,86 @@ impl<L: Link> Receiver<L> {
         shared: &Shared<'_, '_, '_, '_, '_, J, C, N, G>,
         actor: Actor<N>,
         bytes: &[u8],
-    ) -> (Actor<N>, Option<Cause>)
+    ) -> (Actor<N>, Turn)
         requires here { actor.pass.outbox ≡ shared.now.outbox.now }
         ensures here { result.0.pass.outbox ≡ shared.now.outbox.now }
     {
         if bytes.len() >= BUFFER {
             self.dropped = self.dropped.saturating_add(1);
-            return (actor, None);
+            return (actor, Turn::Used);
         }
         let Ok(packet) = read_packet(shared.alloc, bytes) else {
             self.dropped = self.dropped.saturating_add(1);
-            return (actor, None);
+            return (actor, Turn::Used);
         };
+        let is_end = matches!(packet.body, Body::Over);
         let (actor, acted) = actor.act(rt, shared, Event::Deliver(packet));
-        if acted.is_ok() && shared.cell.site().node == 0 && tells_end(actor.stand.packets()) {
+        if acted.is_err() {
+            return (actor, after(acted));
+        }
+        if is_end {
+            return (actor, Turn::Ended(Cause::Over));
+        }
+        if shared.cell.site().node == 0 && tells_end(actor.stand.packets()) {
             self.over = true;
         }
-        (actor, end_of(acted))
+        self.heard = self.heard.saturating_add(1);
+        if self.heard < HEARD {
+            return (actor, Turn::Used);
+        }
+        self.say_again(rt, shared, actor)
+    }
+
+    /// What may be lost is said again.
+    fn say_again<J: Run, C: Core + Drop, N: Room, G: Gate, R: Wait>(
+        &mut self,
+        rt: &R,
+        shared: &Shared<'_, '_, '_, '_, '_, J, C, N, G>,
+        actor: Actor<N>,
+    ) -> (Actor<N>, Turn)
+        requires here { actor.pass.outbox ≡ shared.now.outbox.now }
+        ensures here { result.0.pass.outbox ≡ shared.now.outbox.now }
+    {
+        self.pauses = 0;
+        self.heard = 0;
+        let (actor, acted) = actor.act(rt, shared, Event::Again);
+        (actor, after(acted))
     }
 
     /// Nothing came: what may be lost is said again now and then, and always once the search is over. It ends when
-    /// that was said often enough, or nothing came for long.
+    /// that was said often enough, nothing came for long, or no worker is left.
     fn wait<J: Run, C: Core + Drop, N: Room, G: Gate, R: Wait + Clock>(
         &mut self,
         rt: &R,
         shared: &Shared<'_, '_, '_, '_, '_, J, C, N, G>,
         actor: Actor<N>,
-    ) -> (Actor<N>, Option<Cause>)
+    ) -> (Actor<N>, Turn)
         requires here { actor.pass.outbox ≡ shared.now.outbox.now }
         ensures here { result.0.pass.outbox ≡ shared.now.outbox.now }
     {
         thread::sleep(rt, Duration::from_micros(NAP));
         self.empty = self.empty.saturating_add(1);
+        self.pauses = self.pauses.saturating_add(1);
         if self.over && self.empty >= AGAIN {
-            return (actor, Some(Cause::Over));
+            return (actor, Turn::Ended(Cause::Over));
         }
-        if self.empty >= shared.plan.quiet {
-            return (actor, Some(Cause::Turns));
+        let is_deserted = shared.cell.site().node != 0 && shared.signals.is_deserted();
+        if is_deserted || self.empty >= shared.plan.quiet {
+            return (actor, Turn::Ended(Cause::Turns));
         }
-        if !self.over && self.empty % AGAIN != 0 {
-            return (actor, None);
+        if !self.over && self.pauses < AGAIN {
+            return (actor, Turn::Waited);
         }
-        let (actor, acted) = actor.act(rt, shared, Event::Again);
-        (actor, end_of(acted))
+        let (actor, turn) = self.say_again(rt, shared, actor);
+        (actor, waited(turn))
+    }
+}
+
+/// A turn that waited, whatever else it did, unless the thread ends.
+fn waited(turn: Turn) -> Turn {
+    match turn {
+        Turn::Ended(cause) => Turn::Ended(cause),
+        Turn::Used | Turn::Waited => Turn::Waited,
     }
 }
 

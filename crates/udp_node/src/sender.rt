@@ -3,16 +3,17 @@
 ghost use Rattle.std.specs.Prelude.{◌≡◌};
 
 use crate::link::Link;
+use crate::signals::Signals;
+use crate::turn::Limits;
 use run_book::{Drain, Outbox};
 use std::sync::Wait;
-use std::sync::atomic::{AtomicU64, Ordering};
 use std::thread;
 use std::time::{Clock, Duration};
 
 /// How long the thread waits where there is nothing to send, in microseconds.
 const NAP: u64 = 100;
 
-/// How many empty looks into the outbox a turn stands for.
+/// How many empty looks into the outbox there are for each turn.
 const LOOKS: u64 = 1_000;
 
 /// What came of sending; the greatest numbers stay.
@@ -33,8 +34,8 @@ pub struct Sender<'a, 'b, L: Link> {
     pub drain: Drain,
     /// Where it is sent.
     pub link: L,
-    /// How many threads are at work that put parcels into the outbox.
-    pub running: &'b AtomicU64,
+    /// Where it is told that the others of the site are done.
+    pub signals: &'b Signals,
     /// How many parcels it sends at most.
     pub turns: u64,
     pub ghost same: { drain.outbox ≡ outbox.now },
@@ -47,30 +48,29 @@ pub fn send_all<L: Link, R: Wait + Clock>(rt: &R, sender: Sender<'_, '_, L>) -> 
         outbox,
         mut drain,
         mut link,
-        running,
+        signals,
         turns,
     } = sender;
-    let mut looks = turns.saturating_mul(LOOKS);
+    let mut left = Limits::new(turns, LOOKS);
     let mut losses = 0u64;
-    let mut left = turns;
     for _look in 0..u64::MAX {
-        if left == 0 || looks == 0 {
+        if left.is_spent() {
             break;
         }
         // (read before the look: what the last thread put in is found by it)
-        let is_last = running.load(Ordering::SeqCst) == 0;
+        let is_last = signals.is_left();
         let (after, parcel) = outbox.pop(rt, drain);
         drain = after;
         match parcel {
             Some(parcel) => {
-                left -= 1;
+                left.use_turn();
                 if link.send(rt, parcel.to, &parcel.bytes).is_err() {
                     losses = losses.saturating_add(1);
                 }
             }
             None if is_last => break,
             None => {
-                looks -= 1;
+                left.wait();
                 thread::sleep(rt, Duration::from_micros(NAP));
             }
         }

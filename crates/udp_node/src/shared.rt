@@ -2,11 +2,11 @@ ghost use Rattle.std.specs.Prelude.{◌≡◌};
 
 use crate::gate::Gate;
 use crate::plan::Plan;
+use crate::signals::Signals;
 use cover_problem::Problem;
 use node_core::Core;
 use run_book::{Outbox, Room, Run, SiteCell};
 use std::alloc::Global;
-use std::sync::atomic::AtomicU64;
 
 /// What the threads of a site share.
 #[derive(Drop)]
@@ -19,8 +19,8 @@ pub struct Shared<'a, 'b, 'c, 'd, 'e, J: Run, C: Core + Drop, N: Room, G: Gate> 
     pub outbox: &'c Outbox,
     /// What holds workers back.
     pub gate: &'d G,
-    /// How many threads are at work that put parcels into the outbox.
-    pub running: &'e AtomicU64,
+    /// What they tell one another beside the lock.
+    pub signals: &'e Signals,
     /// How the site works.
     pub plan: Plan,
     /// Where memory comes from.

@@ -11,9 +11,9 @@ use std::sync::{Arc, Wait};
 use std::time::Duration;
 
 /// How long a receive waits at most, in milliseconds.
-const PATIENCE: u64 = 10;
+const PATIENCE: u64 = 4;
 
-/// A socket on 127.0.0.1 with a port of the system's choice, whose receives wait some 10 milliseconds at most. The errors are
+/// A socket on 127.0.0.1 with a port of the system's choice, whose receives wait some 4 milliseconds at most. The errors are
 /// the system's.
 pub fn bound<R: Net>(rt: &R) -> io::Result<UdpSocket> {
     let here = SocketAddrV4::new(Ipv4Addr::LOCALHOST, 0);

@@ -8,10 +8,12 @@ use crate::actor::Actor;
 use crate::cause::Cause;
 use crate::gate::Gate;
 use crate::hand::{Hand, Searched};
+use crate::pace::Pace;
 use crate::plan::Plan;
 use crate::shared::Shared;
 use crate::stand::Refused;
-use brancher::{Finding, Searcher};
+use crate::turn::Turn;
+use brancher::{Finding, Outcome, Searcher};
 use cover_problem::{Numbers, Problem, is_prefix};
 use node_core::{ActFault, Core, Event, Reply};
 use rand_core::utils::NextWord;
@@ -29,9 +31,12 @@ use std::{mem, thread};
 pub struct Worker<'a, J: Run> {
     searcher: Searcher<'a>,
     hand: Hand<J>,
+    pace: Pace,
     rng: Pcg32,
     /// How many turns in a row found nothing to do.
     idle: u32,
+    /// What the site's count of stirs was when a look at the core found nothing to do last.
+    looked_at: Option<u64>,
     number: u8,
     node: u8,
     alloc: Global,
@@ -58,24 +63,27 @@ impl<'a, J: Run> Worker<'a, J> {
         requires { problem.now ≡ J.run.problem }
     {
         let stream = u64::from(node) * 16 + u64::from(number);
+        let alone = plan.nodes == 1 && plan.workers == 1;
         Ok(Worker {
             searcher: Searcher::new(alloc, problem)?,
             hand: Hand::Nothing,
+            pace: Pace::new(alloc, plan.fuel, alone, problem.primary() + 1)?,
             rng: Pcg32::new(plan.seed, stream),
             idle: 0,
+            looked_at: None,
             number,
             node,
             alloc,
         })
     }
 
-    /// One turn: goes on with what is in hand, or takes up work. Answers why the worker ends, if it does.
+    /// One turn: goes on with what is in hand, or takes up work.
     pub fn turn<C: Core + Drop, N: Room, G: Gate, R: Wait + Clock>(
         &mut self,
         rt: &R,
         shared: &Shared<'_, '_, '_, '_, '_, J, C, N, G>,
         actor: Actor<N>,
-    ) -> (Actor<N>, Option<Cause>)
+    ) -> (Actor<N>, Turn)
         requires here { actor.pass.outbox ≡ shared.now.outbox.now }
         ensures here { result.0.pass.outbox ≡ shared.now.outbox.now }
     {
@@ -92,26 +100,36 @@ impl<'a, J: Run> Worker<'a, J> {
         rt: &R,
         shared: &Shared<'_, '_, '_, '_, '_, J, C, N, G>,
         actor: Actor<N>,
-    ) -> (Actor<N>, Option<Cause>)
+    ) -> (Actor<N>, Turn)
         requires here { actor.pass.outbox ≡ shared.now.outbox.now }
         ensures here { result.0.pass.outbox ≡ shared.now.outbox.now }
     {
+        let stirs = shared.signals.stirs();
+        if self.looked_at == Some(stirs) {
+            return self.rest(rt, shared, actor);
+        }
         let (actor, acted) = actor.act(rt, shared, Event::Take);
         if let Err(back) = acted {
-            return (actor, cause_of(back.1));
+            return (actor, after_refusal(back.1));
         }
         match found_in(actor.stand.reply()) {
             Ok(Found::Work(job, prefix)) => {
                 self.idle = 0;
-                self.search(rt, shared, actor, job, prefix, shared.plan.fuel)
+                let fuel = self
+                    .pace
+                    .fuel(prefix.as_slice().len(), shared.signals.is_hungry());
+                self.search(rt, shared, actor, job, prefix, fuel)
             }
             Ok(Found::Frame(unit)) => {
                 self.idle = 0;
                 let (actor, acted) = actor.act(rt, shared, Event::Finish(unit));
-                (actor, end_of(acted))
+                (actor, after(acted))
             }
-            Ok(Found::Nothing) => self.rest(rt, shared, actor),
-            Err(_) => (actor, Some(Cause::Memory)),
+            Ok(Found::Nothing) => {
+                self.looked_at = Some(stirs);
+                self.rest(rt, shared, actor)
+            }
+            Err(_) => (actor, Turn::Ended(Cause::Memory)),
         }
     }
 
@@ -121,19 +139,22 @@ impl<'a, J: Run> Worker<'a, J> {
         rt: &R,
         shared: &Shared<'_, '_, '_, '_, '_, J, C, N, G>,
         actor: Actor<N>,
-    ) -> (Actor<N>, Option<Cause>)
+    ) -> (Actor<N>, Turn)
         requires here { actor.pass.outbox ≡ shared.now.outbox.now }
         ensures here { result.0.pass.outbox ≡ shared.now.outbox.now }
     {
+        if shared.signals.is_over() {
+            return (actor, Turn::Ended(Cause::Turns));
+        }
         let idle = self.idle;
         self.idle = idle.saturating_add(1);
         if idle % 64 == 0 {
             let victim = self.victim(shared.plan.nodes);
             let (actor, acted) = actor.act(rt, shared, Event::Ask(victim));
-            return (actor, end_of(acted));
+            return (actor, after(acted));
         }
         thread::sleep(rt, Duration::from_micros(nap(idle)));
-        (actor, None)
+        (actor, Turn::Waited)
     }
 
     /// Another site, picked at random: in place of the own node the registry.
@@ -145,7 +166,7 @@ impl<'a, J: Run> Worker<'a, J> {
         drawn as u8
     }
 
-    /// Searches a job's prefix, and posts what comes of it.
+    /// Searches a job's prefix, and posts what comes of it; it is given up once the site receives no more.
     fn search<C: Core + Drop, N: Room, G: Gate, R: Wait + Clock>(
         &mut self,
         rt: &R,
@@ -154,22 +175,29 @@ impl<'a, J: Run> Worker<'a, J> {
         job: Job,
         prefix: Numbers,
         fuel: u64,
-    ) -> (Actor<N>, Option<Cause>)
+    ) -> (Actor<N>, Turn)
         requires here { actor.pass.outbox ≡ shared.now.outbox.now }
         ensures here { result.0.pass.outbox ≡ shared.now.outbox.now }
     {
         let prefix = prefix.into_vec();
-        if fuel == 0 || !is_prefix(shared.problem, &prefix) {
-            return (actor, None);
+        if !is_prefix(shared.problem, &prefix) {
+            return (actor, Turn::Used);
         }
-        match self.searcher.find(prefix, fuel) {
-            Ok(finding) => {
+        let fuel = fuel.max(1);
+        match self
+            .searcher
+            .find_until(prefix, fuel, shared.signals.over())
+        {
+            Ok(Some((finding, visits))) => {
+                self.pace
+                    .note(finding.prefix().len(), finding.outcome(), visits);
                 let run = PhantomData;
                 self.post(rt, shared, actor, Searched { job, finding, run })
             }
+            Ok(None) => (actor, Turn::Ended(Cause::Turns)),
             Err(prefix) => {
                 self.hand = Hand::Search(job, Numbers::from_vec(prefix), fuel);
-                (actor, Some(Cause::Memory))
+                (actor, Turn::Ended(Cause::Memory))
             }
         }
     }
@@ -181,24 +209,28 @@ impl<'a, J: Run> Worker<'a, J> {
         shared: &Shared<'_, '_, '_, '_, '_, J, C, N, G>,
         actor: Actor<N>,
         searched: Searched<J>,
-    ) -> (Actor<N>, Option<Cause>)
+    ) -> (Actor<N>, Turn)
         requires here { actor.pass.outbox ≡ shared.now.outbox.now }
         ensures here { result.0.pass.outbox ≡ shared.now.outbox.now }
     {
         if !shared.gate.pass(self.number, &searched.job) {
             self.hand = Hand::Post(searched);
-            return (actor, None);
+            return (actor, Turn::Used);
         }
         let Searched {
             job,
             finding,
             run: _,
         } = searched;
+        let outcome = finding.outcome();
         let (actor, acted) = actor.act(rt, shared, Event::Post(job, finding));
         match acted {
             Ok(()) => {
+                if outcome == Outcome::Spent {
+                    shared.signals.feed();
+                }
                 shared.gate.posted(self.number, &job);
-                (actor, None)
+                (actor, Turn::Used)
             }
             Err(back) => {
                 let (event, refused) = back;
@@ -208,33 +240,33 @@ impl<'a, J: Run> Worker<'a, J> {
     }
 
     /// A job is to be searched again, with sixteen times the fuel.
-    fn search_again(&mut self, job: Job, finding: &Finding) -> Option<Cause>
+    fn search_again(&mut self, job: Job, finding: &Finding) -> Turn
         requires { IsRight J.run.problem finding.now }
     {
         match Vec::from_slice(self.alloc, finding.prefix()) {
             Ok(prefix) => {
                 let fuel = finding.fuel().saturating_mul(16);
                 self.hand = Hand::Search(job, Numbers::from_vec(prefix), fuel);
-                None
+                Turn::Used
             }
-            Err(_) => Some(Cause::Memory),
+            Err(_) => Turn::Ended(Cause::Memory),
         }
     }
 
     /// What a refused Post leaves in hand: it is posted again where memory ran out, and searched again, with sixteen
     /// times the fuel, where no names are left for its children.
-    fn keep(&mut self, event: Event, refused: Refused) -> Option<Cause>
+    fn keep(&mut self, event: Event, refused: Refused) -> Turn
         requires { IsFit J.run.problem event }
     {
         match (event, refused) {
             (Event::Post(job, finding), Refused::Cell(BookFault::Memory)) => {
                 let run = PhantomData;
                 self.hand = Hand::Post(Searched { job, finding, run });
-                None
+                Turn::Used
             }
             (Event::Post(job, finding), Refused::Cell(BookFault::Core(ActFault::NamesSpent))) =>
                 self.search_again(job, &finding),
-            (_, refused) => cause_of(refused),
+            (_, refused) => after_refusal(refused),
         }
     }
 }
@@ -253,20 +285,20 @@ fn found_in(reply: Option<&Reply>) -> Result<Found, AllocError> {
     }
 }
 
-/// Why a thread ends whose event was refused; none where it goes on.
-pub fn cause_of(refused: Refused) -> Option<Cause> {
+/// Whether a thread ends whose event was refused, and why.
+pub fn after_refusal(refused: Refused) -> Turn {
     match refused {
-        Refused::NoRoom => Some(Cause::Memory),
-        Refused::Cell(BookFault::BookFull(_)) => Some(Cause::BookFull),
-        Refused::Cell(BookFault::Core(ActFault::Over)) => Some(Cause::Over),
-        Refused::Cell(_) => None,
+        Refused::NoRoom => Turn::Ended(Cause::Memory),
+        Refused::Cell(BookFault::BookFull(_)) => Turn::Ended(Cause::BookFull),
+        Refused::Cell(BookFault::Core(ActFault::Over)) => Turn::Ended(Cause::Over),
+        Refused::Cell(_) => Turn::Used,
     }
 }
 
 /// The same of an event that may have been entered.
-pub fn end_of(acted: Result<(), (Event, Refused)>) -> Option<Cause> {
+pub fn after(acted: Result<(), (Event, Refused)>) -> Turn {
     match acted {
-        Ok(()) => None,
-        Err(back) => cause_of(back.1),
+        Ok(()) => Turn::Used,
+        Err(back) => after_refusal(back.1),
     }
 }

@@ -1,0 +1,110 @@
+//! How much a worker searches before it posts what came of it.
+
+ghost use Rattle.std.specs.Prelude.{◌≤◌, IfOk};
+
+use brancher::Outcome;
+use std::alloc::{AllocError, Global};
+
+/// A job in plenty gets so many times the base at least, before it is taken eightfold.
+const PLENTY: u64 = 30;
+
+/// Of so many visits that a worker has made, a job in plenty gets one.
+const SHARE: u64 = 1_024;
+
+/// How many visits a worker's next search gets. Where work is short jobs are small, so that they are split; in plenty they are
+/// large and grow with the work done, so that few visits are made twice. A search that ends for want of visits is lost,
+/// so a prefix that is thought to take far more is split at once: for each length of a prefix a worker keeps
+/// how many visits a search without a cover takes, as the last ones tell.
+#[derive(Debug, Drop)]
+pub struct Pace {
+    /// How many visits a first search has, at least 1.
+    base: u64,
+    /// Nobody else waits for work.
+    alone: bool,
+    /// How many visits its searches have made.
+    visits: u64,
+    /// By the prefix's length, how many visits a search is thought to take.
+    expected: Vec<u64>,
+}
+
+impl Pace {
+    /// The pace of a worker before its first search: a first search has so many visits (0 counts as 1), it is alone or not, and no
+    /// prefix is longer than so many options. The only error is want of memory.
+    pub fn new(alloc: Global, base: u64, alone: bool, longest: usize) -> Result<Pace, AllocError> {
+        let mut expected = Vec::with_capacity(alloc, longest)?;
+        for _ in 0..longest {
+            expected.push(0)?;
+        }
+        Ok(Pace {
+            base: base.max(1),
+            alone,
+            visits: 0,
+            expected,
+        })
+    }
+
+    /// How many visits the search of a prefix of this length gets, where the site is hungry or not.
+    ///
+    /// With a base of 1 each gets one visit. Else a worker that is alone has no limit; the prefix without an option gets the base;
+    /// where the site is hungry, a fifth of it; and else eight times the greater of 30 times the base and a 1,024th of the visits made,
+    /// unless it is thought to take more than that greater number: then it gets a fifth of the base, and is thought to take a
+    /// tenth less the next time.
+    pub fn fuel(&mut self, length: usize, is_hungry: bool) -> u64
+        ensures { 1 ≤ result }
+    {
+        if self.base == 1 || (length == 0 && !self.alone) {
+            return self.base.max(1);
+        }
+        if self.alone {
+            return u64::MAX;
+        }
+        if is_hungry || self.is_too_long(length) {
+            return self.small();
+        }
+        self.plenty().saturating_mul(8).max(1)
+    }
+
+    /// A search of a prefix of this length ended so, after so many visits.
+    ///
+    /// One without a cover is a quarter of what is thought of such prefixes from now on; one that was spent with more than a small job's
+    /// visits is thought to take twice its visits at least.
+    pub fn note(&mut self, length: usize, outcome: Outcome, visits: u64) {
+        self.visits = self.visits.saturating_add(visits);
+        let small = self.small();
+        let Some(expected) = self.expected.get_mut(length) else {
+            return;
+        };
+        match outcome {
+            Outcome::Barren => *expected = *expected / 4 * 3 + visits / 4,
+            Outcome::Spent if visits > small => {
+                *expected = (*expected).max(visits.saturating_mul(2));
+            }
+            Outcome::Cover | Outcome::Spent => {}
+        }
+    }
+
+    /// A small job's visits: a fifth of the base, at least one.
+    fn small(&self) -> u64
+        ensures { 1 ≤ result }
+    {
+        (self.base / 5).max(1)
+    }
+
+    /// What a job in plenty takes at most, as far as is known.
+    fn plenty(&self) -> u64 {
+        self.base.saturating_mul(PLENTY).max(self.visits / SHARE)
+    }
+
+    /// Whether a search of a prefix of this length is thought to take more than a job in plenty does; it is thought to take
+    /// a tenth less the next time.
+    fn is_too_long(&mut self, length: usize) -> bool {
+        let plenty = self.plenty();
+        match self.expected.get_mut(length) {
+            Some(expected) if *expected > plenty => {
+                *expected = *expected / 10 * 9;
+                true
+            }
+            _ => false,
+        }
+    }
+}

@@ -1,0 +1,146 @@
+//! A whole run: all its sites at once.
+
+ghost use Rattle.std.specs.Prelude.{◌≡◌, ◌+◌, ◌<◌, ◌≤◌, ◌++◌, [], true, vec_len, IfOk, IfSome};
+ghost use Rattle.std.specs.List.{All};
+ghost use Rattle.std.specs.Option.{option_to_list};
+ghost use Rattle.run_book.specs.Books.{are_distinct, IsBook};
+ghost use Rattle.run_book.specs.Runs.{IsRunEnd};
+ghost use Rattle.run_book.specs.Sites.{IsRun};
+ghost use Rattle.udp_node.specs.Numbers.{AreNumbered};
+
+use crate::gate::Gate;
+use crate::link::Link;
+use crate::plan::Plan;
+use crate::site_run::{SiteEnd, SiteRun, Whole};
+use cover_problem::{Answer, Problem};
+use run_book::{Book, Run, published};
+use std::alloc::{AllocError, Global};
+use std::marker::PhantomData;
+use std::sync::Wait;
+use std::thread::{self, Threads};
+use std::time::Clock;
+
+/// How a run ended.
+#[derive(Drop)]
+pub struct RunEnd<J: Run> {
+    /// What the registry published, by its book; nothing where it published nothing, or its book is not there.
+    pub answer: Option<Answer>,
+    /// The books of the sites that closed, the registry's first and the nodes' in their order.
+    pub books: Vec<Book<J>>,
+    /// How each site ended, the registry first and the nodes in their order.
+    pub sites: Vec<SiteEnd>,
+}
+
+/// Runs a search over these links, one for each site and the registry's first, each site on threads of its own, until all have
+/// ended; then closes each site's cell.
+///
+/// A site that had no memory to start or to close has no book: the others go on without it. The only error is want of memory
+/// for the run itself: for the list of its sites before any has started, or for the answer at the end.
+pub fn run_sites<
+    J: Run + Send + Sync,
+    L: Link + Send,
+    G: Gate + Sync,
+    R: Threads + Wait + Clock + Sync,
+>(
+    rt: &R,
+    alloc: Global,
+    problem: &Problem,
+    plan: Plan,
+    links: Vec<L>,
+    gate: &G,
+) -> Result<RunEnd<J>, AllocError>
+    requires problem { problem.now ≡ J.run.problem }
+    requires nodes { plan.nodes ≡ J.run.nodes }
+    requires some { 1 ≤ plan.nodes }
+    requires most { plan.nodes ≤ 16 }
+    requires links { vec_len links ≡ plan.nodes + 1 }
+    ensures { IfOk result (λ end. IsRunEnd J.run end.answer end.books.items) }
+{
+    // (for what the getter says: that the problem is lawful)
+    let _items = problem.items();
+    let whole = Whole {
+        problem,
+        gate,
+        plan,
+        alloc,
+        run: PhantomData,
+    };
+    let books = Vec::with_capacity(alloc, links.len())?;
+    let sites = Vec::with_capacity(alloc, links.len())?;
+    let mut runs = runs_for(alloc, links)?;
+    run_all(rt, &whole, &mut runs);
+    let (books, sites) = gathered(runs, books, sites)?;
+    Ok(RunEnd {
+        answer: published(alloc, problem, &books)?,
+        books,
+        sites,
+    })
+}
+
+/// The sites before they run, each with its link. The only error is want of memory.
+fn runs_for<J: Run, L: Link>(alloc: Global, links: Vec<L>) -> Result<Vec<SiteRun<J, L>>, AllocError>
+    requires run { IsRun J.run }
+    requires links { vec_len links ≡ J.run.nodes + 1 }
+    ensures many { IfOk result (λ runs. vec_len runs ≡ vec_len links) }
+    ensures numbered { IfOk result (λ runs. AreNumbered (λ site. site.node) runs.items) }
+{
+    let mut runs = Vec::with_capacity(alloc, links.len())?;
+    for link in links {
+        runs.push(SiteRun::new(runs.len() as u8, link))?;
+    }
+    Ok(runs)
+}
+
+/// Runs all sites to their ends, at once.
+fn run_all<J: Run + Send + Sync, L: Link + Send, G: Gate + Sync, R: Threads + Wait + Clock + Sync>(
+    rt: &R,
+    whole: &Whole<'_, '_, J, G>,
+    runs: &mut Vec<SiteRun<J, L>>,
+)
+    requires numbered { AreNumbered (λ site. site.node) runs.old.items }
+    requires some { 0 < vec_len runs.old }
+    ensures { AreNumbered (λ site. site.node) runs.new.items }
+{
+    let count = runs.len();
+    thread::for_each_mut(
+        rt,
+        runs.as_mut_slice(),
+        count,
+        &|_, site| { site.run(rt, whole) },
+    );
+}
+
+/// The books of the sites that have one, and how each site ended. The only error is want of memory.
+fn gathered<J: Run, L: Link>(
+    runs: Vec<SiteRun<J, L>>,
+    mut books: Vec<Book<J>>,
+    mut sites: Vec<SiteEnd>,
+) -> Result<(Vec<Book<J>>, Vec<SiteEnd>), AllocError>
+    requires none { books.items ≡ [] }
+    requires numbered { AreNumbered (λ site. site.node) runs.items }
+    ensures books { IfOk result (λ all. All (IsBook J.run) all.0.items) }
+    ensures distinct { IfOk result (λ all. are_distinct all.0.items ≡ true) }
+{
+    for site in runs {
+        let (book, end) = site.into_end();
+        sites.push(end)?;
+        books = with_book(books, book)?;
+    }
+    Ok((books, sites))
+}
+
+/// The books with this one after them, where there is one. The only error is want of memory.
+fn with_book<J: Run>(
+    mut books: Vec<Book<J>>,
+    book: Option<Book<J>>,
+) -> Result<Vec<Book<J>>, AllocError>
+    ensures more { IfOk result (λ more. more.items ≡ books.items ++ option_to_list book) }
+    ensures book { IfOk result (λ _. IfSome book (IsBook J.run)) }
+{
+    if let Some(book) = book {
+        // (for what the getter says: that it is a book of the run)
+        let _site = book.site();
+        books.push(book)?;
+    }
+    Ok(books)
+}
