@@ -23,15 +23,20 @@ alone_app = with_rule (with_rule (new_app (codes "alone")) (file_rule (codes "fi
 abbrev pub check_app : App
 check_app = with_rule (with_rule (with_rule (new_app (codes "check")) (file_rule (codes "file"))) (file_rule (codes "answer"))) greatest_fuel_rule
 
--- what a simulation searches, with how many nodes
-abbrev pub world_app : App
-world_app =
-    with_rule (with_rule (with_rule (new_app (codes "simulate")) (file_rule (codes "file"))) (number_rule (codes "fuel") (codes "1000"))) (number_rule (codes "nodes") (codes "4"))
+-- what sites search, how many nodes there are, and the seed of what is drawn
+abbrev pub sites_app : Text → App
+sites_app name =
+    with_rule (with_rule (with_rule (with_rule (new_app name) (file_rule (codes "file"))) (number_rule (codes "fuel") (codes "1000"))) (number_rule (codes "nodes") (codes "4"))) (number_rule (codes "seed") (codes "1"))
 
--- the same with what is drawn
+-- the same with how long a simulation goes on
 abbrev pub simulate_app : App
 simulate_app =
-    with_rule (with_rule (with_rule world_app (number_rule (codes "seed") (codes "1"))) (number_rule (codes "turns") (codes "10000"))) (number_rule (codes "restarts") (codes "0"))
+    with_rule (with_rule (sites_app (codes "simulate")) (number_rule (codes "turns") (codes "10000"))) (number_rule (codes "restarts") (codes "0"))
+
+-- the same with how long threads go on, and how many there are
+abbrev pub solve_app : App
+solve_app =
+    with_rule (with_rule (sites_app (codes "solve")) (number_rule (codes "turns") (codes "1000000"))) (number_rule (codes "workers") (codes "2"))
 
 -- a command that has a version, and wants one of its subcommands
 abbrev pub wanting_subcommand : App → App
@@ -41,13 +46,15 @@ wanting_subcommand app = record app { top = record app.top { has_version = true;
 abbrev pub one_thread_app : App
 one_thread_app = with_subcommand (with_subcommand (wanting_subcommand (new_app (codes "solve_cli"))) alone_app.top) check_app.top
 
+-- what sites do
 abbrev pub solver_app : App
-solver_app = with_subcommand one_thread_app simulate_app.top
+solver_app = with_subcommand (with_subcommand one_thread_app simulate_app.top) solve_app.top
 
 abbrev pub mode_word : Mode → Text
 mode_word modes.Alone = codes "alone"
 mode_word modes.Check = codes "check"
 mode_word modes.Simulate = codes "simulate"
+mode_word modes.Solve = codes "solve"
 
 -- The text is decimal digits, of which the number is the value.
 pub record Spells (text : Text) (number : ℕ) : Type 0 where
@@ -76,5 +83,6 @@ pub record AreMet (met : Option (Text × List Row)) (settings : Settings) : Type
   pub fuel_given : SpellsFuel (first_of (codes "fuel") rows) settings.fuel
   pub nodes_given : SpellsOr 4 (first_of (codes "nodes") rows) settings.nodes
   pub seed_given : SpellsOr 1 (first_of (codes "seed") rows) settings.seed
+  pub workers_given : SpellsOr 2 (first_of (codes "workers") rows) settings.workers
   pub turns_given : SpellsOr 10000 (first_of (codes "turns") rows) settings.turns
   pub restarts_given : SpellsOr 0 (first_of (codes "restarts") rows) settings.restarts

@@ -3,4 +3,5 @@ pub mod Check
 pub mod CommandLine
 pub mod Output
 pub mod Simulate
+pub mod Solve
 pub mod Status

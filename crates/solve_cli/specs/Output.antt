@@ -1,10 +1,13 @@
 -- What an engine has written when it ends.
-use Rattle.std.specs.Prelude.{◌≡◌, ℕ, List, Option, Some, Result, MatchResult}
+use Rattle.std.specs.Prelude.{◌≡◌, ℕ, List, Option, None, Some, Result, MatchResult, codes}
 use Rattle.std.specs.Io.KnownBytes.{Appends, Keeps}
 use Rattle.cover_problem.specs.Problem.{Problem}
+use Rattle.cover_problem.specs.declared.answer.Answer.{Answer}
+use Rattle.cover_problem.specs.declared.answer.Answer.TheVariants.{Cover, NoCover}
 use Rattle.dlx_reader.specs.Answers.{IsFaultOf}
 use Rattle.dlx_reader.specs.Devices.{AppendsFront}
 use Rattle.dlx_reader.specs.Faults.{first_fault}
+use Rattle.dlx_reader.specs.Writing.{answer_text}
 use Rattle.solve_cli.specs.declared.fault.EngineFault.{EngineFault}
 use Rattle.solve_cli.specs.declared.fault.EngineFault.TheVariants as faults
 
@@ -38,6 +41,14 @@ IsFileFault text faults.Read = ⊥
 IsFileFault text faults.Write = ⊥
 IsFileFault text (faults.Answer fault) = ⊥
 
+-- of reading a source with this text, and the problem of it
+abbrev pub IsSourceFault : List ℕ → EngineFault → Type 0
+IsSourceFault text (faults.File fault) = (first_fault text ≡ Some fault)
+IsSourceFault text faults.Read = Unit {0}
+IsSourceFault text faults.Memory = Unit {0}
+IsSourceFault text faults.Write = ⊥
+IsSourceFault text (faults.Answer fault) = ⊥
+
 -- of the answer of a text to a problem
 abbrev pub IsAnswerFault : List ℕ → Problem → EngineFault → Type 0
 IsAnswerFault text problem (faults.Answer fault) = IsFaultOf text problem fault
@@ -45,3 +56,16 @@ IsAnswerFault text problem faults.Memory = Unit {0}
 IsAnswerFault text problem faults.Read = ⊥
 IsAnswerFault text problem faults.Write = ⊥
 IsAnswerFault text problem (faults.File fault) = ⊥
+
+-- ---- what is published
+
+-- the answer that is published, or that there is none yet
+abbrev pub published_text : Problem → Option Answer → List ℕ
+published_text problem (Some answer) = answer_text problem answer
+published_text problem None = codes "no answer\n"
+
+-- 0 for a cover, 1 for none, 4 for no answer
+abbrev pub published_status : Option Answer → ℕ
+published_status (Some (Cover options)) = 0
+published_status (Some NoCover) = 1
+published_status None = 4

@@ -1,9 +1,7 @@
 -- What `simulate` writes for a text, and what each fault leaves.
-use Rattle.std.specs.Prelude.{◌≡◌, ℕ, List, Option, Some, None, codes}
+use Rattle.std.specs.Prelude.{◌≡◌, ℕ, List, Option, Some}
 use Rattle.std.specs.Io.KnownBytes.{Appends, Keeps}
 use Rattle.cover_problem.specs.Problem.{Problem}
-use Rattle.cover_problem.specs.declared.answer.Answer.{Answer}
-use Rattle.cover_problem.specs.declared.answer.Answer.TheVariants.{Cover, NoCover}
 use Rattle.cover_world.specs.Courses.{opening_core}
 use Rattle.cover_world.specs.Safety.{published}
 use Rattle.cover_world.specs.Simulation.{Simulated, Simulation, simulation}
@@ -11,24 +9,13 @@ use Rattle.cover_world.specs.Worlds.{World}
 use Rattle.dlx_reader.specs.Devices.{AppendsFront}
 use Rattle.dlx_reader.specs.Faults.{first_fault}
 use Rattle.dlx_reader.specs.ProblemOf.{IsProblemOf}
-use Rattle.dlx_reader.specs.Writing.{answer_text}
 use Rattle.rand_core.specs.Pcg32Seed.{pcg32_seed}
 use Rattle.rand_pcg.specs.Lcg.{Lcg}
 use Rattle.rand_pcg.specs.Pcg.{pcg32_of_seed}
+use Rattle.solve_cli.specs.Output.{published_status, published_text}
 use Rattle.solve_cli.specs.declared.fault.EngineFault.{EngineFault}
 use Rattle.solve_cli.specs.declared.fault.EngineFault.TheVariants as faults
 use Rattle.solve_cli.specs.declared.settings.Settings.{Settings}
-
--- the answer that is published, or that there is none yet
-abbrev pub published_text : Problem → Option Answer → List ℕ
-published_text problem (Some answer) = answer_text problem answer
-published_text problem None = codes "no answer\n"
-
--- 0 for a cover, 1 for none, 4 for no answer
-abbrev pub published_status : Option Answer → ℕ
-published_status (Some (Cover options)) = 0
-published_status (Some NoCover) = 1
-published_status None = 4
 
 -- the generator of a seed
 abbrev pub seeded : ℕ → Lcg

@@ -4,7 +4,7 @@ ghost use Rattle.std.specs.Prelude.{◌≡◌, ◌≤◌, ◌<◌, ◌^◌, Some
 ghost use Rattle.std.specs.Str.Parse.{IsNumeral, digits_value};
 ghost use Rattle.clap.specs.Words.{Row, app_of, first_of, first_value, found_of, rule_of, subcommand_of};
 ghost use Rattle.clap.specs.declared.builder.command.Command.TheViews.{out-Command};
-ghost use Rattle.solve_cli.specs.CommandLine.{AreMet, IsAnswerFile, Spells, SpellsFuel, SpellsOr, alone_app, check_app, file_rule, greatest_fuel_rule, mode_word, number_rule, one_thread_app, simulate_app, solver_app, world_app};
+ghost use Rattle.solve_cli.specs.CommandLine.{AreMet, IsAnswerFile, Spells, SpellsFuel, SpellsOr, alone_app, check_app, file_rule, greatest_fuel_rule, mode_word, number_rule, one_thread_app, simulate_app, sites_app, solve_app, solver_app};
 
 use crate::settings::{Mode, Settings};
 use clap::error::ErrorKind;
@@ -13,7 +13,7 @@ use std::alloc::{AllocError, Global};
 
 /// What is told of a number that is out of its range.
 const RANGES: &str =
-    "a number is out of its range: --fuel takes 1 to 18446744073709551615, --nodes 1 to 16, --seed 0 to 18446744073709551615, --turns 0 to 10000000, --restarts 0 to 100";
+    "a number is out of its range: --fuel takes 1 to 18446744073709551615, --nodes 1 to 16, --seed 0 to 18446744073709551615, --workers 1 to 8, --turns 0 to 10000000, --restarts 0 to 100";
 
 /// Why there are no settings.
 #[derive(Debug, Drop)]
@@ -52,7 +52,7 @@ fn fuel_argument<'a>(alloc: Global) -> Arg<'a>
         .help("How many prefixes the search may visit, from 1")
 }
 
-/// An option of a simulation, whose value is a number.
+/// An option of what sites do, whose value is a number.
 fn number_argument<'a>(alloc: Global, id: &'a str, default: &'a str, help: &'a str) -> Arg<'a>
     ensures rule { rule_of result ≡ number_rule id.now default.now }
     ensures own { result.global ≡ false }
@@ -84,9 +84,13 @@ fn check_command<'a>(alloc: Global) -> Result<Command<'a>, AllocError>
         .arg(fuel_argument(alloc))
 }
 
-/// What a simulation searches, with how many nodes.
-fn world_command<'a>(alloc: Global) -> Result<Command<'a>, AllocError>
-    ensures app { IfOk result (λ command. app_of command ≡ world_app) }
+/// What sites search, how many nodes there are, and the seed of what is drawn.
+fn sites_command<'a>(
+    alloc: Global,
+    name: &'a str,
+    about: &'a str,
+) -> Result<Command<'a>, AllocError>
+    ensures app { IfOk result (λ command. app_of command ≡ sites_app name.now) }
     ensures local { IfOk result (λ command. (out-Command command).has_globals ≡ false) }
 {
     let fuel = number_argument(
@@ -96,18 +100,20 @@ fn world_command<'a>(alloc: Global) -> Result<Command<'a>, AllocError>
         "How many prefixes a search may visit, from 1",
     );
     let nodes = number_argument(alloc, "nodes", "4", "How many nodes there are, 1 to 16");
-    Command::new(alloc, "simulate")
-        .about("Lets a world of nodes search the problem, by chance, and writes what it publishes")
+    let seed = number_argument(alloc, "seed", "1", "The seed of what is drawn");
+    Command::new(alloc, name)
+        .about(about)
         .arg(file_argument(alloc))?
         .arg(fuel)?
-        .arg(nodes)
+        .arg(nodes)?
+        .arg(seed)
 }
 
 fn simulate_command<'a>(alloc: Global) -> Result<Command<'a>, AllocError>
     ensures app { IfOk result (λ command. app_of command ≡ simulate_app) }
     ensures local { IfOk result (λ command. (out-Command command).has_globals ≡ false) }
 {
-    let seed = number_argument(alloc, "seed", "1", "The seed of what is drawn");
+    let about = "Lets a world of nodes search the problem, by chance, and writes what it publishes";
     let turns = number_argument(
         alloc,
         "turns",
@@ -120,7 +126,27 @@ fn simulate_command<'a>(alloc: Global) -> Result<Command<'a>, AllocError>
         "0",
         "How many restarts are drawn, up to 100",
     );
-    world_command(alloc)?.arg(seed)?.arg(turns)?.arg(restarts)
+    sites_command(alloc, "simulate", about)?
+        .arg(turns)?
+        .arg(restarts)
+}
+
+fn solve_command<'a>(alloc: Global) -> Result<Command<'a>, AllocError>
+    ensures app { IfOk result (λ command. app_of command ≡ solve_app) }
+    ensures local { IfOk result (λ command. (out-Command command).has_globals ≡ false) }
+{
+    let about =
+        "Lets nodes with threads of their own search the problem over UDP on this machine, and writes what they publish";
+    let turns = number_argument(
+        alloc,
+        "turns",
+        "1000000",
+        "How many turns a thread takes, up to 10000000",
+    );
+    let workers = number_argument(alloc, "workers", "2", "How many workers a node has, 1 to 8");
+    sites_command(alloc, "solve", about)?
+        .arg(turns)?
+        .arg(workers)
 }
 
 /// What one thread does.
@@ -141,7 +167,10 @@ fn solver_command<'a>(alloc: Global) -> Result<Command<'a>, AllocError>
     ensures { IfOk result (λ command. app_of command ≡ solver_app) }
 {
     let simulate = simulate_command(alloc)?;
-    one_thread_command(alloc)?.subcommand(simulate)
+    let solve = solve_command(alloc)?;
+    one_thread_command(alloc)?
+        .subcommand(simulate)?
+        .subcommand(solve)
 }
 
 /// The number that decimal digits spell, without a sign.
@@ -166,6 +195,9 @@ fn mode_of(name: &str) -> Option<Mode>
     }
     if name == "simulate" {
         return Some(Mode::Simulate);
+    }
+    if name == "solve" {
+        return Some(Mode::Solve);
     }
     None
 }
@@ -200,6 +232,19 @@ fn nodes(inner: &ArgMatches<'_>) -> Option<u8>
         return None;
     }
     Some(nodes as u8)
+}
+
+/// How many workers a node has, from 1 to 8.
+fn workers(inner: &ArgMatches<'_>) -> Option<u8>
+    ensures given { IfSome result (SpellsOr 2 (first_value (found_of inner.now) (codes "workers"))) }
+    ensures some { IfSome result (λ workers. 1 ≤ workers) }
+    ensures most { IfSome result (λ workers. workers ≤ 8) }
+{
+    let workers = number_or(inner, "workers", 2)?;
+    if workers == 0 || workers > 8 {
+        return None;
+    }
+    Some(workers as u8)
 }
 
 /// How many turns are taken, up to 10,000,000.
@@ -245,7 +290,7 @@ fn answer_file<'a>(mode: Mode, inner: &ArgMatches<'a>) -> Option<Option<&'a str>
 {
     match mode {
         Mode::Check => Some(Some(inner.get_str("answer")?)),
-        Mode::Alone | Mode::Simulate => Some(None),
+        Mode::Alone | Mode::Simulate | Mode::Solve => Some(None),
     }
 }
 
@@ -258,6 +303,7 @@ fn spelled<'a>(name: &'a str, inner: &ArgMatches<'a>) -> Option<Settings<'a>>
     ensures fuel { IfSome result (λ s. SpellsFuel (first_value (found_of inner.now) (codes "fuel")) s.fuel) }
     ensures nodes { IfSome result (λ s. SpellsOr 4 (first_value (found_of inner.now) (codes "nodes")) s.nodes) }
     ensures seed { IfSome result (λ s. SpellsOr 1 (first_value (found_of inner.now) (codes "seed")) s.seed) }
+    ensures workers { IfSome result (λ s. SpellsOr 2 (first_value (found_of inner.now) (codes "workers")) s.workers) }
     ensures turns { IfSome result (λ s. SpellsOr 10000 (first_value (found_of inner.now) (codes "turns")) s.turns) }
     ensures restarts { IfSome result (λ s. SpellsOr 0 (first_value (found_of inner.now) (codes "restarts")) s.restarts) }
 {
@@ -269,6 +315,7 @@ fn spelled<'a>(name: &'a str, inner: &ArgMatches<'a>) -> Option<Settings<'a>>
         fuel: fuel(inner)?,
         nodes: nodes(inner)?,
         seed: number_or(inner, "seed", 1)?,
+        workers: workers(inner)?,
         turns: turns(inner)?,
         restarts: restarts(inner)?,
     })

@@ -1,11 +1,11 @@
 //! All bytes of a source, and the problem or the answer that they are.
 
-ghost use Rattle.std.specs.Prelude.{◌≡◌, ◌-◌, ◌<◌, ◌^◌, IfOk, IfErr};
+ghost use Rattle.std.specs.Prelude.{◌≡◌, ◌≢◌, ◌-◌, ◌<◌, ◌^◌, IfErr, IfOk, IfSome};
 ghost use Rattle.std.specs.Io.KnownBytes.{Consumes, IsAtEnd};
 ghost use Rattle.dlx_reader.specs.Answers.{IsAnswerOf};
 ghost use Rattle.dlx_reader.specs.ProblemOf.{IsProblemOf};
 ghost use Rattle.solve_cli.specs.Check.{IsListedAnswer};
-ghost use Rattle.solve_cli.specs.Output.{IsReadFault, IsFileFault, IsAnswerFault};
+ghost use Rattle.solve_cli.specs.Output.{IsReadFault, IsFileFault, IsAnswerFault, IsSourceFault};
 
 use crate::fault::EngineFault;
 use cover_problem::{Answer, Problem};
@@ -47,6 +47,19 @@ pub fn problem_of(alloc: Global, text: &[u8]) -> Result<Read, EngineFault>
         Err(ReadFault::Memory) => Err(EngineFault::Memory),
         Err(fault) => Err(EngineFault::File(fault)),
     }
+}
+
+/// The problem of all that a source has. The faults are `Read`, where a read failed, `File`, with the text's first fault, and
+/// `Memory`.
+pub fn read_whole<R: Source>(alloc: Global, source: &mut R) -> Result<Read, EngineFault>
+    requires { R.failed source.old < 2 ^ 64 - 1 }
+    ensures problem { IfOk result (λ read. IfSome (R.remaining source.old) (λ text. IsProblemOf text read.problem read.ignored)) }
+    ensures read { result ≢ Err EngineFault.Read → result ≢ Err EngineFault.Memory → IsAtEnd (R.remaining source.new) }
+    ensures fault { IfErr result (λ fault. IfSome (R.remaining source.old) (λ text. IsSourceFault text fault)) }
+    ensures failed { result ≡ Err EngineFault.Read → R.failed source.old < R.failed source.new }
+{
+    let text = read_all(alloc, source)?;
+    problem_of(alloc, &text)
 }
 
 /// The answer of a text to a problem. The faults are `Answer`, with the text's first fault, and `Memory`.

@@ -11,19 +11,30 @@ mod input;
 mod lines;
 mod settings;
 mod simulate;
+mod sockets;
+mod solve;
 mod tell;
 
 use crate::alone::alone_engine;
 use crate::check::check_engine;
 use crate::command_line::{SettingsFault, settings};
 use crate::fault::EngineFault;
+use crate::input::read_whole;
 use crate::settings::{Mode, Settings};
 use crate::simulate::simulate_engine;
-use crate::tell::{tell, tell_fault};
+use crate::sockets::links;
+use crate::solve::solve_problem;
+use crate::tell::{tell, tell_fault, tell_unbound};
 use dlx_reader::{CountedReader, CountedWriter};
+use std::env;
 use std::fs::File;
+use std::io::{self, ErrorKind};
+use std::net::Net;
 use std::process::ExitCode;
-use std::{env, io};
+use std::sync::Wait;
+use std::thread::Threads;
+use std::time::Clock;
+use udp_node::Open;
 
 /// Runs `alone` on a file, and answers the exit status.
 fn run_alone(rt: &HostRuntime, file: &str, fuel: u64) -> u8
@@ -75,19 +86,64 @@ fn run_simulate(rt: &HostRuntime, settings: &Settings<'_>) -> u8 {
     }
 }
 
+/// Runs `solve` on a file, and answers the exit status. All sockets are bound before any thread starts.
+fn run_solve<R: Threads + Wait + Clock + Net + Sync>(
+    rt: &HostRuntime,
+    threads: &R,
+    settings: &Settings<'_>,
+) -> u8 {
+    let mut errors = CountedWriter::new(rt.stderr());
+    let Ok(file) = File::open(rt, settings.file) else {
+        return tell_fault(&EngineFault::Read, &mut errors);
+    };
+    let read = match read_whole(rt.alloc(), &mut CountedReader::new(file)) {
+        Ok(read) => read,
+        Err(fault) => return tell_fault(&fault, &mut errors),
+    };
+    let links = match links(threads, rt.alloc(), settings.nodes) {
+        Ok(links) => links,
+        Err(error) if error.kind() == ErrorKind::OutOfMemory => {
+            return tell_fault(&EngineFault::Memory, &mut errors);
+        }
+        Err(_) => return tell_unbound(&mut errors),
+    };
+    let mut sink = CountedWriter::new(rt.stdout());
+    match solve_problem(
+        threads,
+        rt.alloc(),
+        settings,
+        &read.problem,
+        links,
+        &Open,
+        &mut sink,
+    ) {
+        Ok(status) => tell(status, read.ignored, &mut errors),
+        Err(fault) => tell_fault(&fault, &mut errors),
+    }
+}
+
 /// Runs what the settings ask for, and answers the exit status.
-fn run_settings(rt: &HostRuntime, settings: &Settings<'_>) -> u8 {
+fn run_settings<R: Threads + Wait + Clock + Net + Sync>(
+    rt: &HostRuntime,
+    threads: &R,
+    settings: &Settings<'_>,
+) -> u8 {
     match (settings.mode, settings.answer) {
         (Mode::Simulate, _) => run_simulate(rt, settings),
+        (Mode::Solve, _) => run_solve(rt, threads, settings),
         (_, Some(answer)) => run_check(rt, settings.file, answer, settings.fuel),
         (_, None) => run_alone(rt, settings.file, settings.fuel),
     }
 }
 
 /// Runs what a command line asks for, and answers the exit status: 2 for a fault of the command line, 0 for help.
-fn run_words(rt: &HostRuntime, words: &[&str]) -> u8 {
+fn run_words<R: Threads + Wait + Clock + Net + Sync>(
+    rt: &HostRuntime,
+    threads: &R,
+    words: &[&str],
+) -> u8 {
     match settings(rt.alloc(), words) {
-        Ok(settings) => run_settings(rt, &settings),
+        Ok(settings) => run_settings(rt, threads, &settings),
         Err(SettingsFault::Line(error)) => {
             let _ = error.print(rt);
             if error.use_stderr() { 2 } else { 0 }
@@ -108,20 +164,24 @@ fn given_words(rt: &HostRuntime) -> io::Result<Vec<String>> {
 }
 
 /// Runs what these words ask for, and answers the exit status.
-fn run_given(rt: &HostRuntime, given: &[String]) -> u8 {
+fn run_given<R: Threads + Wait + Clock + Net + Sync>(
+    rt: &HostRuntime,
+    threads: &R,
+    given: &[String],
+) -> u8 {
     let mut words = Vec::new(rt.alloc());
     for word in given {
         if words.push(word.as_str()).is_err() {
             return tell_fault(&EngineFault::Memory, &mut CountedWriter::new(rt.stderr()));
         }
     }
-    run_words(rt, &words)
+    run_words(rt, threads, &words)
 }
 
 fn main(rt: HostRuntime) -> ExitCode {
     let status = match given_words(&rt) {
-        Ok(given) => run_given(&rt, &given),
-        Err(error) if error.kind() == io::ErrorKind::InvalidData => {
+        Ok(given) => run_given(&rt, &rt, &given),
+        Err(error) if error.kind() == ErrorKind::InvalidData => {
             let _ = eprintln!(rt; "error: a word of the command line is not UTF-8");
             2
         }

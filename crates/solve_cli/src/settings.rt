@@ -11,6 +11,8 @@ pub enum Mode {
     Check,
     /// Let a world of sites search a problem, by chance.
     Simulate,
+    /// Let sites with threads of their own search a problem.
+    Solve,
 }
 
 /// The settings of a run. A number that goes with another subcommand has its default.
@@ -28,13 +30,17 @@ pub struct Settings<'a> {
     pub nodes: u8,
     /// The seed of what is drawn.
     pub seed: u64,
-    /// How many turns a simulation may take, up to 10,000,000.
+    /// How many workers a node has, from 1 to 8.
+    pub workers: u8,
+    /// How many turns a simulation, or each thread, may take, up to 10,000,000.
     pub turns: u32,
     /// How many restarts may be drawn, up to 100.
     pub restarts: u32,
     pub ghost some_fuel: { 1 ≤ fuel },
     pub ghost some_nodes: { 1 ≤ nodes },
     pub ghost most_nodes: { nodes ≤ 16 },
+    pub ghost some_workers: { 1 ≤ workers },
+    pub ghost most_workers: { workers ≤ 8 },
     pub ghost most_turns: { turns ≤ 10000000 },
     pub ghost most_restarts: { restarts ≤ 100 },
 }

@@ -1,16 +1,14 @@
 //! `simulate`: a world of sites searches a file's problem, by chance.
 
-ghost use Rattle.std.specs.Prelude.{◌≡◌, ◌≢◌, ◌-◌, ◌<◌, ◌^◌, option_map, IfErr, IfOk, IfSome};
+ghost use Rattle.std.specs.Prelude.{◌≡◌, ◌≢◌, ◌-◌, ◌<◌, ◌^◌, IfErr, IfOk, IfSome};
 ghost use Rattle.std.specs.Io.KnownBytes.{IsAtEnd};
-ghost use Rattle.dlx_reader.specs.Writing.{IsWritable};
-ghost use Rattle.solve_cli.specs.Output.{IsOutput};
-ghost use Rattle.solve_cli.specs.Simulate.{published_status, published_text, IsSimulated, IsSimulationLeft, IsStoppedEnd, WritesEnd};
+ghost use Rattle.solve_cli.specs.Simulate.{IsSimulated, IsSimulationLeft, IsStoppedEnd, WritesEnd};
 
 use crate::fault::EngineFault;
 use crate::input::{problem_of, read_all};
-use crate::lines::{write_line, write_solution};
+use crate::lines::write_published;
 use crate::settings::Settings;
-use cover_problem::{Answer, Problem};
+use cover_problem::Problem;
 use cover_world::{World, simulate};
 use dlx_reader::{Sink, Source};
 use rand_core::SeedableRng;
@@ -24,35 +22,6 @@ pub struct SimulateEnd {
     pub status: u8,
     /// How many options of the file were ignored.
     pub ignored: usize,
-}
-
-/// The status that goes with an answer.
-fn answer_status(answer: &Answer) -> u8
-    ensures { result ≡ published_status (Some answer.now) }
-{
-    match answer {
-        Answer::Cover(_) => 0,
-        Answer::NoCover => 1,
-    }
-}
-
-/// Writes what is published, or that nothing is, and answers the status.
-fn write_published<W: Sink>(
-    problem: &Problem,
-    published: Option<&Answer>,
-    sink: &mut W,
-) -> Result<u8, EngineFault>
-    requires order { IfSome published (λ answer. IsWritable problem.now answer.now) }
-    requires failed { W.failed sink.old < 2 ^ 64 - 1 }
-    ensures bytes { IsOutput (W.contents sink.old) (W.contents sink.new)
-        (published_text problem.now (option_map (λ answer. answer.now) published.entry)) result }
-    ensures status { IfOk result (λ told. told ≡ published_status (option_map (λ answer. answer.now) published.entry)) }
-    ensures failed { result ≡ Err EngineFault.Write → W.failed sink.old < W.failed sink.new }
-{
-    match published {
-        Some(answer) => write_solution(problem, answer, answer_status(answer), sink),
-        None => write_line(b"no answer\n", 4, sink),
-    }
 }
 
 /// Simulates a world that begins with the problem, writes what it publishes, and answers the status.

@@ -45,6 +45,14 @@ pub fn tell_fault<E: Sink>(fault: &EngineFault, sink: &mut E) -> u8
     }
 }
 
+/// Tells that no sockets can be bound, and answers the exit status. A fault of the sink is passed over.
+pub fn tell_unbound<E: Sink>(sink: &mut E) -> u8
+    ensures { result ≡ 3 }
+{
+    let _ = writeln!(sink, "cannot bind");
+    3
+}
+
 /// The name of a fault, and the line that it stands on, if it has one.
 type Named = (&'static str, Option<usize>);
 

@@ -28,7 +28,8 @@ fn is_read<R: Abort>(
     alloc: Global,
     words: &[&str],
     (mode, file, answer): (Mode, &str, Option<&str>),
-    (fuel, nodes, seed, turns, restarts): (u64, u8, u64, u32, u32),
+    (fuel, nodes, seed): (u64, u8, u64),
+    (workers, turns, restarts): (u8, u32, u32),
 ) -> bool {
     let settings = settings(alloc, words).expect(rt, "lawful words");
     settings.mode == mode
@@ -37,6 +38,7 @@ fn is_read<R: Abort>(
         && settings.fuel == fuel
         && settings.nodes == nodes
         && settings.seed == seed
+        && settings.workers == workers
         && settings.turns == turns
         && settings.restarts == restarts
 }
@@ -45,20 +47,59 @@ fn is_read<R: Abort>(
 fn reads_words(rt: HostRuntime) {
     let words = ["solve_cli", "alone", "a.dlx"].as_slice();
     let asked = (Mode::Alone, "a.dlx", None);
-    let numbers = (u64::MAX, 4, 1, 10000, 0);
-    assert!(rt; is_read(&rt, rt.alloc(), words, asked, numbers));
+    assert!(rt;
+        is_read(
+            &rt,
+            rt.alloc(),
+            words,
+            asked,
+            (u64::MAX, 4, 1),
+            (2, 10000, 0)
+        )
+    );
     let words = ["solve_cli", "simulate", "a.dlx"].as_slice();
     let asked = (Mode::Simulate, "a.dlx", None);
-    let numbers = (1000, 4, 1, 10000, 0);
-    assert!(rt; is_read(&rt, rt.alloc(), words, asked, numbers));
+    assert!(rt; is_read(&rt, rt.alloc(), words, asked, (1000, 4, 1), (2, 10000, 0)));
+}
+
+#[test]
+fn reads_words_of_solve(rt: HostRuntime) {
+    let words = ["solve_cli", "solve", "a.dlx"].as_slice();
+    let asked = (Mode::Solve, "a.dlx", None);
+    assert!(rt;
+        is_read(
+            &rt,
+            rt.alloc(),
+            words,
+            asked,
+            (1000, 4, 1),
+            (2, 1_000_000, 0)
+        )
+    );
+    let words = [
+        "solve_cli",
+        "solve",
+        "--fuel",
+        "7",
+        "--nodes",
+        "16",
+        "--seed",
+        "0",
+        "--workers",
+        "8",
+        "--turns",
+        "10000000",
+        "a.dlx",
+    ];
+    let limits = (8, 10_000_000, 0);
+    assert!(rt; is_read(&rt, rt.alloc(), words.as_slice(), asked, (7, 16, 0), limits));
 }
 
 #[test]
 fn reads_all_words(rt: HostRuntime) {
     let words = ["solve_cli", "check", "--fuel", "0007", "a.dlx", "b.txt"].as_slice();
     let asked = (Mode::Check, "a.dlx", Some("b.txt"));
-    let numbers = (7, 4, 1, 10000, 0);
-    assert!(rt; is_read(&rt, rt.alloc(), words, asked, numbers));
+    assert!(rt; is_read(&rt, rt.alloc(), words, asked, (7, 4, 1), (2, 10000, 0)));
     let words = [
         "solve_cli",
         "simulate",
@@ -73,12 +114,21 @@ fn reads_all_words(rt: HostRuntime) {
         "100",
     ];
     let asked = (Mode::Simulate, "a.dlx", None);
-    let numbers = (1000, 16, u64::MAX, 0, 100);
-    assert!(rt; is_read(&rt, rt.alloc(), words.as_slice(), asked, numbers));
+    let limits = (2, 0, 100);
+    assert!(rt;
+        is_read(
+            &rt,
+            rt.alloc(),
+            words.as_slice(),
+            asked,
+            (1000, 16, u64::MAX),
+            limits
+        )
+    );
 }
 
 /// Each with the status.
-static WORDS: [(&[&str], u8); 23] = [
+static WORDS: [(&[&str], u8); 32] = [
     (&["solve_cli"], 2),
     (&["solve_cli", "--help"], 0),
     (&["solve_cli", "--version"], 0),
@@ -91,7 +141,16 @@ static WORDS: [(&[&str], u8); 23] = [
     (&["solve_cli", "simulate", "a", "--nodes", "17"], 2),
     (&["solve_cli", "simulate", "a", "--turns", "10000001"], 2),
     (&["solve_cli", "simulate", "a", "--restarts", "101"], 2),
-    (&["solve_cli", "solve", "a"], 2),
+    (&["solve_cli", "solve", "a"], 9),
+    (&["solve_cli", "solve"], 2),
+    (&["solve_cli", "solve", "a", "--workers", "1"], 9),
+    (&["solve_cli", "solve", "a", "--workers", "0"], 2),
+    (&["solve_cli", "solve", "a", "--workers", "9"], 2),
+    (&["solve_cli", "solve", "a", "--nodes", "17"], 2),
+    (&["solve_cli", "solve", "a", "--turns", "10000001"], 2),
+    (&["solve_cli", "solve", "a", "--restarts", "0"], 2),
+    (&["solve_cli", "solve", "a", "--audit"], 2),
+    (&["solve_cli", "simulate", "a", "--workers", "2"], 2),
     (&["solve_cli", "alone", "a", "--fuel"], 2),
     (&["solve_cli", "alone", "a", "--fuel", "0"], 2),
     (&["solve_cli", "alone", "a", "--fuel", "+5"], 2),

@@ -29,6 +29,7 @@ returns-in-Some-spelled c =
       fuel_given = subst Fuelled (first_value-rows f (codes "fuel")) s.fuel;
       nodes_given = subst (λ (given : Option Text). SpellsOr 4 given c.in-Some-spelled.settings.nodes) (first_value-rows f (codes "nodes")) s.nodes;
       seed_given = subst (λ (given : Option Text). SpellsOr 1 given c.in-Some-spelled.settings.seed) (first_value-rows f (codes "seed")) s.seed;
+      workers_given = subst (λ (given : Option Text). SpellsOr 2 given c.in-Some-spelled.settings.workers) (first_value-rows f (codes "workers")) s.workers;
       turns_given = subst (λ (given : Option Text). SpellsOr 10000 given c.in-Some-spelled.settings.turns) (first_value-rows f (codes "turns")) s.turns;
       restarts_given = subst (λ (given : Option Text). SpellsOr 0 given c.in-Some-spelled.settings.restarts) (first_value-rows f (codes "restarts")) s.restarts;
     }

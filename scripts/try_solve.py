@@ -1,0 +1,113 @@
+#!/usr/bin/env python3
+"""Runs `solve` on small problems and on every example: `python3 scripts/try_solve.py --help` tells how.
+
+Each problem is solved so many times by nodes with threads of their own. Every answer is given to `check`, which has to call it
+right, and of the two small problems the answer's text is known. With no turns at all there has to be no answer. A table tells,
+problem by problem, how many runs answered, how many were wrong, and the least, the middle and the greatest time in seconds. It wants
+the program built by `rt run` in crates/solve_cli.
+"""
+import argparse
+import glob
+import os
+import statistics
+import subprocess
+import sys
+import tempfile
+import time
+
+ROOT = os.path.join(os.path.dirname(os.path.abspath(__file__)), "..")
+PROGRAM = os.path.join(ROOT, "crates", "solve_cli", "out", "solve_cli")
+LETTERS = "a b c d e f g\nc e\na d g\nb c f\na d f\nb g\nd e g\n"
+SMALL = [
+    ("letters, with a cover", LETTERS, "cover 3\nc e\na d f\nb g\n"),
+    ("letters, without", LETTERS.replace("b g\n", ""), "none\n"),
+]
+
+
+def words():
+    parser = argparse.ArgumentParser(description="Runs `solve` on small problems and on every example, and tests each answer by `check`.")
+    parser.add_argument("--times", type=int, default=20, help="how often each problem is solved (default 20)")
+    parser.add_argument("--nodes", default="4", help="how many nodes there are (default 4)")
+    parser.add_argument("--workers", default="2", help="how many workers a node has (default 2)")
+    parser.add_argument("--fuel", default="1000", help="how many prefixes a search may visit at first (default 1000)")
+    parser.add_argument("--limit", type=float, default=120, help="after how many seconds a run is given up (default 120)")
+    parser.add_argument("files", nargs="*", help="the files, in place of the small problems and all of examples/")
+    return parser.parse_args()
+
+
+def output(given, limit):
+    try:
+        return subprocess.run(given, capture_output=True, text=True, timeout=limit)
+    except subprocess.TimeoutExpired:
+        return None
+
+
+def is_right(file, text, answer_file):
+    with open(answer_file, "w") as answer:
+        answer.write(text)
+    checked = output([PROGRAM, "check", file, answer_file], None)
+    return checked.returncode == 0 and checked.stdout == "right\n"
+
+
+def solved(file, seed, given, expected, answer_file):
+    """The time, whether there was an answer, and whether the run was wrong."""
+    options = ["--seed", str(seed), "--nodes", given.nodes, "--workers", given.workers, "--fuel", given.fuel]
+    begun = time.monotonic()
+    run = output([PROGRAM, "solve", file, *options], given.limit)
+    seconds = time.monotonic() - begun
+    if run is None:
+        return seconds, False, True
+    if run.returncode == 4:
+        return seconds, False, run.stdout != "no answer\n"
+    known = expected is None or run.stdout == expected
+    wrong = run.returncode not in (0, 1) or not known or not is_right(file, run.stdout, answer_file)
+    return seconds, True, wrong
+
+
+def tell(name, file, given, expected, answer_file):
+    """Tells of one problem's runs, and answers how many were wrong."""
+    runs = [solved(file, seed, given, expected, answer_file) for seed in range(1, given.times + 1)]
+    times = [seconds for seconds, _, _ in runs]
+    answered = sum(answer for _, answer, _ in runs)
+    wrong = sum(bad for _, _, bad in runs)
+    spread = " | ".join(f"{seconds:.3f}" for seconds in (min(times), statistics.median(times), max(times)))
+    print(f"| {name} | {len(runs)} | {answered} | {wrong} | {spread} |", flush=True)
+    return wrong
+
+
+def says_nothing_without_turns(file):
+    run = output([PROGRAM, "solve", file, "--turns", "0"], 60)
+    return run is not None and run.returncode == 4 and run.stdout == "no answer\n"
+
+
+def problems(given, folder):
+    """Each problem's name, file and answer, where that is known."""
+    if given.files:
+        return [(os.path.basename(file), file, None) for file in given.files]
+    found = []
+    for number, (name, text, expected) in enumerate(SMALL):
+        file = os.path.join(folder, f"small-{number}.dlx")
+        with open(file, "w") as small:
+            small.write(text)
+        found.append((name, file, expected))
+    examples = sorted(glob.glob(os.path.join(ROOT, "examples", "*.dlx")))
+    return found + [(os.path.basename(file), file, None) for file in examples]
+
+
+def main():
+    given = words()
+    wrong = 0
+    print("| Problem | Runs | Answered | Wrong | Least | Middle | Greatest |")
+    print("|---|---|---|---|---|---|---|")
+    with tempfile.TemporaryDirectory() as folder:
+        answer_file = os.path.join(folder, "answer")
+        for name, file, expected in problems(given, folder):
+            wrong += tell(name, file, given, expected, answer_file)
+            if not says_nothing_without_turns(file):
+                print(f"wrong: {name} with no turns")
+                wrong += 1
+    sys.exit(1 if wrong else 0)
+
+
+if __name__ == "__main__":
+    main()
