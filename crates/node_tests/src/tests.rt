@@ -1,0 +1,12 @@
+//! Whole runs of threads, in an order that gates bring about, and over links that lose and disorder.
+
+mod ends;
+mod held_gate;
+mod loss;
+mod order;
+mod pace;
+mod plain;
+mod recorder;
+mod runs;
+mod sending;
+mod wild;

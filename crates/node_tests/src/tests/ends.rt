@@ -1,0 +1,72 @@
+//! The links of all sites of a run.
+
+ghost use Rattle.std.specs.Prelude.{◌≡◌, ◌+◌, ◌≤◌, vec_len, IfOk};
+
+use super::recorder::{Recorder, Sent};
+use super::wild::Wild;
+use std::alloc::{AllocError, Global};
+use std::net::{Net, SocketAddr};
+use std::sync::Arc;
+use std::test::Fail;
+use udp_node::{Link, MemoryLink, UdpLink, Wires, bound};
+
+/// Links in memory, for so many nodes and the registry.
+pub fn wires(alloc: Global, nodes: u8) -> Result<Vec<MemoryLink>, AllocError>
+    requires { nodes ≤ 16 }
+    ensures { IfOk result (λ links. vec_len links ≡ nodes + 1) }
+{
+    let wires = Arc::new(alloc, Wires::new(alloc, nodes + 1)?)?;
+    let mut links = Vec::new(alloc);
+    for site in 0..nodes + 1 {
+        links.push(MemoryLink::new(Arc::try_clone(&wires)?, site))?;
+    }
+    Ok(links)
+}
+
+/// Links over sockets, for so many nodes and the registry.
+pub fn sockets<R: Net>(rt: &R, alloc: Global, nodes: u8) -> Result<Vec<UdpLink>, Fail>
+    requires { nodes ≤ 16 }
+    ensures { IfOk result (λ links. vec_len links ≡ nodes + 1) }
+{
+    let mut sockets = Vec::new(alloc);
+    let mut sites = Vec::new(alloc);
+    for _site in 0..nodes + 1 {
+        let socket = bound(rt)?;
+        sites.push(socket.local_addr()?)?;
+        sockets.push(socket)?;
+    }
+    let sites = Arc::new(alloc, sites)?;
+    let mut links = Vec::new(alloc);
+    for socket in sockets {
+        let socket = Arc::new(alloc, socket)?;
+        links.push(UdpLink::new(socket, Arc::try_clone(&sites)?))?;
+    }
+    Ok(links)
+}
+
+/// The same links, wild: each by a seed of its own.
+pub fn wild<L: Link>(alloc: Global, links: Vec<L>, seed: u64) -> Result<Vec<Wild<L>>, AllocError>
+    ensures { IfOk result (λ wild. vec_len wild ≡ vec_len links) }
+{
+    let mut all = Vec::new(alloc);
+    for link in links {
+        let own = seed.wrapping_mul(32).wrapping_add(all.len() as u64);
+        all.push(Wild::new(alloc, link, own))?;
+    }
+    Ok(all)
+}
+
+/// The same links, each of which keeps here what is sent.
+pub fn recorded<L: Link>(
+    alloc: Global,
+    links: Vec<L>,
+    sent: &Sent,
+) -> Result<Vec<Recorder<L>>, AllocError>
+    ensures { IfOk result (λ all. vec_len all ≡ vec_len links) }
+{
+    let mut all = Vec::new(alloc);
+    for link in links {
+        all.push(Recorder::new(alloc, link, Arc::try_clone(sent)?))?;
+    }
+    Ok(all)
+}

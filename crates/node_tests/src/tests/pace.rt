@@ -1,0 +1,116 @@
+//! How much a worker searches: a script of what it asks and learns.
+
+use self::Step::{Asks, Ends};
+use brancher::Outcome;
+use std::alloc::{AllocError, Global};
+use std::test::Fail;
+use udp_node::Pace;
+
+/// What happens to a pace.
+#[derive(Clone, Copy)]
+enum Step {
+    /// It is asked for the visits of a prefix of this length, where the site is hungry or not: the answer.
+    Asks(usize, bool, u64),
+    /// A search of a prefix of this length ended so, after so many visits.
+    Ends(usize, Outcome, u64),
+}
+
+/// A worker among others, with a base of 1,000.
+static AMONG_OTHERS: [Step; 15] = [
+    Asks(0, true, 1_000),
+    Asks(0, false, 1_000),
+    Asks(3, true, 200),
+    Asks(3, false, 240_000),
+    // spent: it is thought to take 480,000, more than 30,000
+    Ends(3, Outcome::Spent, 240_000),
+    Asks(3, false, 200),
+    Asks(4, false, 240_000),
+    // a small job that is spent tells nothing
+    Ends(4, Outcome::Spent, 200),
+    Asks(4, false, 240_000),
+    // three quarters of 432,000 and a quarter of 100
+    Ends(3, Outcome::Barren, 100),
+    Asks(3, false, 200),
+    // 40,240,300 visits were made: a 1,024th of them is 39,297
+    Ends(5, Outcome::Barren, 40_000_000),
+    Asks(4, false, 314_376),
+    Ends(99, Outcome::Barren, 5),
+    Asks(99, false, 314_376),
+];
+
+/// What is thought to take too long is searched again once it was thought to take a tenth less often enough.
+static FORGETS: [Step; 7] = [
+    Ends(2, Outcome::Spent, 18_000),
+    Asks(2, false, 200),
+    Asks(2, false, 200),
+    Asks(2, false, 240_000),
+    Asks(2, false, 240_000),
+    Ends(2, Outcome::Cover, 1),
+    Asks(2, false, 240_000),
+];
+
+/// The only worker of the only node.
+static ALONE: [Step; 3] = [
+    Asks(0, false, u64::MAX),
+    Asks(7, true, u64::MAX),
+    Asks(7, false, u64::MAX),
+];
+
+/// With a base of 1 each job gets one visit.
+static ONE_VISIT: [Step; 5] = [
+    Asks(0, false, 1),
+    Asks(4, true, 1),
+    Ends(4, Outcome::Barren, 9_000),
+    Asks(4, false, 1),
+    Asks(99, false, 1),
+];
+
+/// Whether the pace answers so.
+fn is_answered(pace: &mut Pace, step: Step) -> bool {
+    match step {
+        Asks(length, is_hungry, visits) => pace.fuel(length, is_hungry) == visits,
+        Ends(length, outcome, visits) => {
+            pace.note(length, outcome, visits);
+            true
+        }
+    }
+}
+
+/// The number of the first step, if any, that is answered otherwise by a pace of this base, alone or not, for prefixes of up to
+/// 9 options.
+fn first_wrong(
+    alloc: Global,
+    (base, alone, steps): (u64, bool, &[Step]),
+) -> Result<Option<usize>, AllocError> {
+    let mut pace = Pace::new(alloc, base, alone, 10)?;
+    for (number, step) in steps.iter().enumerate() {
+        if !is_answered(&mut pace, *step) {
+            return Ok(Some(number));
+        }
+    }
+    Ok(None)
+}
+
+/// How many scripts there are.
+const SCRIPTS: usize = 6;
+
+/// A script, with the base of its pace and whether that is alone.
+fn script(number: usize) -> (u64, bool, &'static [Step]) {
+    match number {
+        0 => (1_000, false, &AMONG_OTHERS),
+        1 => (1_000, false, &FORGETS),
+        2 => (1_000, true, &ALONE),
+        3 => (1, false, &ONE_VISIT),
+        4 => (1, true, &ONE_VISIT),
+        _ => (0, false, &ONE_VISIT),
+    }
+}
+
+#[test]
+fn paces(rt: HostRuntime) -> Result<(), Fail> {
+    for number in 0..SCRIPTS {
+        let wrong = first_wrong(rt.alloc(), script(number))?;
+        assert_eq!(rt; wrong, None, "script {number}");
+    }
+    Ok(())
+}

@@ -1,0 +1,50 @@
+//! Runs over links that lose nothing.
+
+ghost use Rattle.std.specs.Prelude.{◌≤◌};
+
+use super::ends::wires;
+use super::runs::{BARE, COVERED, Came, Told, run};
+use std::test::Fail;
+use udp_node::{Open, Plan};
+
+/// The plan of this number: one to four nodes with one to three workers each, which search little or much at a time.
+fn plan_of(number: u8) -> Plan
+    ensures some { 1 ≤ result.nodes }
+    ensures most { result.nodes ≤ 16 }
+{
+    Plan {
+        workers: 1 + number / 4 % 3,
+        nodes: 1 + number % 4,
+        fuel: if number < 12 { 1 } else { 1000 },
+        seed: u64::from(number),
+        turns: 1_000_000,
+        quiet: 6_000,
+    }
+}
+
+#[test]
+fn any_number_of_nodes_and_workers(rt: HostRuntime) -> Result<(), Fail> {
+    for number in 0..24 {
+        let plan = plan_of(number);
+        for row in [&COVERED, &BARE] {
+            let links = wires(rt.alloc(), plan.nodes)?;
+            let came = run(&rt, rt.alloc(), row, plan, links, &Open);
+            let (told, books) = (Told::Right, usize::from(plan.nodes) + 1);
+            assert_eq!(rt; came, Some(Came { told, books }), "plan {number}");
+        }
+    }
+    Ok(())
+}
+
+#[test]
+fn no_turns_and_no_answer(rt: HostRuntime) -> Result<(), Fail> {
+    let plan = Plan {
+        turns: 0,
+        ..plan_of(1)
+    };
+    let links = wires(rt.alloc(), plan.nodes)?;
+    let came = run(&rt, rt.alloc(), &COVERED, plan, links, &Open);
+    let (told, books) = (Told::Nothing, 3);
+    assert_eq!(rt; came, Some(Came { told, books }));
+    Ok(())
+}

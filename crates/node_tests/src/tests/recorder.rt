@@ -1,0 +1,53 @@
+//! A link that keeps what is sent.
+
+ghost use Rattle.std.specs.Prelude.{◌≡◌, ℕ, IfOk};
+
+use packet_wire::{Packet, read_packet};
+use std::alloc::{AllocError, Global};
+use std::sync::{Arc, Mutex, Wait};
+use udp_node::{Link, LinkFault};
+
+/// What was sent by several links.
+pub type Sent = Arc<Mutex<Vec<Packet>>, Global>;
+
+/// A link which keeps the packets that are sent by it and by its twins.
+#[derive(Drop)]
+pub struct Recorder<L: Link> {
+    inner: L,
+    alloc: Global,
+    sent: Sent,
+}
+
+impl<L: Link> Recorder<L> {
+    /// A link that sends by this one, and keeps what it sends among these.
+    pub fn new(alloc: Global, inner: L, sent: Sent) -> Recorder<L>
+        ensures { result.inner ≡ inner }
+    {
+        Recorder { inner, alloc, sent }
+    }
+}
+
+impl<L: Link> Link for Recorder<L> {
+    ghost failed = { λ r. L.failed r.inner };
+
+    fn failures(&self) -> u64 {
+        self.inner.failures()
+    }
+
+    fn send<R: Wait>(&mut self, rt: &R, to: u8, bytes: &[u8]) -> Result<(), LinkFault> {
+        if let Ok(packet) = read_packet(self.alloc, bytes) {
+            // (what is not kept for want of memory is missed by the test)
+            let _ = self.sent.lock(rt).push(packet);
+        }
+        self.inner.send(rt, to, bytes)
+    }
+
+    fn receive<R: Wait>(&mut self, rt: &R, into: &mut [u8]) -> Result<Option<usize>, LinkFault> {
+        self.inner.receive(rt, into)
+    }
+
+    fn twin(&self) -> Result<Recorder<L>, AllocError> {
+        let sent = Arc::try_clone(&self.sent)?;
+        Ok(Recorder::new(self.alloc, self.inner.twin()?, sent))
+    }
+}
