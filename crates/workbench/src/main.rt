@@ -4,21 +4,31 @@
 //! that go with them. A KIND is `cycle`, a steal from the first packet to the last, or the name of a packet that is
 //! delivered. `bench/cores.py` takes the times of both.
 //!
+//! `workbench greet THREADS TIMES` lets so many threads greet at one cell, each so many times; with 0 threads a core without a lock.
+//! `bench/cells.py` takes their times.
+//!
+//! `workbench sites FILE NODES WORKERS SEED FUEL TURNS` lets sites with threads search a file's problem over links in memory, and tells how each
+//! ended and what its book holds. `bench/books.py` reads it.
+//!
 //! `workbench tell FILE NODES SEED FUEL RESTARTS TURNS` tells a simulated search of a file's problem, event by event, with all
 //! packets; `workbench measure ..` plays the same and prints its turns, its packets, and whether an answer was published.
 #![tactic(auto)]
 
 ghost use Rattle.std.specs.Prelude.{◌≤◌, IfSome};
 
+mod cells;
 mod cycle;
 mod deliveries;
 mod fault;
+mod sites;
 mod story;
 mod told;
 
+use crate::cells::{greet_cell, greet_core};
 use crate::cycle::{act_cycles, copy_packets, packets};
 use crate::deliveries::{act_deliveries, packet_of};
 use crate::fault::BenchFault;
+use crate::sites::run_over_memory;
 use crate::story::{Plan, measure, tell};
 use dlx_reader::read_problem;
 use std::alloc::Global;
@@ -26,6 +36,9 @@ use std::env;
 use std::fs::File;
 use std::io::{self, Read};
 use std::process::ExitCode;
+use std::sync::Wait;
+use std::thread::Threads;
+use std::time::Clock;
 
 /// One item and no option: the search of the root is short, and there is no cover.
 const ONE_ITEM: &str = "a\n";
@@ -59,6 +72,25 @@ fn count(alloc: Global, what: &str, kind: &str, times: &str) -> Result<(), Bench
         "copy" => copy(alloc, kind, times),
         _ => Err(BenchFault::Unexpected),
     }
+}
+
+/// Greets at a cell from so many threads, or at a core without a lock.
+fn greet<R: Threads + Wait + Sync>(
+    rt: &R,
+    alloc: Global,
+    threads: &str,
+    times: &str,
+) -> Result<(), BenchFault> {
+    let (Ok(threads), Ok(times)) = (threads.parse::<u8>(), times.parse::<u64>()) else {
+        return Err(BenchFault::Unexpected);
+    };
+    let Ok(read) = read_problem(alloc, ONE_ITEM.as_bytes()) else {
+        return Err(BenchFault::Memory);
+    };
+    if threads == 0 {
+        return greet_core(alloc, &read.problem, times);
+    }
+    greet_cell(rt, alloc, &read.problem, threads, times)
 }
 
 /// The plan that the numbers spell: nodes, seed, fuel, restarts, turns.
@@ -96,6 +128,57 @@ fn tell_file(rt: &HostRuntime, file: &str, plan: Plan, is_told: bool) -> io::Res
     }
 }
 
+/// The plan of a run that the numbers spell: nodes, workers, seed, fuel, turns.
+fn sites_plan(
+    nodes: &str,
+    workers: &str,
+    seed: &str,
+    fuel: &str,
+    turns: &str,
+) -> Option<udp_node::Plan>
+    ensures { IfSome result (λ plan. (1 ≤ plan.nodes) × (plan.nodes ≤ 16)) }
+{
+    let nodes = nodes.parse::<u8>().ok()?;
+    if nodes == 0 || nodes > 16 {
+        return None;
+    }
+    Some(udp_node::Plan {
+        workers: workers.parse::<u8>().ok()?,
+        nodes,
+        fuel: fuel.parse::<u64>().ok()?,
+        seed: seed.parse::<u64>().ok()?,
+        turns: turns.parse::<u64>().ok()?,
+        quiet: QUIET,
+    })
+}
+
+/// Lets sites search the problem of a file, and tells how each ended.
+fn tell_sites<R: Threads + Wait + Clock + Sync>(
+    rt: &HostRuntime,
+    threads: &R,
+    file: &str,
+    plan: udp_node::Plan,
+) -> io::Result<()>
+    requires some { 1 ≤ plan.nodes }
+    requires most { plan.nodes ≤ 16 }
+{
+    let mut text = Vec::new(rt.alloc());
+    File::open(rt, file)?.read_to_end(&mut text)?;
+    let Ok(read) = read_problem(rt.alloc(), &text) else {
+        return println!(rt; "the file is refused");
+    };
+    let end = run_over_memory(threads, rt.alloc(), &read.problem, plan)?;
+    println!(rt; "{}", end.is_published)?;
+    for (cause, losses) in &end.causes {
+        println!(rt; "{cause:?} {losses}")?;
+    }
+    for tally in &end.tallies {
+        let (entries, searches) = (tally.entries, tally.searches);
+        println!(rt; "{entries} {searches} {} {}", tally.spent, tally.names)?;
+    }
+    Ok(())
+}
+
 /// The words of the command line behind the program's name.
 fn given_words(rt: &HostRuntime) -> io::Result<Vec<String>> {
     let mut given = Vec::new(rt.alloc());
@@ -105,14 +188,34 @@ fn given_words(rt: &HostRuntime) -> io::Result<Vec<String>> {
     Ok(given)
 }
 
+/// After how many receives in a row without a datagram a site gives up: a receive in memory takes a fraction of a millisecond.
+const QUIET: u64 = 1_000_000;
+
 /// How it is called.
 const USAGE: &str = "workbench act|copy KIND TIMES
+workbench greet THREADS TIMES
+workbench sites FILE NODES WORKERS SEED FUEL TURNS
 workbench tell|measure FILE NODES SEED FUEL RESTARTS TURNS";
 
 fn main(rt: HostRuntime) -> io::Result<ExitCode> {
     let words = given_words(&rt)?;
     let counted = match words.as_slice() {
+        [what, threads, times] if what.as_str() == "greet" => greet(
+            &rt,
+            rt.alloc(),
+            threads,
+            times,
+        ),
         [what, kind, times] => count(rt.alloc(), what, kind, times),
+        [what, file, nodes, workers, seed, fuel, turns] if what.as_str() == "sites" => {
+            match sites_plan(nodes, workers, seed, fuel, turns) {
+                Some(plan) => {
+                    tell_sites(&rt, &rt, file, plan)?;
+                    Ok(())
+                }
+                None => Err(BenchFault::Unexpected),
+            }
+        }
         [what, file, nodes, seed, fuel, restarts, turns] => {
             match plan_of(nodes, seed, fuel, restarts, turns) {
                 Some(plan) => {

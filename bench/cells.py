@@ -1,0 +1,37 @@
+#!/usr/bin/env python3
+"""Times a site's cell under load: `python3 bench/cells.py`.
+
+A cell is a core with its history under one lock. One, two, four and eight threads greet at one cell, a million times together; beside
+it one thread lets a core without a lock and history do the same. Each is run three times, by turns; the least time that passed counts. It
+wants the program built by `rt run` in crates/workbench, and means something where nothing else runs.
+"""
+import os
+import subprocess
+import sys
+import time
+
+HERE = os.path.dirname(os.path.abspath(__file__))
+PROGRAM = os.path.join(HERE, "..", "crates", "workbench", "out", "workbench")
+GREETINGS = 1_000_000
+THREADS = [0, 1, 2, 4, 8]
+
+
+def seconds(threads):
+    start = time.monotonic()
+    subprocess.run([PROGRAM, "greet", str(threads), str(GREETINGS // max(threads, 1))], check=True)
+    return time.monotonic() - start
+
+
+def main():
+    if not os.path.exists(PROGRAM):
+        sys.exit("there is no program: build it by `rt run` in crates/workbench")
+    runs = [[seconds(threads) for threads in THREADS] for _ in range(3)]
+    print("| Threads | Seconds | Acts a second |")
+    print("|---|---|---|")
+    for k, threads in enumerate(THREADS):
+        least = min(run[k] for run in runs)
+        print(f"| {threads or 'a core without a lock'} | {least:.2f} | {GREETINGS / least:,.0f} |")
+
+
+if __name__ == "__main__":
+    main()

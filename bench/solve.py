@@ -1,0 +1,92 @@
+#!/usr/bin/env python3
+"""Times `solve` beside `alone`: `python3 bench/solve.py [--times N] [NAME..]`, all instances where none is named.
+
+Each instance is searched by `alone`, and by `solve` as one node of one, two and four workers and as two and four nodes of one
+worker, by turns, N times each (3 where it isn't said). The least time that passed counts, from the start of the process to its end; the
+figure in brackets is how many times as fast as `alone` it was. All have to come to the same outcome, and covers are tested by `check`.
+A dash stands where `solve` gave no answer each time. It wants the program built by `rt run` in crates/solve_cli, and means something
+on a machine with four processors and nothing else to do.
+"""
+import argparse
+import math
+import os
+import subprocess
+import sys
+import tempfile
+import time
+
+HERE = os.path.dirname(os.path.abspath(__file__))
+PROGRAM = os.path.join(HERE, "..", "crates", "solve_cli", "out", "solve_cli")
+
+sys.path.insert(0, os.path.join(HERE, "..", "examples"))
+import generate  # noqa: E402
+
+NAMES = ["langford-13", "torus-queens-15", "skewed", "diamond", "pentominoes-3x20", "sudoku-hard", "mutilated-chessboard"]
+# nodes, workers
+SITES = [(1, 1), (1, 2), (1, 4), (2, 1), (4, 1)]
+
+
+def skewed(folder):
+    """Langford pairs of 13 behind thirty choices, each of which leaves all of the work to one of its two options."""
+    n, choices = 13, 30
+    slots = [f"s{k}" for k in range(1, 2 * n + 1)]
+    options = [[str(d), f"s{k}", f"s{k + d + 1}"] for d in range(1, n + 1) for k in range(1, 2 * n - d)]
+    ways = [[f"x{k}"] + rest for k in range(choices) for rest in (slots, [])]
+    generate.HERE = folder
+    generate.write("skewed.dlx", "thirty choices that leave all of the work to one option", [f"x{k}" for k in range(choices)]
+                   + [str(d) for d in range(1, n + 1)] + slots, [], ways + options)
+
+
+def timed(words):
+    """What the program writes, and how many seconds passed."""
+    start = time.monotonic()
+    text = subprocess.run([PROGRAM, *words], capture_output=True, text=True).stdout
+    return text, time.monotonic() - start
+
+
+def is_right(file, text, folder):
+    """Whether `check` calls the answer right."""
+    answer = os.path.join(folder, "answer")
+    with open(answer, "w") as out:
+        out.write(text)
+    told = subprocess.run([PROGRAM, "check", file, answer], capture_output=True, text=True).stdout
+    return told == "right\n"
+
+
+def row(file, times, folder):
+    """The outcome and the least seconds of `alone`, and the least seconds of each `solve`."""
+    alone, least, best = None, math.inf, [math.inf] * len(SITES)
+    for turn in range(times):
+        text, seconds = timed(["alone", file])
+        alone, least = text.split()[0], min(least, seconds)
+        for k, (nodes, workers) in enumerate(SITES):
+            words = ["solve", file, "--nodes", str(nodes), "--workers", str(workers), "--seed", str(turn + 1)]
+            text, seconds = timed(words)
+            if text == "no answer\n":
+                continue
+            if text.split()[0] != alone or (alone == "cover" and not is_right(file, text, folder)):
+                sys.exit(f"a wrong answer: {words}")
+            best[k] = min(best[k], seconds)
+    return alone, least, best
+
+
+def main():
+    words = argparse.ArgumentParser(description=__doc__, formatter_class=argparse.RawDescriptionHelpFormatter)
+    words.add_argument("--times", type=int, default=3, help="how often each is run")
+    words.add_argument("names", nargs="*", help="instances, as those that are written by bench/instances.py")
+    given = words.parse_args()
+    if not os.path.exists(PROGRAM):
+        sys.exit("there is no program: build it by `rt run` in crates/solve_cli")
+    with tempfile.TemporaryDirectory() as folder:
+        subprocess.run([sys.executable, os.path.join(HERE, "instances.py"), folder], check=True)
+        skewed(folder)
+        print("| Instance | Outcome | `alone`, s | " + " | ".join(f"{n} x {w}" for n, w in SITES) + " |")
+        print("|---|---|---|" + "---|" * len(SITES))
+        for name in given.names or NAMES:
+            outcome, alone, best = row(os.path.join(folder, name + ".dlx"), given.times, folder)
+            told = [f"{s:.2f} ({alone / s:.2f})" if s < math.inf else "-" for s in best]
+            print(f"| {name} | {outcome} | {alone:.2f} | " + " | ".join(told) + " |", flush=True)
+
+
+if __name__ == "__main__":
+    main()

@@ -1,0 +1,99 @@
+//! A cell under load: threads that greet at once, beside a core without a lock.
+
+ghost use Rattle.std.specs.Prelude.{◌≡◌, ◌≤◌};
+ghost use Rattle.run_book.specs.Sites.{opening_of, IsRun, MayBeginIn};
+
+use crate::cycle::NODE;
+use crate::fault::BenchFault;
+use cover_problem::Problem;
+use node_core::{Core, Event, NodeCore};
+use run_book::{BookFault, Opened, Room, Run, Seat, SiteCell, cores_step_as_their_sites};
+use std::alloc::Global;
+use std::marker::Brand;
+use std::sync::Wait;
+use std::thread::{self, Threads};
+
+/// Lets a core of a node greet so many times.
+pub fn greet_core(alloc: Global, problem: &Problem, times: u64) -> Result<(), BenchFault> {
+    let mut node = NodeCore::start(alloc, problem, NODE, 1, 1)?;
+    let mut out = Vec::new(alloc);
+    for _ in 0..times {
+        node.act(Event::Greet, &mut out)?;
+        out.clear();
+    }
+    Ok(())
+}
+
+/// Lets so many threads greet at one cell at once, each so many times.
+pub fn greet_cell<R: Threads + Wait + Sync>(
+    rt: &R,
+    alloc: Global,
+    problem: &Problem,
+    threads: u8,
+    times: u64,
+) -> Result<(), BenchFault> {
+    // (for what the getter says: that the problem is lawful)
+    let _items = problem.items();
+    let core = NodeCore::start(alloc, problem, NODE, 1, 1)?;
+    let opened = Opened::new(alloc)?;
+    greet_at_once::<Brand, Brand, R>(rt, alloc, opened, core, threads, times)
+}
+
+/// The same with the names of the run and of the cell.
+fn greet_at_once<J: Run + Send + Sync, N: Room + Send + Sync, R: Threads + Wait + Sync>(
+    rt: &R,
+    alloc: Global,
+    opened: Opened,
+    core: NodeCore,
+    threads: u8,
+    times: u64,
+) -> Result<(), BenchFault>
+    requires here { opened ≡ record { table = N.table; name = N.name } }
+    requires parts { N.parts ≡ 18446744073709551615 }
+    requires run { IsRun J.run }
+    requires begins { MayBeginIn J.run N.site N.limit }
+    requires node { 1 ≤ N.site.node }
+    requires core { core ≡ record { problem = J.run.problem; view = opening_of J.run N.site N.limit } }
+{
+    cores_step_as_their_sites();
+    let limit = times.saturating_mul(u64::from(threads));
+    let cell: SiteCell<J, NodeCore, N> = SiteCell::new(opened, core, limit);
+    let mut seats = Vec::new(alloc);
+    for _ in 0..threads {
+        if seats.push(cell.seat(rt)?).is_err() {
+            return Err(BenchFault::Memory);
+        }
+    }
+    let Ok(ended) = thread::map_vec(rt, seats, &|seat| greet(rt, &cell, seat, times)) else {
+        return Err(BenchFault::Memory);
+    };
+    for end in ended {
+        end?;
+    }
+    Ok(())
+}
+
+/// Greets at the cell so many times; the receipts are let go.
+fn greet<J: Run, C: Core + Drop, N: Room, R: Wait>(
+    rt: &R,
+    cell: &SiteCell<J, C, N>,
+    seat: Seat<N>,
+    times: u64,
+) -> Result<(), BenchFault> {
+    let mut seat = seat;
+    for _ in 0..times {
+        match cell.act(rt, seat, Event::Greet) {
+            Ok((kept, _receipt)) => seat = kept,
+            Err((_seat, _event, fault)) => return Err(fault_of(fault)),
+        }
+    }
+    Ok(())
+}
+
+/// A cell's fault as one of a count: it has room for all.
+fn fault_of(fault: BookFault) -> BenchFault {
+    match fault {
+        BookFault::Core(fault) => BenchFault::Act(fault),
+        BookFault::BookFull(_) | BookFault::Memory => BenchFault::Memory,
+    }
+}

@@ -1,0 +1,130 @@
+//! A run of sites with threads over links in memory, and what its books tell.
+
+ghost use Rattle.std.specs.Prelude.{◌≡◌, ◌+◌, ◌≤◌, vec_len, IfOk};
+ghost use Rattle.run_book.specs.Sites.{RunName};
+
+use brancher::Outcome;
+use cover_problem::Problem;
+use node_core::{Event, Reply};
+use run_book::{Entry, Run};
+use spawn_frame::Unit;
+use std::alloc::{AllocError, Global};
+use std::marker::Brand;
+use std::sync::{Arc, Wait};
+use std::thread::Threads;
+use std::time::Clock;
+use udp_node::{Cause, MemoryLink, Open, Plan, RunEnd, Wires, run_sites};
+
+/// What a site's book tells of its searches. The greatest numbers stay.
+#[derive(Clone, Copy, Debug, PartialEq, Eq)]
+pub struct Tally {
+    /// How many entries the book has.
+    pub entries: usize,
+    /// How many searches were posted.
+    pub searches: u64,
+    /// How many visits were made by searches that were spent: those are made again.
+    pub spent: u64,
+    /// One more than the greatest serial of a child that was taken up: so many names were used at least.
+    pub names: u64,
+}
+
+impl Tally {
+    /// A book without entries.
+    const NOTHING: Tally = Tally {
+        entries: 0,
+        searches: 0,
+        spent: 0,
+        names: 0,
+    };
+
+    /// With one entry more.
+    fn with(self, entry: &Entry) -> Tally {
+        let mut tally = self;
+        tally.entries = tally.entries.saturating_add(1);
+        if let Event::Post(_, finding) = entry.event() {
+            tally.searches = tally.searches.saturating_add(1);
+            if finding.outcome() == Outcome::Spent {
+                tally.spent = tally.spent.saturating_add(finding.fuel());
+            }
+        }
+        if let Reply::Taken(job, _) = entry.reply() {
+            if let Unit::Own(serial) = job.unit {
+                tally.names = tally.names.max(u64::from(serial) + 1);
+            }
+        }
+        tally
+    }
+}
+
+/// How a run came out.
+#[derive(Drop)]
+pub struct SitesEnd {
+    /// Whether the registry published an answer.
+    pub is_published: bool,
+    /// Why each site ended, the registry first, and how many parcels it lost.
+    pub causes: Vec<(Cause, u64)>,
+    /// What the books tell, the registry's first.
+    pub tallies: Vec<Tally>,
+}
+
+/// What the entries tell.
+fn tally_of(entries: &[Entry]) -> Tally {
+    let mut tally = Tally::NOTHING;
+    for entry in entries {
+        tally = tally.with(entry);
+    }
+    tally
+}
+
+/// The links of so many sites. The only error is want of memory.
+fn links(alloc: Global, sites: u8) -> Result<Vec<MemoryLink>, AllocError>
+    ensures { IfOk result (λ links. vec_len links ≡ sites) }
+{
+    let wires = Arc::new(alloc, Wires::new(alloc, sites)?)?;
+    let mut links = Vec::with_capacity(alloc, usize::from(sites))?;
+    for site in 0..sites {
+        links.push(MemoryLink::new(Arc::try_clone(&wires)?, site))?;
+    }
+    Ok(links)
+}
+
+/// Lets sites search a problem; the only error is want of memory.
+pub fn run_over_memory<R: Threads + Wait + Clock + Sync>(
+    rt: &R,
+    alloc: Global,
+    problem: &Problem,
+    plan: Plan,
+) -> Result<SitesEnd, AllocError>
+    requires some { 1 ≤ plan.nodes }
+    requires most { plan.nodes ≤ 16 }
+{
+    run_named::<Brand, R>(rt, alloc, problem, plan)
+}
+
+/// The same with the name of the run.
+fn run_named<J: Run + Send + Sync, R: Threads + Wait + Clock + Sync>(
+    rt: &R,
+    alloc: Global,
+    problem: &Problem,
+    plan: Plan,
+) -> Result<SitesEnd, AllocError>
+    requires run { J.run ≡ record { problem = problem.now; nodes = plan.nodes } }
+    requires some { 1 ≤ plan.nodes }
+    requires most { plan.nodes ≤ 16 }
+{
+    let links = links(alloc, plan.nodes + 1)?;
+    let end: RunEnd<J> = run_sites(rt, alloc, problem, plan, links, &Open)?;
+    let mut causes = Vec::with_capacity(alloc, end.sites.len())?;
+    for site in &end.sites {
+        causes.push((site.cause, site.losses))?;
+    }
+    let mut tallies = Vec::with_capacity(alloc, end.books.len())?;
+    for book in &end.books {
+        tallies.push(tally_of(book.entries()))?;
+    }
+    Ok(SitesEnd {
+        is_published: end.answer.is_some(),
+        causes,
+        tallies,
+    })
+}
