@@ -1,0 +1,221 @@
+"""Problem files and answers as docs/FORMAT.md describes them, for the scripts that explain and draw.
+
+The program decides what a file says. This reader stands beside it: it goes on after a fault, so that all can be told.
+"""
+import os
+from collections import namedtuple
+
+WHITE = b"\t\v\f\r "
+BAR, ILLEGAL = b"|", b"\0:|"
+WITHOUT_LINE = {"NoItems", "BadHead", "WrongCount"}
+MAX_NAME, MAX_ITEMS, MAX_OPTIONS, MAX_OCCURRENCES = 32, 1_000, 20_000, 200_000
+
+# a word with its place, counted from 1, the column in characters
+Word = namedtuple("Word", "line column text")
+# a fault by the program's name for it; `word` is None where the fault is told of a whole line or file
+Fault = namedtuple("Fault", "name line word")
+# an option with the number of its line
+Option = namedtuple("Option", "line names")
+
+
+class Unreadable(Exception):
+    """A file that can't be read; its text names the file and the cause."""
+
+
+def read_bytes(path):
+    """All bytes of a file; `Unreadable` where it is missing, a folder, or refused by the system."""
+    if os.path.isdir(path):
+        raise Unreadable(f"{path} can't be read: it is a folder")
+    try:
+        with open(path, "rb") as opened:
+            return opened.read()
+    except FileNotFoundError:
+        folder = os.path.dirname(path) or "."
+        where = "" if os.path.isdir(folder) else f", and neither is the folder {folder}"
+        raise Unreadable(f"{path} can't be read: there is no such file{where}") from None
+    except PermissionError:
+        raise Unreadable(f"{path} can't be read: this user may not read it") from None
+    except (OSError, ValueError) as why:
+        raise Unreadable(f"{path} can't be read: {getattr(why, 'strerror', None) or why}") from None
+
+
+def shown(name):
+    """A name for readers: its text where it is UTF-8, and bytes that can't be seen by their numbers."""
+    text = name.decode("utf-8", "backslashreplace")
+    return "".join(c if c.isprintable() else c.encode("unicode_escape").decode("ascii") for c in text)
+
+
+def width(piece):
+    """How many characters the bytes are; bytes that aren't UTF-8 count as one each."""
+    return len(piece.decode("utf-8", "surrogateescape"))
+
+
+def words_of(number, line):
+    """The words of a line, each with its place."""
+    words, begin = [], None
+    for place in range(len(line) + 1):
+        if place < len(line) and line[place] not in WHITE:
+            begin = place if begin is None else begin
+        elif begin is not None:
+            words.append(Word(number, width(line[:begin]) + 1, line[begin:place]))
+            begin = None
+    return words
+
+
+def lines_of(text):
+    """The words of each line that has any."""
+    lines = (words_of(number, line) for number, line in enumerate(text.split(b"\n"), 1))
+    return [words for words in lines if words]
+
+
+def is_comment(words):
+    return words[0].text.startswith(BAR)
+
+
+def name_part(text):
+    """What a word of the item line names: behind the separator's bar perhaps nothing."""
+    return text[1:] if text.startswith(BAR) else text
+
+
+def name_faults(name, word):
+    if name.translate(None, ILLEGAL) != name:
+        yield Fault("IllegalByte", word.line, word)
+    if len(name) > MAX_NAME:
+        yield Fault("NameTooLong", word.line, word)
+
+
+class Problem:
+    """What a problem file says, with all its faults in reading order.
+
+    `items` leads each name to its number, in the order of the item line; the first `primary` are primary. `options` are
+    kept, `ignored` name no primary item. After a fault these are what the rest of the file says.
+    """
+
+    def __init__(self, lines):
+        self.items, self.primary = {}, 0
+        self.options, self.ignored, self.occurrences = [], [], 0
+        self.item_line, self.faults, self.places = None, [], {}
+        content = [words for words in lines if not is_comment(words)]
+        if not content:
+            self.faults.append(Fault("NoItems", None, None))
+            return
+        self.item_line = content[0][0].line
+        self.faults.extend(self.read_items(content[0]))
+        for words in content[1:]:
+            self.faults.extend(self.read_option(words))
+
+    def read_items(self, words):
+        divided = False
+        for word in words:
+            name = name_part(word.text)
+            yield from name_faults(name, word)
+            if name in self.items:
+                yield Fault("DuplicateItem", word.line, word)
+            if word.text.startswith(BAR):
+                if divided:
+                    yield Fault("SecondBar", word.line, word)
+                divided = True
+            if name and name not in self.items:
+                self.items[name] = len(self.items)
+                self.places[name] = word
+                self.primary += not divided
+                if len(self.items) == MAX_ITEMS + 1:
+                    yield Fault("TooManyItems", word.line, word)
+
+    def read_option(self, words):
+        seen = set()
+        for word in words:
+            yield from name_faults(word.text, word)
+            if word.text not in self.items:
+                yield Fault("UnknownItem", word.line, word)
+            if word.text in seen:
+                yield Fault("DuplicateInOption", word.line, word)
+            seen.add(word.text)
+        option = Option(words[0].line, tuple(word.text for word in words))
+        if not any(self.items.get(name, self.primary) < self.primary for name in seen):
+            self.ignored.append(option)
+            return
+        before, self.occurrences = self.occurrences, self.occurrences + len(words)
+        self.options.append(option)
+        if len(self.options) == MAX_OPTIONS + 1:
+            yield Fault("TooManyOptions", option.line, None)
+        if before <= MAX_OCCURRENCES < self.occurrences:
+            yield Fault("TooManyNodes", option.line, None)
+
+    def names(self):
+        return list(self.items)
+
+    def primary_names(self):
+        return self.names()[:self.primary]
+
+    def options_by_item(self):
+        """For each item the options that name it, as places in `options`."""
+        by_item = {name: [] for name in self.items}
+        for place, option in enumerate(self.options):
+            for name in set(option.names):
+                by_item.setdefault(name, []).append(place)
+        return by_item
+
+
+def read_problem(text):
+    return Problem(lines_of(text))
+
+
+class Answer:
+    """What an answer says of a problem, with all its faults in the order of the program's tests.
+
+    `kind` is "none", "cover" or None where the head is neither. `chosen` has a pair for each line behind the head that
+    is an option: its words, and the option's place in the problem. Where the head is missing all lines are read as options.
+    """
+
+    def __init__(self, lines, problem):
+        self.kind, self.count, self.faults, self.chosen = None, None, [], []
+        self.head, self.rest = (lines[0], lines[1:]) if lines else (None, [])
+        self.read_head([word.text for word in self.head or []])
+        if self.kind is None:
+            self.faults.append(Fault("BadHead", self.head[0].line if self.head else None, None))
+            self.rest = self.rest if self.head and self.head[0].text == b"cover" else lines
+        elif self.count != len(self.rest):
+            self.faults.append(Fault("WrongCount", self.head[0].line, None))
+        if self.kind != "none":
+            self.read_options(problem)
+
+    def read_head(self, head):
+        if head == [b"none"]:
+            self.kind, self.count = "none", 0
+        elif len(head) == 2 and head[0] == b"cover" and head[1].isdigit() and len(head[1]) <= 5:
+            self.kind, self.count = "cover", int(head[1])
+
+    def read_options(self, problem):
+        free = {}
+        for place in reversed(range(len(problem.options))):
+            free.setdefault(problem.options[place].names, []).append(place)
+        for words in self.rest:
+            places = free.get(tuple(word.text for word in words))
+            if places:
+                self.chosen.append((words, places.pop()))
+            else:
+                self.faults.append(Fault("UnknownOption", words[0].line, words[0]))
+
+    def uncovered(self, problem):
+        """The primary items in none of the chosen options, in the order of the item line."""
+        used = {name for _, place in self.chosen for name in problem.options[place].names}
+        return [name for name in problem.primary_names() if name not in used]
+
+    def covered_twice(self, problem):
+        """Each item that several chosen options name, with these: places in `chosen`."""
+        users = {}
+        for k, (_, place) in enumerate(self.chosen):
+            for name in problem.options[place].names:
+                users.setdefault(name, []).append(k)
+        return [(name, users[name]) for name in problem.items if len(users.get(name, [])) > 1]
+
+
+def read_answer(text, problem):
+    return Answer(lines_of(text), problem)
+
+
+def refusal(faults):
+    """The first fault as the program tells it, without what stands before its name."""
+    first = faults[0]
+    return first.name if first.name in WITHOUT_LINE else f"{first.name} line {first.line}"

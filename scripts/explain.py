@@ -1,0 +1,270 @@
+#!/usr/bin/env python3
+"""Explains a problem file, and an answer to it: all that is wrong, or what stands in it.
+
+    python3 scripts/explain.py FILE [ANSWER]
+
+The files' format is told in docs/FORMAT.md. Of a file that would be refused each fault is told with its line, its column
+(in characters, from 1; a tab is one), the word, and what was expected; the first line says what the program tells of it. Of
+a file that is right the counts are told, the options that are ignored, and what may surprise: primary items in no option or
+in one alone, items that always go together, options that name the same items. Of an answer each uncovered item is told, and
+for each item that is covered twice the options that do it.
+
+It explains and decides nothing: whether an answer is right, and above all `none`, is for the program to say. The exit
+status is 0 where nothing is wrong, 1 where something is, 2 for a fault of the command line, 3 for a file that can't be read.
+"""
+import argparse
+import sys
+
+from cover_files import MAX_ITEMS, MAX_OCCURRENCES, MAX_OPTIONS, Unreadable
+from cover_files import is_comment, lines_of, Problem, read_answer, read_bytes, read_problem, refusal, shown
+from fault_words import answer_fault_words, fault_words, grouped, listed, plural, quoted
+
+SAYS = "the program says: "
+BY_SEARCH = "that there is no cover is decided by the program's search alone"
+BYTE_ORDER_MARK = b"\xef\xbb\xbf"
+MANY = 10
+
+
+# ---- what a file was perhaps meant to be
+
+def without_hashes(lines):
+    return [words for words in lines if not words[0].text.startswith(b"#")]
+
+
+def first_word(lines):
+    """The first word of the item line, as the program finds it."""
+    content = [words for words in lines if not is_comment(words)]
+    return content[0][0] if content else None
+
+
+def repaired_text(text):
+    """The text without what editors put in unseen, and a remark on each such thing."""
+    remarks = []
+    if text[:2] in (b"\xff\xfe", b"\xfe\xff"):
+        remarks.append("the file is written in UTF-16, two bytes a character: save it as UTF-8")
+        text = text.decode("utf-16", "replace").encode("utf-8")
+    if text.startswith(BYTE_ORDER_MARK):
+        remarks.append("the file begins with a byte order mark (bytes EF BB BF), which isn't seen and belongs to the first word: "
+                       "save it as UTF-8 without the mark")
+        text = text[3:]
+    if b"\r" in text and b"\n" not in text:
+        remarks.append("its lines end with byte 13 alone, so the program sees one line: end them with byte 10")
+        text = text.replace(b"\r", b"\n")
+    return text, remarks
+
+
+def as_meant(text):
+    """The problem that was perhaps meant, and a remark on each thing that was passed over to read it."""
+    text, remarks = repaired_text(text)
+    lines = lines_of(text)
+    word = first_word(lines)
+    if word and word.text.startswith(b"#") and Problem(lines).faults:
+        remarks.append(f"line {word.line} begins with '#' and is read as the item line: a comment begins with '|'; what follows is "
+                       "said as though lines that begin with '#' were comments")
+        lines = without_hashes(lines)
+    return Problem(lines), remarks
+
+
+def is_item_line_missing(problem):
+    """Whether most words of options are no items, so that the item line is perhaps an option."""
+    options = [option for option in problem.options + problem.ignored if not option.names[0].startswith(b"#")]
+    words = [name for option in options for name in option.names]
+    unknown = [name for name in words if name not in problem.items]
+    return len(set(unknown)) > 2 and 2 * len(unknown) > len(words)
+
+
+# ---- a file that is refused
+
+def place_of(fault):
+    if fault.word is None:
+        return f"line {fault.line}" if fault.line else "the file"
+    return f"line {fault.word.line}, column {fault.word.column}, {quoted(fault.word.text)}"
+
+
+def fault_line(problem, fault, further):
+    again = f" (the same in {plural(len(further), 'more line')}: {listed(further, MANY)})" if further else ""
+    return f"{place_of(fault)}: {fault.name}: {fault_words(problem, fault)}{again}"
+
+
+def explain_refused(problem, meant, remarks):
+    """Lines on a file that is refused: the program's fault first, then the others of what was meant."""
+    told = [fault_line(problem, problem.faults[0], [])] if remarks else []
+    told += remarks
+    if is_item_line_missing(meant):
+        told.append(f"most words of the options are no items: line {meant.item_line} is read as the item line; is that line missing?")
+    told += [fault_line(meant, fault, further) for fault, further in grouped(meant)]
+    if remarks and not meant.faults:
+        told.append("apart from this the file can be read")
+    return told
+
+
+# ---- a file that is right
+
+def near_limits(problem):
+    for count, limit, what in ((len(problem.items), MAX_ITEMS, "items"), (len(problem.options), MAX_OPTIONS, "options"),
+                               (problem.occurrences, MAX_OCCURRENCES, "occurrences")):
+        if 10 * count >= 9 * limit:
+            yield f"near a limit: {count:,} {what}, at most {limit:,} are read"
+
+
+def counts(problem):
+    secondary = len(problem.items) - problem.primary
+    return (f"{plural(len(problem.items), 'item')} ({problem.primary:,} primary, {secondary:,} secondary), "
+            f"{plural(len(problem.options), 'option')}, {plural(problem.occurrences, 'occurrence')} of items in them")
+
+
+def rare_items(problem, by_item):
+    """Lines on items that stand in no option, or in one alone."""
+    primary = problem.primary_names()
+    missing = [quoted(name) for name in primary if not by_item[name]]
+    if missing:
+        yield f"in no option, so there is no cover: primary {plural(len(missing), 'item', False)} {listed(missing, MANY)}"
+    forced = [f"{quoted(name)} (line {problem.options[by_item[name][0]].line})" for name in primary if len(by_item[name]) == 1]
+    if forced:
+        yield f"in one option alone, which every cover has: primary {plural(len(forced), 'item', False)} {listed(forced, MANY)}"
+    idle = [quoted(name) for name in problem.names()[problem.primary:] if not by_item[name]]
+    if idle:
+        yield f"in no option, and without effect: secondary {plural(len(idle), 'item', False)} {listed(idle, MANY)}"
+
+
+def items_together(by_item):
+    """Lines on items that the same options name."""
+    groups = {}
+    for name, places in by_item.items():
+        if places:
+            groups.setdefault(tuple(places), []).append(quoted(name))
+    together = [(places, names) for places, names in groups.items() if len(names) > 1]
+    for places, names in together[:MANY]:
+        yield f"always together, in {plural(len(places), 'option')}: {listed(names, MANY)}"
+    if len(together) > MANY:
+        yield f"and {len(together) - MANY:,} more groups of items are always together"
+
+
+def equal_options(problem):
+    """Lines on options that name the same items, in whatever order."""
+    groups = {}
+    for option in problem.options:
+        groups.setdefault(frozenset(option.names), []).append(option.line)
+    equal = [lines for lines in groups.values() if len(lines) > 1]
+    for lines in equal[:MANY]:
+        yield f"the same items in {plural(len(lines), 'option')}: lines {listed(lines, MANY)}"
+    if len(equal) > MANY:
+        yield f"and {len(equal) - MANY:,} more groups of options name the same items"
+
+
+def strange_names(problem):
+    """Lines on names that are allowed but perhaps not meant."""
+    commas = [quoted(name) for name in problem.items if name[-1:] in (b",", b";")]
+    if commas:
+        yield f"words are parted by white space, so the comma belongs to the name in {listed(commas, MANY)}"
+    unseen = [quoted(name) for name in problem.items if shown(name) != name.decode("utf-8", "replace")]
+    if unseen:
+        yield f"characters that can't be seen stand in the {plural(len(unseen), 'name', False)} {listed(unseen, MANY)}"
+
+
+def explain_good(problem):
+    by_item = problem.options_by_item()
+    yield counts(problem)
+    yield from near_limits(problem)
+    if problem.ignored:
+        lines = listed([option.line for option in problem.ignored], MANY)
+        yield f"{plural(len(problem.ignored), 'option')} ignored for naming no primary item: line{'s' * (len(problem.ignored) > 1)} {lines}"
+    yield from rare_items(problem, by_item)
+    yield from items_together(by_item)
+    yield from equal_options(problem)
+    yield from strange_names(problem)
+
+
+# ---- an answer
+
+def explain_cover(problem, answer):
+    """Lines on each item that the chosen options leave out or name twice."""
+    by_item = problem.options_by_item()
+    for name in answer.uncovered(problem):
+        lines = [problem.options[place].line for place in by_item[name]]
+        which = f"options that name it: line{'s' * (len(lines) > 1)} {listed(lines, MANY)} of the file" if lines else "no option names it"
+        yield f"uncovered: {quoted(name)} ({which})"
+    for name, users in answer.covered_twice(problem):
+        options = [f"line {words[0].line} of the answer (line {problem.options[place].line} of the file)"
+                   for words, place in (answer.chosen[k] for k in users)]
+        yield f"covered {'twice' if len(users) == 2 else f'{len(users)} times'}: {quoted(name)} by {listed(options, MANY)}"
+
+
+def verdict(problem, answer):
+    """What the program says of an answer that it reads; None where only its search can tell."""
+    if answer.kind == "none":
+        by_item = problem.options_by_item()
+        return None if all(by_item[name] for name in problem.primary_names()) else "right"
+    uncovered, twice = answer.uncovered(problem), answer.covered_twice(problem)
+    if uncovered:
+        return "wrong: Uncovered " + shown(uncovered[0])
+    return "wrong: CoveredTwice " + shown(twice[0][0]) if twice else "right"
+
+
+def explain_answer(problem, answer):
+    for fault in answer.faults:
+        place = f"line {fault.line}" if fault.line else "the answer"
+        yield f"{place}: {fault.name}: {answer_fault_words(problem, answer, fault)}"
+    if answer.kind == "none":
+        if verdict(problem, answer) is None:
+            yield BY_SEARCH + ": solve_cli check FILE ANSWER"
+        return
+    wrong = list(explain_cover(problem, answer))
+    if answer.faults and answer.chosen:
+        yield f"of the {plural(len(answer.chosen), 'line')} that can be read:" + ("" if wrong else " no item is uncovered or covered twice")
+        yield from wrong
+    elif not answer.faults:
+        yield from wrong
+        yield plural(len(answer.chosen), "option") + (" that are no exact cover" if wrong else ", each primary item in exactly one of them, "
+                                                      "no secondary item in two")
+
+
+# ---- the whole
+
+def program_lines(problem, answer):
+    """What the program writes on standard error, and of an answer its verdict, so far as counting tells it."""
+    if problem.faults:
+        return ["refused: " + refusal(problem.faults)]
+    if answer and answer.faults:
+        return ["answer refused: " + refusal(answer.faults)]
+    ignored = [f"ignored {len(problem.ignored)}"] if problem.ignored else []
+    told = verdict(problem, answer) if answer else None
+    return ([told] if told else []) + ignored
+
+
+def explain(text, answer_text=None):
+    """All lines on a problem's text and perhaps an answer's, and whether nothing is wrong."""
+    problem = read_problem(text)
+    meant, remarks = as_meant(text)
+    answer = read_answer(answer_text, problem) if answer_text is not None and not problem.faults else None
+    lines = [SAYS + line for line in program_lines(problem, answer)]
+    if problem.faults:
+        lines += explain_refused(problem, meant, remarks)
+        if answer_text is not None:
+            lines.append("the answer is tested once the file can be read")
+        return lines, False
+    lines += remarks + list(explain_good(problem))
+    if answer:
+        lines += list(explain_answer(problem, answer))
+    return lines, not (answer and (answer.faults or (verdict(problem, answer) or "right") != "right"))
+
+
+def main(words=None):
+    parser = argparse.ArgumentParser(description=__doc__, formatter_class=argparse.RawDescriptionHelpFormatter)
+    parser.add_argument("file", metavar="FILE", help="the problem's file")
+    parser.add_argument("answer", metavar="ANSWER", nargs="?", help="an answer to it, as the program writes or checks it")
+    given = parser.parse_args(words)
+    try:
+        text = read_bytes(given.file)
+        answer_text = None if given.answer is None else read_bytes(given.answer)
+    except Unreadable as why:
+        print(f"{SAYS}cannot read\n{why}")
+        return 3
+    lines, is_good = explain(text, answer_text)
+    print("\n".join(lines))
+    return 0 if is_good else 1
+
+
+if __name__ == "__main__":
+    sys.stdout.reconfigure(errors="backslashreplace")
+    sys.exit(main())

@@ -1,0 +1,202 @@
+"""What each fault of a problem file or of an answer means, in words, with what was expected and the nearest name there is."""
+import difflib
+
+from cover_files import MAX_ITEMS, MAX_NAME, MAX_OCCURRENCES, MAX_OPTIONS, shown
+
+FEW = 12
+
+
+# ---- plain English
+
+def plural(count, what, with_count=True):
+    ending = what if count == 1 else what + "s"
+    return f"{count:,} {ending}" if with_count else ending
+
+
+def quoted(name):
+    return f"'{shown(name)}'"
+
+
+def listed(things, most):
+    """The first of some things, and how many more there are."""
+    told = [str(thing) for thing in things[:most]]
+    if len(things) > most:
+        return ", ".join(told) + f" and {len(things) - most:,} more"
+    return " and ".join(filter(None, [", ".join(told[:-1]), told[-1]])) if told else "none"
+
+
+# ---- names that exist
+
+def nearest(names, name):
+    """Up to three of the names that look most like this one."""
+    texts = {shown(there): there for there in names}
+    folded = [text for text in texts if text.lower() == shown(name).lower()]
+    return folded or difflib.get_close_matches(shown(name), texts, 3, 0.6)
+
+
+def instead(names, name):
+    """What to write for a name that doesn't exist."""
+    near = nearest(names, name)
+    commas = [there for there in names if there.strip(b",;") == name]
+    if commas:
+        return f"the item is named {quoted(commas[0])}: names are parted by white space alone, so the comma belongs to it"
+    if near:
+        return "nearest: " + " or ".join(f"'{text}'" for text in near)
+    if len(names) <= FEW:
+        return "the items are " + listed([quoted(there) for there in names], FEW)
+    return "no item has a name like it"
+
+
+def unknown_words(problem, word):
+    names, bare = problem.names(), word.text.strip(b",;")
+    if word.text.startswith(b"#"):
+        return "no item has this name; a comment begins with '|', not with '#'"
+    if bare != word.text and (not bare or bare in problem.items):
+        return "no item has this name; names are parted by white space, not by commas"
+    return f"no item has this name; {instead(names, word.text)}"
+
+
+def illegal_words(problem, word):
+    if b"\0" in word.text:
+        return "byte 0 stands in it, which no name has; is the file a text in UTF-8?"
+    if b":" in word.text:
+        item = word.text.split(b":")[0]
+        known = "" if item in problem.items or word.line == problem.item_line else f"; {instead(problem.names(), item)}"
+        return f"no name has a ':'; colours aren't known here, an item is just a name{known}"
+    if word.line == problem.item_line:
+        return "a '|' stands within the word; the separator begins a word, as in 'a b | x y'"
+    return "an option has no '|'; it parts primary from secondary items on the item line, or begins a line that is a comment"
+
+
+# ---- faults of a problem
+
+def earlier_column(problem, fault):
+    return problem.places[fault.word.text.lstrip(b"|")].column
+
+
+def no_items_words(problem):
+    return "no line names items; lines that begin with '|' are comments, so at least one primary item must stand before the separator"
+
+
+def fault_words(problem, fault):
+    """What a fault of a problem means, and what was expected."""
+    name, word = fault.name, fault.word
+    if name == "IllegalByte":
+        return illegal_words(problem, word)
+    if name == "UnknownItem":
+        return unknown_words(problem, word)
+    if name == "NameTooLong":
+        return f"a name has at most {MAX_NAME} bytes, this one has {len(word.text.lstrip(b'|'))}"
+    if name == "DuplicateItem":
+        return f"the item line names it already, at column {earlier_column(problem, fault)}"
+    return {
+        "NoItems": no_items_words(problem),
+        "SecondBar": "the separator stands on the item line already; one is expected, between primary and secondary items",
+        "DuplicateInOption": "this option names it already; an option names each of its items once",
+        "TooManyItems": f"the item line has {len(problem.items):,} names, at most {MAX_ITEMS:,} are read",
+        "TooManyOptions": f"{len(problem.options):,} options name a primary item, at most {MAX_OPTIONS:,} are read",
+        "TooManyNodes": f"the options have {problem.occurrences:,} items together, at most {MAX_OCCURRENCES:,} are read",
+    }[name]
+
+
+def same_fault(fault):
+    """Faults that are told together: the same fault of the same word, and all of a line that begins with '#'."""
+    return fault.name, fault.word.text if fault.word else None
+
+
+def plain_faults(problem):
+    """The faults without those that follow from another one of the same word or line."""
+    hashed, cause = set(), {}
+    for fault in problem.faults:
+        word = fault.word
+        if word is None:
+            yield fault
+            continue
+        if word.line in hashed:
+            continue
+        if fault.name == "UnknownItem" and word.text.startswith(b"#"):
+            hashed.add(word.line)
+        if cause.setdefault(word, fault.name) == fault.name or fault.name not in ("UnknownItem", "NameTooLong"):
+            yield fault
+
+
+def grouped(problem):
+    """Each fault that is told, with the further lines that have the same."""
+    groups = {}
+    for fault in plain_faults(problem):
+        groups.setdefault(same_fault(fault), []).append(fault)
+    for faults in groups.values():
+        further = sorted({fault.line for fault in faults if fault.line != faults[0].line})
+        yield faults[0], further
+
+
+# ---- faults of an answer
+
+def head_words(answer):
+    if answer.head is None:
+        return "the answer is empty; 'none' is expected, or 'cover' and a number, and then that many lines"
+    first = " ".join(shown(word.text) for word in answer.head)
+    if answer.head[0].text.startswith(b"\xef\xbb\xbf"):
+        return "the answer begins with a byte order mark (bytes EF BB BF), which isn't seen: save it as UTF-8 without the mark"
+    if first == "no answer":
+        return "'no answer' says that the search was stopped; that is nothing to check"
+    if answer.head[0].text == b"cover":
+        return f"'cover' and a number of one to five digits are expected, not '{first}'"
+    if answer.head[0].text.startswith((b"|", b"#")):
+        return "an answer has no comments; 'none' is expected, or 'cover' and a number"
+    if len(answer.chosen) == len(answer.rest):
+        return f"'cover {len(answer.rest)}' is missing before the options"
+    return f"'none' is expected, or 'cover' and a number, not '{first}'"
+
+
+def count_words(answer):
+    if answer.kind == "none":
+        return f"nothing stands behind 'none', but {plural(len(answer.rest), 'line')} here; did you mean 'cover {len(answer.rest)}'?"
+    return f"the head says {plural(answer.count, 'line')}, but there {'is' if len(answer.rest) == 1 else 'are'} {len(answer.rest):,}"
+
+
+def lines_where(options, is_so):
+    return [option.line for option in options if is_so(option)]
+
+
+def option_words(problem, answer, words):
+    """Why a line of an answer is no option that is left, and what may be meant."""
+    names = tuple(word.text for word in words)
+    if names[0].startswith((b"|", b"#")):
+        return "an answer has no comments"
+    unknown = [name for name in names if name not in problem.items]
+    if unknown:
+        return "; ".join(f"no item is named {quoted(name)}; {instead(problem.names(), name)}" for name in dict.fromkeys(unknown))
+    same = lines_where(problem.options, lambda option: option.names == names)
+    if same:
+        earlier = [line[0].line for line, place in answer.chosen if problem.options[place].names == names]
+        return (f"the file has this option {'once' if len(same) == 1 else f'{len(same)} times'} (line{'s' * (len(same) > 1)} "
+                f"{listed(same, FEW)}), and the answer has it already at line{'s' * (len(earlier) > 1)} {listed(earlier, FEW)}")
+    if lines_where(problem.ignored, lambda option: set(option.names) == set(names)):
+        return "the file's option with these names is ignored, since it names no primary item; no answer has it"
+    turned = [option for option in problem.options if sorted(option.names) == sorted(names)]
+    if turned:
+        order = " ".join(shown(name) for name in turned[0].names)
+        return f"names stand in the order of the file: write '{order}' (line {turned[0].line})"
+    return near_option_words(problem, names)
+
+
+def near_option_words(problem, names):
+    """The option that has most of these names and fewest others."""
+    def distance(option):
+        return len(set(option.names) ^ set(names))
+
+    near = min(problem.options, key=distance, default=None)
+    if near is None or distance(near) >= len(names):
+        return "no option of the file has these names"
+    return f"no option of the file has these names; nearest: '{' '.join(map(shown, near.names))}' (line {near.line})"
+
+
+def answer_fault_words(problem, answer, fault):
+    """What a fault of an answer means, and what was expected."""
+    if fault.name == "BadHead":
+        return head_words(answer)
+    if fault.name == "WrongCount":
+        return count_words(answer)
+    words = next(words for words in answer.rest if words[0].line == fault.line)
+    return option_words(problem, answer, words)

@@ -1,0 +1,230 @@
+#!/usr/bin/env python3
+"""Compares what explain.py tells with what the built program tells.
+
+    python3 scripts/try_explain.py [--files N] [--seed N] [--program PROGRAM]
+
+All examples, some outside cases, and a thousand random files, most of them spoilt, are given to both, then each file that
+can be read once more with an answer: the program's own, a spoilt one, or a random choice of options. For each it compares
+the program's standard error (and the verdict of `check`) with the lines of explain.py that say what the program says, and
+the name and the line of the fault with those of the first fault that explain.py explains. Each kind of fault must have been
+met. The last line counts; the exit status is 1 where one differs.
+"""
+import argparse
+import collections
+import contextlib
+import glob
+import io
+import os
+import random
+import re
+import subprocess
+import sys
+import tempfile
+
+import explain
+
+TOP = os.path.dirname(os.path.dirname(os.path.abspath(__file__)))
+PROGRAM = os.path.join(TOP, "crates", "solve_cli", "out", "solve_cli")
+FAULTS = ["NoItems", "IllegalByte", "NameTooLong", "DuplicateItem", "SecondBar", "UnknownItem", "DuplicateInOption", "TooManyItems",
+          "TooManyOptions", "TooManyNodes", "BadHead", "WrongCount", "UnknownOption", "Uncovered", "CoveredTwice"]
+FUEL = "100000"
+
+
+# ---- files
+
+def joined(draw, words):
+    return draw.choice([b" ", b" ", b" ", b"  ", b"\t", b" \v"]).join(words)
+
+
+def some_names(draw, count):
+    letters = [b"a", b"b", b"c", b"item", b"Z9", b"\xc3\xa9", b"#x", b"x-1", b"\xff", b"k" * 30]
+    return [draw.choice(letters) + (b"%d" % k if draw.random() < 0.8 else b"." * k) for k in range(count)]
+
+
+def random_problem(draw):
+    """A lawful problem's text."""
+    names = some_names(draw, draw.randint(1, 9))
+    primary = draw.randint(1, len(names))
+    line = names[:primary] + ([b"|"] + names[primary:] if primary < len(names) or draw.random() < 0.2 else [])
+    lines = [joined(draw, line)]
+    for _ in range(draw.randint(0, 12)):
+        lines.append(joined(draw, draw.sample(names, draw.randint(1, min(4, len(names))))))
+    for _ in range(draw.choice([0, 0, 1, 3])):
+        lines.insert(draw.randint(0, len(lines)), draw.choice([b"| a comment", b"", b" \t", b"|", b"|x : y"]))
+    return draw.choice([b"\n", b"\n", b"\r\n"]).join(lines) + draw.choice([b"\n", b"", b"\n\n"])
+
+
+def spoil_word(draw, text):
+    words = [(found.start(), found.end()) for found in re.finditer(rb"[^\s]+", text)]
+    if not words:
+        return b"a"
+    begin, end = draw.choice(words)
+    word = text[begin:end]
+    other = text[slice(*draw.choice(words))]
+    new = draw.choice([word + b" " + word, word + b":red", word * 33, word + b"|", b"|" + word, b"| " + word, word.upper(), b"#" + word,
+                       other, word + b",", word + b"\0", b"", word + b"\n", b"zz", b"\xef\xbb\xbf" + word, b"|" + other + b" |" + word])
+    return text[:begin] + new + text[end:]
+
+
+def spoil_line(draw, text):
+    lines = text.split(b"\n")
+    k = draw.randrange(len(lines))
+    what = draw.randrange(5)
+    if what == 0:
+        del lines[k]
+    elif what == 1:
+        lines.insert(draw.randrange(len(lines)), lines[k])
+    elif what == 2:
+        lines.insert(k, draw.choice([b"# note", b"| note", b"what is this", b"cover 3", b"none"]))
+    elif what == 3:
+        words = lines[k].split()
+        draw.shuffle(words)
+        lines[k] = b" ".join(words)
+    else:
+        del lines[k:]
+    return b"\n".join(lines)
+
+
+def spoil_bytes(draw, text):
+    place = draw.randint(0, len(text))
+    return text[:place] + draw.choice([b"", b"\0", b":", b"|", b" ", b"\n", b"\r", b"\xff", b"e", b"1"]) + text[place + draw.randint(0, 2):]
+
+
+def spoil_all(draw, text):
+    return draw.choice([lambda: b"\xef\xbb\xbf" + text, lambda: text.decode("latin-1").encode("utf-16"), lambda: b"# first\n" + text,
+                        lambda: text.replace(b"\n", b"\r"), lambda: b"", lambda: re.sub(rb"(?m)^", b"|", text)])()
+
+
+def spoilt(draw, text, times):
+    for _ in range(times):
+        text = draw.choice([spoil_word, spoil_word, spoil_word, spoil_line, spoil_line, spoil_bytes, spoil_all])(draw, text)
+    return text
+
+
+def outside_cases():
+    """Files at the limits, one step below and above each."""
+    for count in (1000, 1001):
+        names = b" ".join(b"i%d" % k for k in range(count))
+        yield names + b"\ni1\n"
+        yield b"p | " + names[:names.rindex(b" ")] + b"\np\n"
+    for count in (20000, 20001):
+        yield b"a | b\nb\n" + b"a\n" * count
+    names = b" ".join(b"i%d" % k for k in range(1000))
+    yield (names + b"\n") * 201
+    yield (names + b"\n") * 201 + b"i7\n"
+    yield (names + b"\n") * 202 + b"i7 i8 none\n"
+
+
+# ---- answers
+
+def random_answer(draw, text):
+    """A cover of some lines of the file, with its head."""
+    lines = [line for line in text.split(b"\n") if line.split() and not line.split()[0].startswith(b"|")][1:]
+    chosen = draw.sample(lines, draw.randint(0, min(4, len(lines))))
+    return b"cover %d\n" % len(chosen) + b"".join(line + b"\n" for line in chosen)
+
+
+def some_answer(draw, text, own):
+    """An answer to a file: the program's own, that one spoilt, or a random one."""
+    what = draw.randrange(5)
+    if what == 0:
+        return own
+    if what == 1:
+        return b"none\n"
+    return spoilt(draw, random_answer(draw, text) if what > 2 else own, draw.choice([0, 0, 1, 1, 2]))
+
+
+# ---- the comparison
+
+class Trial:
+    def __init__(self, program, folder):
+        self.program, self.folder = program, folder
+        self.agreed, self.differ, self.kinds = 0, 0, collections.Counter()
+
+    def write(self, name, text):
+        path = os.path.join(self.folder, name)
+        with open(path, "wb") as opened:
+            opened.write(text)
+        return path
+
+    def run(self, *words):
+        return subprocess.run([self.program, *words, "--fuel", FUEL], stdout=subprocess.PIPE, stderr=subprocess.PIPE, timeout=120)
+
+    def explained(self, words):
+        """What explain.py says that the program says, whether it leaves the verdict open, and the first fault that it explains."""
+        said = io.StringIO()
+        with contextlib.redirect_stdout(said):
+            explain.main(words)
+        lines = said.getvalue().split("\n")
+        program_says = [line[len(explain.SAYS):] for line in lines if line.startswith(explain.SAYS)]
+        faults = (re.match(r"(?:line (\d+)|the file|the answer)\b.*?: ([A-Z][A-Za-z]+): ", line) for line in lines)
+        by_search = any(line.startswith(explain.BY_SEARCH) for line in lines)
+        return program_says, by_search, next(((found[2], found[1]) for found in faults if found), None)
+
+    def compare(self, words, ran, with_verdict):
+        told = ran.stderr.decode("utf-8", "backslashreplace").split("\n")[:-1]
+        verdict = [explain.shown(ran.stdout[:-1])] if with_verdict and ran.stdout.startswith((b"right", b"wrong: ")) else []
+        says, by_search, first = self.explained(words)
+        agrees = says == verdict + told or (by_search and says == told)
+        refused = re.match(r"(?:answer )?refused: (\w+)(?: line (\d+))?", told[0] if told else "")
+        if refused:
+            agrees = agrees and first and first[0] == refused[1] and refused[2] in (None, first[1])
+        found = re.match(r"wrong: (Uncovered|CoveredTwice|a cover exists)", verdict[0] if verdict else "")
+        self.kinds[refused[1] if refused else found[1] if found else "no fault"] += 1
+        self.agreed, self.differ = self.agreed + bool(agrees), self.differ + (not agrees)
+        if not agrees:
+            print(f"differ: the program {verdict + told}, explain.py {says}, first {first}")
+            for word in words:
+                with open(word, "rb") as opened:
+                    print("    " + repr(opened.read(500)))
+
+    def file(self, draw, text):
+        """Compares a file, and where it can be read an answer to it."""
+        file = self.write("file", text)
+        ran = self.run("alone", file)
+        self.compare([file], ran, False)
+        if ran.returncode == 3:
+            return
+        answer = self.write("answer", some_answer(draw, text, ran.stdout))
+        self.compare([file, answer], self.run("check", file, answer), True)
+
+
+def texts(draw, files):
+    """The texts of the examples, of the outside cases and of the random files."""
+    examples = []
+    for name in sorted(glob.glob(os.path.join(TOP, "examples", "*.dlx"))):
+        with open(name, "rb") as opened:
+            examples.append(opened.read())
+    yield from examples
+    yield from outside_cases()
+    small = [text for text in examples if len(text) < 3000]
+    for _ in range(files):
+        text = draw.choice(small) if draw.random() < 0.2 else random_problem(draw)
+        yield spoilt(draw, text, draw.choice([0, 1, 1, 1, 2, 3]))
+
+
+def main():
+    parser = argparse.ArgumentParser(description=__doc__, formatter_class=argparse.RawDescriptionHelpFormatter)
+    parser.add_argument("--files", type=int, default=1000, help="how many random files are tried (default 1000)")
+    parser.add_argument("--seed", type=int, default=1, help="the seed of what is drawn (default 1)")
+    parser.add_argument("--program", default=PROGRAM, help="the built program (default crates/solve_cli/out/solve_cli)")
+    given = parser.parse_args()
+    if not os.path.isfile(given.program):
+        sys.exit(f"try_explain: the program isn't built: {given.program} is missing; (cd crates/solve_cli && rt run) builds it")
+    draw = random.Random(given.seed)
+    with tempfile.TemporaryDirectory(prefix="try-explain-") as folder:
+        trial = Trial(given.program, folder)
+        files = 0
+        for text in texts(draw, given.files):
+            trial.file(draw, text)
+            files += 1
+    missed = [kind for kind in FAULTS if not trial.kinds[kind]]
+    print(", ".join(f"{kind} {count}" for kind, count in trial.kinds.most_common()))
+    if missed and given.files >= 1000:
+        print("never met:", ", ".join(missed))
+    print(f"{files} files, {trial.agreed + trial.differ - files} answers: {trial.agreed} agree, {trial.differ} differ")
+    return 1 if trial.differ or (missed and given.files >= 1000) else 0
+
+
+if __name__ == "__main__":
+    sys.exit(main())
