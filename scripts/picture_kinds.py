@@ -1,0 +1,369 @@
+"""The kinds of pictures: each is known by the names of a problem's items, and draws an answer as text and on a sheet."""
+import itertools
+import math
+import re
+
+from cover_files import shown
+from svg_paper import ACCENT, BACKGROUND, Board, draw_table, FAINT, FILLS, INK, on_circle, table_text, text_width
+
+CELL = 40
+NONE = "none: the answer is that there is no cover"
+KNOWN_COLOURS = {"red": "#f0a39a", "green": "#b3d9b1", "blue": "#a5c4ee", "yellow": "#f5e08c", "orange": "#f7c08a", "purple": "#cdb3e6",
+                 "white": "#ffffff", "grey": "#cccccc", "gray": "#cccccc", "brown": "#cfae8e", "pink": "#f3bfd3"}
+
+
+class Kind:
+    """An answer to a problem of a kind: the chosen options, and whether the answer is `none`."""
+
+    def __init__(self, problem, chosen, is_none):
+        self.items = [shown(name) for name in problem.items]
+        self.primary = set(self.items[:problem.primary])
+        self.options = [tuple(shown(name) for name in option.names) for option in problem.options]
+        self.chosen, self.is_none = chosen, is_none
+
+    def is_known(self):
+        """Whether the problem is of this kind, by its names."""
+        raise NotImplementedError
+
+    def all_match(self, pattern, items=None):
+        return all(re.fullmatch(pattern, item) for item in (self.items if items is None else items))
+
+    def secondary(self):
+        return [item for item in self.items if item not in self.primary]
+
+    def text(self):
+        return ([NONE] if self.is_none else []) + self.lines()
+
+    def caption(self, paper):
+        """Under the picture of an answer without a cover, that there is none."""
+        if self.is_none:
+            paper.text((paper.left + paper.right) / 2, paper.bottom + 22, "none: there is no cover", 15)
+
+
+# ---- boards
+
+def cell_of(name):
+    """The row and the column that a name tells, as 07, 0011 or 3-12; None where it tells none."""
+    if re.fullmatch(r"\d+", name) and len(name) % 2 == 0:
+        return int(name[:len(name) // 2]), int(name[len(name) // 2:])
+    found = re.fullmatch(r"(\d+)-(\d+)", name)
+    return (int(found[1]), int(found[2])) if found else None
+
+
+def is_connected(cells):
+    """Whether the cells hang together by their edges."""
+    left, reached = set(cells), []
+    while left:
+        if reached and not any((r + a, c + b) in left for r, c in reached for a, b in ((0, 1), (1, 0), (0, -1), (-1, 0))):
+            return False
+        at = next(((r + a, c + b) for r, c in reached for a, b in ((0, 1), (1, 0), (0, -1), (-1, 0)) if (r + a, c + b) in left), None)
+        reached.append(at or next(iter(left)))
+        left.discard(reached[-1])
+    return True
+
+
+class Tiling(Kind):
+    """Pieces that fill cells; at most one name of an option is that of its piece."""
+
+    def is_known(self):
+        cells = [[cell_of(name) for name in option] for option in self.options]
+        return bool(cells) and all(found.count(None) <= 1 and len(found) > found.count(None) and
+                                   is_connected([cell for cell in found if cell]) for found in cells)
+
+    def board(self):
+        areas = {cell_of(name): 0 for name in self.items if cell_of(name)}
+        labels = {}
+        for k, option in enumerate(self.chosen, 1):
+            piece = next((name for name in option if cell_of(name) is None), "")
+            areas.update((cell_of(name), k) for name in option if cell_of(name))
+            labels.update((cell_of(name), piece) for name in option if cell_of(name))
+        return Board(labels, areas)
+
+    def lines(self):
+        return self.board().text()
+
+    def draw(self, paper):
+        board = self.board()
+
+        def fill(cell):
+            if self.is_none:
+                return "#e3dccd" if sum(cell) % 2 else "#fffdf8"
+            return FILLS[(board.areas[cell] - 1) % len(FILLS)]
+
+        board.draw(paper, CELL, fill)
+        self.caption(paper)
+
+
+CROWN = [(0.24, 0.74), (0.18, 0.36), (0.34, 0.52), (0.5, 0.26), (0.66, 0.52), (0.82, 0.36), (0.76, 0.74)]
+
+
+class Queens(Kind):
+    """Queens by row and column; of the diagonals nothing is drawn."""
+
+    def is_known(self):
+        return self.all_match(r"[rcab]\d+") and bool(self.options) and all(
+            {"r", "c"} <= {name[0] for name in option} for option in self.options)
+
+    def places(self):
+        """The rows, the columns, and where queens stand."""
+        rows, columns = ([int(item[1:]) for item in self.items if item[0] == kind] for kind in "rc")
+        queens = {tuple(int(next(name for name in option if name[0] == kind)[1:]) for kind in "rc") for option in self.chosen}
+        return sorted(rows), sorted(columns), queens
+
+    def lines(self):
+        rows, columns, queens = self.places()
+        return [" ".join("Q" if (r, c) in queens else "." for c in columns) for r in rows]
+
+    def draw(self, paper):
+        rows, columns, queens = self.places()
+        for r in rows:
+            for c in columns:
+                paper.box(c * CELL, r * CELL, CELL, CELL, "#d9cdb8" if (r + c) % 2 else "#fffdf8", FAINT, 0.5)
+                if (r, c) in queens:
+                    paper.shape([((c + x) * CELL, (r + y) * CELL) for x, y in CROWN], ACCENT, INK, 1.2)
+        paper.box(columns[0] * CELL, rows[0] * CELL, len(columns) * CELL, len(rows) * CELL, "none", INK, 2.2)
+        self.caption(paper)
+
+
+NINE = range(9)
+
+
+class Sudoku(Kind):
+    """A sudoku of nine by nine, whose given digits are those that rows, columns and boxes don't lack."""
+
+    def is_known(self):
+        return self.all_match(r"p[0-8][0-8]|[rcb][0-8][1-9]") and all(
+            [name[0] for name in option] == ["p", "r", "c", "b"] for option in self.options)
+
+    def givens(self):
+        """The digits of the cells that aren't items, so far as they follow; an empty text where one doesn't."""
+        lacking = set(self.items)
+        cells = [(r, c) for r in NINE for c in NINE if f"p{r}{c}" not in lacking]
+        houses = {cell: [f"r{cell[0]}", f"c{cell[1]}", f"b{cell[0] // 3 * 3 + cell[1] // 3}"] for cell in cells}
+        digits = {cell: {d for d in "123456789" if not any(house + d in lacking for house in houses[cell])} for cell in cells}
+        changed = True
+        while changed:
+            before = sum(map(len, digits.values()))
+            for cell in cells:
+                self.narrow(digits, houses, cell)
+            changed = sum(map(len, digits.values())) < before
+        return {cell: "".join(found) if len(found) == 1 else "" for cell, found in digits.items()}
+
+    @staticmethod
+    def narrow(digits, houses, cell):
+        """Takes from a cell's digits those of its fellows, and leaves one that no fellow in a house can have."""
+        for k in range(3):
+            fellows = [other for other in digits if other != cell and houses[other][k] == houses[cell][k]]
+            digits[cell] -= {d for other in fellows if len(digits[other]) == 1 for d in digits[other]} if len(digits[cell]) > 1 else set()
+            alone = digits[cell] - set().union(*(digits[other] for other in fellows)) if fellows else set(digits[cell])
+            digits[cell] = alone if len(alone) == 1 else digits[cell]
+
+    def labels(self):
+        """The given digits, and those that were found."""
+        return self.givens(), {(int(option[0][1]), int(option[0][2])): option[1][2] for option in self.chosen}
+
+    def lines(self):
+        given, found = self.labels()
+        rows = []
+        for r in NINE:
+            digits = [found.get((r, c)) or given.get((r, c), ".") or "?" for c in NINE]
+            rows += ["------+-------+------"] * (r in (3, 6)) + [" | ".join(" ".join(digits[k:k + 3]) for k in (0, 3, 6))]
+        return rows
+
+    def draw(self, paper):
+        given, found = self.labels()
+        areas = {(r, c): r // 3 * 3 + c // 3 for r in NINE for c in NINE}
+        board = Board({**given, **found}, areas)
+        board.draw(paper, CELL, lambda cell: "#ebe6da" if cell in given else "#fffdf8", CELL * 0.5,
+                   lambda cell: {"bold": True} if cell in given else {"fill": ACCENT})
+        self.caption(paper)
+
+
+class Langford(Kind):
+    """A row of places; each number stands in two of them."""
+
+    def is_known(self):
+        def is_pair(option):
+            found = re.fullmatch(r"(\d+) s(\d+) s(\d+)", " ".join(option))
+            return found and int(found[3]) - int(found[2]) == int(found[1]) + 1
+
+        return self.all_match(r"s?\d+") and bool(self.options) and all(map(is_pair, self.options))
+
+    def row(self):
+        """The number at each place, or a dot."""
+        at = {name: option[0] for option in self.chosen for name in option[1:]}
+        return [at.get(item, ".") for item in self.items if item.startswith("s")]
+
+    def lines(self):
+        return [" ".join(self.row())]
+
+    def draw(self, paper):
+        for k, mark in enumerate(self.row()):
+            fill = "#fffdf8" if mark == "." else FILLS[(int(mark) - 1) % len(FILLS)]
+            paper.box(k * CELL, 0, CELL, CELL, fill, INK, 1.2)
+            paper.text((k + 0.5) * CELL, CELL / 2, "" if mark == "." else mark, 17)
+        for option in self.chosen:
+            begin, end = (int(name[1:]) - 0.5 for name in option[1:])
+            paper.arc(begin * CELL, end * CELL, 0, ACCENT)
+        self.caption(paper)
+
+
+# ---- tables, graphs and lists
+
+class Timetable(Kind):
+    """Lessons, each with people, classes and rooms at one period: a table of who and what is busy when."""
+
+    def is_known(self):
+        if not self.secondary() or not self.all_match(r".+-\d+", self.secondary()):
+            return False
+        return all(len({name.rsplit("-", 1)[1] for name in option if name not in self.primary}) == 1 and
+                   sum(name in self.primary for name in option) == 1 for option in self.options)
+
+    def rows(self):
+        split = [item.rsplit("-", 1) for item in self.secondary()]
+        who = list(dict.fromkeys(name for name, _ in split))
+        busy = {}
+        for option in self.chosen:
+            lesson = next(name for name in option if name in self.primary)
+            busy.update((name, lesson) for name in option if name not in self.primary)
+        periods = sorted({int(period) for _, period in split})
+        return [["period"] + who] + [[str(period)] + [busy.get(f"{name}-{period}", "") for name in who] for period in periods]
+
+    def lines(self):
+        return table_text(self.rows())
+
+    def draw(self, paper):
+        lessons = [item for item in self.items if item in self.primary]
+        draw_table(paper, self.rows(), lambda lesson: FILLS[lessons.index(lesson) % len(FILLS)])
+        self.caption(paper)
+
+
+class Colouring(Kind):
+    """Places, each with a colour that none of its neighbours has."""
+
+    def is_known(self):
+        return bool(self.secondary()) and self.all_match(r".+-.+=.+", self.secondary())
+
+    def colours(self):
+        """The colour of each place that an option gives one, by its name."""
+        return {option[0]: option[1].rsplit("=", 1)[1] for option in self.chosen if len(option) > 1}
+
+    def lines(self):
+        wide = max(len(item) for item in self.primary)
+        return [f"{place.ljust(wide)}  {colour}" for place, colour in self.colours().items()]
+
+    def draw(self, paper):
+        places, colours = [item for item in self.items if item in self.primary], self.colours()
+        names = sorted({item.rsplit("=", 1)[1] for item in self.secondary()})
+        size = max(20, max(text_width(place, 14) for place in places) / 2 + 4)
+        radius = max(90, len(places) * size * 0.55)
+        at = {place: on_circle(len(places), radius, k) for k, place in enumerate(places)}
+        for border in sorted({item.rsplit("=", 1)[0] for item in self.secondary()}):
+            one, _, other = border.partition("-")
+            if one in at and other in at:
+                paper.line(*at[one], *at[other], INK, 1.5)
+        for place, (x, y) in at.items():
+            colour = colours.get(place)
+            fill = KNOWN_COLOURS.get(colour) or (FILLS[names.index(colour) % len(FILLS)] if colour in names else BACKGROUND)
+            paper.circle(x, y, size, fill, INK, 1.5)
+            paper.text(x, y, place)
+        for k, (place, colour) in enumerate(colours.items()):
+            paper.text(radius + size + 24, (k - len(colours) / 2 + 0.5) * 22, f"{place}: {colour}", 14, "start")
+        self.caption(paper)
+
+
+class Matching(Kind):
+    """A graph whose options are edges; names with the same letters at the front stand on one ring."""
+
+    def is_known(self):
+        return bool(self.options) and not self.secondary() and all(len(option) == 2 for option in self.options)
+
+    def lines(self):
+        return [" - ".join(option) for option in self.chosen]
+
+    def draw(self, paper):
+        rings = {}
+        for item in self.items:
+            rings.setdefault(re.match(r"[^\d]*", item)[0], []).append(item)
+        at = {}
+        for ring, items in enumerate(rings.values()):
+            radius = max(110, 16 * max(map(len, rings.values()))) * (1 - ring / len(rings))
+            at.update((item, on_circle(len(items), radius, k)) for k, item in enumerate(items))
+        for option in self.options:
+            is_chosen = option in self.chosen
+            paper.line(*at[option[0]], *at[option[1]], ACCENT if is_chosen else FAINT, 6 if is_chosen else 1.5)
+        for item, (x, y) in at.items():
+            paper.circle(x, y, 15, "#fffdf8", INK, 1.5)
+            paper.text(x, y, item, 12)
+        self.caption(paper)
+
+
+TOP, LEFT, RIGHT = ((math.sin(k * 2 * math.pi / 3), -math.cos(k * 2 * math.pi / 3)) for k in (0, 2, 1))
+PLANE = [TOP, LEFT, RIGHT] + [((a[0] + b[0]) / 2, (a[1] + b[1]) / 2) for a, b in ((TOP, LEFT), (LEFT, RIGHT), (RIGHT, TOP))] + [(0, 0)]
+LINE_COLOURS = ["#1f5fa8", "#a8321f", "#2f7d3b", "#7a4fa3", "#b0741a", "#0f7f86", "#b03a7c"]
+# each with its two ends first; the last is the circle
+PLANE_LINES = [(0, 1, 3), (1, 2, 4), (2, 0, 5), (0, 4, 6), (1, 5, 6), (2, 3, 6), (3, 4, 5)]
+
+
+class Triples(Kind):
+    """Lines of three points, each option the three pairs of its line; any two points lie on one line."""
+
+    def is_known(self):
+        def is_triple(option):
+            points = set("".join(option))
+            return len(option) == len(points) == 3 and len(set(option)) == 3
+
+        return self.all_match(r"\d\d") and bool(self.options) and all(map(is_triple, self.options))
+
+    def triples(self):
+        return [tuple(sorted(set("".join(option)))) for option in self.chosen]
+
+    def lines(self):
+        return [" ".join(triple) for triple in self.triples()]
+
+    def in_plane(self):
+        """The points of a plane of seven points in the order of its usual picture; None where it is no such plane."""
+        points, lines = sorted(set("".join(self.items))), {frozenset(triple) for triple in self.triples()}
+        if len(points) != 7 or len(lines) != 7:
+            return None
+        return next((order for order in itertools.permutations(points)
+                     if all(frozenset(order[k] for k in line) in lines for line in PLANE_LINES)), None)
+
+    def draw(self, paper):
+        order, size = self.in_plane(), 150
+        if order is None:
+            draw_lines(paper, self.text())
+            return
+        paper.circle(0, 0, size / 2, "none", LINE_COLOURS[6], 3)
+        for k, (a, b, _) in enumerate(PLANE_LINES[:6]):
+            paper.line(*(size * value for end in (PLANE[a], PLANE[b]) for value in end), LINE_COLOURS[k], 3)
+        for point, (x, y) in zip(order, PLANE):
+            paper.circle(size * x, size * y, 16, "#fffdf8", INK, 1.5)
+            paper.text(size * x, size * y, point, 15)
+
+
+def draw_lines(paper, lines, size=14):
+    """Plain lines of text; an empty picture says so."""
+    for k, line in enumerate(lines or ["no option is chosen"]):
+        paper.text(0, k * size * 1.6, line, size, "start")
+
+
+class Plain(Kind):
+    """Anything else: the chosen options, one on a line."""
+
+    def is_known(self):
+        return True
+
+    def lines(self):
+        return [" ".join(option) for option in self.chosen]
+
+    def draw(self, paper):
+        draw_lines(paper, self.text())
+
+
+KINDS = [Sudoku, Queens, Langford, Triples, Tiling, Timetable, Colouring, Matching, Plain]
+
+
+def picture_of(problem, chosen, is_none):
+    """The answer as the first kind that knows the problem's names."""
+    return next(kind for kind in (kind(problem, chosen, is_none) for kind in KINDS) if kind.is_known())
