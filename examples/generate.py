@@ -1,17 +1,68 @@
 #!/usr/bin/env python3
-"""Writes the larger example files into this folder: `python3 examples/generate.py`."""
+"""Makes problem files of the kinds that stand in this folder.
+
+    python3 examples/generate.py KIND .. > FILE    writes a problem of this kind on the standard output
+    python3 examples/generate.py                   writes the larger example files into this folder
+
+    queens 12                      queens on a board of 12 by 12
+    langford 8                     pairs of 1 to 8
+    pentominoes 5x12               pieces on a rectangle; --without 3,3 3,4 leaves cells out
+    tetrominoes 4x4                the same of four cells each
+    dominoes 8x8                   dominoes on a rectangle; --without 0,0 7,7 leaves two corners out
+    sudoku 8........ .. or FILE    81 digits and dots, or a file that has them
+    triples 7                      lines of three points, any two of 7 points on one line
+    coloring FILE                  a map's borders, two names a line; --colors red,green,blue
+    matching FILE                  a graph's edges, two names a line
+    timetable FILE.csv             lesson,teacher,class,rooms,periods; several rooms or periods stand with spaces between
+
+The first line of each file is a comment that tells what it is and how it was made. A problem beyond 1,000 items, 20,000 options
+or 200,000 occurrences of items in them is refused, since the program reads no such file.
+"""
+import argparse
+import csv
 import itertools
 import os
+import re
+import sys
 
 HERE = os.path.dirname(os.path.abspath(__file__))
+MOST_ITEMS, MOST_OPTIONS, MOST_OCCURRENCES, LONGEST_NAME = 1_000, 20_000, 200_000, 32
+
+
+def stop(why):
+    print(f"generate: {why}", file=sys.stderr)
+    sys.exit(2)
+
+
+def check_range(names, options):
+    """Refuses what the program wouldn't read."""
+    for name in names:
+        if not name or len(name.encode()) > LONGEST_NAME or re.search(r"[\s:|\0]", name):
+            stop(f"'{name}' can't be a name: 1 to {LONGEST_NAME} bytes, without white space, ':' and '|'")
+    for count, most, what in ((len(names), MOST_ITEMS, "items"), (len(options), MOST_OPTIONS, "options"),
+                              (sum(map(len, options)), MOST_OCCURRENCES, "occurrences of items in options")):
+        if count > most:
+            stop(f"this would have {count:,} {what}, and the program reads at most {most:,}")
+    twice = [name for name in names if names.count(name) > 1] if len(set(names)) < len(names) else []
+    if twice:
+        stop(f"the name '{twice[0]}' would stand for two items")
+    if not names:
+        stop("nothing is left to cover")
 
 
 def write(name, note, primary, secondary, options):
+    """Writes a problem into a file of this folder, or on the standard output where the name is `-`."""
+    check_range(primary + secondary, options)
     line = " ".join(primary) + (" | " + " ".join(secondary) if secondary else "")
+    text = "".join([f"| {note}\n{line}\n"] + [" ".join(option) + "\n" for option in options])
+    if name == "-":
+        sys.stdout.write(text)
+        return
     with open(os.path.join(HERE, name), "w") as file:
-        file.write(f"| {note}\n{line}\n")
-        file.writelines(" ".join(option) + "\n" for option in options)
+        file.write(text)
 
+
+# ---- the kinds
 
 def orientations(cells):
     """The different turns and flips of a piece, each moved to the origin, in a fixed order."""
@@ -39,13 +90,20 @@ PENTOMINOES = {
 TETROMINOES = {"I": ["xxxx"], "L": ["xxx", "x.."], "O": ["xx", "xx"], "S": [".xx", "xx."], "T": ["xxx", ".x."]}
 
 
+def names_of(cells):
+    """The names of cells by row and column, each with as many digits as the greatest has."""
+    width = max(len(str(max(cell))) for cell in cells)
+    return {(r, c): f"{r:0{width}}{c:0{width}}" for r, c in sorted(cells)}
+
+
 def placements(pieces, cells):
+    names = names_of(cells)
     for name, rows in pieces.items():
         for piece in orientations(shape(rows)):
             for row, column in sorted(cells):
                 placed = [(row + r, column + c) for r, c in piece]
                 if all(cell in cells for cell in placed):
-                    yield [name] + [f"{r}{c}" for r, c in placed]
+                    yield [name] + [names[cell] for cell in placed]
 
 
 def rectangle(rows, columns):
@@ -53,15 +111,17 @@ def rectangle(rows, columns):
 
 
 def tiling(name, note, pieces, cells):
-    items = list(pieces) + [f"{r}{c}" for r, c in sorted(cells)]
-    write(name, note, items, [], list(placements(pieces, cells)))
+    """Each piece stands once where they have as many cells as the board together, else at most once."""
+    all_stand = sum(len(shape(rows)) for rows in pieces.values()) == len(cells)
+    items = (list(pieces) if all_stand else []) + list(names_of(cells).values())
+    write(name, note, items, [] if all_stand else list(pieces), list(placements(pieces, cells)))
 
 
 def dominoes(name, note, cells):
-    options = []
+    options, names = [], names_of(cells)
     for r, c in sorted(cells):
-        options += [[f"{r}{c}", f"{a}{b}"] for a, b in ((r, c + 1), (r + 1, c)) if (a, b) in cells]
-    write(name, note, [f"{r}{c}" for r, c in sorted(cells)], [], options)
+        options += [[names[r, c], names[to]] for to in ((r, c + 1), (r + 1, c)) if to in cells]
+    write(name, note, list(names.values()), [], options)
 
 
 def queens(name, note, n):
@@ -98,7 +158,167 @@ def coloring(name, note, borders, colors):
     write(name, note, places, [f"{edge}={color}" for edge in edges for color in colors], options)
 
 
-def main():
+def triples(name, note, n):
+    width = len(str(n))
+    pairs = {pair: "".join(f"{point:0{width}}" for point in pair) for pair in itertools.combinations(range(1, n + 1), 2)}
+    options = [[pairs[pair] for pair in itertools.combinations(t, 2)] for t in itertools.combinations(range(1, n + 1), 3)]
+    write(name, note, list(pairs.values()), [], options)
+
+
+def matching(name, note, edges):
+    write(name, note, list(dict.fromkeys(itertools.chain(*edges))), [], [list(edge) for edge in edges])
+
+
+def timetable(name, note, rows):
+    """One option for each lesson, period and room; people, classes and rooms are secondary, once for each period."""
+    options = [[row["lesson"]] + [f"{who}-{period}" for who in (row["teacher"], row["class"], room)]
+               for row in rows for room in row["rooms"].split() for period in row["periods"].split()]
+    periods = sorted({period for row in rows for period in row["periods"].split()}, key=int)
+    who = [row["teacher"] for row in rows] + [row["class"] for row in rows] + [room for row in rows for room in row["rooms"].split()]
+    busy = [f"{one}-{period}" for one in dict.fromkeys(who) for period in periods]
+    write(name, note, [row["lesson"] for row in rows], busy, options)
+
+
+# ---- what the command line gives
+
+def whole_number(text):
+    if not re.fullmatch(r"[1-9][0-9]{0,3}", text):
+        raise argparse.ArgumentTypeError(f"'{text}' is no number from 1")
+    return int(text)
+
+
+def size(text):
+    found = re.fullmatch(r"([1-9][0-9]{0,2})x([1-9][0-9]{0,2})", text)
+    if not found:
+        raise argparse.ArgumentTypeError(f"'{text}' is no size: rows and columns are expected, as in 5x12")
+    return int(found[1]), int(found[2])
+
+
+def cell(text):
+    found = re.fullmatch(r"([0-9]{1,3}),([0-9]{1,3})", text)
+    if not found:
+        raise argparse.ArgumentTypeError(f"'{text}' is no cell: row and column from 0 are expected, as in 0,7")
+    return int(found[1]), int(found[2])
+
+
+def read_text(path):
+    try:
+        with open(path, encoding="utf-8-sig", newline="") as opened:
+            return opened.read()
+    except (OSError, UnicodeDecodeError) as why:
+        return stop(f"{path} can't be read: {getattr(why, 'strerror', None) or 'it is no text in UTF-8'}")
+
+
+def read_pairs(path):
+    """The two names of each line that has any and isn't a comment."""
+    lines = [(number, line.split()) for number, line in enumerate(read_text(path).splitlines(), 1)]
+    lines = [(number, words) for number, words in lines if words and not words[0].startswith(("|", "#"))]
+    for number, words in lines:
+        if len(words) != 2 or words[0] == words[1]:
+            stop(f"{path}, line {number}: two different names are expected")
+    return list(dict.fromkeys(tuple(words) for _, words in lines))
+
+
+def read_sudoku(given):
+    """Nine rows of a sudoku, from 81 characters or from a file with them; frames in it are passed over."""
+    is_sudoku = re.fullmatch(r"[0-9.\s]+", given) and not os.path.exists(given)
+    marks = re.sub(r"[^0-9.]", "", given if is_sudoku else read_text(given)).replace("0", ".")
+    if len(marks) != 81:
+        stop(f"a sudoku has 81 digits and dots, here are {len(marks)}")
+    rows = [marks[k:k + 9] for k in range(0, 81, 9)]
+    columns = ["".join(column) for column in zip(*rows)]
+    boxes = ["".join(rows[r][c:c + 3] for r in range(top, top + 3)) for top in (0, 3, 6) for c in (0, 3, 6)]
+    for what, houses in (("row", rows), ("column", columns), ("box", boxes)):
+        for k, house in enumerate(houses, 1):
+            twice = [digit for digit in "123456789" if house.count(digit) > 1]
+            if twice:
+                stop(f"{what} {k} has the digit {twice[0]} twice")
+    return rows
+
+
+def read_lessons(path):
+    rows = list(csv.DictReader(read_text(path).splitlines()))
+    wanted = ["lesson", "teacher", "class", "rooms", "periods"]
+    for number, row in enumerate(rows, 2):
+        lacking = [column for column in wanted if not row.get(column)]
+        if lacking or not all(period.isdigit() for period in row["periods"].split()):
+            stop(f"{path}, line {number}: {lacking[0] + ' is missing' if lacking else 'periods are numbers'}; the columns are {','.join(wanted)}")
+    lessons = [row["lesson"] for row in rows]
+    for lesson in lessons:
+        if lessons.count(lesson) > 1:
+            stop(f"{path}: the lesson {lesson} stands there twice; give each hour of it a name of its own")
+    return rows
+
+
+def board(given):
+    cells = rectangle(*given.size)
+    for left_out in given.without:
+        if left_out not in cells:
+            stop("the cell {},{} isn't on the board, whose rows and columns begin with 0".format(*left_out))
+    return cells - set(given.without) or stop("no cell is left")
+
+
+def pieces_on_board(given, pieces, note):
+    cells, each = board(given), len(shape(next(iter(pieces.values()))))
+    if len(cells) > each * len(pieces) or len(cells) % each:
+        stop(f"{len(pieces)} pieces of {each} cells can't fill {len(cells)} cells: that is more than {each * len(pieces)}, or no multiple of {each}")
+    tiling("-", note, pieces, cells)
+
+
+def colored_map(given, note):
+    borders = read_pairs(given.file)
+    for place in itertools.chain(*borders):
+        if "-" in place or "=" in place:
+            stop(f"'{place}' can't be a place here: '-' and '=' are in the names of borders")
+    coloring("-", note, list(dict.fromkeys(tuple(sorted(pair)) for pair in borders)), given.colors.split(","))
+
+
+def pieces(given, note):
+    what, shapes = given.kind, PENTOMINOES if given.kind == "pentominoes" else TETROMINOES
+    pieces_on_board(given, shapes, note(f"{what}, each at most once, fill a board"))
+
+
+# how each kind is written, from what the command line gives and a note on what it is
+KINDS = {
+    "queens": lambda given, note: queens(
+        "-", note(f"{given.n} queens that attack nobody: rows and columns are primary, diagonals secondary"), given.n),
+    "langford": lambda given, note: langford("-", note(f"Langford pairs of 1 to {given.n}: two d's stand d places apart"), given.n),
+    "triples": lambda given, note: triples("-", note(f"lines of three points, any two of {given.n} points on one line"), given.n),
+    "pentominoes": pieces,
+    "tetrominoes": pieces,
+    "dominoes": lambda given, note: dominoes("-", note("dominoes fill a board"), board(given)),
+    "sudoku": lambda given, note: sudoku(
+        "-", note("a sudoku: its empty cells, and what rows, columns and boxes still lack"), read_sudoku(given.given)),
+    "coloring": lambda given, note: colored_map(given, note("a colour for each place, and no two neighbours alike")),
+    "matching": lambda given, note: matching("-", note("a perfect matching: items are vertices, options edges"), read_pairs(given.file)),
+    "timetable": lambda given, note: timetable(
+        "-", note("each lesson once, and no teacher, class or room twice at a time"), read_lessons(given.file)),
+}
+
+
+def make(given):
+    """Writes the problem that the command line asks for; its comment tells how it was made."""
+    words = [os.path.basename(word) if os.path.exists(word) else "".join(word.split()) for word in sys.argv[1:]]
+    KINDS[given.kind](given, lambda what: f"{what} (generate.py {' '.join(words)})")
+
+
+def parse():
+    parser = argparse.ArgumentParser(description=__doc__, formatter_class=argparse.RawDescriptionHelpFormatter)
+    kinds = parser.add_subparsers(dest="kind", metavar="KIND")
+    for kind, what in (("queens", "rows and columns"), ("langford", "the greatest number"), ("triples", "the number of points")):
+        kinds.add_parser(kind).add_argument("n", metavar="N", type=whole_number, help=what)
+    for kind in ("pentominoes", "tetrominoes", "dominoes"):
+        tiles = kinds.add_parser(kind)
+        tiles.add_argument("size", metavar="ROWSxCOLUMNS", type=size, help="as in 5x12")
+        tiles.add_argument("--without", metavar="ROW,COLUMN", type=cell, nargs="+", default=[], help="cells that are left out, from 0,0")
+    kinds.add_parser("sudoku").add_argument("given", metavar="FILE-or-81-characters", help="digits, and dots or zeros for empty cells")
+    for kind, what in (("coloring", "borders, two names a line"), ("matching", "edges, two names a line"), ("timetable", "lessons, as CSV")):
+        kinds.add_parser(kind).add_argument("file", metavar="FILE", help=what)
+    kinds.choices["coloring"].add_argument("--colors", default="red,green,blue", help="the colours, with commas (default red,green,blue)")
+    return parser.parse_args()
+
+
+def examples():
     tiling("pentominoes-6x10.dlx", "the twelve pentominoes fill a rectangle of 6 by 10", PENTOMINOES, rectangle(6, 10))
     tiling("tetrominoes-4x5.dlx", "the five tetrominoes can't fill a rectangle of 4 by 5: none", TETROMINOES, rectangle(4, 5))
     board = rectangle(8, 8) - {(0, 0), (7, 7)}
@@ -111,10 +331,15 @@ def main():
     borders = ["WA NT", "WA SA", "NT SA", "NT Q", "SA Q", "SA NSW", "SA V", "Q NSW", "NSW V"]
     coloring("australia.dlx", "three colours for the states of Australia on its mainland",
              [tuple(border.split()) for border in borders], ["red", "green", "blue"])
-    points = range(1, 8)
-    pairs = ["".join(map(str, pair)) for pair in itertools.combinations(points, 2)]
-    triples = [["".join(map(str, pair)) for pair in itertools.combinations(t, 2)] for t in itertools.combinations(points, 3)]
-    write("fano-plane.dlx", "seven lines of three points, so that any two of seven points lie on one line", pairs, [], triples)
+    triples("fano-plane.dlx", "seven lines of three points, so that any two of seven points lie on one line", 7)
+
+
+def main():
+    given = parse()
+    if given.kind:
+        make(given)
+    else:
+        examples()
 
 
 if __name__ == "__main__":

@@ -3,6 +3,7 @@
 The program decides what a file says. This reader stands beside it: it goes on after a fault, so that all can be told.
 """
 import os
+import sys
 from collections import namedtuple
 
 WHITE = b"\t\v\f\r "
@@ -219,3 +220,15 @@ def refusal(faults):
     """The first fault as the program tells it, without what stands before its name."""
     first = faults[0]
     return first.name if first.name in WITHOUT_LINE else f"{first.name} line {first.line}"
+
+
+def run(main):
+    """Runs a script's main function to its exit status; a reader that goes away, as `head` does, ends it quietly."""
+    sys.stdout.reconfigure(errors="backslashreplace")
+    try:
+        status = main()
+        sys.stdout.flush()
+    except BrokenPipeError:
+        os.dup2(os.open(os.devnull, os.O_WRONLY), sys.stdout.fileno())
+        status = 1
+    sys.exit(status)

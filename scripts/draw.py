@@ -15,7 +15,7 @@ exit status is 0, 2 for a fault of the command line, 3 for a file or an answer t
 import argparse
 import sys
 
-from cover_files import Unreadable, read_answer, read_bytes, read_problem, refusal, shown
+from cover_files import Unreadable, read_answer, read_bytes, read_problem, refusal, run, shown
 from picture_kinds import picture_of
 from svg_paper import Paper
 
@@ -82,5 +82,4 @@ def main():
 
 
 if __name__ == "__main__":
-    sys.stdout.reconfigure(errors="backslashreplace")
-    sys.exit(main())
+    run(main)

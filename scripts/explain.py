@@ -13,10 +13,9 @@ It explains and decides nothing: whether an answer is right, and above all `none
 status is 0 where nothing is wrong, 1 where something is, 2 for a fault of the command line, 3 for a file that can't be read.
 """
 import argparse
-import sys
 
 from cover_files import MAX_ITEMS, MAX_OCCURRENCES, MAX_OPTIONS, Unreadable
-from cover_files import is_comment, lines_of, Problem, read_answer, read_bytes, read_problem, refusal, shown
+from cover_files import is_comment, lines_of, Problem, read_answer, read_bytes, read_problem, refusal, run, shown
 from fault_words import answer_fault_words, fault_words, grouped, listed, plural, quoted
 
 SAYS = "the program says: "
@@ -266,5 +265,4 @@ def main(words=None):
 
 
 if __name__ == "__main__":
-    sys.stdout.reconfigure(errors="backslashreplace")
-    sys.exit(main())
+    run(main)

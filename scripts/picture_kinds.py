@@ -305,25 +305,31 @@ LINE_COLOURS = ["#1f5fa8", "#a8321f", "#2f7d3b", "#7a4fa3", "#b0741a", "#0f7f86"
 PLANE_LINES = [(0, 1, 3), (1, 2, 4), (2, 0, 5), (0, 4, 6), (1, 5, 6), (2, 3, 6), (3, 4, 5)]
 
 
+def halves(name):
+    """The two points that a name of digits tells, one in each half."""
+    return name[:len(name) // 2], name[len(name) // 2:]
+
+
 class Triples(Kind):
     """Lines of three points, each option the three pairs of its line; any two points lie on one line."""
 
     def is_known(self):
         def is_triple(option):
-            points = set("".join(option))
-            return len(option) == len(points) == 3 and len(set(option)) == 3
+            pairs = {frozenset(halves(name)) for name in option}
+            return len(option) == len(pairs) == len(frozenset().union(*pairs)) == 3 and all(len(pair) == 2 for pair in pairs)
 
-        return self.all_match(r"\d\d") and bool(self.options) and all(map(is_triple, self.options))
+        return self.all_match(r"(\d\d)+") and bool(self.options) and all(map(is_triple, self.options))
 
     def triples(self):
-        return [tuple(sorted(set("".join(option)))) for option in self.chosen]
+        return [tuple(sorted({point for name in option for point in halves(name)})) for option in self.chosen]
 
     def lines(self):
         return [" ".join(triple) for triple in self.triples()]
 
     def in_plane(self):
         """The points of a plane of seven points in the order of its usual picture; None where it is no such plane."""
-        points, lines = sorted(set("".join(self.items))), {frozenset(triple) for triple in self.triples()}
+        points = sorted({point for item in self.items for point in halves(item)})
+        lines = {frozenset(triple) for triple in self.triples()}
         if len(points) != 7 or len(lines) != 7:
             return None
         return next((order for order in itertools.permutations(points)
