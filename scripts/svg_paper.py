@@ -126,10 +126,13 @@ class Board:
             self.draw_walls(paper, size, r, c)
 
     def draw_walls(self, paper, size, r, c):
+        """The walls above and before a cell, and those behind which there is none."""
         x, y = c * size, r * size
-        for other, ends in (((r - 1, c), (x, y, x + size, y)), ((r, c - 1), (x, y, x, y + size)),
-                            ((r + 1, c), (x, y + size, x + size, y + size)), ((r, c + 1), (x + size, y, x + size, y + size))):
+        for other, ends in (((r - 1, c), (x, y, x + size, y)), ((r, c - 1), (x, y, x, y + size))):
             if self.differ((r, c), other):
+                paper.line(*ends, INK, 2.2)
+        for other, ends in (((r + 1, c), (x, y + size, x + size, y + size)), ((r, c + 1), (x + size, y, x + size, y + size))):
+            if other not in self.areas:
                 paper.line(*ends, INK, 2.2)
 
 
