@@ -281,19 +281,25 @@ class Matching(Kind):
     def lines(self):
         return [" - ".join(option) for option in self.chosen]
 
-    def draw(self, paper):
+    def rings(self):
+        """The names by the letters at their front, the outer ring first; one ring where these don't make rings of one size."""
         rings = {}
         for item in self.items:
-            rings.setdefault(re.match(r"[^\d]*", item)[0], []).append(item)
-        at = {}
-        for ring, items in enumerate(rings.values()):
-            radius = max(110, 16 * max(map(len, rings.values()))) * (1 - ring / len(rings))
-            at.update((item, on_circle(len(items), radius, k)) for k, item in enumerate(items))
+            rings.setdefault(item.rstrip("0123456789"), []).append(item)
+        sizes = set(map(len, rings.values()))
+        return list(rings.values()) if len(sizes) == 1 and min(sizes) > 2 and len(rings) < 4 else [self.items]
+
+    def draw(self, paper):
+        rings, at = self.rings(), {}
+        size = max(15, max(text_width(item, 12) for item in self.items) / 2 + 3)
+        greatest = max(110, len(rings) * (2 * size + 10), len(rings[0]) * size * 0.4 * len(rings))
+        for ring, items in enumerate(rings):
+            at.update((item, on_circle(len(items), greatest * (1 - ring / len(rings)), k)) for k, item in enumerate(items))
         for option in self.options:
             is_chosen = option in self.chosen
             paper.line(*at[option[0]], *at[option[1]], ACCENT if is_chosen else FAINT, 6 if is_chosen else 1.5)
         for item, (x, y) in at.items():
-            paper.circle(x, y, 15, "#fffdf8", INK, 1.5)
+            paper.circle(x, y, size, "#fffdf8", INK, 1.5)
             paper.text(x, y, item, 12)
         self.caption(paper)
 
