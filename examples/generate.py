@@ -299,6 +299,8 @@ KINDS = {
 def make(given):
     """Writes the problem that the command line asks for; its comment tells how it was made."""
     words = [os.path.basename(word) if os.path.exists(word) else "".join(word.split()) for word in sys.argv[1:]]
+    if given.kind == "sudoku":
+        words[-1] = "".join(read_sudoku(given.given))
     KINDS[given.kind](given, lambda what: f"{what} (generate.py {' '.join(words)})")
 
 

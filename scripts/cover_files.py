@@ -89,7 +89,7 @@ class Problem:
     """What a problem file says, with all its faults in reading order.
 
     `items` leads each name to its number, in the order of the item line; the first `primary` are primary. `options` are
-    kept, `ignored` name no primary item. After a fault these are what the rest of the file says.
+    kept, `ignored` name no primary item, `comments` are texts. After a fault these are what the rest of the file says.
     """
 
     def __init__(self, lines):
@@ -97,6 +97,7 @@ class Problem:
         self.options, self.ignored, self.occurrences = [], [], 0
         self.item_line, self.faults, self.places = None, [], {}
         content = [words for words in lines if not is_comment(words)]
+        self.comments = [b" ".join(word.text for word in words) for words in lines if is_comment(words)]
         if not content:
             self.faults.append(Fault("NoItems", None, None))
             return

@@ -19,6 +19,7 @@ class Kind:
         self.items = [shown(name) for name in problem.items]
         self.primary = set(self.items[:problem.primary])
         self.options = [tuple(shown(name) for name in option.names) for option in problem.options]
+        self.comments = [shown(comment) for comment in problem.comments]
         self.chosen, self.is_none = chosen, is_none
 
     def is_known(self):
@@ -129,16 +130,28 @@ NINE = range(9)
 
 
 class Sudoku(Kind):
-    """A sudoku of nine by nine, whose given digits are those that rows, columns and boxes don't lack."""
+    """A sudoku of nine by nine, whose given digits stand in a comment, or are those that rows, columns and boxes don't lack."""
 
     def is_known(self):
         return self.all_match(r"p[0-8][0-8]|[rcb][0-8][1-9]") and all(
             [name[0] for name in option] == ["p", "r", "c", "b"] for option in self.options)
 
     def givens(self):
-        """The digits of the cells that aren't items, so far as they follow; an empty text where one doesn't."""
+        """The digits of the cells that aren't items."""
+        cells = [(r, c) for r in NINE for c in NINE if f"p{r}{c}" not in self.items]
+        return self.commented(cells) or self.derived(cells)
+
+    def commented(self, cells):
+        """Those that a comment tells by 81 digits and dots, if it tells just these cells."""
+        for marks in re.findall(r"(?<![1-9.])[1-9.]{81}(?![1-9.])", " ".join(self.comments)):
+            given = {(k // 9, k % 9): mark for k, mark in enumerate(marks) if mark != "."}
+            if list(given) == cells:
+                return given
+        return None
+
+    def derived(self, cells):
+        """Those that follow from what rows, columns and boxes lack; an empty text where one doesn't follow."""
         lacking = set(self.items)
-        cells = [(r, c) for r in NINE for c in NINE if f"p{r}{c}" not in lacking]
         houses = {cell: [f"r{cell[0]}", f"c{cell[1]}", f"b{cell[0] // 3 * 3 + cell[1] // 3}"] for cell in cells}
         digits = {cell: {d for d in "123456789" if not any(house + d in lacking for house in houses[cell])} for cell in cells}
         changed = True

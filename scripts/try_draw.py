@@ -1,0 +1,217 @@
+#!/usr/bin/env python3
+"""Tests what generate.py makes and what draw.py draws, with the built program between them.
+
+    python3 scripts/try_draw.py [--program PROGRAM]
+
+The examples must be written again byte for byte, and the pictures in examples/pictures drawn again. Of problems of each kind
+and of several sizes the drawn text is tested by the kind's own rules: queens that attack nobody, digits once in each row, and
+so on. Each SVG must be well formed, with all its shapes on the sheet. The last line is 'N passed, M failed'.
+"""
+import argparse
+import os
+import re
+import subprocess
+import sys
+import tempfile
+import xml.etree.ElementTree as tree
+
+TOP = os.path.dirname(os.path.dirname(os.path.abspath(__file__)))
+EXAMPLES = os.path.join(TOP, "examples")
+sys.path.insert(0, EXAMPLES)
+import generate  # noqa: E402
+
+PROGRAM = os.path.join(TOP, "crates", "solve_cli", "out", "solve_cli")
+HOLE = ["pentominoes", "8x8", "--without", "3,3", "3,4", "4,3", "4,4"]
+SUDOKU = "..............3.85..1.2.......5.7.....4...1...9.......5......73..2.1........4...9"
+# how the drawn texts of some examples begin
+BEGINNINGS = {
+    "queens-8": ["Q . . . . . . .", ". . . . Q . . .", ". . . . . . . Q"], "langford-4": ["4 1 3 1 2 4 3 2"], "petersen": ["o0 - o1", "o2 - o3"],
+    "sudoku": ["8 1 2 | 7 5 3 | 6 4 9", "9 4 3 | 6 8 2 | 1 7 5"], "fano-plane": ["1 2 3", "1 4 5"], "australia": ["NSW  red", "NT   red", "Q    green"],
+    "timetable": ["period  ann       bob       5a        5b        hall      room"], "letters": ["c e", "a d f", "b g"],
+    "pentominoes-6x10": ["+---+---+---+---+---+---+---+---+---+---+", "| L   L | X | F   F | T   T   T | W   W |"],
+    "mutilated-chessboard": ["none: the answer is that there is no cover", "    +---+---+---+---+---+---+---+", "    |                           |"],
+}
+MAP = "anna berta\nberta clara\nclara dora\ndora anna\nanna clara\nemil frieda\nemil anna\nfrieda dora\n"
+
+
+class Trial:
+    def __init__(self, program, folder):
+        self.program, self.folder, self.passed, self.failed = program, folder, 0, 0
+
+    def expect(self, what, is_so):
+        self.passed, self.failed = self.passed + bool(is_so), self.failed + (not is_so)
+        if not is_so:
+            print("failed:", what)
+
+    def path(self, name, text=None):
+        path = os.path.join(self.folder, name)
+        if text is not None:
+            with open(path, "wb") as opened:
+                opened.write(text)
+        return path
+
+    def python(self, script, *words):
+        return subprocess.run([sys.executable, os.path.join(TOP, script), *words], stdout=subprocess.PIPE, stderr=subprocess.PIPE)
+
+    def drawn(self, file, svg):
+        """What draw.py prints of the program's answer to a file, by lines."""
+        answered = subprocess.run([self.program, "alone", file], stdout=subprocess.PIPE, stderr=subprocess.PIPE, timeout=300)
+        answer = self.path("answer", answered.stdout)
+        ended = self.python("scripts/draw.py", file, answer, "--svg", svg)
+        self.expect(f"draw.py {file}: {ended.stderr.decode()}", ended.returncode == 0)
+        self.expect(f"the sheet of {file}", on_sheet(svg))
+        return ended.stdout.decode().split("\n")[:-1]
+
+    def made(self, *words):
+        """The same of a problem that generate.py makes."""
+        ended = self.python("examples/generate.py", *words)
+        self.expect(f"generate.py {words}: {ended.stderr.decode()}", ended.returncode == 0)
+        return self.drawn(self.path("made.dlx", ended.stdout), self.path("made.svg"))
+
+
+def content(path):
+    with open(path, "rb") as opened:
+        return opened.read()
+
+
+def points_of(shape):
+    """The outmost points of a shape; of an arc its ends."""
+    value = {name: float(text) for name, text in shape.attrib.items() if re.fullmatch(r"-?[\d.]+", text)}
+    if "points" in shape.attrib:
+        return [tuple(map(float, point.split(","))) for point in shape.attrib["points"].split()]
+    if "cx" in value:
+        return [(value["cx"] + k * value["r"], value["cy"] + k * value["r"]) for k in (1, -1)]
+    if "x1" in value:
+        return [(value["x1"], value["y1"]), (value["x2"], value["y2"])]
+    return [(value["x"] + k * value.get("width", 0), value["y"] + k * value.get("height", 0)) for k in (0, 1)] if "x" in value else []
+
+
+def on_sheet(svg):
+    """Whether the SVG is well formed, and all its shapes lie on the sheet."""
+    root = tree.parse(svg).getroot()
+    left, top, wide, high = map(float, root.attrib["viewBox"].split())
+    points = [point for shape in root for point in points_of(shape)]
+    return len(points) > 2 and all(left <= x <= left + wide and top <= y <= top + high for x, y in points)
+
+
+# ---- the rules of each kind, by what was drawn
+
+def are_queens(lines, n):
+    queens = [(r, c) for r, line in enumerate(lines) for c, mark in enumerate(line.split()) if mark == "Q"]
+    lines_used = [{f(r, c) for r, c in queens} for f in (lambda r, c: r, lambda r, c: c, lambda r, c: r + c, lambda r, c: r - c)]
+    return len(lines) == n and all(len(used) == len(queens) == n for used in lines_used)
+
+
+def are_pairs(lines, n):
+    row = lines[0].split()
+    return len(row) == 2 * n and all(row.count(str(d)) == 2 and row[row.index(str(d)) + d + 1] == str(d) for d in range(1, n + 1))
+
+
+def is_sudoku(lines, given):
+    rows = ["".join(re.findall(r"\d", line)) for line in lines if "+" not in line]
+    columns = ["".join(column) for column in zip(*rows)]
+    boxes = ["".join(rows[r][c:c + 3] for r in range(top, top + 3)) for top in (0, 3, 6) for c in (0, 3, 6)]
+    stand = all(mark in (".", digit) for mark, digit in zip(given, "".join(rows)))
+    return stand and len(rows) == 9 and all(sorted(house) == sorted("123456789") for house in rows + columns + boxes)
+
+
+def letters(lines):
+    return sorted(re.findall("[A-Z]", "".join(lines)))
+
+
+def walls(lines):
+    """How many pieces of wall are drawn across and down."""
+    return sum(line.count("---") for line in lines), sum(line.count("|") for line in lines)
+
+
+def join_all(lines, n):
+    """Whether any two of the points stand in exactly one of the triples."""
+    pairs = [pair for a, b, c in (line.split() for line in lines) for pair in ((a, b), (a, c), (b, c))]
+    return len(pairs) == len(set(pairs)) == n * (n - 1) // 2
+
+
+# ---- the tests
+
+def examples(trial):
+    generate.HERE = trial.folder
+    generate.examples()
+    written = [name for name in sorted(os.listdir(trial.folder)) if name.endswith(".dlx")]
+    trial.expect("nine examples are written", len(written) == 9)
+    for name in written:
+        trial.expect(f"{name} as it stands", content(trial.path(name)) == content(os.path.join(EXAMPLES, name)))
+    for name in sorted(os.listdir(os.path.join(EXAMPLES, "pictures"))):
+        file, svg = os.path.join(EXAMPLES, name.replace(".svg", ".dlx")), trial.path("again.svg")
+        if name == "pentominoes-8x8.svg":
+            file = trial.path("hole.dlx", trial.python("examples/generate.py", *HOLE).stdout)
+        trial.drawn(file, svg)
+        trial.expect(f"the picture {name} as it stands", content(svg) == content(os.path.join(EXAMPLES, "pictures", name)))
+
+
+def beginnings(trial):
+    for name, lines in BEGINNINGS.items():
+        drawn = trial.drawn(os.path.join(EXAMPLES, name + ".dlx"), trial.path("again.svg"))
+        trial.expect(f"the text of {name}", drawn[:len(lines)] == lines)
+
+
+def kinds(trial):
+    for n in (1, 4, 8, 12):
+        trial.expect(f"queens {n}", are_queens(trial.made("queens", str(n)), n))
+    for n in (3, 4, 8, 12):
+        trial.expect(f"langford {n}", are_pairs(trial.made("langford", str(n)), n))
+    trial.expect("sudoku", is_sudoku(trial.made("sudoku", SUDOKU), SUDOKU))
+    nearly = "." + re.sub(r"\D", "", "".join(trial.made("sudoku", SUDOKU)))[1:70] + "." * 11
+    trial.expect("a sudoku with few empty cells", is_sudoku(trial.made("sudoku", nearly), nearly))
+    trial.expect("a sudoku in a file", is_sudoku(trial.made("sudoku", trial.path("grid", SUDOKU.encode())), SUDOKU))
+    for words in (["pentominoes", "5x12"], HOLE):
+        trial.expect(f"{words}", letters(trial.made(*words)) == sorted("FILNPTUVWXYZ" * 5))
+    trial.expect("five pieces", sorted(map(letters(trial.made("pentominoes", "5x5")).count, "FILNPTUVWXYZ")) == [0] * 7 + [5] * 5)
+    trial.expect("no tetrominoes", trial.made("tetrominoes", "4x4")[0].startswith("none"))
+    # of the walls that the cells of 4 by 6 might have, 28 across and 28 down, each domino of 12 lacks one
+    trial.expect("dominoes", sum(walls(trial.made("dominoes", "4x6"))) == 4 * 7 + 5 * 6 - 12)
+    for n in (7, 9, 13):
+        trial.expect(f"triples {n}", join_all(trial.made("triples", str(n)), n))
+
+
+def tables_and_graphs(trial):
+    borders = trial.path("map", MAP.encode())
+    colours = dict(line.split() for line in trial.made("coloring", borders, "--colors", "red,blue,white"))
+    trial.expect("a map", len(colours) == 6 and all(colours[a] != colours[b] for a, b in (line.split() for line in MAP.splitlines())))
+    joined = [line.split(" - ") for line in trial.made("matching", borders)]
+    trial.expect("a matching", sorted(sum(joined, [])) == sorted(colours) and all(" ".join(pair) + "\n" in MAP for pair in joined))
+    table = [line.split() for line in trial.made("timetable", os.path.join(EXAMPLES, "timetable.csv"))]
+    trial.expect("a timetable", table[0] == ["period", "ann", "bob", "5a", "5b", "room", "hall"] and len(table) == 5)
+    trial.expect("each lesson at three", all(sum(row.count(lesson) for row in table[2:]) == 3
+                                             for lesson in ("maths-5a", "maths-5b", "music-5a", "music-5b", "art-5a")))
+
+
+def refusals(trial):
+    for words in (["queens", "142"], ["queens", "0"], ["langford", "200"], ["pentominoes", "7x9"], ["pentominoes", "5"], ["sudoku", "8......."],
+                  ["sudoku", "11" + "." * 79], ["dominoes", "2x2", "--without", "2,0"], ["timetable", trial.folder], ["coloring", "nothing"],
+                  ["triples", "60"], ["matching", trial.path("edges", b"a b c\n")], ["coloring", trial.path("borders", b"a-b c\n")]):
+        ended = trial.python("examples/generate.py", *words)
+        trial.expect(f"{words} is refused", ended.returncode == 2 and not ended.stdout and b"Traceback" not in ended.stderr and ended.stderr)
+    file = trial.path("bad.dlx", b"a b\na c\n")
+    letters_file = os.path.join(EXAMPLES, "letters.dlx")
+    for words in ([file, file], [letters_file, file], [letters_file, trial.folder], ["nothing", file]):
+        ended = trial.python("scripts/draw.py", *words)
+        trial.expect(f"draw.py {words} stops", ended.returncode == 3 and not ended.stdout and ended.stderr.startswith(b"draw: "))
+    wrong = trial.path("wrong", b"cover 1\nc e\n")
+    trial.expect("no exact cover", b"no exact cover" in trial.python("scripts/draw.py", letters_file, wrong).stderr)
+
+
+def main():
+    parser = argparse.ArgumentParser(description=__doc__, formatter_class=argparse.RawDescriptionHelpFormatter)
+    parser.add_argument("--program", default=PROGRAM, help="the built program (default crates/solve_cli/out/solve_cli)")
+    given = parser.parse_args()
+    if not os.path.isfile(given.program):
+        sys.exit(f"try_draw: the program isn't built: {given.program} is missing; (cd crates/solve_cli && rt run) builds it")
+    with tempfile.TemporaryDirectory(prefix="try-draw-") as folder:
+        trial = Trial(given.program, folder)
+        for tests in (examples, beginnings, kinds, tables_and_graphs, refusals):
+            tests(trial)
+    print(f"{trial.passed} passed, {trial.failed} failed")
+    return 1 if trial.failed else 0
+
+
+if __name__ == "__main__":
+    sys.exit(main())
