@@ -242,7 +242,8 @@ def read_lessons(path):
     for number, row in enumerate(rows, 2):
         lacking = [column for column in wanted if not row.get(column)]
         if lacking or not all(period.isdigit() for period in row["periods"].split()):
-            stop(f"{path}, line {number}: {lacking[0] + ' is missing' if lacking else 'periods are numbers'}; the columns are {','.join(wanted)}")
+            what = lacking[0] + " is missing" if lacking else "periods are numbers"
+            stop(f"{path}, line {number}: {what}; the columns are {','.join(wanted)}")
     lessons = [row["lesson"] for row in rows]
     for lesson in lessons:
         if lessons.count(lesson) > 1:
@@ -261,7 +262,8 @@ def board(given):
 def pieces_on_board(given, pieces, note):
     cells, each = board(given), len(shape(next(iter(pieces.values()))))
     if len(cells) > each * len(pieces) or len(cells) % each:
-        stop(f"{len(pieces)} pieces of {each} cells can't fill {len(cells)} cells: that is more than {each * len(pieces)}, or no multiple of {each}")
+        stop(f"{len(pieces)} pieces of {each} cells can't fill {len(cells)} cells: that is more than {each * len(pieces)}, "
+             f"or no multiple of {each}")
     tiling("-", note, pieces, cells)
 
 
@@ -314,7 +316,8 @@ def parse():
         tiles.add_argument("size", metavar="ROWSxCOLUMNS", type=size, help="as in 5x12")
         tiles.add_argument("--without", metavar="ROW,COLUMN", type=cell, nargs="+", default=[], help="cells that are left out, from 0,0")
     kinds.add_parser("sudoku").add_argument("given", metavar="FILE-or-81-characters", help="digits, and dots or zeros for empty cells")
-    for kind, what in (("coloring", "borders, two names a line"), ("matching", "edges, two names a line"), ("timetable", "lessons, as CSV")):
+    for kind, what in (("coloring", "borders, two names a line"), ("matching", "edges, two names a line"),
+                       ("timetable", "lessons, as CSV")):
         kinds.add_parser(kind).add_argument("file", metavar="FILE", help=what)
     kinds.choices["coloring"].add_argument("--colors", default="red,green,blue", help="the colours, with commas (default red,green,blue)")
     return parser.parse_args()

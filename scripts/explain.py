@@ -214,8 +214,8 @@ def explain_answer(problem, answer):
         yield from wrong
     elif not answer.faults:
         yield from wrong
-        yield plural(len(answer.chosen), "option") + (" that are no exact cover" if wrong else ", each primary item in exactly one of them, "
-                                                      "no secondary item in two")
+        exact = ", each primary item in exactly one of them, no secondary item in two"
+        yield plural(len(answer.chosen), "option") + (": no exact cover" if wrong else exact)
 
 
 # ---- the whole

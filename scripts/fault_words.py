@@ -14,7 +14,8 @@ def plural(count, what, with_count=True):
 
 
 def quoted(name):
-    return f"'{shown(name)}'"
+    text = shown(name)
+    return f"'{text}'" if len(text) <= 60 else f"'{text[:40]}..{text[-10:]}' ({len(name):,} bytes)"
 
 
 def listed(things, most):

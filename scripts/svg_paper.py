@@ -24,8 +24,8 @@ class Paper:
         told = "".join(f' {name.replace("_", "-")}="{value}"' for name, value in attributes.items())
         self.shapes.append(f"<{kind}{told}/>" if content is None else f"<{kind}{told}>{escaped(content)}</{kind}>")
 
-    def box(self, x, y, wide, high, fill="none", stroke="none", thick=1, round_=0):
-        self.add("rect", [(x, y), (x + wide, y + high)], x=number(x), y=number(y), width=number(wide), height=number(high), rx=number(round_),
+    def box(self, x, y, wide, high, fill="none", stroke="none", thick=1.0):
+        self.add("rect", [(x, y), (x + wide, y + high)], x=number(x), y=number(y), width=number(wide), height=number(high),
                  fill=fill, stroke=stroke, stroke_width=number(thick))
 
     def line(self, x, y, to_x, to_y, stroke=INK, thick=1.0):
@@ -43,8 +43,8 @@ class Paper:
     def arc(self, x, to_x, y, stroke=INK, thick=1.5):
         """A half circle above the line from one place to another."""
         radius = (to_x - x) / 2
-        self.add("path", [(x, y - radius), (to_x, y)], d=f"M {number(x)} {number(y)} A {number(radius)} {number(radius)} 0 0 1 {number(to_x)} {number(y)}",
-                 fill="none", stroke=stroke, stroke_width=number(thick))
+        curve = f"M {number(x)} {number(y)} A {number(radius)} {number(radius)} 0 0 1 {number(to_x)} {number(y)}"
+        self.add("path", [(x, y - radius), (to_x, y)], d=curve, fill="none", stroke=stroke, stroke_width=number(thick))
 
     def text(self, x, y, content, size=14, anchor="middle", fill=INK, bold=False):
         """A text whose middle line lies at y."""

@@ -7,7 +7,8 @@ All examples, some outside cases, and a thousand random files, most of them spoi
 can be read once more with an answer: the program's own, a spoilt one, or a random choice of options. For each it compares
 the program's standard error (and the verdict of `check`) with the lines of explain.py that say what the program says, and
 the name and the line of the fault with those of the first fault that explain.py explains. Each kind of fault must have been
-met. The last line counts; the exit status is 1 where one differs.
+met. What else is told is tested by a table of files with lines that were worked out by hand. The last
+line counts; the exit status is 1 where one differs.
 """
 import argparse
 import collections
@@ -134,6 +135,58 @@ def some_answer(draw, text, own):
     return spoilt(draw, random_answer(draw, text) if what > 2 else own, draw.choice([0, 0, 1, 1, 2]))
 
 
+# ---- what is told, by hand
+
+GOOD = b"a b c | x y\na b x\nb a x\na b c\ny\nx\n"
+LETTERS = b"a b c d e f g\nc e\na d g\nb c f\na d f\nb g\nd e g\n"
+# a file, an answer or none, and lines that have to be told
+TOLD = [
+    (GOOD, None, ["5 items (3 primary, 2 secondary), 3 options, 9 occurrences of items in them",
+                  "2 options ignored for naming no primary item: lines 5 and 6",
+                  "in one option alone, which every cover has: primary item 'c' (line 4)",
+                  "in no option, and without effect: secondary item 'y'", "always together, in 3 options: 'a' and 'b'",
+                  "the same items in 2 options: lines 2 and 3"]),
+    (b"a b\na\n", None, ["in no option, so there is no cover: primary item 'b'"]),
+    (b"a b\na\n", b"none\n", ["the program says: right"]),
+    (b"a b\nA b\nb cc\na b\nb b\n", None, [
+        "line 2, column 1, 'A': UnknownItem: no item has this name; nearest: 'a'",
+        "line 3, column 3, 'cc': UnknownItem: no item has this name; the items are 'a' and 'b'",
+        "line 5, column 3, 'b': DuplicateInOption: this option names it already; an option names each of its items once"]),
+    (b"\xef\xbb\xbfa b\na b\n", None, [
+        "the program says: refused: UnknownItem line 2",
+        "the file begins with a byte order mark (bytes EF BB BF), which isn't seen and belongs to the first word: "
+        "save it as UTF-8 without the mark",
+        "apart from this the file can be read"]),
+    (b"# mine\na b\na b\na x\n", None, ["the program says: refused: UnknownItem line 2",
+                                      "line 4, column 3, 'x': UnknownItem: no item has this name; the items are 'a' and 'b'"]),
+    (b"a \xc3\xa9\xc3\xa9  b\n\xc3\xa9\xc3\xa9\tb\tb\n", None, [
+        "line 2, column 6, 'b': DuplicateInOption: this option names it already; an option names each of its items once"]),
+    (b"a b\na\na x\nb x\n", None, [
+        "line 3, column 3, 'x': UnknownItem: no item has this name; the items are 'a' and 'b' (the same in 1 more line: 4)"]),
+    (LETTERS, b"cover 3\nc e\na d g\nb g\n", [
+        "the program says: wrong: Uncovered f", "uncovered: 'f' (options that name it: lines 4 and 5 of the file)",
+        "covered twice: 'g' by line 3 of the answer (line 3 of the file) and line 4 of the answer (line 6 of the file)"]),
+    (LETTERS, b"cover 3\ne c\na d f\nb g\n", ["line 2: UnknownOption: names stand in the order of the file: write 'c e' (line 2)"]),
+    (LETTERS, b"c e\na d f\nb g\n", ["line 1: BadHead: 'cover 3' is missing before the options"]),
+    (LETTERS, b"cover 2\nc e\nc e\n", [
+        "line 3: UnknownOption: the file has this option once (line 2), and the answer has it already at line 2"]),
+    (LETTERS, b"cover 1\na d f g\n", ["line 2: UnknownOption: no option of the file has these names; nearest: 'a d g' (line 3)"]),
+    (LETTERS, b"cover 3\nc e\na d f\nb g\n", ["the program says: right"]),
+]
+
+
+def by_hand():
+    """How many of the lines that have to be told are missing."""
+    missing = 0
+    for text, answer, expected in TOLD:
+        lines, _ = explain.explain(text, answer)
+        for line in expected:
+            if line not in lines:
+                print(f"not told of {text[:60]} and {answer}: {line}")
+                missing += 1
+    return missing
+
+
 # ---- the comparison
 
 class Trial:
@@ -174,9 +227,16 @@ class Trial:
         self.agreed, self.differ = self.agreed + bool(agrees), self.differ + (not agrees)
         if not agrees:
             print(f"differ: the program {verdict + told}, explain.py {says}, first {first}")
-            for word in words:
+            for word in filter(os.path.isfile, words):
                 with open(word, "rb") as opened:
                     print("    " + repr(opened.read(500)))
+
+    def unreadable(self):
+        """Compares a folder and a missing file, as the problem's file and as the answer's."""
+        letters, missing = self.write("letters", LETTERS), os.path.join(self.folder, "missing")
+        for path in (self.folder, missing):
+            self.compare([path], self.run("alone", path), False)
+            self.compare([letters, path], self.run("check", letters, path), True)
 
     def file(self, draw, text):
         """Compares a file, and where it can be read an answer to it."""
@@ -218,12 +278,16 @@ def main():
         for text in texts(draw, given.files):
             trial.file(draw, text)
             files += 1
+        answers = trial.agreed + trial.differ - files
+        trial.unreadable()
+    missing = by_hand()
     missed = [kind for kind in FAULTS if not trial.kinds[kind]]
     print(", ".join(f"{kind} {count}" for kind, count in trial.kinds.most_common()))
     if missed and given.files >= 1000:
         print("never met:", ", ".join(missed))
-    print(f"{files} files, {trial.agreed + trial.differ - files} answers: {trial.agreed} agree, {trial.differ} differ")
-    return 1 if trial.differ or (missed and given.files >= 1000) else 0
+    print(f"{sum(len(expected) for _, _, expected in TOLD)} lines by hand: {missing} missing")
+    print(f"{files} files, {answers} answers, 4 that can't be read: {trial.agreed} agree, {trial.differ} differ")
+    return 1 if trial.differ or missing or (missed and given.files >= 1000) else 0
 
 
 if __name__ == "__main__":
