@@ -6,7 +6,7 @@ import re
 from cover_files import shown
 from svg_paper import ACCENT, BACKGROUND, Board, draw_table, FAINT, FILLS, INK, on_circle, table_text, text_width
 
-CELL = 40
+CELL, LARGEST = 40, 1_000
 NONE = "none: the answer is that there is no cover"
 KNOWN_COLOURS = {"red": "#f0a39a", "green": "#b3d9b1", "blue": "#a5c4ee", "yellow": "#f5e08c", "orange": "#f7c08a", "purple": "#cdb3e6",
                  "white": "#ffffff", "grey": "#cccccc", "gray": "#cccccc", "brown": "#cfae8e", "pink": "#f3bfd3"}
@@ -68,7 +68,8 @@ class Tiling(Kind):
 
     def is_known(self):
         cells = [[cell_of(name) for name in option] for option in self.options]
-        return bool(cells) and all(found.count(None) <= 1 and len(found) > found.count(None) and
+        rows, columns = ({place[k] for place in map(cell_of, self.items) if place} for k in (0, 1))
+        return bool(cells) and max(rows | columns, default=LARGEST) < LARGEST and all(found.count(None) <= 1 and len(found) > found.count(None) and
                                    is_connected([cell for cell in found if cell]) for found in cells)
 
     def board(self):
@@ -200,12 +201,12 @@ class Langford(Kind):
             found = re.fullmatch(r"(\d+) s(\d+) s(\d+)", " ".join(option))
             return found and int(found[3]) - int(found[2]) == int(found[1]) + 1
 
-        return self.all_match(r"s?\d+") and bool(self.options) and all(map(is_pair, self.options))
+        return self.all_match(r"s?\d{1,3}") and bool(self.options) and all(map(is_pair, self.options))
 
     def row(self):
-        """The number at each place, or a dot."""
-        at = {name: option[0] for option in self.chosen for name in option[1:]}
-        return [at.get(item, ".") for item in self.items if item.startswith("s")]
+        """The number at each place, or a dot, from the first place to the last."""
+        at = {int(name[1:]): option[0] for option in self.chosen for name in option[1:]}
+        return [at.get(place, ".") for place in range(1, max(int(item[1:]) for item in self.items if item[0] == "s") + 1)]
 
     def lines(self):
         return [" ".join(self.row())]
@@ -255,7 +256,8 @@ class Colouring(Kind):
     """Places, each with a colour that none of its neighbours has."""
 
     def is_known(self):
-        return bool(self.secondary()) and self.all_match(r".+-.+=.+", self.secondary())
+        return bool(self.secondary()) and self.all_match(r".+-.+=.+", self.secondary()) and all(
+            option[0] in self.primary and self.primary.isdisjoint(option[1:]) for option in self.options)
 
     def colours(self):
         """The colour of each place that an option gives one, by its name."""

@@ -9,6 +9,7 @@ so on. Each SVG must be well formed, with all its shapes on the sheet. The last 
 """
 import argparse
 import os
+import random
 import re
 import subprocess
 import sys
@@ -19,6 +20,9 @@ TOP = os.path.dirname(os.path.dirname(os.path.abspath(__file__)))
 EXAMPLES = os.path.join(TOP, "examples")
 sys.path.insert(0, EXAMPLES)
 import generate  # noqa: E402
+from cover_files import read_problem, shown  # noqa: E402
+from picture_kinds import picture_of  # noqa: E402
+from svg_paper import Paper  # noqa: E402
 
 PROGRAM = os.path.join(TOP, "crates", "solve_cli", "out", "solve_cli")
 HOLE = ["pentominoes", "8x8", "--without", "3,3", "3,4", "4,3", "4,4"]
@@ -34,6 +38,8 @@ BEGINNINGS = {
     "mutilated-chessboard": ["none: the answer is that there is no cover", "    +---+---+---+---+---+---+---+",
                              "    |                           |"],
 }
+MIXED = ["00", "01", "10", "11", "3-4", "3-5", "r0", "c0", "a1", "b2", "1", "2", "s1", "s3", "s2", "s4", "ann-1", "bob-2", "A-B=red",
+         "A", "B", "p00", "r01", "c01", "b01", "12", "13", "23", "x", "99999999", "s"]
 MAP = "anna berta\nberta clara\nclara dora\ndora anna\nanna clara\nemil frieda\nemil anna\nfrieda dora\n"
 
 
@@ -187,6 +193,23 @@ def tables_and_graphs(trial):
                                              for lesson in ("maths-5a", "maths-5b", "music-5a", "music-5b", "art-5a")))
 
 
+def strange_names(trial):
+    """Random problems whose names mix those of all kinds: each is drawn, if only as a list."""
+    draw, drawn = random.Random(1), 0
+    for _ in range(5000):
+        names = draw.sample(MIXED, draw.randint(1, 6))
+        primary = draw.randint(1, len(names))
+        lines = [names[:primary] + ["|"] * (primary < len(names)) + names[primary:]]
+        lines += [draw.sample(names, draw.randint(1, len(names))) for _ in range(draw.randint(0, 6))]
+        problem = read_problem("\n".join(map(" ".join, lines)).encode())
+        chosen = [tuple(map(shown, option.names)) for option in draw.sample(problem.options, min(2, len(problem.options)))]
+        paper = Paper("strange names")
+        picture = picture_of(problem, chosen, not chosen)
+        picture.draw(paper)
+        drawn += bool(paper.svg() and isinstance(picture.text(), list))
+    trial.expect("strange names", drawn == 5000)
+
+
 def refusals(trial):
     for words in (["queens", "142"], ["queens", "0"], ["langford", "200"], ["pentominoes", "7x9"], ["pentominoes", "5"],
                   ["sudoku", "8......."], ["sudoku", "11" + "." * 79], ["dominoes", "2x2", "--without", "2,0"],
@@ -212,7 +235,7 @@ def main():
         sys.exit(f"try_draw: the program isn't built: {given.program} is missing; (cd crates/solve_cli && rt run) builds it")
     with tempfile.TemporaryDirectory(prefix="try-draw-") as folder:
         trial = Trial(given.program, folder)
-        for tests in (examples, beginnings, kinds, tables_and_graphs, refusals):
+        for tests in (examples, beginnings, kinds, tables_and_graphs, strange_names, refusals):
             tests(trial)
     print(f"{trial.passed} passed, {trial.failed} failed")
     return 1 if trial.failed else 0
