@@ -1,5 +1,6 @@
-ghost use Rattle.std.specs.Prelude.{◌≡◌, ◌<◌, ◌≤◌, ℕ, List, [], length, Some, true, IfOk, IfErr, IfSome};
+ghost use Rattle.std.specs.Prelude.{◌≡◌, ◌<◌, ◌≤◌, ℕ, List, [], length, Some, true, IfOk, IfErr, IfSome, OnOk, OnErr, vec_capacity};
 ghost use Rattle.cover_problem.specs.Prefix.{is_prefix, IsBarren, IsCoverOver};
+ghost use Rattle.cover_problem.specs.Problem.{IsProblem};
 ghost use Rattle.cover_problem.specs.Search.{Covers, first, outcome, visits};
 
 use crate::branching::choose_prefix;
@@ -46,6 +47,7 @@ impl<'a> Searcher<'a> {
         ensures problem { self.new.problem ≡ self.old.problem }
         ensures outcome { outcome_told result self.new.found ≡ outcome self.old.problem prefix.now fuel }
         ensures cover { result ≡ Outcome.Cover → IsCoverOver self.old.problem prefix.now self.new.found }
+        ensures short { result ≡ Outcome.Cover → length self.new.found ≤ 1000 }
         ensures barren { result ≡ Outcome.Barren → IsBarren self.old.problem prefix.now }
     {
         match self.visit(prefix, fuel, &Unwatched) {
@@ -61,6 +63,7 @@ impl<'a> Searcher<'a> {
         requires prefix { is_prefix self.old.problem prefix.now ≡ true }
         requires fuel { 1 ≤ fuel }
         ensures problem { self.new.problem ≡ self.old.problem }
+        ensures lawful { IsProblem self.old.problem }
         ensures visit { IsVisit (first self.old.problem prefix.now) (visits self.old.problem prefix.now) fuel prefix.now self.new.found result }
         ensures stopped { result ≡ Visit.Stopped → W.may_stop ≡ true }
     {
@@ -69,18 +72,35 @@ impl<'a> Searcher<'a> {
         visit_prefix(&mut self.links, depth, fuel, watch)
     }
 
-    /// Searches as `search` does, and copies out what it came to; `found` is the cover then, too. At want of memory the
-    /// prefix comes back.
+    /// Searches as `search` does, and copies out what it came to; `found` is the cover then, too. It takes the room for a
+    /// cover first: at want of memory nothing is searched, and the prefix comes back.
     pub fn find(&mut self, prefix: Vec<u16>, fuel: u64) -> Result<Finding, Vec<u16>>
         requires prefix { is_prefix self.old.problem prefix.items ≡ true }
         requires fuel { 1 ≤ fuel }
         ensures problem { self.new.problem ≡ self.old.problem }
         ensures finding { IfOk result (λ finding. finding ≡ finding_by prefix.items fuel (outcome self.old.problem prefix.items fuel)) }
-        ensures found { (cover : List ℕ) → outcome self.old.problem prefix.items fuel ≡ Covers cover → self.new.found ≡ cover }
+        ensures found { OnOk result ((cover : List ℕ) → outcome self.old.problem prefix.items fuel ≡ Covers cover → self.new.found ≡ cover) }
+        ensures unchanged { OnErr result (self.new ≡ self.old) }
         ensures back { IfErr result (λ list. list.items ≡ prefix.items) }
     {
+        let Ok(room) = Vec::with_capacity(self.alloc, self.links.problem().primary()) else {
+            return Err(prefix);
+        };
         let outcome = self.search(&prefix, fuel);
-        self.copied_out(prefix, fuel, outcome)
+        Ok(self.copied_into(room, prefix, fuel, outcome))
+    }
+
+    /// What a search of the prefix came to, with its cover in the room, which takes no memory.
+    fn copied_into(&self, room: Vec<u16>, prefix: Vec<u16>, fuel: u64, outcome: Outcome) -> Finding
+        requires empty { room.items ≡ [] }
+        requires room { self.now.problem.primary ≤ vec_capacity room }
+        ensures { result ≡ finding_by prefix.items fuel (outcome_told outcome self.now.found) }
+    {
+        let cover = match outcome {
+            Outcome::Cover => written(self.found(), room),
+            Outcome::Barren | Outcome::Spent => Vec::new(self.alloc),
+        };
+        Finding::from_parts(prefix, fuel, outcome, cover)
     }
 
     /// Searches as `find` does until the watch stops it; none where it did. With the finding it tells how many visits were made: all
@@ -123,12 +143,28 @@ impl<'a> Searcher<'a> {
         }
     }
 
-    /// The cover that the last search found.
+    /// The cover that the last search found. It has at most as many options as there are primary items, so at most 1,000.
     pub fn found(&self) -> &[u16]
-        ensures { result.now ≡ self.now.found }
+        ensures found { result.now ≡ self.now.found }
+        ensures short { length result.now ≤ 1000 }
+        ensures few { length result.now ≤ self.now.problem.primary }
     {
+        self.links.problem();
         self.links.chosen()
     }
+}
+
+/// The numbers, in the room.
+fn written(numbers: &[u16], room: Vec<u16>) -> Vec<u16>
+    requires empty { room.items ≡ [] }
+    requires fits { length numbers.now ≤ vec_capacity room }
+    ensures { result.items ≡ numbers.now }
+{
+    let mut list = room;
+    for number in numbers {
+        list.push_reserved(*number);
+    }
+    list
 }
 
 /// A list of the same numbers; the only error is want of memory.

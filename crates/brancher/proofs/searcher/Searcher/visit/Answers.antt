@@ -1,7 +1,6 @@
-use Rattle.std.proofs.Common.{◌≡◌, ap, arith, ◌∙◌}
+use Rattle.std.proofs.Common.{ap, arith}
 use Rattle.cover_problem.specs.Problem.{Problem}
 use Rattle.cover_problem.proofs.Prefixes.{open_few}
-use Rattle.brancher.specs.Searching.{Searching}
 use Rattle.brancher.proofs.searcher.Searcher.visit.Goals as goal
 
 pub visit_prefix-requires : goal.visit_prefix-requires
