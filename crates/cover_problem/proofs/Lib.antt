@@ -12,6 +12,7 @@ pub mod Ordered
 pub mod Outcomes
 pub mod Prefixes
 pub mod Remaining
+pub mod Repeats
 pub mod Sets
 pub mod Steps
 pub mod Unbounded

@@ -8,14 +8,20 @@ use crate::prefix::{are_options, option_names};
 use crate::problem::Problem;
 use crate::verdict::Verdict;
 
+/// How many numbers there are that an option can have.
+const NUMBERS: usize = 65536;
+
 /// Whether no number stands in the list twice.
 fn is_distinct(numbers: &[u16]) -> bool
     ensures { result ≡ is_distinct numbers.now }
 {
-    for (place, number) in numbers.iter().enumerate() {
-        if numbers[place + 1..].contains(number) {
+    let mut seen = [false; NUMBERS];
+    for number in numbers {
+        let place = usize::from(*number);
+        if seen[place] {
             return false;
         }
+        seen[place] = true;
     }
     true
 }
@@ -71,7 +77,7 @@ fn verdict_on(problem: &Problem, options: &[u16]) -> Verdict
 
 /// Tests whether the list is an exact cover with each option once, and tells the first thing that is wrong.
 ///
-/// It takes no memory, and time of the order of the items by the items of the list's options.
+/// It takes no memory but 64 KiB of the stack, and time of the order of the items by the items of the list's options.
 pub fn check_cover(problem: &Problem, options: &[u16]) -> Verdict
     ensures verdict { result ≡ verdict_of problem.now options.now }
     ensures item { TellsItemOf problem.now result }

@@ -1,6 +1,5 @@
-use Rattle.std.proofs.Common.{◌≡◌, drop}
-use Rattle.cover_problem.specs.Numbers.{is_distinct}
+use Rattle.cover_problem.proofs.Repeats.{Seen}
 use Rattle.cover_problem.proofs.check.is_distinct.Given as goal
 
-abbrev pub invariant-loop-place : goal.invariant-loop-place
-invariant-loop-place l = is_distinct (drop l.place l.numbers) ≡ is_distinct l.numbers
+abbrev pub invariant-loop-number : goal.invariant-loop-number
+invariant-loop-number l = Seen l.seen l.numbers l.number-index
