@@ -3,10 +3,9 @@ use Rattle.std.specs.Prelude.{◌≡◌, ℕ, ◌+◌, List, [], ◌∷◌, Opti
 use Rattle.std.specs.Option.{option_map}
 use Rattle.std.specs.List.{list_any}
 use Rattle.std.specs.Borrow.{Bor}
-use Rattle.std.specs.Cmp.Lexicographic.{pointwise}
-use Rattle.std.specs.HashMap.{HashMap, get_by}
-use Rattle.std.specs.declared.hash.FoldHasher.{FoldHasher}
-use Rattle.std.specs.declared.hash.BuildHasherDefault.{BuildHasherDefault}
+use Rattle.std.specs.Cmp.Lexicographic.{pointwise, slice_cmp}
+use Rattle.std.specs.Ordering.{nat_cmp}
+use Rattle.std.specs.BTreeMap.{BTreeMap, get_by}
 
 -- whether a word is one of the names, byte by byte
 abbrev pub is_among : List (List ℕ) → List ℕ → Bool
@@ -19,8 +18,8 @@ item_named (name ∷ names) word = if pointwise nat_eq name word then Some 0 els
 
 -- a map from names to numbers
 abbrev pub Index : Type 0
-Index = HashMap (Bor (List ℕ)) ℕ (BuildHasherDefault FoldHasher)
+Index = BTreeMap (Bor (List ℕ)) ℕ
 
 -- At any word the map has the number of the name that it is, if any.
 abbrev pub IsIndex : List (List ℕ) → Index → Type 0
-IsIndex names index = (word : List ℕ) → get_by (λ name. pointwise nat_eq word name.now) index ≡ item_named names word
+IsIndex names index = (word : List ℕ) → get_by (λ name. slice_cmp nat_cmp word name.now) index ≡ item_named names word

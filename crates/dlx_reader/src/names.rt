@@ -4,14 +4,15 @@ ghost use Rattle.std.specs.Prelude.{◌≡◌, ◌<◌, ◌≤◌, [], ◌∷◌
 
 use cover_problem::Name;
 use std::alloc::{AllocError, Global};
-use std::collections::HashMap;
+use std::collections::BTreeMap;
 use std::marker::Model;
 
-/// The names of the items in their order, of which there are at most 1,000. Each is found in the time of one look-up.
+/// The names of the items in their order, of which there are at most 1,000. Each is found by some ten comparisons,
+/// whatever the names are.
 #[derive(Drop)]
 pub struct Names<'a> {
     list: Vec<Name>,
-    index: HashMap<&'a [u8], u16>,
+    index: BTreeMap<&'a [u8], u16>,
 }
 
 impl<'a> Model for Names<'a> {
@@ -34,7 +35,7 @@ impl<'a> Names<'a> {
     {
         Names {
             list: Vec::new(alloc),
-            index: HashMap::new(alloc),
+            index: BTreeMap::new(alloc),
         }
     }
 

@@ -1,6 +1,6 @@
 use Rattle.std.proofs.Common.{◌≡◌, arith, length, ◌∙◌, ap, Some, length-append, [], ◌∷◌, ◌++◌, cond, nat_eq, rules}
 use Rattle.std.specs.Cmp.Lexicographic.{pointwise}
-use Rattle.std.proofs.lemmas.Map.Text.{hash_map_updates_str}
+use Rattle.std.proofs.lemmas.Map.Text.{btree_map_updates_str}
 use Rattle.dlx_reader.specs.Names.{item_named}
 use Rattle.dlx_reader.proofs.Naming.{named-push, none-named, pushed}
 use Rattle.dlx_reader.proofs.names.Names.push.Goals as goal
@@ -12,7 +12,7 @@ invariant_of-self-2 c =
     let number : c.len-number.result ≡ length c.args.self.now = search (rules, ap length same) in (
       rw names (omega (arith, length-append c.args.self.now (c.args.word.now ∷ []), c.requires.room)),
       λ word.
-          hash_map_updates_str c.args.word.now c.self.inside.index c.insert.new.self (Some c.len-number.result) c.in_ok-insert.ensures.updates word
+          btree_map_updates_str c.args.word.now c.self.inside.index c.insert.new.self (Some c.len-number.result) c.in_ok-insert.ensures.updates word
           ∙ ap (cond (pointwise nat_eq c.args.word.now word) (Some c.len-number.result)) (c.self.invariant.1 word ∙ ap (λ names. item_named names word) same)
           ∙ rw (number, names) (named-push c.args.self.now c.args.word.now word (none-named _ _ c.requires.fresh)),
     )
