@@ -10,10 +10,10 @@ use Rattle.cover_problem.specs.Numbers.{is_in, is_distinct}
 abbrev pub AreMarks : List Bool → List ℕ → Type 0
 AreMarks marks seen = (n : ℕ) → n < length marks → get_or marks n false ≡ is_in seen n
 
-push_same : (seen : List ℕ) (n : ℕ) → is_in (seen ++ n ∷ []) n ≡ true
+pub push_same : (seen : List ℕ) (n : ℕ) → is_in (seen ++ n ∷ []) n ≡ true
 push_same seen n = list_any-append (λ m. m == n) seen (n ∷ []) ∙ or_right (is_in seen n) (n == n || false) (or_left (n == n) false (eq-eqb n n refl))
 
-push_other : (seen : List ℕ) (n k : ℕ) → (n ≡ k → ⊥) → is_in (seen ++ n ∷ []) k ≡ is_in seen k
+pub push_other : (seen : List ℕ) (n k : ℕ) → (n ≡ k → ⊥) → is_in (seen ++ n ∷ []) k ≡ is_in seen k
 push_other [] n k other = rw (ne_eqb n k other) refl
 push_other (m ∷ seen) n k other = ap (λ b. m == k || b) (push_other seen n k other)
 

@@ -1,46 +1,9 @@
 -- The options of lines: how a reader comes to them, and that there is one list of them.
-use Rattle.std.proofs.Common.{◌≡◌, ℕ, ◌+◌, ◌<◌, ◌≤◌, List, [], ◌∷◌, ◌++◌, length, take, drop, get_or, set, Bool, true, false, ◌||◌, ◌==◌, zero, suc, inl, inr, take-append-drop, length-take, length-set, ◌∙◌, sym, ap, subst, arith, refl, length-append}
-use Rattle.std.proofs.lemmas.List.{get_or-set_other, get_or-set_same, get_or_append_left, get_or_push, get_or-take, get_or_at, take_all, take-take, take_at, take-append-le, take_more_same, take_more, drop_more}
-use Rattle.std.proofs.lemmas.List.Folds.{list_any-append}
-use Rattle.std.proofs.lemmas.Bool.{cases_lt, cases_eq, or_left, or_right, eq-eqb, ne_eqb}
+use Rattle.std.proofs.Common.{◌≡◌, ℕ, ◌+◌, ◌<◌, ◌≤◌, List, [], ◌∷◌, ◌++◌, length, take, drop, get_or, zero, suc, inl, inr, take-append-drop, length-take, ◌∙◌, sym, ap, subst, arith, refl, length-append}
+use Rattle.std.proofs.lemmas.List.{get_or_append_left, get_or_push, get_or-take, get_or_at, take_all, take-take, take_at, take-append-le, take_more_same, take_more, drop_more}
+use Rattle.std.proofs.lemmas.Bool.{cases_lt}
 use Rattle.cover_problem.specs.Problem.{Problem}
-use Rattle.cover_problem.specs.Numbers.{is_in}
 use Rattle.dlx_reader.specs.Answers.{IsFree, IsLowestFree, AreOptionsOf, IsFirstUnknown}
-use Rattle.dlx_reader.specs.AnswerSteps.{AreFlags, IsUnflagged, IsLowestUnflagged}
-
--- ---- flags
-
-pub free_from_unflagged : (p : Problem) (flags : List Bool) (used : List ℕ) (words : List (List ℕ)) (o : ℕ) → AreFlags flags used → length flags ≡ length p.options → IsUnflagged p flags words o → IsFree p used words o
-free_from_unflagged p flags used words o are long h = record { in_range = omega (arith, h.in_range); unused = sym (are o h.in_range) ∙ h.unused; named = h.named }
-
-pub unflagged_from_free : (p : Problem) (flags : List Bool) (used : List ℕ) (words : List (List ℕ)) (o : ℕ) → AreFlags flags used → length flags ≡ length p.options → IsFree p used words o → IsUnflagged p flags words o
-unflagged_from_free p flags used words o are long h =
-    let inside : o < length flags = omega (arith, h.in_range) in
-    record { in_range = inside; unused = are o inside ∙ h.unused; named = h.named }
-
-pub lowest_from_unflagged : (p : Problem) (flags : List Bool) (used : List ℕ) (words : List (List ℕ)) (o : ℕ) → AreFlags flags used → length flags ≡ length p.options → IsLowestUnflagged p flags words o → IsLowestFree p used words o
-lowest_from_unflagged p flags used words o are long h = record {
-  free = free_from_unflagged p flags used words o are long h.open_option;
-  lowest = λ k free. h.lowest k (unflagged_from_free p flags used words k are long free);
-}
-
-is_in-push_same : (used : List ℕ) (o : ℕ) → is_in (used ++ o ∷ []) o ≡ true
-is_in-push_same used o = list_any-append (λ x. x == o) used (o ∷ []) ∙ or_right (is_in used o) (o == o || false) (or_left (o == o) false (eq-eqb o o refl))
-
-is_in-push_other : (used : List ℕ) (o k : ℕ) → (o ≡ k → ⊥) → is_in (used ++ o ∷ []) k ≡ is_in used k
-is_in-push_other [] o k other = rw (ne_eqb o k other) refl
-is_in-push_other (x ∷ xs) o k other = ap (λ b. x == k || b) (is_in-push_other xs o k other)
-
--- one more option is used
-pub AreFlags-push : (flags : List Bool) (used : List ℕ) (o : ℕ) → o < length flags → AreFlags flags used → AreFlags (set flags o true) (used ++ o ∷ [])
-AreFlags-push flags used o inside are k h =
-    let within : k < length flags = omega (arith, length-set flags o true) in
-    elim (cases_eq k o) [
-      | inl same ↦
-          let P : ℕ → Type 0 = λ n. get_or (set flags o true) n false ≡ is_in (used ++ o ∷ []) n in
-          subst P (sym same) (get_or-set_same flags o true false inside ∙ sym (is_in-push_same used o))
-      | inr other ↦ get_or-set_other flags o k true false other ∙ are k within ∙ sym (is_in-push_other used o k (λ e. other (sym e)))
-    ]
 
 -- ---- lists of options
 

@@ -16,6 +16,8 @@ pub mod Further
 pub mod ItemLines
 pub mod Lawful
 pub mod NameBytes
+pub mod Meanings
+pub mod MeantNames
 pub mod Naming
 pub mod OptionLines
 pub mod OptionWords

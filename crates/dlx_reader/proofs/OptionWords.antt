@@ -1,11 +1,12 @@
 -- What the words of an option give.
-use Rattle.std.proofs.Common.{◌≡◌, ℕ, ◌<◌, List, [], ◌∷◌, ◌++◌, length, Option, Some, None, Ok, Err, true, false, nat_lt, not, ◌&&◌, ◌||◌, ◌==◌, refl, sym, ap, ◌∙◌, append_assoc, append-nil, get_or, take, is_some}
+use Rattle.std.proofs.Common.{◌≡◌, ℕ, ◌<◌, List, [], ◌∷◌, ◌++◌, length, Option, Some, None, Ok, Err, true, false, nat_lt, ◌&&◌, refl, sym, ap, ◌∙◌, append_assoc, append-nil, get_or, take, is_some}
 use Rattle.std.specs.List.{list_all}
-use Rattle.std.proofs.lemmas.Bool.{and_parts, and_from, or_parts, or_from, not-true, not_from_false, ltb-true, lt-ltb, eqb-false, ne_eqb}
+use Rattle.std.proofs.lemmas.Bool.{and_parts, and_from, ltb-true, lt-ltb}
 use Rattle.std.proofs.lemmas.List.{map-append}
-use Rattle.std.proofs.lemmas.List.Folds.{list_all-append, list_any-append}
+use Rattle.std.proofs.lemmas.List.Folds.{list_all-append}
 use Rattle.cover_problem.specs.Numbers.{is_in, is_distinct, are_below, some_below}
 use Rattle.cover_problem.specs.Problem.{names_differ}
+use Rattle.cover_problem.proofs.Repeats.{is_distinct-push}
 use Rattle.dlx_reader.specs.Faults.{name_tests}
 use Rattle.dlx_reader.specs.Names.{is_among, item_named}
 use Rattle.dlx_reader.specs.OptionLines.{names_of, names_primary}
@@ -16,16 +17,6 @@ use Rattle.dlx_reader.proofs.Firsts.{Fails, after_ok}
 use Rattle.dlx_reader.proofs.Naming.{named_at, is_some-named}
 
 -- ---- numbers
-
-pub is_distinct-push : (items : List ℕ) (item : ℕ) → is_distinct items ≡ true → is_in items item ≡ false → is_distinct (items ++ item ∷ []) ≡ true
-is_distinct-push [] item h fresh = refl
-is_distinct-push (first ∷ items) item h fresh =
-    let parts = and_parts (not (is_in items first)) (is_distinct items) h in
-    let apart = or_parts (first == item) (is_in items item) fresh in
-    let other : (item == first) ≡ false = ne_eqb item first (λ e. eqb-false first item apart.0 (sym e)) in
-    and_from (not (is_in (items ++ item ∷ []) first)) (is_distinct (items ++ item ∷ []))
-    (not_from_false (is_in (items ++ item ∷ []) first) (list_any-append (λ m. m == first) items (item ∷ []) ∙ or_from (is_in items first) ((item == first) || false) (not-true (is_in items first) parts.0) (or_from (item == first) false other refl)))
-    (is_distinct-push items item parts.1 apart.1)
 
 pub are_below-push : (n : ℕ) (items : List ℕ) (item : ℕ) → are_below n items ≡ true → item < n → are_below n (items ++ item ∷ []) ≡ true
 are_below-push n items item h below = list_all-append (λ i. nat_lt i n) items (item ∷ []) ∙ and_from (are_below n items) (nat_lt item n && true) h (and_from (nat_lt item n) true (lt-ltb item n below) refl)

@@ -1,28 +1,11 @@
 -- What a reader of an answer knows on its way.
-use Rattle.std.specs.Prelude.{◌≡◌, ◌≢◌, ℕ, ◌<◌, ◌≤◌, List, length, Bool, false, slice_index_or}
+use Rattle.std.specs.Prelude.{◌≡◌, ◌≢◌, ℕ, List}
 use Rattle.cover_problem.specs.Problem.{Problem}
-use Rattle.cover_problem.specs.Numbers.{is_in}
-use Rattle.dlx_reader.specs.Writing.{item_names}
 use Rattle.dlx_reader.specs.Answers.{IsHead, IsNoneHead, IsCoverHead, IsCount, IsFirstUnknown}
 use Rattle.dlx_reader.specs.declared.answer_fault.AnswerFault.{AnswerFault}
 use Rattle.dlx_reader.specs.declared.answer_fault.AnswerFault.TheVariants.{BadHead, WrongCount, UnknownOption, Memory}
 use Rattle.dlx_reader.specs.declared.answer_head.Head.{Head}
 use Rattle.dlx_reader.specs.declared.answer_head.Head.TheVariants.{NoCover, Cover}
-
--- each option's flag says whether it is used
-abbrev pub AreFlags : List Bool → List ℕ → Type 0
-AreFlags flags used = (option : ℕ) → option < length flags → slice_index_or flags option false ≡ is_in used option
-
--- an option without a flag, whose names are the words
-pub record IsUnflagged (problem : Problem) (flags : List Bool) (words : List (List ℕ)) (option : ℕ) : Type 0 where
-  pub in_range : option < length flags
-  pub unused : slice_index_or flags option false ≡ false
-  pub named : item_names problem option ≡ words
-
--- and the lowest of these
-pub record IsLowestUnflagged (problem : Problem) (flags : List Bool) (words : List (List ℕ)) (option : ℕ) : Type 0 where
-  pub open_option : IsUnflagged problem flags words option
-  pub lowest : (other : ℕ) → IsUnflagged problem flags words other → option ≤ other
 
 -- the head of a cover of as many options as digits write
 abbrev pub IsCoverOf : List ℕ → Head → Type 0

@@ -8,6 +8,7 @@ pub mod Faults
 pub mod Items
 pub mod Kept
 pub mod Lines
+pub mod Meant
 pub mod Names
 pub mod OptionLines
 pub mod ProblemOf

@@ -7,63 +7,31 @@ ghost use Rattle.dlx_reader.specs.declared.answer_fault.AnswerFault.{AnswerFault
 ghost use Rattle.dlx_reader.specs.Writing.{item_names};
 ghost use Rattle.dlx_reader.specs.Answers.{AreOptionsOf, IsFirstUnknown, IsAnswerOf, IsFaultOf, IsReadOf};
 ghost use Rattle.dlx_reader.specs.AnswerLines.{lines_seen};
-ghost use Rattle.dlx_reader.specs.AnswerSteps.{IsUnflagged, IsLowestUnflagged, IsOptionFault};
+ghost use Rattle.dlx_reader.specs.AnswerSteps.{IsOptionFault};
 
 use crate::answer_fault::AnswerFault;
 use crate::answer_head::{Head, head_before};
 use crate::answer_lines::answer_lines;
 use crate::lines::Line;
+use crate::meant::{Meant, items_named};
+use crate::names::Names;
 use cover_problem::{Answer, Numbers, Problem};
 use std::alloc::Global;
-
-/// Whether the names of the option, in its order, are the words.
-fn has_names(problem: &Problem, option: u16, words: &[&[u8]]) -> bool
-    requires { option < length problem.now.options }
-    ensures { IsTrue result ↔ (item_names problem.now option ≡ texts_of words.now) }
-{
-    let items = problem.option(option);
-    if items.len() != words.len() {
-        return false;
-    }
-    for (place, item) in items.iter().enumerate() {
-        if problem.name(*item) != words[place] {
-            return false;
-        }
-    }
-    true
-}
-
-/// The lowest option that isn't used and whose names are the words.
-fn lowest_free(problem: &Problem, used: &[bool], words: &[&[u8]]) -> Option<u16>
-    requires { length used.now ≡ length problem.now.options }
-    ensures lowest { IfSome result (IsLowestUnflagged problem.now used.now (texts_of words.now)) }
-    ensures none { IfNone result ((option : ℕ) →
-        IsUnflagged problem.now used.now (texts_of words.now) option → ⊥) }
-{
-    let count = problem.options() as u16;
-    for option in 0..count {
-        if !used[option as usize] && has_names(problem, option, words) {
-            return Some(option);
-        }
-    }
-    None
-}
 
 /// The options of the lines, in their order.
 fn options_of(alloc: Global, lines: &[Line], problem: &Problem) -> Result<Numbers, AnswerFault>
     ensures options { IfOk result (AreOptionsOf problem.now (lines_seen lines.now)) }
     ensures fault { IfErr result (IsOptionFault problem.now (lines_seen lines.now)) }
 {
-    let mut used = vec![in alloc; false; problem.options()]?;
-    let mut options = Vec::new(alloc);
+    let names = Names::of_problem(alloc, problem)?;
+    let mut meant = Meant::new(alloc, problem)?;
     for line in lines {
-        let Some(option) = lowest_free(problem, &used, &line.words) else {
+        let items = items_named(alloc, &names, &line.words)?;
+        let Some(_option) = meant.take(&items)? else {
             return Err(AnswerFault::UnknownOption(line.number));
         };
-        options.push(option)?;
-        used[option as usize] = true;
     }
-    Ok(Numbers::from_vec(options))
+    Ok(Numbers::from_vec(meant.into_options()))
 }
 
 /// The answer of the text, or its fault.

@@ -11,6 +11,7 @@ mod fault;
 mod kept;
 mod laws;
 mod lines;
+mod meant;
 mod names;
 mod reading;
 mod writing;

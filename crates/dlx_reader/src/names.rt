@@ -1,8 +1,8 @@
 //! The names of the items, with an index by which a name's item is found.
 
-ghost use Rattle.std.specs.Prelude.{◌≡◌, ◌<◌, ◌≤◌, [], ◌∷◌, ◌++◌, length, false, IfSome, OnOk, OnErr};
+ghost use Rattle.std.specs.Prelude.{◌≡◌, ◌<◌, ◌≤◌, [], ◌∷◌, ◌++◌, length, false, IfOk, IfSome, OnOk, OnErr};
 
-use cover_problem::Name;
+use cover_problem::{Name, Problem};
 use std::alloc::{AllocError, Global};
 use std::collections::BTreeMap;
 use std::marker::Model;
@@ -27,6 +27,7 @@ impl<'a> Model for Names<'a> {
 }
 
 impl<'a> Names<'a> {
+    ghost use Rattle.cover_problem.specs.Problem.{IsProblem};
     ghost use Rattle.dlx_reader.specs.Names.{is_among, item_named};
 
     /// No names.
@@ -37,6 +38,18 @@ impl<'a> Names<'a> {
             list: Vec::new(alloc),
             index: BTreeMap::new(alloc),
         }
+    }
+
+    /// The names of a problem's items. The only error is want of memory.
+    pub fn of_problem(alloc: Global, problem: &'a Problem) -> Result<Names<'a>, AllocError>
+        ensures names { IfOk result (λ names. names ≡ problem.now.names) }
+        ensures problem { IsProblem problem.now }
+    {
+        let mut names = Names::new(alloc);
+        for item in 0..problem.items() as u16 {
+            names.push(alloc, problem.name(item))?;
+        }
+        Ok(names)
     }
 
     /// How many names there are.
