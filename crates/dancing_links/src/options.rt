@@ -51,7 +51,7 @@ impl<'a> OptionsOf<'a> {
     ghost use Rattle.dancing_links.specs.Walking.{options_left};
 
     /// The options of the nodes down a column from one on.
-    pub fn from_node(layout: &'a Layout, links: &'a [Link], node: usize) -> OptionsOf<'a>
+    pub(crate) fn from_node(layout: &'a Layout, links: &'a [Link], node: usize) -> OptionsOf<'a>
         requires table { IsTable (columns_of layout.now) }
         requires linked { IsLinked (columns_of layout.now) links.now }
         ensures { result ≡ options_left (columns_of layout.now) links.now node }

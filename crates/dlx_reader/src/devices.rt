@@ -5,7 +5,7 @@ ghost use Rattle.std.specs.Io.KnownBytes.{ReadConsumes, WriteAppends};
 ghost use Rattle.dlx_reader.specs.Devices.{IsCounted};
 
 use std::io;
-use std::io::{Read, Write};
+use std::io::{ErrorKind, Read, Write};
 
 /// A device failed, and its count of failures rose.
 #[derive(Clone, Copy, Debug, PartialEq, Eq)]
@@ -50,7 +50,35 @@ pub trait Sink: io::Write {
         ensures failed { IsCounted (failed self.old) (failed self.new) result };
 }
 
-/// A reader, with the number of its failures.
+/// One read into the buffer, tried again where it was interrupted.
+fn read_again<R: Read>(reader: &mut R, buffer: &mut [u8]) -> io::Result<usize>
+    ensures bound { IfOk result (λ count. count ≤ length buffer.new) }
+    ensures bytes { ReadConsumes (R.remaining reader.old) (R.remaining reader.new) result buffer.new }
+{
+    for _ in 0..u64::MAX {
+        match reader.read(buffer) {
+            Err(error) if error.kind() == ErrorKind::Interrupted => {}
+            read => return read,
+        }
+    }
+    Err(ErrorKind::Interrupted.into())
+}
+
+/// One write of a piece, tried again where it was interrupted.
+fn write_again<W: Write>(writer: &mut W, piece: &[u8]) -> io::Result<usize>
+    ensures bound { IfOk result (λ count. count ≤ length piece.now) }
+    ensures bytes { WriteAppends (W.contents writer.old) (W.contents writer.new) result piece.now }
+{
+    for _ in 0..u64::MAX {
+        match writer.write(piece) {
+            Err(error) if error.kind() == ErrorKind::Interrupted => {}
+            written => return written,
+        }
+    }
+    Err(ErrorKind::Interrupted.into())
+}
+
+/// A reader, with the number of its failures. A read that was interrupted is tried again, and is no failure.
 #[derive(Drop)]
 pub struct CountedReader<R> {
     inner: R,
@@ -82,7 +110,7 @@ impl<R: Read> Source for CountedReader<R> {
     }
 
     fn fetch(&mut self, buffer: &mut [u8]) -> Result<usize, DeviceFault> {
-        match self.inner.read(buffer) {
+        match read_again(&mut self.inner, buffer) {
             Ok(count) => Ok(count),
             Err(_) => {
                 self.failures += 1;
@@ -92,7 +120,7 @@ impl<R: Read> Source for CountedReader<R> {
     }
 }
 
-/// A writer, with the number of its failures.
+/// A writer, with the number of its failures. A write that was interrupted is tried again, and is no failure.
 #[derive(Drop)]
 pub struct CountedWriter<W> {
     inner: W,
@@ -128,7 +156,7 @@ impl<W: Write> Sink for CountedWriter<W> {
     }
 
     fn put(&mut self, piece: &[u8]) -> Result<usize, DeviceFault> {
-        match self.inner.write(piece) {
+        match write_again(&mut self.inner, piece) {
             Ok(count) if count > 0 || piece.is_empty() => Ok(count),
             _ => {
                 self.failures += 1;
