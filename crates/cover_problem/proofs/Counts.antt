@@ -1,8 +1,8 @@
 -- Counting over a list of different numbers is counting over the set that it stands for.
-use Rattle.std.proofs.Common.{◌≡◌, ℕ, zero, suc, ◌+◌, ◌<◌, ◌≤◌, Bool, true, false, not, ◌&&◌, ◌||◌, cond, ◌==◌, List, [], ◌∷◌, length, count_by, refl, sym, ap, ◌∙◌, ⊎_elim, arith}
-use Rattle.std.proofs.lemmas.Bool.{eqb-true, eq-eqb, ne_eqb, or_left, or_right, and_parts, true≢false, not-true, cases_eq}
+use Rattle.std.proofs.Common.{◌≡◌, ℕ, zero, suc, ◌+◌, ◌<◌, ◌≤◌, Bool, true, false, not, ◌&&◌, ◌||◌, cond, ◌==◌, List, [], ◌∷◌, length, count_by, refl, sym, ap, ◌∙◌, ⊎_elim, inl, inr, arith}
+use Rattle.std.proofs.lemmas.Bool.{eqb-true, eq-eqb, ne_eqb, or_left, or_right, and_parts, true≢false, not-true, cases_eq, cases_Bool}
 use Rattle.std.proofs.lemmas.List.Sums.{sum_by-cons}
-use Rattle.std.specs.List.{range_with_len}
+use Rattle.std.specs.List.{list_any, range_with_len}
 use Rattle.cover_problem.specs.Problem.{Problem, names_item}
 use Rattle.cover_problem.specs.Numbers.{is_in, is_distinct}
 use Rattle.cover_problem.specs.ExactCover.{uses}
@@ -84,3 +84,18 @@ count_at_most p start (suc n) h = go (p start) refl (count_at_most p (start + 1)
     go false e l =
         let here : ◌≡◌ {A = ℕ} (cond (p start) 1 0) 0 = ap (λ b. cond b 1 0) e in
         omega (arith, sum_by-cons (λ o. cond (p o) 1 0) start (range_with_len (start + 1) n), l, here)
+
+-- none passes where the count is 0
+pub none_counted : (p : ℕ → Bool) (xs : List ℕ) → not (list_any p xs) ≡ (count_by p xs == 0)
+none_counted p [] = refl
+none_counted p (x ∷ xs) =
+    elim (cases_Bool (p x)) [
+      | inl passes ↦
+          let here : ◌≡◌ {A = ℕ} (cond (p x) 1 0) 1 = ap (λ b. cond b 1 0) passes in
+          let some : count_by p (x ∷ xs) ≡ 0 → ⊥ = λ e. absurd (omega (arith, e, here, sum_by-cons (λ y. cond (p y) 1 0) x xs)) in
+          ap (λ b. not (b || list_any p xs)) passes ∙ sym (ne_eqb (count_by p (x ∷ xs)) 0 some)
+      | inr fails ↦
+          let here : ◌≡◌ {A = ℕ} (cond (p x) 1 0) 0 = ap (λ b. cond b 1 0) fails in
+          let same : count_by p xs ≡ count_by p (x ∷ xs) = omega (arith, here, sum_by-cons (λ y. cond (p y) 1 0) x xs) in
+          ap (λ b. not (b || list_any p xs)) fails ∙ none_counted p xs ∙ ap (λ n. n == 0) same
+    ]

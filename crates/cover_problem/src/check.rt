@@ -4,7 +4,7 @@ ghost use Rattle.cover_problem.specs.Numbers.{is_in, is_distinct};
 ghost use Rattle.cover_problem.specs.Prefix.{AreOptions};
 ghost use Rattle.cover_problem.specs.Verdict.{verdict_of, first_uncovered, first_twice, TellsItemOf};
 
-use crate::prefix::{are_options, option_names};
+use crate::prefix::{are_options, is_covered, option_names};
 use crate::problem::Problem;
 use crate::verdict::Verdict;
 
@@ -38,13 +38,22 @@ fn uses(problem: &Problem, options: &[u16], item: u16) -> usize
         .count()
 }
 
+/// Whether none of the options names the item.
+fn is_uncovered(problem: &Problem, options: &[u16], item: u16) -> bool
+    requires options { AreOptions problem.now options.now }
+    requires distinct { is_distinct options.now ≡ true }
+    ensures { result ≡ (uses problem.now (is_in options.now) item == 0) }
+{
+    !is_covered(problem, options, item)
+}
+
 /// The first primary item that no option of the list names.
 fn first_uncovered(problem: &Problem, options: &[u16]) -> Option<u16>
     requires options { AreOptions problem.now options.now }
     requires distinct { is_distinct options.now ≡ true }
     ensures { result ≡ first_uncovered problem.now options.now }
 {
-    (0..problem.primary() as u16).find(|item| uses(problem, options, *item) == 0)
+    (0..problem.primary() as u16).find(|item| is_uncovered(problem, options, *item))
 }
 
 /// The first item that two options of the list name.
