@@ -121,10 +121,10 @@ fn reads_first(alloc: Global, problem: &Problem, text: &str, count: u16) -> bool
 
 #[test]
 fn long_answers_are_read(rt: HostRuntime) {
-    let file = repeated(&rt, rt.alloc(), "a\n", "a\n", 1500);
-    let text = repeated(&rt, rt.alloc(), "cover 1500\n", "a\n", 1500);
+    let file = repeated(&rt, rt.alloc(), "a\n", "a\n", 20000);
+    let text = repeated(&rt, rt.alloc(), "cover 20000\n", "a\n", 20000);
     let problem = problem_of(&rt, rt.alloc(), file.as_str());
-    assert!(rt; reads_first(rt.alloc(), &problem, text.as_str(), 1500));
+    assert!(rt; reads_first(rt.alloc(), &problem, text.as_str(), 20000));
 }
 
 /// A writer that takes one byte a call, until a call fails.
