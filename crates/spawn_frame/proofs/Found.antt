@@ -7,7 +7,7 @@ use Rattle.spawn_frame.specs.Frames.{frame, frame_result}
 use Rattle.spawn_frame.specs.Inlets.{heard_by}
 use Rattle.spawn_frame.specs.Names.{same_name}
 use Rattle.spawn_frame.specs.Picks.{either_unit, first_guest, is_ready, is_split, last_own}
-use Rattle.spawn_frame.specs.Tables.{AllLawful, IsLawful, IsMadeBefore}
+use Rattle.spawn_frame.specs.Tables.{AllLawful, IsLawful, IsMadeBefore, is_here, is_out}
 use Rattle.spawn_frame.specs.Units.{Entry, is_guest, unit_of}
 use Rattle.spawn_frame.specs.Works.{IsUnit, IsTable, IsWork, child_entry, child_work, entry_of, first_wanted, guest_entry, guest_work, heard_work, is_settled, is_wanted, last_wanted, table_of, wanted_unit, work_in}
 use Rattle.spawn_frame.specs.declared.child.Child.{Child}
@@ -135,6 +135,16 @@ wanted_is site limit own guests h wants.Ripe =
     let test : WorkUnit → Entry → Bool = λ unit entry. is_split entry.status && is_some (frame_result (frame unit es)) in
     let last = last_is wants.Ripe test own 0 (λ i c at. ripe_is (units.Own i) c.work es (h.own_units i c at) ∙ ap (λ k. test (units.Own k) (child_entry c)) (omega arith)) in
     let first = first_is wants.Ripe test guests (each_implied (λ g. IsUnit (units.Guest g.name g.work.attempt) g.work es) (λ g. is_wanted wants.Ripe g.work ≡ test (units.Guest g.name g.work.attempt) (entry_of None g.work)) (λ g p. ripe_is (units.Guest g.name g.work.attempt) g.work es p) guests h.guest_units) in
+    λ i. either_unit (last i) (first i)
+wanted_is site limit own guests h wants.Here =
+    let test : WorkUnit → Entry → Bool = λ unit entry. is_here entry.status in
+    let last = last_is wants.Here test own 0 (λ i c at. refl) in
+    let first = first_is wants.Here test guests (each_implied (λ g. IsUnit (units.Guest g.name g.work.attempt) g.work (map child_entry own)) (λ g. is_wanted wants.Here g.work ≡ is_here g.work.status) (λ g p. refl) guests h.guest_units) in
+    λ i. either_unit (last i) (first i)
+wanted_is site limit own guests h wants.Out =
+    let test : WorkUnit → Entry → Bool = λ unit entry. is_out entry.status in
+    let last = last_is wants.Out test own 0 (λ i c at. refl) in
+    let first = first_is wants.Out test guests (each_implied (λ g. IsUnit (units.Guest g.name g.work.attempt) g.work (map child_entry own)) (λ g. is_wanted wants.Out g.work ≡ is_out g.work.status) (λ g p. refl) guests h.guest_units) in
     λ i. either_unit (last i) (first i)
 
 -- ---- parents

@@ -16,3 +16,4 @@ pub mod Orders
 pub mod Admitted
 pub mod Spawned
 pub mod Split
+pub mod Paged

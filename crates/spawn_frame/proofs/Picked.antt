@@ -6,7 +6,7 @@ use Rattle.std.proofs.lemmas.Bool.{and_from, and_parts, and_right, both_ways, eq
 use Rattle.spawn_frame.specs.Frames.{frame, frame_result}
 use Rattle.spawn_frame.specs.Names.{guest_before, same_name}
 use Rattle.spawn_frame.specs.Picks.{either_unit, first_guest, is_ready, is_split, last_own, pick}
-use Rattle.spawn_frame.specs.Tables.{IsAscending, IsSeen, has_status}
+use Rattle.spawn_frame.specs.Tables.{IsAscending, IsSeen, has_status, is_here, is_out}
 use Rattle.spawn_frame.specs.Units.{Entry, GuestEntry, Table, guest_in, is_guest, unit_of}
 use Rattle.spawn_frame.specs.Works.{IsWork, entry_of, may_become, wanted_status, wanted_unit}
 use Rattle.spawn_frame.specs.declared.site.ChildName.{ChildName}
@@ -127,6 +127,12 @@ wanted_there wants.Ready table h unit e =
 wanted_there wants.Ripe table h unit e =
     let p = pick_passes (λ u entry. is_split entry.status && is_some (frame_result (frame u table.own))) table h unit e in
     ap (has_status is_split) p.1 ∙ (and_parts (is_split p.0.status) (is_some (frame_result (frame unit table.own))) p.2).0
+wanted_there wants.Here table h unit e =
+    let p = pick_passes (λ u entry. is_here entry.status) table h unit e in
+    ap (has_status is_here) p.1 ∙ p.2
+wanted_there wants.Out table h unit e =
+    let p = pick_passes (λ u entry. is_out entry.status) table h unit e in
+    ap (has_status is_out) p.1 ∙ p.2
 
 -- ---- a ready unit
 

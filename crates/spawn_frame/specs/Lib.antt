@@ -2,6 +2,7 @@ pub mod Aborts
 pub mod Frames
 pub mod Inlets
 pub mod Names
+pub mod Pages
 pub mod Picks
 pub mod Splits
 pub mod Tables

@@ -3,8 +3,8 @@ use Rattle.std.specs.Prelude.{◌≡◌, ℕ, zero, suc, ◌+◌, ◌<◌, ◌�
 use Rattle.std.specs.List.{AllByRecursion, list_any}
 use Rattle.spawn_frame.specs.Frames.{is_unit}
 use Rattle.spawn_frame.specs.Inlets.{Hearing, frame_hearing, heard_of, hearing_of, is_done, new_hearing}
-use Rattle.spawn_frame.specs.Picks.{either_unit, is_ready, is_split, ready_unit, ripe_unit}
-use Rattle.spawn_frame.specs.Tables.{HasParents, IsAscending, suits}
+use Rattle.spawn_frame.specs.Picks.{either_unit, is_ready, is_split, pick, ready_unit, ripe_unit}
+use Rattle.spawn_frame.specs.Tables.{HasParents, IsAscending, is_here, is_out, suits}
 use Rattle.spawn_frame.specs.Units.{Entry, GuestEntry, Table, is_guest, unit_of}
 use Rattle.spawn_frame.specs.declared.child.Child.{Child}
 use Rattle.spawn_frame.specs.declared.child_result.ChildResult.{ChildResult}
@@ -80,10 +80,12 @@ abbrev pub is_settled : Heard → Bool
 is_settled Open = false
 is_settled Settled = true
 
--- whether work is what is looked for: it is ready, or it is a frame that is settled
+-- whether work is what is looked for: ready, a frame that is settled, here, or out
 abbrev pub is_wanted : Wanted → Work → Bool
 is_wanted wants.Ready w = is_ready w.status
 is_wanted wants.Ripe w = is_split w.status && is_settled (heard_work w.inlet)
+is_wanted wants.Here w = is_here w.status
+is_wanted wants.Out w = is_out w.status
 
 -- the own child of greatest serial that is wanted, of those from serial k on
 abbrev pub last_wanted : Wanted → ℕ → List Child → Option WorkUnit
@@ -191,11 +193,15 @@ frame_says (Some w) = if is_split w.status then heard_work w.inlet else Open
 abbrev pub wanted_status : Wanted → Status → Bool
 wanted_status wants.Ready status = is_ready status
 wanted_status wants.Ripe status = is_split status
+wanted_status wants.Here status = is_here status
+wanted_status wants.Out status = is_out status
 
 -- the unit that is looked for
 abbrev pub wanted_unit : Wanted → Table → Option WorkUnit
 wanted_unit wants.Ready table = ready_unit table
 wanted_unit wants.Ripe table = ripe_unit table
+wanted_unit wants.Here table = pick (λ unit entry. is_here entry.status) table
+wanted_unit wants.Out table = pick (λ unit entry. is_out entry.status) table
 
 -- What a table keeps of a unit that is there.
 pub record IsWork (table : Table) (unit : WorkUnit) (w : Work) : Type 0 where

@@ -13,8 +13,8 @@ ghost use Rattle.spawn_frame.specs.declared.status.Status.{Status};
 ghost use Rattle.spawn_frame.specs.Units.{change_at, guest_in, insert_guest, last_attempt, redone, table_gets, table_guests, table_own, unit_of};
 
 use crate::building::{new_children, new_guest, new_root};
-use crate::child::Child;
 use crate::child_result::ChildResult;
+use crate::children::Children;
 use crate::guest::Guest;
 use crate::guest_view::GuestView;
 use crate::heard::Heard;
@@ -25,7 +25,7 @@ use crate::status::Status;
 use crate::unit::{Job, Unit};
 use crate::unit_view::UnitView;
 use crate::units::{
-    first_after, first_guest, last_child, place_behind, place_of, set_unit, split_unit, tell_parent,
+    first_after, first_guest, place_behind, place_of, set_unit, split_unit, tell_parent,
 };
 use crate::wanted::Wanted;
 use crate::work::Work;
@@ -34,13 +34,14 @@ use std::marker::Model;
 
 /// The units of work of one site: its own children by serial, and its guests in the order of their names and attempts.
 ///
-/// Only `with_root`, `spawn`, `admit` and `prefix_into` take memory. A call costs at most one pass through the own
-/// children and one through the guests; none goes through the children of a frame, whose inlet has heard them.
+/// Only `with_root`, `spawn`, `admit` and `prefix_into` take memory. The own children stand in pages of 256: but for
+/// `outs`, a call looks at each page once and at the children of one or two pages, and makes at most one pass through
+/// the guests; none goes through the children of a frame, whose inlet has heard them.
 #[derive(Drop)]
 pub struct Table {
     site: Site,
     names_limit: u32,
-    own: Vec<Child>,
+    own: Children,
     guests: Vec<Guest>,
     alloc: Global,
 }
@@ -52,9 +53,9 @@ impl Model for Table {
 
     ghost use Rattle.spawn_frame.specs.Works.{table_of, IsTable};
 
-    ghost view = { λ t. table_of t.site t.names_limit t.own.items t.guests.items };
+    ghost view = { λ t. table_of t.site t.names_limit t.own t.guests.items };
 
-    ghost invariant = { λ t. IsTable (table_of t.site t.names_limit t.own.items t.guests.items) t.own.items t.guests.items };
+    ghost invariant = { λ t. IsTable (table_of t.site t.names_limit t.own t.guests.items) t.own t.guests.items };
 }
 
 impl Table {
@@ -67,7 +68,7 @@ impl Table {
         Table {
             site,
             names_limit,
-            own: Vec::new(alloc),
+            own: Children::new(alloc),
             guests: Vec::new(alloc),
             alloc,
         }
@@ -77,8 +78,10 @@ impl Table {
     pub fn with_root(alloc: Global) -> Result<Table, AllocError>
         ensures { IfOk result (λ table. table ≡ root_table) }
     {
-        let mut own = Vec::new(alloc);
-        own.push(new_root(alloc))?;
+        let mut root = Vec::new(alloc);
+        root.push(new_root(alloc))?;
+        let mut own = Children::new(alloc);
+        own.append(&mut root)?;
         let site = Site {
             node: 0,
             incarnation: 1,
@@ -96,7 +99,7 @@ impl Table {
     /// have the next serials, in order; the answer is the first.
     ///
     /// `NamesSpent` comes exactly where the site may not name so many, `Memory` only where memory ran out; a fault
-    /// changes nothing. It costs a look for the unit and the making of the children.
+    /// changes nothing. It costs a look for the unit, the making of the children, and passes through their pages.
     pub fn spawn(&mut self, unit: Unit, options: &[u16]) -> Result<u32, SpawnFault>
         requires here { has_status is_here (unit_of self.old unit) ≡ true }
         requires some { 0 < length options.now }
@@ -147,7 +150,11 @@ impl Table {
     pub fn outs(&self) -> usize
         ensures { result ≡ outs_of self.now.own }
     {
-        self.own.iter().filter(|child| child.work.is_out()).count()
+        self.own
+            .as_slice()
+            .iter()
+            .filter(|child| child.work.is_out())
+            .count()
     }
 
     /// A unit's attempt and status; none where it isn't there. An own child is found at once, a guest by a pass
@@ -192,7 +199,7 @@ impl Table {
         ensures lower { IfSome result (λ parent. IsMadeBefore parent serial) }
         ensures there { IfSome result (λ parent. IsSome (unit_of self.now parent)) }
     {
-        self.own[serial as usize].parent
+        self.own.as_slice()[serial as usize].parent
     }
 
     /// The least guest, or the least behind the given one, in the order of guests. It costs a pass through the guests.
@@ -225,8 +232,8 @@ impl Table {
         }
     }
 
-    /// The settled frame that is finished next: the own child of greatest serial, else the least guest. It costs a
-    /// pass through all units.
+    /// The settled frame that is finished next: the own child of greatest serial, else the least guest. It costs a look
+    /// at each page, a pass through one page, and where no page has such a child one through the guests.
     pub fn ripe(&self) -> Option<Unit>
         ensures { result ≡ ripe_unit self.now }
     {
@@ -262,8 +269,8 @@ impl Table {
         }
     }
 
-    /// The ready unit that is taken up next: the own child of greatest serial, else the least guest. It costs a pass
-    /// through all units.
+    /// The ready unit that is taken up next: the own child of greatest serial, else the least guest. It costs what
+    /// `ripe` does.
     pub fn ready(&self) -> Option<Unit>
         ensures unit { result ≡ ready_unit self.now }
         ensures ready { IfSome result (λ unit. has_status is_ready (unit_of self.now unit) ≡ true) }
@@ -271,7 +278,7 @@ impl Table {
         self.picked(Wanted::Ready)
     }
 
-    /// Takes up this unit, which is ready, and is here then. It costs looks for the unit.
+    /// Takes up this unit, which is ready, and is here then. It costs looks for the unit, and passes through its page.
     pub fn take_up(&mut self, unit: Unit) -> Job
         requires { has_status is_ready (unit_of self.old unit) ≡ true }
         ensures unit { result.unit ≡ unit }
@@ -286,7 +293,7 @@ impl Table {
         Job { unit, attempt }
     }
 
-    /// Takes up the ready unit that is taken up next, if there is one. It costs a pass through all units.
+    /// Takes up the ready unit that is taken up next, if there is one. It costs what `ready` and `take_up` do.
     pub fn take(&mut self) -> Option<Job>
         ensures unit { option_map (λ job. job.unit) result ≡ ready_unit self.old }
         ensures ready { IfSome result (λ job. IsSeen (unit_of self.old job.unit) job.attempt Status.Ready) }
@@ -310,7 +317,7 @@ impl Table {
 
     /// Gives a unit its result: an own child is done, a guest is finished. If it is a child of a frame of this site,
     /// the frame hears of it, and the answer is whether that frame is settled now; else `Open`. It costs looks for the
-    /// unit and its parent.
+    /// unit and its parent, and passes through their pages.
     pub fn set_result(&mut self, unit: Unit, child_result: ChildResult) -> Heard
         requires { has_status may_end (unit_of self.old unit) ≡ true }
         ensures after { self.new ≡ table_gets self.old unit (with_result unit child_result) }
@@ -325,7 +332,7 @@ impl Table {
         }
     }
 
-    /// A ready own child is given to a thief. It costs nothing.
+    /// A ready own child is given to a thief. It costs passes through its page.
     pub fn give(&mut self, serial: u32, thief: Site)
         requires { has_status is_ready (slice_get self.old.own serial) ≡ true }
         ensures { self.new ≡ table_gets self.old (Unit.Own serial) (Status.Out thief) }
@@ -333,14 +340,14 @@ impl Table {
         self.set_status(Unit::Own(serial), Status::Out(thief));
     }
 
-    /// An own child that is out is ready again, at the next attempt, which there is below 4,294,967,295. It costs
-    /// nothing.
+    /// An own child that is out is ready again, at the next attempt, which there is below 4,294,967,295. It costs passes
+    /// through its page.
     pub fn redo(&mut self, serial: u32)
         requires out { has_status is_out (slice_get self.old.own serial) ≡ true }
         requires attempt { attempt_in (slice_get self.old.own serial) < last_attempt }
         ensures { self.new ≡ table_own self.old (change_at redone self.old.own serial) }
     {
-        self.own[serial as usize].work.redo();
+        self.own.redo(serial);
     }
 
     /// Another site's child becomes a ready guest; the only error is want of memory, which changes nothing. It costs a
@@ -378,7 +385,7 @@ impl Table {
         self.set_status(Unit::Guest(name, attempt), Status::Dropped);
     }
 
-    /// An open own child is wanted no more. It costs nothing.
+    /// An open own child is wanted no more. It costs passes through its page.
     pub fn abort(&mut self, serial: u32)
         requires { has_status is_open (slice_get self.old.own serial) ≡ true }
         ensures { self.new ≡ table_gets self.old (Unit.Own serial) Status.Aborted }
@@ -392,8 +399,7 @@ impl Table {
         ensures after { self.new ≡ table_gets self.old (Unit.Own serial) (Status.Done child_result) }
         ensures heard { result ≡ parent_heard self.new (Unit.Own serial) }
     {
-        let index = serial as usize;
-        let parent = self.own[index].parent;
+        let parent = self.own.as_slice()[serial as usize].parent;
         let heard = tell_parent(
             &mut self.own,
             &mut self.guests,
@@ -401,7 +407,7 @@ impl Table {
             serial,
             &child_result,
         );
-        self.own[index].work.end(child_result);
+        self.own.set_status(serial, Status::Done(child_result));
         heard
     }
 
@@ -420,7 +426,7 @@ impl Table {
     {
         match unit {
             Unit::Own(serial) => {
-                let child = self.own.get(serial as usize)?;
+                let child = self.own.as_slice().get(serial as usize)?;
                 Some(&child.work)
             }
             Unit::Guest(name, attempt) => {
@@ -435,7 +441,7 @@ impl Table {
         ensures unit { result ≡ wanted_unit wanted self.now }
         ensures status { IfSome result (λ unit. has_status (wanted_status wanted) (unit_of self.now unit) ≡ true) }
     {
-        match last_child(&self.own, wanted) {
+        match self.own.last(wanted) {
             Some(unit) => Some(unit),
             None => first_guest(&self.guests, wanted),
         }

@@ -1,33 +1,19 @@
 //! Units among the own children and guests of a table.
 
-ghost use Rattle.std.specs.Prelude.{◌≡◌, ◌<◌, ◌^◌, find, length, map, option_map, position};
+ghost use Rattle.std.specs.Prelude.{◌≡◌, ◌<◌, find, map, option_map, position};
 ghost use Rattle.spawn_frame.specs.Names.{guest_before};
 ghost use Rattle.spawn_frame.specs.Tables.{guest_key, is_after};
 ghost use Rattle.spawn_frame.specs.Units.{is_guest};
-ghost use Rattle.spawn_frame.specs.Works.{first_wanted, frame_says, guest_entry, guests_after, guests_told, last_wanted, own_after, own_told, parent_work, split_work, with_heard, with_work_status, work_in, HearsFrom};
+ghost use Rattle.spawn_frame.specs.Works.{first_wanted, frame_says, guest_entry, guests_after, guests_told, own_after, own_told, parent_work, split_work, with_heard, with_work_status, work_in, HearsFrom};
 
-use crate::child::Child;
 use crate::child_result::ChildResult;
+use crate::children::Children;
 use crate::guest::Guest;
 use crate::heard::Heard;
 use crate::site::{Attempt, ChildName};
 use crate::status::Status;
 use crate::unit::Unit;
 use crate::wanted::Wanted;
-
-/// The own child of greatest serial that is wanted.
-pub fn last_child(own: &[Child], wanted: Wanted) -> Option<Unit>
-    requires { length own.now < 2 ^ 32 }
-    ensures { result ≡ last_wanted wanted 0 own.now }
-{
-    let mut last = None;
-    for (serial, child) in own.iter().enumerate() {
-        if child.work.is_wanted(wanted) {
-            last = Some(Unit::Own(serial as u32));
-        }
-    }
-    last
-}
 
 /// The first guest that is wanted.
 pub fn first_guest(guests: &[Guest], wanted: Wanted) -> Option<Unit>
@@ -73,17 +59,12 @@ pub fn place_behind(guests: &[Guest], name: ChildName, attempt: Attempt) -> Opti
 }
 
 /// Gives a unit another status, if it is there.
-pub fn set_unit(own: &mut [Child], guests: &mut [Guest], unit: Unit, status: Status)
+pub fn set_unit(own: &mut Children, guests: &mut [Guest], unit: Unit, status: Status)
     ensures own { own.new ≡ own_after unit (with_work_status status) own.old }
     ensures guests { guests.new ≡ guests_after unit (with_work_status status) guests.old }
 {
     match unit {
-        Unit::Own(serial) => {
-            let serial = serial as usize;
-            if serial < own.len() {
-                own[serial].work.status = status;
-            }
-        }
+        Unit::Own(serial) => own.set_status(serial, status),
         Unit::Guest(name, attempt) => {
             if let Some(place) = place_of(guests, name, attempt) {
                 guests[place].work.status = status;
@@ -93,18 +74,13 @@ pub fn set_unit(own: &mut [Child], guests: &mut [Guest], unit: Unit, status: Sta
 }
 
 /// Makes a unit a frame of so many children, if it is there.
-pub fn split_unit(own: &mut [Child], guests: &mut [Guest], unit: Unit, children: u32)
+pub fn split_unit(own: &mut Children, guests: &mut [Guest], unit: Unit, children: u32)
     requires { 0 < children }
     ensures own { own.new ≡ own_after unit (split_work children) own.old }
     ensures guests { guests.new ≡ guests_after unit (split_work children) guests.old }
 {
     match unit {
-        Unit::Own(serial) => {
-            let serial = serial as usize;
-            if serial < own.len() {
-                own[serial].work.split(children);
-            }
-        }
+        Unit::Own(serial) => own.split(serial, children),
         Unit::Guest(name, attempt) => {
             if let Some(place) = place_of(guests, name, attempt) {
                 guests[place].work.split(children);
@@ -115,7 +91,7 @@ pub fn split_unit(own: &mut [Child], guests: &mut [Guest], unit: Unit, children:
 
 /// Tells a frame the result of a child, and says whether it is settled now; what is no frame says `Open`.
 fn tell(
-    own: &mut [Child],
+    own: &mut Children,
     guests: &mut [Guest],
     unit: Unit,
     child: u32,
@@ -127,14 +103,7 @@ fn tell(
     ensures heard { result ≡ frame_says (option_map (with_heard child child_result.now) (work_in own.old guests.old unit)) }
 {
     match unit {
-        Unit::Own(serial) => {
-            let serial = serial as usize;
-            if serial < own.len() {
-                own[serial].work.hear(child, child_result)
-            } else {
-                Heard::Open
-            }
-        }
+        Unit::Own(serial) => own.hear(serial, child, child_result),
         Unit::Guest(name, attempt) => match place_of(guests, name, attempt) {
             Some(place) => guests[place].work.hear(child, child_result),
             None => Heard::Open,
@@ -144,7 +113,7 @@ fn tell(
 
 /// Tells the parent of a child its result, if it has one, and says whether that frame is settled now; else `Open`.
 pub fn tell_parent(
-    own: &mut [Child],
+    own: &mut Children,
     guests: &mut [Guest],
     parent: Option<Unit>,
     child: u32,

@@ -5,4 +5,8 @@ pub enum Wanted {
     Ready,
     /// A frame that is settled.
     Ripe,
+    /// A unit that a worker of this site has.
+    Here,
+    /// An own child that was given to a thief.
+    Out,
 }

@@ -26,7 +26,7 @@ pub struct Work {
 
 impl Work {
     ghost use Rattle.spawn_frame.specs.Units.{last_attempt};
-    ghost use Rattle.spawn_frame.specs.Works.{entry_of, frame_says, heard_work, is_wanted, new_work, redone_work, split_work, with_heard, with_work_status, HearsChildren};
+    ghost use Rattle.spawn_frame.specs.Works.{entry_of, frame_says, heard_work, is_wanted, new_work, redone_work, split_work, with_heard, HearsChildren};
 
     /// Work that nobody has taken up.
     pub fn new(prefix: Numbers, attempt: Attempt) -> Work
@@ -47,6 +47,8 @@ impl Work {
         match wanted {
             Wanted::Ready => self.status.is_ready(),
             Wanted::Ripe => self.status.is_split() && self.heard() == Heard::Settled,
+            Wanted::Here => self.status.is_here(),
+            Wanted::Out => self.status.is_out(),
         }
     }
 
@@ -83,13 +85,6 @@ impl Work {
     {
         self.attempt += 1;
         self.status = Status::Ready;
-    }
-
-    /// Makes it done, with its result.
-    pub fn end(&mut self, child_result: ChildResult)
-        ensures { self.new ≡ with_work_status (Status.Done child_result) self.old }
-    {
-        self.status = Status::Done(child_result);
     }
 
     /// Makes it a frame of so many children.

@@ -1,17 +1,7 @@
-use Rattle.std.proofs.Common.{◌∙◌, sym, ap, arith}
-use Rattle.spawn_frame.specs.Works.{guests_after, own_after, with_work_status}
-use Rattle.spawn_frame.proofs.Places.{child_past, child_write, guest_unwritten, guest_write}
+use Rattle.std.proofs.Common.{◌∙◌, sym, ap}
+use Rattle.spawn_frame.specs.Works.{guests_after, with_work_status}
+use Rattle.spawn_frame.proofs.Places.{guest_unwritten, guest_write}
 use Rattle.spawn_frame.proofs.units.set_unit.Goals as goal
-
-pub returns-then-serial-own-clause-own : goal.returns-then-serial-own-clause-own
-returns-then-serial-own-clause-own c =
-    child_write (with_work_status c.args.status) c.args.own.now c.in-Own.serial _ (omega arith)
-    ∙ ap (λ u. own_after u (with_work_status c.args.status) c.args.own.now) (sym c.in-Own.is)
-
-pub returns-else-serial-own-clause-own : goal.returns-else-serial-own-clause-own
-returns-else-serial-own-clause-own c =
-    child_past (with_work_status c.args.status) c.args.own.now c.in-Own.serial (omega arith)
-    ∙ ap (λ u. own_after u (with_work_status c.args.status) c.args.own.now) (sym c.in-Own.is)
 
 pub returns-in-Some-clause-guests : goal.returns-in-Some-clause-guests
 returns-in-Some-clause-guests c =

@@ -1,23 +1,9 @@
-use Rattle.std.proofs.Common.{◌∙◌, get_or, slice_set, sym, ap, arith}
-use Rattle.spawn_frame.specs.Works.{guests_after, own_after, split_work}
-use Rattle.spawn_frame.specs.declared.child.Child.{Child}
+use Rattle.std.proofs.Common.{◌∙◌, get_or, slice_set, sym, ap}
+use Rattle.spawn_frame.specs.Works.{guests_after, split_work}
 use Rattle.spawn_frame.specs.declared.guest.Guest.{Guest}
 use Rattle.spawn_frame.specs.declared.work.Work.{Work}
-use Rattle.spawn_frame.proofs.Places.{child_past, child_write, guest_unwritten, guest_write}
+use Rattle.spawn_frame.proofs.Places.{guest_unwritten, guest_write}
 use Rattle.spawn_frame.proofs.units.split_unit.Goals as goal
-
-pub returns-then-serial-own-clause-own : goal.returns-then-serial-own-clause-own
-returns-then-serial-own-clause-own c =
-    let own = c.args.own.now in
-    let at : Child = get_or own c.in-Own.serial c.index-own-serial.result in
-    ap (λ (w : Work). slice_set own c.in-Own.serial (record { parent = at.parent; work = w })) c.split.ensures
-    ∙ child_write (split_work c.args.children) own c.in-Own.serial _ (omega arith)
-    ∙ ap (λ u. own_after u (split_work c.args.children) own) (sym c.in-Own.is)
-
-pub returns-else-serial-own-clause-own : goal.returns-else-serial-own-clause-own
-returns-else-serial-own-clause-own c =
-    child_past (split_work c.args.children) c.args.own.now c.in-Own.serial (omega arith)
-    ∙ ap (λ u. own_after u (split_work c.args.children) c.args.own.now) (sym c.in-Own.is)
 
 pub returns-in-Some-clause-guests : goal.returns-in-Some-clause-guests
 returns-in-Some-clause-guests c =

@@ -1,42 +1,14 @@
-use Rattle.std.proofs.Common.{◌∙◌, get_or, option_map, slice_set, Some, subst, sym, ap, arith}
-use Rattle.std.proofs.lemmas.Option.{slice_get_past}
-use Rattle.spawn_frame.specs.Works.{HearsFrom, child_work, frame_says, guests_after, own_after, with_heard, work_in}
-use Rattle.spawn_frame.specs.declared.child.Child.{Child}
+use Rattle.std.proofs.Common.{◌∙◌, get_or, option_map, slice_set, Some, subst, sym, ap}
+use Rattle.spawn_frame.specs.Works.{HearsFrom, frame_says, guests_after, with_heard, work_in}
 use Rattle.spawn_frame.specs.declared.guest.Guest.{Guest}
 use Rattle.spawn_frame.specs.declared.work.Work.{Work}
-use Rattle.spawn_frame.proofs.Places.{child_past, child_read, child_write, guest_read, guest_unread, guest_unwritten, guest_write}
+use Rattle.spawn_frame.proofs.Places.{guest_read, guest_unread, guest_unwritten, guest_write}
 use Rattle.spawn_frame.proofs.units.tell.Goals as goal
 
 pub hear-requires-in-Some : goal.hear-requires-in-Some
 hear-requires-in-Some c =
     let e = guest_read c.args.guests.now c.in-Guest.name c.in-Guest.attempt c.in-Some.place c.index-guests-place.result (sym c.in-Some.is ∙ c.place_of.ensures) in
     subst HearsFrom e (subst (λ u. HearsFrom (work_in c.args.own.now c.args.guests.now u)) c.in-Guest.is c.requires)
-
-pub returns-then-serial-own-clause-own : goal.returns-then-serial-own-clause-own
-returns-then-serial-own-clause-own c =
-    let own = c.args.own.now in
-    let at : Child = get_or own c.in-Own.serial c.index-own-serial.result in
-    ap (λ (w : Work). slice_set own c.in-Own.serial (record { parent = at.parent; work = w })) c.hear.ensures.hears
-    ∙ child_write (with_heard c.args.child c.args.child_result.now) own c.in-Own.serial _ (omega arith)
-    ∙ ap (λ u. own_after u (with_heard c.args.child c.args.child_result.now) own) (sym c.in-Own.is)
-
-pub returns-then-serial-own-clause-heard : goal.returns-then-serial-own-clause-heard
-returns-then-serial-own-clause-heard c =
-    let f = with_heard c.args.child c.args.child_result.now in
-    c.hear.ensures.heard ∙ ap (λ w. frame_says (Some w)) c.hear.ensures.hears
-    ∙ ap (λ o. frame_says (option_map f (child_work o))) (sym (child_read c.args.own.now c.in-Own.serial c.index-own-serial.result (omega arith)))
-    ∙ ap (λ u. frame_says (option_map f (work_in c.args.own.now c.args.guests.now u))) (sym c.in-Own.is)
-
-pub returns-else-serial-own-clause-own : goal.returns-else-serial-own-clause-own
-returns-else-serial-own-clause-own c =
-    child_past (with_heard c.args.child c.args.child_result.now) c.args.own.now c.in-Own.serial (omega arith)
-    ∙ ap (λ u. own_after u (with_heard c.args.child c.args.child_result.now) c.args.own.now) (sym c.in-Own.is)
-
-pub returns-else-serial-own-clause-heard : goal.returns-else-serial-own-clause-heard
-returns-else-serial-own-clause-heard c =
-    let f = with_heard c.args.child c.args.child_result.now in
-    ap (λ o. frame_says (option_map f (child_work o))) (sym (slice_get_past c.args.own.now c.in-Own.serial (omega arith)))
-    ∙ ap (λ u. frame_says (option_map f (work_in c.args.own.now c.args.guests.now u))) (sym c.in-Own.is)
 
 pub returns-in-Some-clause-guests : goal.returns-in-Some-clause-guests
 returns-in-Some-clause-guests c =

@@ -15,8 +15,8 @@ invariant_of-self-2 c =
     let size = c.len.ensures ∙ sym c.deref.ensures.len ∙ ap length c.deref.ensures.value in
     let place = c.unwrap_or-place.ensures ∙ (λ i. unwrap_or (first i) (size i)) in
     let put = c.in_ok-insert.ensures.items ∙ (λ i. insert t.guests.items (place i) (c.in_ok-guest.ensures i)) ∙ put_is new t.guests.items in
-    subst (λ guests. IsTable (table_of t.site t.names_limit t.own.items guests) t.own.items guests) (sym put)
-    (put_kept t.site t.names_limit t.own.items t.guests.items c.self.invariant c.args.name c.args.attempt c.args.prefix.now
+    subst (λ guests. IsTable (table_of t.site t.names_limit t.own guests) t.own guests) (sym put)
+    (put_kept t.site t.names_limit t.own t.guests.items c.self.invariant c.args.name c.args.attempt c.args.prefix.now
     (ap (λ v. guest_in v.guests c.args.name c.args.attempt) c.self.view_is ∙ c.requires.absent) c.requires.attempt)
 
 pub returns-clause-ok : goal.returns-clause-ok
@@ -27,6 +27,6 @@ returns-clause-ok c =
     let size = c.len.ensures ∙ sym c.deref.ensures.len ∙ ap length c.deref.ensures.value in
     let place = c.unwrap_or-place.ensures ∙ (λ i. unwrap_or (first i) (size i)) in
     let put = c.in_ok-insert.ensures.items ∙ (λ i. insert t.guests.items (place i) (c.in_ok-guest.ensures i)) ∙ put_is new t.guests.items in
-    ap (λ guests. table_of t.site t.names_limit t.own.items guests) put
-    ∙ ap (table_guests (table_of t.site t.names_limit t.own.items t.guests.items)) (put_view new t.guests.items)
+    ap (λ guests. table_of t.site t.names_limit t.own guests) put
+    ∙ ap (table_guests (table_of t.site t.names_limit t.own t.guests.items)) (put_view new t.guests.items)
     ∙ ap (λ v. table_guests v (insert_guest (new_guest c.args.name c.args.attempt c.args.prefix.now) v.guests)) c.self.view_is

@@ -1,34 +1,34 @@
-use Rattle.std.proofs.Common.{length, sym, ap, ◌∙◌, arith}
+use Rattle.std.proofs.Common.{sym, ap, ◌∙◌, arith}
 use Rattle.spawn_frame.specs.Picks.{either_unit}
-use Rattle.spawn_frame.specs.Works.{first_wanted, last_wanted, table_of, wanted_unit}
+use Rattle.spawn_frame.specs.Works.{first_wanted, table_of, wanted_unit}
 use Rattle.spawn_frame.proofs.Found.{wanted_is}
 use Rattle.spawn_frame.proofs.Picked.{each_wanted_there}
 use Rattle.spawn_frame.proofs.table.Table.picked.Goals as goal
 
-pub last_child-requires : goal.last_child-requires
-last_child-requires c = omega (arith, ap length c.deref.ensures.value, c.self.invariant.small, c.self.invariant.names)
+pub last-requires : goal.last-requires
+last-requires c = omega (arith, c.self.invariant.small, c.self.invariant.names)
 
 pub returns-in-Some : goal.returns-in-Some
 returns-in-Some c =
     let t = c.self.inside in
-    let last = ap (last_wanted c.args.wanted 0) (sym c.deref.ensures.value) ∙ sym c.last_child.ensures ∙ c.in-Some.is in
+    let last = sym c.last.ensures ∙ c.in-Some.is in
     let is =
     sym (ap (λ o. either_unit o (first_wanted c.args.wanted t.guests.items)) last)
-    ∙ wanted_is t.site t.names_limit t.own.items t.guests.items c.self.invariant c.args.wanted in
+    ∙ wanted_is t.site t.names_limit t.own t.guests.items c.self.invariant c.args.wanted in
     record {
       unit = is ∙ ap (wanted_unit c.args.wanted) c.self.view_is;
-      status = each_wanted_there c.args.wanted (table_of t.site t.names_limit t.own.items t.guests.items) c.args.self.now c.self.invariant.ascending c.self.view_is _ is;
+      status = each_wanted_there c.args.wanted (table_of t.site t.names_limit t.own t.guests.items) c.args.self.now c.self.invariant.ascending c.self.view_is _ is;
     }
 
 pub returns-in-None : goal.returns-in-None
 returns-in-None c =
     let t = c.self.inside in
-    let last = ap (last_wanted c.args.wanted 0) (sym c.deref.ensures.value) ∙ sym c.last_child.ensures ∙ c.in-None.is in
+    let last = sym c.last.ensures ∙ c.in-None.is in
     let is =
-    c.first_guest.ensures ∙ ap (first_wanted c.args.wanted) c.deref-in-None.ensures.value
+    c.first_guest.ensures ∙ ap (first_wanted c.args.wanted) c.deref.ensures.value
     ∙ sym (ap (λ o. either_unit o (first_wanted c.args.wanted t.guests.items)) last)
-    ∙ wanted_is t.site t.names_limit t.own.items t.guests.items c.self.invariant c.args.wanted in
+    ∙ wanted_is t.site t.names_limit t.own t.guests.items c.self.invariant c.args.wanted in
     record {
       unit = is ∙ ap (wanted_unit c.args.wanted) c.self.view_is;
-      status = each_wanted_there c.args.wanted (table_of t.site t.names_limit t.own.items t.guests.items) c.args.self.now c.self.invariant.ascending c.self.view_is _ is;
+      status = each_wanted_there c.args.wanted (table_of t.site t.names_limit t.own t.guests.items) c.args.self.now c.self.invariant.ascending c.self.view_is _ is;
     }

@@ -1,10 +1,7 @@
-use Rattle.std.proofs.Common.{slice_get, slice_set, sym, ap, subst, ◌∙◌}
-use Rattle.std.proofs.lemmas.Option.{slice_get_within}
+use Rattle.std.proofs.Common.{slice_get, sym, ap, subst, ◌∙◌}
 use Rattle.spawn_frame.specs.Tables.{has_status, is_out}
 use Rattle.spawn_frame.specs.Units.{change_at, redone, table_own}
-use Rattle.spawn_frame.specs.Works.{IsTable, redone_work, table_of}
-use Rattle.spawn_frame.specs.declared.work.Work.{Work}
-use Rattle.spawn_frame.proofs.Places.{child_set}
+use Rattle.spawn_frame.specs.Works.{IsTable, table_of}
 use Rattle.spawn_frame.proofs.Redone.{redone_kept, redone_view}
 use Rattle.spawn_frame.proofs.Statuses.{child_with}
 use Rattle.spawn_frame.proofs.table.Table.redo.Goals as goal
@@ -12,16 +9,16 @@ use Rattle.spawn_frame.proofs.table.Table.redo.Goals as goal
 pub invariant_of-self : goal.invariant_of-self
 invariant_of-self c =
     let t = c.self.inside in
-    let there = child_with is_out t.own.items c.args.serial (ap (λ v. has_status is_out (slice_get v.own c.args.serial)) c.self.view_is ∙ c.requires.out) in
-    let set = ap (λ (w : Work). slice_set t.own.items c.args.serial (record { parent = c.index_mut.result.now.parent; work = w })) c.redo.ensures ∙ child_set redone_work t.own.items c.args.serial c.index_mut.result.now (slice_get_within t.own.items c.args.serial there.child there.is) c.index_mut.ensures.value in
+    let there = child_with is_out t.own c.args.serial (ap (λ v. has_status is_out (slice_get v.own c.args.serial)) c.self.view_is ∙ c.requires.out) in
+    let set = c.redo.ensures in
     subst (λ own. IsTable (table_of t.site t.names_limit own t.guests.items) own t.guests.items) (sym set)
-    (redone_kept t.site t.names_limit t.own.items t.guests.items c.self.invariant c.args.serial there)
+    (redone_kept t.site t.names_limit t.own t.guests.items c.self.invariant c.args.serial there)
 
 pub returns : goal.returns
 returns c =
     let t = c.self.inside in
-    let there = child_with is_out t.own.items c.args.serial (ap (λ v. has_status is_out (slice_get v.own c.args.serial)) c.self.view_is ∙ c.requires.out) in
-    let set = ap (λ (w : Work). slice_set t.own.items c.args.serial (record { parent = c.index_mut.result.now.parent; work = w })) c.redo.ensures ∙ child_set redone_work t.own.items c.args.serial c.index_mut.result.now (slice_get_within t.own.items c.args.serial there.child there.is) c.index_mut.ensures.value in
+    let there = child_with is_out t.own c.args.serial (ap (λ v. has_status is_out (slice_get v.own c.args.serial)) c.self.view_is ∙ c.requires.out) in
+    let set = c.redo.ensures in
     ap (λ own. table_of t.site t.names_limit own t.guests.items) set
-    ∙ redone_view t.site t.names_limit t.own.items t.guests.items c.args.serial
+    ∙ redone_view t.site t.names_limit t.own t.guests.items c.args.serial
     ∙ ap (λ v. table_own v (change_at redone v.own c.args.serial)) c.self.view_is

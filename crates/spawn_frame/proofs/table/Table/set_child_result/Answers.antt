@@ -1,13 +1,12 @@
-use Rattle.std.proofs.Common.{List, option_map, slice_get, sym, ap, subst, ◌∙◌}
-use Rattle.std.proofs.lemmas.Option.{slice_get_within}
+use Rattle.std.proofs.Common.{List, get_or, option_map, slice_get, sym, ap, subst, ◌∙◌}
 use Rattle.spawn_frame.specs.Tables.{has_status, may_end, parent_heard}
 use Rattle.spawn_frame.specs.Units.{table_gets}
-use Rattle.spawn_frame.specs.Works.{HearsFrom, IsTable, frame_says, guests_told, own_told, parent_work, table_of, with_heard, with_work_status}
+use Rattle.spawn_frame.specs.Works.{HearsFrom, IsTable, frame_says, guests_told, change_child, parent_work, table_of, with_heard, with_work_status}
 use Rattle.spawn_frame.specs.declared.child.Child.{Child}
 use Rattle.spawn_frame.specs.declared.guest.Guest.{Guest}
 use Rattle.spawn_frame.specs.declared.status.Status.TheVariants.{Done}
 use Rattle.spawn_frame.specs.declared.unit.Unit.TheVariants.{Own}
-use Rattle.spawn_frame.proofs.Ended.{ended_heard, ended_kept, ended_view, ended_write, parent_hears}
+use Rattle.spawn_frame.proofs.Ended.{ended_heard, ended_kept, ended_view, parent_hears}
 use Rattle.spawn_frame.proofs.Statuses.{child_here}
 use Rattle.spawn_frame.proofs.Writes.{items_after}
 use Rattle.spawn_frame.proofs.table.Table.set_child_result.Goals as goal
@@ -15,50 +14,62 @@ use Rattle.spawn_frame.proofs.table.Table.set_child_result.Goals as goal
 pub tell_parent-heard-requires : goal.tell_parent-heard-requires
 tell_parent-heard-requires c =
     let t = c.self.inside in
-    let there = child_here may_end t.own.items c.args.serial c.index.result.now c.index.ensures (ap (λ v. has_status may_end (slice_get v.own c.args.serial)) c.self.view_is ∙ c.requires) in
-    subst (λ (p : List Child × List Guest). HearsFrom (parent_work c.index.result.now.parent p.0 p.1)) (λ i. (sym c.deref_mut.ensures.value i, sym c.deref_mut-2.ensures.value i))
-    (parent_hears t.site t.names_limit t.own.items t.guests.items c.self.invariant c.args.serial there c.args.child_result)
+    let seen = c.as_slice.result.now in
+    let item : Child = get_or seen c.args.serial c.index-as_slice-serial.result in
+    let at = ap (get_or seen c.args.serial) c.index-as_slice-serial.is ∙ ap (λ l. get_or l c.args.serial item) c.as_slice.ensures in
+    let there = child_here may_end t.own c.args.serial item at (ap (λ v. has_status may_end (slice_get v.own c.args.serial)) c.self.view_is ∙ c.requires) in
+    subst (λ (p : List Child × List Guest). HearsFrom (parent_work item.parent p.0 p.1)) (λ i. (t.own, sym c.deref_mut.ensures.value i))
+    (parent_hears t.site t.names_limit t.own t.guests.items c.self.invariant c.args.serial there c.args.child_result)
 
 pub invariant_of-self : goal.invariant_of-self
 invariant_of-self c =
     let t = c.self.inside in
+    let seen = c.as_slice.result.now in
+    let item : Child = get_or seen c.args.serial c.index-as_slice-serial.result in
+    let at = ap (get_or seen c.args.serial) c.index-as_slice-serial.is ∙ ap (λ l. get_or l c.args.serial item) c.as_slice.ensures in
     let r = c.args.child_result in
     let f = with_heard c.args.serial r in
-    let p = c.index.result.now.parent in
-    let there = child_here may_end t.own.items c.args.serial c.index.result.now c.index.ensures (ap (λ v. has_status may_end (slice_get v.own c.args.serial)) c.self.view_is ∙ c.requires) in
-    let heard = items_after t.own c.deref_mut.result.now c.tell_parent-heard.new.own (own_told p f) c.tell_parent-heard.auto.own c.deref_mut.ensures.len c.tell_parent-heard.ensures.own c.deref_mut.ensures.value in
-    let e = ended_write t.own.items _ p f (with_work_status (Done r)) c.args.serial c.index_mut.result.now _ c.end.ensures heard (slice_get_within t.own.items c.args.serial there.child there.is) c.index_mut.ensures.value in
-    let g = items_after t.guests c.deref_mut-2.result.now c.tell_parent-heard.new.guests (guests_told p f) c.tell_parent-heard.auto.guests c.deref_mut-2.ensures.len c.tell_parent-heard.ensures.guests c.deref_mut-2.ensures.value in
+    let p = item.parent in
+    let there = child_here may_end t.own c.args.serial item at (ap (λ v. has_status may_end (slice_get v.own c.args.serial)) c.self.view_is ∙ c.requires) in
+    let heard = c.tell_parent-heard.ensures.own in
+    let e = c.set_status.ensures ∙ ap (λ l. change_child (with_work_status (Done r)) l c.args.serial) heard in
+    let g = items_after t.guests c.deref_mut.result.now c.tell_parent-heard.new.guests (guests_told p f) c.tell_parent-heard.auto.guests c.deref_mut.ensures.len c.tell_parent-heard.ensures.guests c.deref_mut.ensures.value in
     subst (λ (q : List Child × List Guest). IsTable (table_of t.site t.names_limit q.0 q.1) q.0 q.1) (λ i. (sym e i, sym g i))
-    (ended_kept t.site t.names_limit t.own.items t.guests.items c.self.invariant c.args.serial there r)
+    (ended_kept t.site t.names_limit t.own t.guests.items c.self.invariant c.args.serial there r)
 
 pub returns-clause-after : goal.returns-clause-after
 returns-clause-after c =
     let t = c.self.inside in
+    let seen = c.as_slice.result.now in
+    let item : Child = get_or seen c.args.serial c.index-as_slice-serial.result in
+    let at = ap (get_or seen c.args.serial) c.index-as_slice-serial.is ∙ ap (λ l. get_or l c.args.serial item) c.as_slice.ensures in
     let r = c.args.child_result in
     let f = with_heard c.args.serial r in
-    let p = c.index.result.now.parent in
-    let there = child_here may_end t.own.items c.args.serial c.index.result.now c.index.ensures (ap (λ v. has_status may_end (slice_get v.own c.args.serial)) c.self.view_is ∙ c.requires) in
-    let heard = items_after t.own c.deref_mut.result.now c.tell_parent-heard.new.own (own_told p f) c.tell_parent-heard.auto.own c.deref_mut.ensures.len c.tell_parent-heard.ensures.own c.deref_mut.ensures.value in
-    let e = ended_write t.own.items _ p f (with_work_status (Done r)) c.args.serial c.index_mut.result.now _ c.end.ensures heard (slice_get_within t.own.items c.args.serial there.child there.is) c.index_mut.ensures.value in
-    let g = items_after t.guests c.deref_mut-2.result.now c.tell_parent-heard.new.guests (guests_told p f) c.tell_parent-heard.auto.guests c.deref_mut-2.ensures.len c.tell_parent-heard.ensures.guests c.deref_mut-2.ensures.value in
+    let p = item.parent in
+    let there = child_here may_end t.own c.args.serial item at (ap (λ v. has_status may_end (slice_get v.own c.args.serial)) c.self.view_is ∙ c.requires) in
+    let heard = c.tell_parent-heard.ensures.own in
+    let e = c.set_status.ensures ∙ ap (λ l. change_child (with_work_status (Done r)) l c.args.serial) heard in
+    let g = items_after t.guests c.deref_mut.result.now c.tell_parent-heard.new.guests (guests_told p f) c.tell_parent-heard.auto.guests c.deref_mut.ensures.len c.tell_parent-heard.ensures.guests c.deref_mut.ensures.value in
     (λ i. table_of t.site t.names_limit (e i) (g i))
-    ∙ ended_view t.site t.names_limit t.own.items t.guests.items c.self.invariant c.args.serial there r
+    ∙ ended_view t.site t.names_limit t.own t.guests.items c.self.invariant c.args.serial there r
     ∙ ap (λ v. table_gets v (Own c.args.serial) (Done r)) c.self.view_is
 
 pub returns-clause-heard : goal.returns-clause-heard
 returns-clause-heard c =
     let t = c.self.inside in
+    let seen = c.as_slice.result.now in
+    let item : Child = get_or seen c.args.serial c.index-as_slice-serial.result in
+    let at = ap (get_or seen c.args.serial) c.index-as_slice-serial.is ∙ ap (λ l. get_or l c.args.serial item) c.as_slice.ensures in
     let r = c.args.child_result in
     let f = with_heard c.args.serial r in
-    let p = c.index.result.now.parent in
-    let there = child_here may_end t.own.items c.args.serial c.index.result.now c.index.ensures (ap (λ v. has_status may_end (slice_get v.own c.args.serial)) c.self.view_is ∙ c.requires) in
-    let heard = items_after t.own c.deref_mut.result.now c.tell_parent-heard.new.own (own_told p f) c.tell_parent-heard.auto.own c.deref_mut.ensures.len c.tell_parent-heard.ensures.own c.deref_mut.ensures.value in
-    let e = ended_write t.own.items _ p f (with_work_status (Done r)) c.args.serial c.index_mut.result.now _ c.end.ensures heard (slice_get_within t.own.items c.args.serial there.child there.is) c.index_mut.ensures.value in
-    let g = items_after t.guests c.deref_mut-2.result.now c.tell_parent-heard.new.guests (guests_told p f) c.tell_parent-heard.auto.guests c.deref_mut-2.ensures.len c.tell_parent-heard.ensures.guests c.deref_mut-2.ensures.value in
+    let p = item.parent in
+    let there = child_here may_end t.own c.args.serial item at (ap (λ v. has_status may_end (slice_get v.own c.args.serial)) c.self.view_is ∙ c.requires) in
+    let heard = c.tell_parent-heard.ensures.own in
+    let e = c.set_status.ensures ∙ ap (λ l. change_child (with_work_status (Done r)) l c.args.serial) heard in
+    let g = items_after t.guests c.deref_mut.result.now c.tell_parent-heard.new.guests (guests_told p f) c.tell_parent-heard.auto.guests c.deref_mut.ensures.len c.tell_parent-heard.ensures.guests c.deref_mut.ensures.value in
     c.tell_parent-heard.ensures.heard
-    ∙ (λ i. frame_says (option_map f (parent_work p (c.deref_mut.ensures.value i) (c.deref_mut-2.ensures.value i))))
-    ∙ ended_heard t.site t.names_limit t.own.items t.guests.items c.self.invariant c.args.serial there r
+    ∙ (λ i. frame_says (option_map f (parent_work p t.own (c.deref_mut.ensures.value i))))
+    ∙ ended_heard t.site t.names_limit t.own t.guests.items c.self.invariant c.args.serial there r
     ∙ sym (ap (λ v. parent_heard v (Own c.args.serial))
     ((λ i. table_of t.site t.names_limit (e i) (g i))
-    ∙ ended_view t.site t.names_limit t.own.items t.guests.items c.self.invariant c.args.serial there r))
+    ∙ ended_view t.site t.names_limit t.own t.guests.items c.self.invariant c.args.serial there r))

@@ -1,7 +1,7 @@
 use Rattle.std.proofs.Common.{List, sym, ap, subst, ◌∙◌}
 use Rattle.spawn_frame.specs.Tables.{has_status}
 use Rattle.spawn_frame.specs.Units.{table_gets, unit_of}
-use Rattle.spawn_frame.specs.Works.{IsTable, guests_after, may_become, own_after, table_of, with_work_status}
+use Rattle.spawn_frame.specs.Works.{IsTable, guests_after, may_become, table_of, with_work_status}
 use Rattle.spawn_frame.specs.declared.child.Child.{Child}
 use Rattle.spawn_frame.specs.declared.guest.Guest.{Guest}
 use Rattle.spawn_frame.proofs.Lookups.{no_parent}
@@ -13,20 +13,20 @@ pub invariant_of-self : goal.invariant_of-self
 invariant_of-self c =
     let t = c.self.inside in
     let f = with_work_status c.args.status in
-    let e = items_after t.own c.deref_mut.result.now c.set_unit.new.own (own_after c.args.unit f) c.set_unit.auto.own c.deref_mut.ensures.len c.set_unit.ensures.own c.deref_mut.ensures.value in
-    let g = items_after t.guests c.deref_mut-2.result.now c.set_unit.new.guests (guests_after c.args.unit f) c.set_unit.auto.guests c.deref_mut-2.ensures.len c.set_unit.ensures.guests c.deref_mut-2.ensures.value in
+    let e = c.set_unit.ensures.own in
+    let g = items_after t.guests c.deref_mut.result.now c.set_unit.new.guests (guests_after c.args.unit f) c.set_unit.auto.guests c.deref_mut.ensures.len c.set_unit.ensures.guests c.deref_mut.ensures.value in
     subst (λ (p : List Child × List Guest). IsTable (table_of t.site t.names_limit p.0 p.1) p.0 p.1) (λ i. (sym e i, sym g i))
-    (status_kept t.site t.names_limit t.own.items t.guests.items c.self.invariant c.args.unit c.args.status
+    (status_kept t.site t.names_limit t.own t.guests.items c.self.invariant c.args.unit c.args.status
     (ap (λ v. has_status (may_become c.args.unit c.args.status) (unit_of v c.args.unit)) c.self.view_is ∙ c.requires))
 
 pub returns-clause-after : goal.returns-clause-after
 returns-clause-after c =
     let t = c.self.inside in
     let f = with_work_status c.args.status in
-    let e = items_after t.own c.deref_mut.result.now c.set_unit.new.own (own_after c.args.unit f) c.set_unit.auto.own c.deref_mut.ensures.len c.set_unit.ensures.own c.deref_mut.ensures.value in
-    let g = items_after t.guests c.deref_mut-2.result.now c.set_unit.new.guests (guests_after c.args.unit f) c.set_unit.auto.guests c.deref_mut-2.ensures.len c.set_unit.ensures.guests c.deref_mut-2.ensures.value in
+    let e = c.set_unit.ensures.own in
+    let g = items_after t.guests c.deref_mut.result.now c.set_unit.new.guests (guests_after c.args.unit f) c.set_unit.auto.guests c.deref_mut.ensures.len c.set_unit.ensures.guests c.deref_mut.ensures.value in
     (λ i. table_of t.site t.names_limit (e i) (g i))
-    ∙ status_view t.site t.names_limit t.own.items t.guests.items c.args.unit c.args.status
+    ∙ status_view t.site t.names_limit t.own t.guests.items c.args.unit c.args.status
     ∙ ap (λ v. table_gets v c.args.unit c.args.status) c.self.view_is
 
 pub returns-clause-guests : goal.returns-clause-guests

@@ -18,18 +18,18 @@ invariant_of-self-2 c =
     let options = c.args.options.now in
     let prefix = prefix_in (unit_of c.args.self.now u) in
     let ps = longer_prefixes prefix options in
-    let there = unit_with is_here t.site t.names_limit t.own.items t.guests.items u (ap (λ v. has_status is_here (unit_of v u)) c.self.view_is ∙ c.requires.here) in
+    let there = unit_with is_here t.site t.names_limit t.own t.guests.items u (ap (λ v. has_status is_here (unit_of v u)) c.self.view_is ∙ c.requires.here) in
     let told = c.deref.ensures.value ∙ c.in_ok-prefix_into.ensures.ok ∙ ap (λ l. l ++ prefix) c.new-prefix.ensures.items in
     let kids = c.in_ok-children.ensures ∙ ap (λ l. map (fresh_child u) (longer_prefixes l options)) told in
     let count = sym (length-map options (λ o. prefix ++ o ∷ [])) in
-    let fits : length t.own.items + length ps ≤ t.names_limit = omega (arith, count, c.if-options-self.false, c.len-first.ensures, c.self.invariant.names) in
-    let e = items_after c.append.new.self c.deref_mut.result.now c.split_unit.new.own (own_after u (split_work (length options))) c.split_unit.auto.own c.deref_mut.ensures.len c.split_unit.ensures.own c.deref_mut.ensures.value in
-    let g = items_after t.guests c.deref_mut-2.result.now c.split_unit.new.guests (guests_after u (split_work (length options))) c.split_unit.auto.guests c.deref_mut-2.ensures.len c.split_unit.ensures.guests c.deref_mut-2.ensures.value in
-    let appended = c.in_ok-append.ensures.items ∙ ap (λ l. t.own.items ++ l) kids in
+    let fits : length t.own + length ps ≤ t.names_limit = omega (arith, count, c.if-options-self.false, c.len-first.ensures, c.self.invariant.names) in
+    let e = c.split_unit.ensures.own in
+    let g = items_after t.guests c.deref_mut.result.now c.split_unit.new.guests (guests_after u (split_work (length options))) c.split_unit.auto.guests c.deref_mut.ensures.len c.split_unit.ensures.guests c.deref_mut.ensures.value in
+    let appended = c.in_ok-append.ensures.ok ∙ ap (λ l. t.own ++ l) kids in
     let own = e ∙ (λ i. own_after u (split_work (count i)) (appended i)) in
     let guests = g ∙ (λ i. guests_after u (split_work (count i)) t.guests.items) in
     subst (λ (p : List Child × List Guest). IsTable (table_of t.site t.names_limit p.0 p.1) p.0 p.1) (λ i. (sym own i, sym guests i))
-    (split_kept t.site t.names_limit t.own.items t.guests.items c.self.invariant u there.work there.is there.passes ps fits)
+    (split_kept t.site t.names_limit t.own t.guests.items c.self.invariant u there.work there.is there.passes ps fits)
 
 pub returns-clause-split : goal.returns-clause-split
 returns-clause-split c =
@@ -38,16 +38,16 @@ returns-clause-split c =
     let options = c.args.options.now in
     let prefix = prefix_in (unit_of c.args.self.now u) in
     let ps = longer_prefixes prefix options in
-    let there = unit_with is_here t.site t.names_limit t.own.items t.guests.items u (ap (λ v. has_status is_here (unit_of v u)) c.self.view_is ∙ c.requires.here) in
+    let there = unit_with is_here t.site t.names_limit t.own t.guests.items u (ap (λ v. has_status is_here (unit_of v u)) c.self.view_is ∙ c.requires.here) in
     let told = c.deref.ensures.value ∙ c.in_ok-prefix_into.ensures.ok ∙ ap (λ l. l ++ prefix) c.new-prefix.ensures.items in
     let kids = c.in_ok-children.ensures ∙ ap (λ l. map (fresh_child u) (longer_prefixes l options)) told in
     let count = sym (length-map options (λ o. prefix ++ o ∷ [])) in
-    let fits : length t.own.items + length ps ≤ t.names_limit = omega (arith, count, c.if-options-self.false, c.len-first.ensures, c.self.invariant.names) in
-    let e = items_after c.append.new.self c.deref_mut.result.now c.split_unit.new.own (own_after u (split_work (length options))) c.split_unit.auto.own c.deref_mut.ensures.len c.split_unit.ensures.own c.deref_mut.ensures.value in
-    let g = items_after t.guests c.deref_mut-2.result.now c.split_unit.new.guests (guests_after u (split_work (length options))) c.split_unit.auto.guests c.deref_mut-2.ensures.len c.split_unit.ensures.guests c.deref_mut-2.ensures.value in
-    let appended = c.in_ok-append.ensures.items ∙ ap (λ l. t.own.items ++ l) kids in
+    let fits : length t.own + length ps ≤ t.names_limit = omega (arith, count, c.if-options-self.false, c.len-first.ensures, c.self.invariant.names) in
+    let e = c.split_unit.ensures.own in
+    let g = items_after t.guests c.deref_mut.result.now c.split_unit.new.guests (guests_after u (split_work (length options))) c.split_unit.auto.guests c.deref_mut.ensures.len c.split_unit.ensures.guests c.deref_mut.ensures.value in
+    let appended = c.in_ok-append.ensures.ok ∙ ap (λ l. t.own ++ l) kids in
     let own = e ∙ (λ i. own_after u (split_work (count i)) (appended i)) in
     let guests = g ∙ (λ i. guests_after u (split_work (count i)) t.guests.items) in
     (λ i. table_of t.site t.names_limit (own i) (guests i))
-    ∙ split_view t.site t.names_limit t.own.items t.guests.items c.self.invariant u there.work there.is there.passes ps fits
+    ∙ split_view t.site t.names_limit t.own t.guests.items c.self.invariant u there.work there.is there.passes ps fits
     ∙ ap (λ v. split_into v u ps) c.self.view_is

@@ -10,9 +10,9 @@ use Rattle.spawn_frame.proofs.table.Table.work.Goals as goal
 pub returns-in_err-place-in-Guest : goal.returns-in_err-place-in-Guest
 returns-in_err-place-in-Guest c =
     let t = c.self.inside in
-    let whole = ap (λ (gs : List Guest). position (λ h. is_guest c.in-Guest.name c.in-Guest.attempt (guest_entry h)) gs) c.deref-in-Guest.ensures.value in
+    let whole = ap (λ (gs : List Guest). position (λ h. is_guest c.in-Guest.name c.in-Guest.attempt (guest_entry h)) gs) c.deref.ensures.value in
     let e = guest_unread t.guests.items c.in-Guest.name c.in-Guest.attempt (sym c.in_err-place-in-Guest.was ∙ c.place_of.ensures ∙ whole) in
-    let n = unit_none t.site t.names_limit t.own.items t.guests.items c.args.unit (ap (work_in t.own.items t.guests.items) c.in-Guest.is ∙ e) in
+    let n = unit_none t.site t.names_limit t.own t.guests.items c.args.unit (ap (work_in t.own t.guests.items) c.in-Guest.is ∙ e) in
     subst (λ r. MatchOption r (unit_of c.args.self.now c.args.unit ≡ None) (λ w. IsWork c.args.self.now c.args.unit w.now))
     (sym c.from_residual-in_err-place-in-Guest.ensures) (subst (λ v. unit_of v c.args.unit ≡ None) c.self.view_is n)
 
@@ -21,17 +21,17 @@ returns-in_ok-child-in-Own c =
     let t = c.self.inside in
     let child = c.in_ok-child-in-Own.child.now in
     let found = c.in_ok-child-in-Own.ensures.lookup in
-    let within : c.in-Own.serial < length t.own.items = omega (arith, ltb-true c.in-Own.serial (length c.deref.result.now) (sym found.0), ap length c.deref.ensures.value) in
-    let at = child_get t.own.items c.in-Own.serial child within (found.1 ∙ ap (λ xs. get_or xs c.in-Own.serial child) c.deref.ensures.value) in
-    let e = ap (work_in t.own.items t.guests.items) c.in-Own.is ∙ ap child_work at in
-    subst (λ v. IsWork v c.args.unit child.work) c.self.view_is (unit_work t.site t.names_limit t.own.items t.guests.items c.self.invariant c.args.unit child.work e)
+    let within : c.in-Own.serial < length t.own = omega (arith, ltb-true c.in-Own.serial (length c.as_slice.result.now) (sym found.0), ap length c.as_slice.ensures) in
+    let at = child_get t.own c.in-Own.serial child within (found.1 ∙ ap (λ xs. get_or xs c.in-Own.serial child) c.as_slice.ensures) in
+    let e = ap (work_in t.own t.guests.items) c.in-Own.is ∙ ap child_work at in
+    subst (λ v. IsWork v c.args.unit child.work) c.self.view_is (unit_work t.site t.names_limit t.own t.guests.items c.self.invariant c.args.unit child.work e)
 
 pub returns-in_ok-place-in-Guest : goal.returns-in_ok-place-in-Guest
 returns-in_ok-place-in-Guest c =
     let t = c.self.inside in
     let guest = c.index.result.now in
-    let whole = ap (λ (gs : List Guest). position (λ h. is_guest c.in-Guest.name c.in-Guest.attempt (guest_entry h)) gs) c.deref-in-Guest.ensures.value in
+    let whole = ap (λ (gs : List Guest). position (λ h. is_guest c.in-Guest.name c.in-Guest.attempt (guest_entry h)) gs) c.deref.ensures.value in
     let p = place_is t.guests.items c.in-Guest.name c.in-Guest.attempt c.in_ok-place-in-Guest.place guest (sym c.in_ok-place-in-Guest.was ∙ c.place_of.ensures ∙ whole) c.index.ensures in
     let at = guest_get t.guests.items c.in-Guest.name c.in-Guest.attempt c.in_ok-place-in-Guest.place guest p c.index.ensures in
-    let e = ap (work_in t.own.items t.guests.items) c.in-Guest.is ∙ at in
-    subst (λ v. IsWork v c.args.unit guest.work) c.self.view_is (unit_work t.site t.names_limit t.own.items t.guests.items c.self.invariant c.args.unit guest.work e)
+    let e = ap (work_in t.own t.guests.items) c.in-Guest.is ∙ at in
+    subst (λ v. IsWork v c.args.unit guest.work) c.self.view_is (unit_work t.site t.names_limit t.own t.guests.items c.self.invariant c.args.unit guest.work e)
