@@ -17,3 +17,4 @@ pub mod Admitted
 pub mod Spawned
 pub mod Split
 pub mod Paged
+pub mod Ahead

@@ -1,6 +1,6 @@
 -- The pages of a site's own children, and which kinds of children stand in each.
-use Rattle.std.specs.Prelude.{◌≡◌, ◌⊎◌, ℕ, suc, ◌*◌, ◌<◌, ◌≤◌, Bool, if◌then◌else◌, List, [], ◌∷◌, length, take, drop, Option, Some, None, get_or}
-use Rattle.std.specs.List.{list_any}
+use Rattle.std.specs.Prelude.{◌≡◌, ◌⊎◌, ℕ, ◌*◌, ◌<◌, ◌≤◌, Bool, List, length, take, drop, Option, get_or}
+use Rattle.std.specs.List.{list_any, position_from}
 use Rattle.spawn_frame.specs.Works.{is_wanted}
 use Rattle.spawn_frame.specs.declared.child.Child.{Child}
 use Rattle.spawn_frame.specs.declared.kinds.Kinds.{Kinds}
@@ -45,7 +45,6 @@ pub record TellsOthers (first end : ℕ) (own : List Child) (pages : List Kinds)
   pub begun : length own ≤ length pages * page_size
   pub each : (p : ℕ) (kinds : Kinds) → (p < first) ⊎ (end ≤ p) → p * page_size < length own → get_or pages p kinds ≡ kinds_of (page_of own p)
 
--- the child of least serial that is wanted, of those from serial k on
+-- the child of least serial that is wanted, of those that begin at serial k
 abbrev pub next_wanted : Wanted → ℕ → List Child → Option ℕ
-next_wanted wanted k [] = None
-next_wanted wanted k (c ∷ cs) = if is_wanted wanted c.work then Some k else next_wanted wanted (suc k) cs
+next_wanted wanted k own = position_from (λ c. is_wanted wanted c.work) k own

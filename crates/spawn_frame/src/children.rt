@@ -1,12 +1,13 @@
 //! The own children of a site.
 
-ghost use Rattle.std.specs.Prelude.{◌≡◌, ℕ, ◌+◌, ◌/◌, ◌<◌, ◌≤◌, ◌++◌, ◌^◌, get_or, [], length, option_map, slice_get, OnErr, OnOk, Some};
+ghost use Rattle.std.specs.Prelude.{◌≡◌, ℕ, ◌+◌, ◌/◌, ◌<◌, ◌≤◌, ◌++◌, ◌^◌, drop, get_or, [], length, option_map, slice_get, OnErr, OnOk, Some};
 ghost use Rattle.spawn_frame.specs.Works.{change_child, child_work, frame_says, last_wanted, redone_work, split_work, with_heard, with_work_status, HearsFrom};
 
 use crate::child::Child;
 use crate::child_result::ChildResult;
 use crate::heard::Heard;
 use crate::kinds::Kinds;
+use crate::next::next_in_pages;
 use crate::pages::{PAGE, last_in_pages, tell_pages};
 use crate::status::Status;
 use crate::unit::Unit;
@@ -34,7 +35,7 @@ impl Model for Children {
     ghost invariant = { λ c. TellsPages c.items.items c.pages.items };
 }
 
-ghost use Rattle.spawn_frame.specs.Pages.{TellsOthers, TellsPages};
+ghost use Rattle.spawn_frame.specs.Pages.{next_wanted, TellsOthers, TellsPages};
 ghost use Rattle.spawn_frame.specs.Units.{last_attempt};
 ghost use Rattle.spawn_frame.specs.declared.child.Child.{Child as OwnChild};
 ghost use Rattle.spawn_frame.specs.declared.kinds.Kinds.{Kinds as PageKinds};
@@ -87,6 +88,15 @@ impl Children {
         ensures { result ≡ last_wanted wanted 0 self.now }
     {
         last_in_pages(&self.items, &self.pages, wanted)
+    }
+
+    /// The one of least serial from this one on that is wanted. It costs a look at each page behind, and passes through two
+    /// at most.
+    pub fn next(&self, wanted: Wanted, from: u32) -> Option<u32>
+        requires { length self.now < 2 ^ 32 }
+        ensures { result ≡ next_wanted wanted from (drop from self.now) }
+    {
+        next_in_pages(&self.items, &self.pages, wanted, from)
     }
 
     /// Gives a child another status, if it is there. It costs four passes through its page at most, as each change does.

@@ -12,6 +12,7 @@ mod guest_view;
 mod heard;
 mod inlet;
 mod kinds;
+mod next;
 mod out;
 mod pages;
 mod site;

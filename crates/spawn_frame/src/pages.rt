@@ -1,7 +1,7 @@
 //! Pages of own children, and what is told of each.
 
 ghost use Rattle.std.specs.Prelude.{◌≡◌, ◌+◌, ◌*◌, ◌<◌, ◌≤◌, ◌^◌, drop, length};
-ghost use Rattle.spawn_frame.specs.Pages.{next_wanted, page_of as children_of, TellsOthers, TellsPages};
+ghost use Rattle.spawn_frame.specs.Pages.{page_of as children_of, TellsOthers, TellsPages};
 ghost use Rattle.spawn_frame.specs.Works.{last_wanted};
 
 use crate::child::Child;

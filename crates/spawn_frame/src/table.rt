@@ -1,7 +1,8 @@
 //! The units of work of one site.
 
-ghost use Rattle.std.specs.Prelude.{◌≡◌, ◌+◌, ◌<◌, ◌≤◌, ◌↔◌, ◌++◌, length, IfNone, IfOk, IfSome, IsErrOf, IsSome, MatchOption, None, OnErr, OnOk, Some, find, option_map, slice_get, true, Bool, ℕ};
+ghost use Rattle.std.specs.Prelude.{◌≡◌, ◌+◌, ◌<◌, ◌≤◌, ◌↔◌, ◌++◌, length, IfNone, IfOk, IfSome, IsErrOf, IsSome, MatchOption, None, OnErr, OnOk, Some, drop, find, option_map, slice_get, true, Bool, ℕ};
 ghost use Rattle.std.specs.Bool.{OnTrue};
+ghost use Rattle.std.specs.List.{position_from};
 ghost use Rattle.spawn_frame.specs.Aborts.{is_open};
 ghost use Rattle.spawn_frame.specs.Frames.{frame, frame_result};
 ghost use Rattle.spawn_frame.specs.Inlets.{frame_winner, heard_by};
@@ -155,6 +156,28 @@ impl Table {
             .iter()
             .filter(|child| child.work.is_out())
             .count()
+    }
+
+    /// The ready own child of least serial from this one on. It costs a look at each page behind, and passes through two
+    /// pages at most.
+    pub fn next_ready(&self, from: u32) -> Option<u32>
+        ensures { result ≡ position_from (λ c. is_ready c.status) from (drop from self.now.own) }
+    {
+        self.own.next(Wanted::Ready, from)
+    }
+
+    /// The own child of least serial from this one on that a worker of this site has. It costs what `next_ready` does.
+    pub fn next_here(&self, from: u32) -> Option<u32>
+        ensures { result ≡ position_from (λ c. is_here c.status) from (drop from self.now.own) }
+    {
+        self.own.next(Wanted::Here, from)
+    }
+
+    /// The own child of least serial from this one on that is out. It costs what `next_ready` does.
+    pub fn next_out(&self, from: u32) -> Option<u32>
+        ensures { result ≡ position_from (λ c. is_out c.status) from (drop from self.now.own) }
+    {
+        self.own.next(Wanted::Out, from)
     }
 
     /// A unit's attempt and status; none where it isn't there. An own child is found at once, a guest by a pass
