@@ -3,7 +3,6 @@
 ghost use Rattle.std.specs.Prelude.{◌≡◌, slice_get, false};
 ghost use Rattle.std.specs.Bool.{OnFalse, OnTrue};
 ghost use Rattle.std.specs.List.{position_from};
-ghost use Rattle.spawn_frame.specs.Picks.{is_ready};
 ghost use Rattle.spawn_frame.specs.Tables.{has_status};
 ghost use Rattle.spawn_frame.specs.Units.{change_at, table_own};
 ghost use Rattle.steal_return.specs.Members.{is_out_to, is_spent_at, known_after, redo_if, redo_lost, IsRedoable, IsSpent};
@@ -16,26 +15,11 @@ use spawn_frame::{Status, Table, Unit};
 /// The last attempt, after which no child is given out anew.
 pub const LAST_ATTEMPT: u32 = 4_294_967_295;
 
-/// The ready child of least serial.
+/// The ready child of least serial. It costs what the table's `next_ready` does.
 pub fn first_ready(table: &Table) -> Option<u32>
     ensures { result ≡ first_ready table.now.own }
 {
-    for serial in 0..table.issued() {
-        if is_ready(table, serial) {
-            return Some(serial);
-        }
-    }
-    None
-}
-
-/// Whether a child is there and ready.
-fn is_ready(table: &Table, serial: u32) -> bool
-    ensures { result ≡ has_status is_ready (slice_get table.now.own serial) }
-{
-    match table.unit(Unit::Own(serial)) {
-        Some(view) => matches!(view.status, Status::Ready),
-        None => false,
-    }
+    table.next_ready(0)
 }
 
 /// The child of least serial that is out to a site of which a later run is known.

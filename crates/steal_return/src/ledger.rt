@@ -204,7 +204,7 @@ impl Ledger {
     }
 
     /// The own child that a thief may be given: the ready one of least serial. None where there is none, or where a later
-    /// run of the thief's node is known. It takes no memory, and costs a pass through the own children.
+    /// run of the thief's node is known. It takes no memory, and costs what the table's `next_ready` does.
     pub fn ready_child(&self, thief: Site) -> Option<u32>
         ensures { MatchOption result (GivesNothing self.now thief) (MayGive self.now thief) }
     {
@@ -233,7 +233,7 @@ impl Ledger {
     }
 
     /// Gives a ready own child to a thief, of whose node no later run is known: the child is out then. It takes no
-    /// memory, and costs nothing.
+    /// memory, and costs passes through the child's page.
     pub fn give_child(&mut self, serial: u32, thief: Site)
         requires not_older { is_older self.old.known thief ≡ false }
         requires ready { has_status is_ready (slice_get self.old.own serial) ≡ true }
