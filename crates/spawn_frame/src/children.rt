@@ -126,7 +126,8 @@ impl Children {
     pub fn hear(&mut self, serial: u32, child: u32, child_result: &ChildResult) -> Heard
         requires { HearsFrom (child_work (slice_get self.old serial)) }
         ensures own { self.new ≡ change_child (with_heard child child_result.now) self.old serial }
-        ensures heard { result ≡ frame_says (option_map (with_heard child child_result.now) (child_work (slice_get self.old serial))) }
+        ensures heard { result ≡ frame_says
+            (option_map (with_heard child child_result.now) (child_work (slice_get self.old serial))) }
     {
         let index = serial as usize;
         if index >= self.items.len() {
@@ -140,7 +141,8 @@ impl Children {
     /// Makes a child ready again, at the next attempt.
     pub fn redo(&mut self, serial: u32)
         requires within { serial < length self.old }
-        requires attempt { (child : OwnChild) → slice_get self.old serial ≡ Some child → child.work.attempt < last_attempt }
+        requires attempt { (child : OwnChild) → slice_get self.old serial ≡ Some child
+            → child.work.attempt < last_attempt }
         ensures { self.new ≡ change_child redone_work self.old serial }
     {
         let index = serial as usize;
@@ -153,7 +155,8 @@ impl Children {
 fn make_room(pages: &mut Vec<Kinds>, end: usize) -> Result<(), AllocError>
     ensures room { OnOk result (end ≤ length pages.new.items) }
     ensures longer { length pages.old.items ≤ length pages.new.items }
-    ensures kept { (p : ℕ) (kinds : PageKinds) → p < length pages.old.items → get_or pages.new.items p kinds ≡ get_or pages.old.items p kinds }
+    ensures kept { (p : ℕ) (kinds : PageKinds) → p < length pages.old.items
+        → get_or pages.new.items p kinds ≡ get_or pages.old.items p kinds }
 {
     if pages.len() < end {
         pages.resize(end, Kinds::of(&[]))?;
