@@ -3,5 +3,6 @@
 mod aborts;
 mod copies;
 mod ledgers;
+mod pages;
 mod tables;
 mod units;

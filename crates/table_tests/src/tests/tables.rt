@@ -143,7 +143,7 @@ fn admit<R: Abort>(rt: &R, table: &mut Table, name: ChildName, attempt: Attempt,
 }
 
 /// Gives out an own child that is ready.
-fn give<R: Abort>(rt: &R, table: &mut Table, serial: u32) {
+pub fn give<R: Abort>(rt: &R, table: &mut Table, serial: u32) {
     assert!(rt; is_ready(table, Own(serial)));
     table.give(serial, THIEF);
 }
@@ -160,7 +160,7 @@ fn may_redo(table: &Table, serial: u32) -> bool
 }
 
 /// Gives out anew an own child that is out.
-fn redo<R: Abort>(rt: &R, table: &mut Table, serial: u32) {
+pub fn redo<R: Abort>(rt: &R, table: &mut Table, serial: u32) {
     assert!(rt; may_redo(table, serial));
     table.redo(serial);
 }
@@ -199,7 +199,7 @@ fn is_made<R: Abort>(rt: &R, alloc: Global, table: &mut Table, step: &Step) -> b
 }
 
 /// What is answered where a unit, which is here, is split.
-fn split<R: Abort>(
+pub fn split<R: Abort>(
     rt: &R,
     table: &mut Table,
     unit: Unit,
@@ -211,7 +211,13 @@ fn split<R: Abort>(
 }
 
 /// What the frame says of a unit, which is worked on, once it comes to this.
-fn ended<R: Abort>(rt: &R, alloc: Global, table: &mut Table, unit: Unit, option: Came) -> Heard {
+pub fn ended<R: Abort>(
+    rt: &R,
+    alloc: Global,
+    table: &mut Table,
+    unit: Unit,
+    option: Came,
+) -> Heard {
     let came = result_of(rt, alloc, option);
     assert!(rt; may_end(table, unit));
     table.set_result(unit, came)
