@@ -1,4 +1,5 @@
-pub mod Told
+pub mod Listed
+pub mod Outputs
 pub mod Pairs
 pub mod Publishing
-pub mod Listed
+pub mod Told

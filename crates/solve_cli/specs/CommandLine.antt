@@ -1,6 +1,8 @@
 -- The command line of the program, as the shape of a clap command, and what its words spell.
-use Rattle.std.specs.Prelude.{◌≡◌, ◌≤◌, ℕ, List, [], ◌∷◌, Option, Some, None, codes, option_map, true}
+use Rattle.std.specs.Prelude.{◌≡◌, ◌≢◌, ◌≤◌, ℕ, List, [], ◌∷◌, Option, Some, None, codes, option_map, true}
 use Rattle.std.specs.Str.Parse.{IsNumeral, digits_value}
+use Rattle.clap.specs.declared.error.kind.ErrorKind.{ErrorKind}
+use Rattle.clap.specs.declared.error.kind.ErrorKind.TheVariants.{DisplayHelp, DisplayVersion}
 use Rattle.clap.specs.Words.{App, Row, Rule, Text, new_app, new_rule, with_rule, with_subcommand, first_of}
 use Rattle.solve_cli.specs.declared.settings.Mode.{Mode}
 use Rattle.solve_cli.specs.declared.settings.Mode.TheVariants as modes
@@ -86,3 +88,9 @@ pub record AreMet (met : Option (Text × List Row)) (settings : Settings) : Type
   pub workers_given : SpellsOr 2 (first_of (codes "workers") rows) settings.workers
   pub turns_given : SpellsOr 10000 (first_of (codes "turns") rows) settings.turns
   pub restarts_given : SpellsOr 0 (first_of (codes "restarts") rows) settings.restarts
+
+-- The status of what clap has to say: 0 for help and the version, else 2.
+pub record IsLineStatus (kind : ErrorKind) (status : ℕ) : Type 0 where
+  pub help : kind ≡ DisplayHelp → status ≡ 0
+  pub version : kind ≡ DisplayVersion → status ≡ 0
+  pub mistake : kind ≢ DisplayHelp → kind ≢ DisplayVersion → status ≡ 2

@@ -1,6 +1,7 @@
 pub mod Alone
 pub mod Check
 pub mod CommandLine
+pub mod Engines
 pub mod Output
 pub mod Simulate
 pub mod Solve

@@ -1,71 +1,78 @@
--- What an engine has written when it ends.
+-- What is written, and what a fault leaves of it.
 use Rattle.std.specs.Prelude.{◌≡◌, ℕ, List, Option, None, Some, Result, MatchResult, codes}
 use Rattle.std.specs.Io.KnownBytes.{Appends, Keeps}
 use Rattle.cover_problem.specs.Problem.{Problem}
 use Rattle.cover_problem.specs.declared.answer.Answer.{Answer}
 use Rattle.cover_problem.specs.declared.answer.Answer.TheVariants.{Cover, NoCover}
-use Rattle.dlx_reader.specs.Answers.{IsFaultOf}
 use Rattle.dlx_reader.specs.Devices.{AppendsFront}
-use Rattle.dlx_reader.specs.Faults.{first_fault}
 use Rattle.dlx_reader.specs.Writing.{answer_text}
 use Rattle.solve_cli.specs.declared.fault.EngineFault.{EngineFault}
 use Rattle.solve_cli.specs.declared.fault.EngineFault.TheVariants as faults
 
+-- a text, and the exit status that goes with it
+pub record Said : Type 0 where
+  pub text : List ℕ
+  pub status : ℕ
+
+abbrev pub said : List ℕ → ℕ → Said
+said text status = record { text = text; status = status }
+
+-- ---- where one thing is to be said
+
+-- all of it was written, and the status is its own
+pub record IsSaid (what : Said) (old new : Option (List ℕ)) (status : ℕ) : Type 0 where
+  pub written : Appends old new what.text
+  pub ends : status ≡ what.status
+
 -- where the device failed a beginning was written, and where memory was refused nothing; no other fault comes of writing
-abbrev pub IsStopped : Option (List ℕ) → Option (List ℕ) → List ℕ → EngineFault → Type 0
-IsStopped old new text faults.Write = AppendsFront old new text
-IsStopped old new text faults.Memory = Keeps old new
-IsStopped old new text faults.Read = ⊥
-IsStopped old new text (faults.File fault) = ⊥
-IsStopped old new text (faults.Answer fault) = ⊥
+abbrev pub IsStopped : Said → Option (List ℕ) → Option (List ℕ) → EngineFault → Type 0
+IsStopped what old new faults.Write = AppendsFront old new what.text
+IsStopped what old new faults.Memory = Keeps old new
+IsStopped what old new faults.Read = ⊥
+IsStopped what old new (faults.File fault) = ⊥
+IsStopped what old new (faults.Answer fault) = ⊥
 
--- all of a text was written, or what a fault leaves of it
-abbrev pub IsOutput : {T : Type 0} → Option (List ℕ) → Option (List ℕ) → List ℕ → Result T EngineFault → Type 0
-IsOutput old new text r = MatchResult r (λ _. Appends old new text) (IsStopped old new text)
+-- all of it was written, or what a fault leaves of it
+abbrev pub IsOutput : Said → Option (List ℕ) → Option (List ℕ) → Result ℕ EngineFault → Type 0
+IsOutput what old new r = MatchResult r (IsSaid what old new) (IsStopped what old new)
 
--- ---- faults before anything is written
+-- ---- where one of several things may be said
 
--- of reading the bytes of a source
-abbrev pub IsReadFault : EngineFault → Type 0
-IsReadFault faults.Read = Unit {0}
-IsReadFault faults.Memory = Unit {0}
-IsReadFault faults.Write = ⊥
-IsReadFault (faults.File fault) = ⊥
-IsReadFault (faults.Answer fault) = ⊥
+-- One of them was said.
+pub record IsSaidOf (may : Said → Type 0) (old new : Option (List ℕ)) (status : ℕ) : Type 0 where
+  pub what : Said
+  pub may_be : may what
+  pub is : IsSaid what old new status
 
--- of the problem of a text
-abbrev pub IsFileFault : List ℕ → EngineFault → Type 0
-IsFileFault text (faults.File fault) = (first_fault text ≡ Some fault)
-IsFileFault text faults.Memory = Unit {0}
-IsFileFault text faults.Read = ⊥
-IsFileFault text faults.Write = ⊥
-IsFileFault text (faults.Answer fault) = ⊥
+-- A beginning of one of them was written.
+pub record IsBegunOf (may : Said → Type 0) (old new : Option (List ℕ)) : Type 0 where
+  pub what : Said
+  pub may_be : may what
+  pub written : AppendsFront old new what.text
 
--- of reading a source with this text, and the problem of it
-abbrev pub IsSourceFault : List ℕ → EngineFault → Type 0
-IsSourceFault text (faults.File fault) = (first_fault text ≡ Some fault)
-IsSourceFault text faults.Read = Unit {0}
-IsSourceFault text faults.Memory = Unit {0}
-IsSourceFault text faults.Write = ⊥
-IsSourceFault text (faults.Answer fault) = ⊥
+abbrev pub IsStoppedOf : (Said → Type 0) → Option (List ℕ) → Option (List ℕ) → EngineFault → Type 0
+IsStoppedOf may old new faults.Write = IsBegunOf may old new
+IsStoppedOf may old new faults.Memory = Keeps old new
+IsStoppedOf may old new faults.Read = ⊥
+IsStoppedOf may old new (faults.File fault) = ⊥
+IsStoppedOf may old new (faults.Answer fault) = ⊥
 
--- of the answer of a text to a problem
-abbrev pub IsAnswerFault : List ℕ → Problem → EngineFault → Type 0
-IsAnswerFault text problem (faults.Answer fault) = IsFaultOf text problem fault
-IsAnswerFault text problem faults.Memory = Unit {0}
-IsAnswerFault text problem faults.Read = ⊥
-IsAnswerFault text problem faults.Write = ⊥
-IsAnswerFault text problem (faults.File fault) = ⊥
+-- one of them was said, or what a fault leaves of one
+abbrev pub IsOutputOf : (Said → Type 0) → Option (List ℕ) → Option (List ℕ) → Result ℕ EngineFault → Type 0
+IsOutputOf may old new r = MatchResult r (IsSaidOf may old new) (IsStoppedOf may old new)
 
--- ---- what is published
+-- ---- what is said of answers
+
+-- a cover with status 0, or that there is none with 1
+abbrev pub answer_said : Problem → Answer → Said
+answer_said problem (Cover options) = said (answer_text problem (Cover options)) 0
+answer_said problem NoCover = said (answer_text problem NoCover) 1
+
+-- that there is no answer, with status 4
+abbrev pub no_answer : Said
+no_answer = said (codes "no answer\n") 4
 
 -- the answer that is published, or that there is none yet
-abbrev pub published_text : Problem → Option Answer → List ℕ
-published_text problem (Some answer) = answer_text problem answer
-published_text problem None = codes "no answer\n"
-
--- 0 for a cover, 1 for none, 4 for no answer
-abbrev pub published_status : Option Answer → ℕ
-published_status (Some (Cover options)) = 0
-published_status (Some NoCover) = 1
-published_status None = 4
+abbrev pub published_said : Problem → Option Answer → Said
+published_said problem (Some answer) = answer_said problem answer
+published_said problem None = no_answer

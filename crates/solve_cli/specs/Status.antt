@@ -1,5 +1,6 @@
 -- Exit statuses of faults.
-use Rattle.std.specs.Prelude.{ℕ}
+use Rattle.std.specs.Prelude.{ℕ, Result, Ok, Err}
+use Rattle.solve_cli.specs.declared.engine.EngineEnd.{EngineEnd}
 use Rattle.solve_cli.specs.declared.fault.EngineFault.{EngineFault}
 use Rattle.solve_cli.specs.declared.fault.EngineFault.TheVariants as faults
 
@@ -10,3 +11,8 @@ fault_status (faults.File fault) = 3
 fault_status (faults.Answer fault) = 3
 fault_status faults.Write = 3
 fault_status faults.Memory = 5
+
+-- the status of an engine that ended so
+abbrev pub end_status : Result EngineEnd EngineFault → ℕ
+end_status (Ok end) = end.status
+end_status (Err fault) = fault_status fault

@@ -1,12 +1,14 @@
 //! `check`: tests an answer to a file's problem.
 
-ghost use Rattle.std.specs.Prelude.{◌≡◌, ◌≢◌, ◌-◌, ◌<◌, ◌≤◌, ◌^◌, ◌⊎◌, [], length, IfOk, IfErr, IfSome};
+ghost use Rattle.std.specs.Prelude.{◌≡◌, ◌≢◌, ◌-◌, ◌<◌, ◌≤◌, ◌^◌, ◌⊎◌, [], length, IfOk, IfSome};
 ghost use Rattle.std.specs.Io.KnownBytes.{IsAtEnd};
 ghost use Rattle.cover_problem.specs.Search.{outcome};
 ghost use Rattle.cover_problem.specs.Verdict.{verdict_of};
-ghost use Rattle.solve_cli.specs.Check.{IsChecked, IsCheckLeft, IsListed, IsListedAnswer, check_text, check_status, item_line, verdict_text, verdict_status, none_text, none_status};
+ghost use Rattle.solve_cli.specs.Check.{CheckRefuses, CheckSays, IsListed, IsListedAnswer, check_said, item_said, none_said, verdict_said};
+ghost use Rattle.solve_cli.specs.Engines.{IsEnded};
 ghost use Rattle.solve_cli.specs.Output.{IsOutput};
 
+use crate::engine::EngineEnd;
 use crate::fault::EngineFault;
 use crate::input::{answer_of, problem_of, read_all};
 use crate::lines::write_line;
@@ -15,14 +17,8 @@ use cover_problem::{Answer, Problem, Verdict, check_cover};
 use dlx_reader::{Sink, Source};
 use std::alloc::{AllocError, Global};
 
-/// How a run of `check` ended.
-#[derive(Clone, Copy, Debug, PartialEq, Eq)]
-pub struct CheckEnd {
-    /// The exit status: 0 for right, 1 for wrong, 4 where the fuel was spent.
-    pub status: u8,
-    /// How many options of the file were ignored.
-    pub ignored: usize,
-}
+/// How a run of `check` ended: with status 0 for right, 1 for wrong, 4 where the fuel was spent.
+pub type CheckEnd = EngineEnd;
 
 /// The line that says what is wrong with an item.
 fn item_line(
@@ -32,7 +28,7 @@ fn item_line(
     item: u16,
 ) -> Result<Vec<u8>, AllocError>
     requires { item < length problem.now.names }
-    ensures { IfOk result (λ line. line.items ≡ item_line problem.now wrong.now item) }
+    ensures { IfOk result (λ line. line.items ≡ (item_said problem.now wrong.now item).text) }
 {
     let mut line = Vec::from_slice(alloc, wrong)?;
     line.extend_from_slice(problem.name(item))?;
@@ -50,8 +46,7 @@ fn write_wrong<W: Sink>(
 ) -> Result<u8, EngineFault>
     requires item { item < length problem.now.names }
     requires failed { W.failed sink.old < 2 ^ 64 - 1 }
-    ensures bytes { IsOutput (W.contents sink.old) (W.contents sink.new) (item_line problem.now wrong.now item) result }
-    ensures status { IfOk result (λ told. told ≡ 1) }
+    ensures output { IsOutput (item_said problem.now wrong.now item) (W.contents sink.old) (W.contents sink.new) result }
     ensures failed { result ≡ Err EngineFault.Write → W.failed sink.old < W.failed sink.new }
 {
     match item_line(alloc, problem, wrong, item) {
@@ -69,8 +64,8 @@ fn write_verdict<W: Sink>(
 ) -> Result<u8, EngineFault>
     requires options { IsListed problem.now options.now }
     requires failed { W.failed sink.old < 2 ^ 64 - 1 }
-    ensures bytes { IsOutput (W.contents sink.old) (W.contents sink.new) (verdict_text problem.now (verdict_of problem.now options.now)) result }
-    ensures status { IfOk result (λ told. told ≡ verdict_status (verdict_of problem.now options.now)) }
+    ensures output { IsOutput (verdict_said problem.now (verdict_of problem.now options.now))
+        (W.contents sink.old) (W.contents sink.new) result }
     ensures failed { result ≡ Err EngineFault.Write → W.failed sink.old < W.failed sink.new }
 {
     match check_cover(problem, options) {
@@ -94,8 +89,7 @@ fn write_none<W: Sink>(
 ) -> Result<u8, EngineFault>
     requires fuel { 1 ≤ fuel }
     requires failed { W.failed sink.old < 2 ^ 64 - 1 }
-    ensures bytes { IsOutput (W.contents sink.old) (W.contents sink.new) (none_text (outcome problem.now [] fuel)) result }
-    ensures status { IfOk result (λ told. told ≡ none_status (outcome problem.now [] fuel)) }
+    ensures output { IsOutput (none_said (outcome problem.now [] fuel)) (W.contents sink.old) (W.contents sink.new) result }
     ensures failed { result ≡ Err EngineFault.Write → W.failed sink.old < W.failed sink.new }
 {
     let Ok(mut searcher) = Searcher::new(alloc, problem) else {
@@ -109,7 +103,7 @@ fn write_none<W: Sink>(
 }
 
 /// Tests an answer, writes what comes of it, and answers the status.
-#[tactic(auto, unfolding(crate::specs::Check::check_text, crate::specs::Check::check_status))]
+#[tactic(auto, unfolding(crate::specs::Check::check_said))]
 fn write_check<W: Sink>(
     alloc: Global,
     problem: &Problem,
@@ -120,8 +114,7 @@ fn write_check<W: Sink>(
     requires options { IsListedAnswer problem.now answer.now }
     requires fuel { 1 ≤ fuel }
     requires failed { W.failed sink.old < 2 ^ 64 - 1 }
-    ensures bytes { IsOutput (W.contents sink.old) (W.contents sink.new) (check_text problem.now answer.now fuel) result }
-    ensures status { IfOk result (λ told. told ≡ check_status problem.now answer.now fuel) }
+    ensures output { IsOutput (check_said problem.now answer.now fuel) (W.contents sink.old) (W.contents sink.new) result }
     ensures failed { result ≡ Err EngineFault.Write → W.failed sink.old < W.failed sink.new }
 {
     match answer {
@@ -140,16 +133,14 @@ fn check_texts<W: Sink>(
 ) -> Result<CheckEnd, EngineFault>
     requires fuel { 1 ≤ fuel }
     requires failed { W.failed sink.old < 2 ^ 64 - 1 }
-    ensures checked { IfOk result (λ end.
-        IsChecked file.now answer.now fuel (W.contents sink.old) (W.contents sink.new) end.status end.ignored) }
-    ensures left { IfErr result (IsCheckLeft file.now answer.now fuel (W.contents sink.old) (W.contents sink.new)) }
+    ensures ended { IsEnded (CheckSays answer.now fuel) (CheckRefuses answer.now) file.now (W.contents sink.old) (W.contents sink.new) result }
     ensures unread { result ≢ Err EngineFault.Read }
     ensures failed { result ≡ Err EngineFault.Write → W.failed sink.old < W.failed sink.new }
 {
     let read = problem_of(alloc, file)?;
     let given = answer_of(alloc, answer, &read.problem)?;
     let status = write_check(alloc, &read.problem, &given, fuel, sink)?;
-    Ok(CheckEnd {
+    Ok(EngineEnd {
         status,
         ignored: read.ignored,
     })
@@ -172,14 +163,12 @@ pub fn check_engine<R: Source, S: Source, W: Sink>(
     requires file { R.failed file.old < 2 ^ 64 - 1 }
     requires answer { S.failed answer.old < 2 ^ 64 - 1 }
     requires sink { W.failed sink.old < 2 ^ 64 - 1 }
-    ensures checked { IfOk result (λ end. IfSome (R.remaining file.old) (λ text. IfSome (S.remaining answer.old) (λ given.
-        IsChecked text given fuel (W.contents sink.old) (W.contents sink.new) end.status end.ignored))) }
+    ensures ended { IfSome (R.remaining file.old) (λ text. IfSome (S.remaining answer.old) (λ given.
+        IsEnded (CheckSays given fuel) (CheckRefuses given) text (W.contents sink.old) (W.contents sink.new) result)) }
 
     // Both texts are read to their ends before either is tested, so a refusal of one says that the other can be read.
     ensures file_read { result ≢ Err EngineFault.Read → result ≢ Err EngineFault.Memory → IsAtEnd (R.remaining file.new) }
     ensures answer_read { result ≢ Err EngineFault.Read → result ≢ Err EngineFault.Memory → IsAtEnd (S.remaining answer.new) }
-    ensures left { IfErr result (λ fault. IfSome (R.remaining file.old) (λ text. IfSome (S.remaining answer.old) (λ given.
-        IsCheckLeft text given fuel (W.contents sink.old) (W.contents sink.new) fault))) }
     ensures read_fault { result ≡ Err EngineFault.Read →
         (R.failed file.old < R.failed file.new) ⊎ (S.failed answer.old < S.failed answer.new) }
     ensures write_fault { result ≡ Err EngineFault.Write → W.failed sink.old < W.failed sink.new }

@@ -1,10 +1,10 @@
 //! The command line, read by clap.
 
-ghost use Rattle.std.specs.Prelude.{◌≡◌, ◌≤◌, ◌<◌, ◌^◌, Some, List, false, IfOk, IfSome, IsSome, codes, map, option_map};
+ghost use Rattle.std.specs.Prelude.{◌≡◌, ◌≢◌, ◌↔◌, ◌≤◌, ◌<◌, ◌^◌, Some, List, false, true, IfNone, IfOk, IfSome, IsSome, codes, is_some, map, option_map};
 ghost use Rattle.std.specs.Str.Parse.{IsNumeral, digits_value};
-ghost use Rattle.clap.specs.Words.{Row, app_of, first_of, first_value, found_of, rule_of, subcommand_of};
+ghost use Rattle.clap.specs.Words.{Row, app_of, first_of, first_value, found_of, kind_of, rule_of, subcommand_of};
 ghost use Rattle.clap.specs.declared.builder.command.Command.TheViews.{out-Command};
-ghost use Rattle.solve_cli.specs.CommandLine.{AreMet, IsAnswerFile, Spells, SpellsFuel, SpellsOr, alone_app, check_app, file_rule, greatest_fuel_rule, mode_word, number_rule, one_thread_app, simulate_app, sites_app, solve_app, solver_app};
+ghost use Rattle.solve_cli.specs.CommandLine.{AreMet, IsAnswerFile, IsLineStatus, Spells, SpellsFuel, SpellsOr, alone_app, check_app, file_rule, greatest_fuel_rule, mode_word, number_rule, one_thread_app, simulate_app, sites_app, solve_app, solver_app};
 
 use crate::settings::{Mode, Settings};
 use clap::error::ErrorKind;
@@ -15,6 +15,14 @@ use std::alloc::{AllocError, Global};
 const RANGES: &str =
     "a number is out of its range: --fuel takes 1 to 18446744073709551615, --nodes 1 to 16, --seed 0 to 18446744073709551615, --workers 1 to 8, --turns 0 to 10000000, --restarts 0 to 100";
 
+/// The exit statuses of a search, as help tells them.
+const SEARCH_STATUSES: &str =
+    "Statuses: 0 a cover, 1 none, 2 a fault of the command line, 3 a refused file or a failed device, 4 no answer, 5 out of memory";
+
+/// The exit statuses of a check, as help tells them.
+const CHECK_STATUSES: &str =
+    "Statuses: 0 right, 1 wrong, 2 a fault of the command line, 3 a refused file or a failed device, 4 no answer, 5 out of memory";
+
 /// Why there are no settings.
 #[derive(Debug, Drop)]
 pub enum SettingsFault {
@@ -22,6 +30,26 @@ pub enum SettingsFault {
     Line(Error),
     /// Memory was refused.
     Memory,
+}
+
+impl SettingsFault {
+    /// The exit status: 2 for words that are no command line, 0 where they ask for help or the version, 5 for want of memory.
+    pub fn status(&self) -> u8
+        ensures line { (error : Error) → self.now ≡ SettingsFault.Line error → IsLineStatus (kind_of error) result }
+        ensures memory { self.now ≡ SettingsFault.Memory → result ≡ 5 }
+    {
+        match self {
+            SettingsFault::Line(error) => line_status(error),
+            SettingsFault::Memory => 5,
+        }
+    }
+}
+
+/// The exit status of what clap has to say.
+fn line_status(error: &Error) -> u8
+    ensures { IsLineStatus (kind_of error.now) result }
+{
+    if error.use_stderr() { 2 } else { 0 }
 }
 
 fn file_argument<'a>(alloc: Global) -> Arg<'a>
@@ -69,6 +97,7 @@ fn alone_command<'a>(alloc: Global) -> Result<Command<'a>, AllocError>
 {
     Command::new(alloc, "alone")
         .about("Searches the problem on one thread and writes its first exact cover, or none")
+        .after_help(SEARCH_STATUSES)
         .arg(file_argument(alloc))?
         .arg(fuel_argument(alloc))
 }
@@ -79,6 +108,7 @@ fn check_command<'a>(alloc: Global) -> Result<Command<'a>, AllocError>
 {
     Command::new(alloc, "check")
         .about("Tests whether an answer to the problem is right")
+        .after_help(CHECK_STATUSES)
         .arg(file_argument(alloc))?
         .arg(answer_argument(alloc))?
         .arg(fuel_argument(alloc))
@@ -113,7 +143,8 @@ fn simulate_command<'a>(alloc: Global) -> Result<Command<'a>, AllocError>
     ensures app { IfOk result (λ command. app_of command ≡ simulate_app) }
     ensures local { IfOk result (λ command. (out-Command command).has_globals ≡ false) }
 {
-    let about = "Lets a world of nodes search the problem, by chance, and writes what it publishes";
+    let about =
+        "Lets a world of nodes search the problem, by chance, and writes what it publishes. Statuses: as of alone";
     let turns = number_argument(
         alloc,
         "turns",
@@ -136,7 +167,7 @@ fn solve_command<'a>(alloc: Global) -> Result<Command<'a>, AllocError>
     ensures local { IfOk result (λ command. (out-Command command).has_globals ≡ false) }
 {
     let about =
-        "Lets nodes with threads of their own search the problem over UDP on this machine, and writes what they publish";
+        "Lets nodes with threads of their own search the problem over UDP on this machine, and writes what they publish. Statuses: as of alone";
     let turns = number_argument(
         alloc,
         "turns",
@@ -184,8 +215,10 @@ fn number(text: &str) -> Option<u64>
     }
 }
 
+/// What a subcommand's name stands for.
 fn mode_of(name: &str) -> Option<Mode>
-    ensures { IfSome result (λ mode. mode_word mode ≡ name.now) }
+    ensures named { IfSome result (λ mode. mode_word mode ≡ name.now) }
+    ensures none { IfNone result ((mode : Mode) → mode_word mode ≢ name.now) }
 {
     if name == "alone" {
         return Some(Mode::Alone);
@@ -203,7 +236,9 @@ fn mode_of(name: &str) -> Option<Mode>
 }
 
 /// What a failed call of clap stands for.
-fn fault_of(error: Error) -> SettingsFault {
+fn fault_of(error: Error) -> SettingsFault
+    ensures { (result ≡ SettingsFault.Memory) ↔ (kind_of error ≡ ErrorKind.OutOfMemory) }
+{
     if matches!(error.kind(), ErrorKind::OutOfMemory) {
         SettingsFault::Memory
     } else {
@@ -285,8 +320,9 @@ fn fuel(inner: &ArgMatches<'_>) -> Option<u64>
 
 /// The answer's file, for a check alone.
 fn answer_file<'a>(mode: Mode, inner: &ArgMatches<'a>) -> Option<Option<&'a str>>
-    ensures { IfSome result (λ given. IsAnswerFile mode (option_map (λ answer. answer.now) given)
+    ensures given { IfSome result (λ given. IsAnswerFile mode (option_map (λ answer. answer.now) given)
         (first_value (found_of inner.now) (codes "answer"))) }
+    ensures checked { IfSome result (λ given. mode ≡ Mode.Check → is_some given ≡ true) }
 {
     match mode {
         Mode::Check => Some(Some(inner.get_str("answer")?)),

@@ -5,7 +5,7 @@ ghost use Rattle.std.specs.Io.KnownBytes.{Consumes, IsAtEnd};
 ghost use Rattle.dlx_reader.specs.Answers.{IsAnswerOf};
 ghost use Rattle.dlx_reader.specs.ProblemOf.{IsProblemOf};
 ghost use Rattle.solve_cli.specs.Check.{IsListedAnswer};
-ghost use Rattle.solve_cli.specs.Output.{IsReadFault, IsFileFault, IsAnswerFault, IsSourceFault};
+ghost use Rattle.solve_cli.specs.Engines.{IsReadFault, IsFileFault, IsAnswerFault, IsSourceFault};
 
 use crate::fault::EngineFault;
 use cover_problem::{Answer, Problem};

@@ -1,11 +1,12 @@
 //! `solve_cli`: finds an exact cover of a problem in the format of Knuth's DLX1, or shows that there is none.
 #![tactic(auto)]
 
-ghost use Rattle.std.specs.Prelude.{◌≤◌};
+ghost use Rattle.std.specs.Prelude.{◌≡◌};
 
 mod alone;
 mod check;
 mod command_line;
+mod engine;
 mod fault;
 mod input;
 mod lines;
@@ -24,7 +25,7 @@ use crate::settings::{Mode, Settings};
 use crate::simulate::simulate_engine;
 use crate::sockets::links;
 use crate::solve::solve_problem;
-use crate::tell::{tell, tell_fault, tell_unbound};
+use crate::tell::{tell, tell_end, tell_fault, tell_unbound};
 use dlx_reader::{CountedReader, CountedWriter};
 use std::env;
 use std::fs::File;
@@ -37,27 +38,26 @@ use std::time::Clock;
 use udp_node::Open;
 
 /// Runs `alone` on a file, and answers the exit status.
-fn run_alone(rt: &HostRuntime, file: &str, fuel: u64) -> u8
-    requires { 1 ≤ fuel }
-{
+fn run_alone(rt: &HostRuntime, settings: &Settings<'_>) -> u8 {
     let mut errors = CountedWriter::new(rt.stderr());
-    let Ok(file) = File::open(rt, file) else {
+    let Ok(file) = File::open(rt, settings.file) else {
         return tell_fault(&EngineFault::Read, &mut errors);
     };
     let mut source = CountedReader::new(file);
     let mut sink = CountedWriter::new(rt.stdout());
-    match alone_engine(rt.alloc(), fuel, &mut source, &mut sink) {
-        Ok(end) => tell(end.status, end.ignored, &mut errors),
-        Err(fault) => tell_fault(&fault, &mut errors),
-    }
+    let ended = alone_engine(rt.alloc(), settings.fuel, &mut source, &mut sink);
+    tell_end(&ended, &mut errors)
 }
 
 /// Runs `check` on a file and an answer's file, and answers the exit status.
-fn run_check(rt: &HostRuntime, file: &str, answer: &str, fuel: u64) -> u8
-    requires { 1 ≤ fuel }
+fn run_check(rt: &HostRuntime, settings: &Settings<'_>) -> u8
+    requires { settings.now.mode ≡ Mode.Check }
 {
     let mut errors = CountedWriter::new(rt.stderr());
-    let Ok(file) = File::open(rt, file) else {
+    let Some(answer) = settings.answer else {
+        unreachable!()
+    };
+    let Ok(file) = File::open(rt, settings.file) else {
         return tell_fault(&EngineFault::Read, &mut errors);
     };
     let Ok(answer) = File::open(rt, answer) else {
@@ -66,10 +66,8 @@ fn run_check(rt: &HostRuntime, file: &str, answer: &str, fuel: u64) -> u8
     let mut file = CountedReader::new(file);
     let mut answer = CountedReader::new(answer);
     let mut sink = CountedWriter::new(rt.stdout());
-    match check_engine(rt.alloc(), fuel, &mut file, &mut answer, &mut sink) {
-        Ok(end) => tell(end.status, end.ignored, &mut errors),
-        Err(fault) => tell_fault(&fault, &mut errors),
-    }
+    let ended = check_engine(rt.alloc(), settings.fuel, &mut file, &mut answer, &mut sink);
+    tell_end(&ended, &mut errors)
 }
 
 /// Runs `simulate` on a file, and answers the exit status.
@@ -80,10 +78,8 @@ fn run_simulate(rt: &HostRuntime, settings: &Settings<'_>) -> u8 {
     };
     let mut source = CountedReader::new(file);
     let mut sink = CountedWriter::new(rt.stdout());
-    match simulate_engine(rt.alloc(), settings, &mut source, &mut sink) {
-        Ok(end) => tell(end.status, end.ignored, &mut errors),
-        Err(fault) => tell_fault(&fault, &mut errors),
-    }
+    let ended = simulate_engine(rt.alloc(), settings, &mut source, &mut sink);
+    tell_end(&ended, &mut errors)
 }
 
 /// Runs `solve` on a file, and answers the exit status. All sockets are bound before any thread starts.
@@ -128,12 +124,25 @@ fn run_settings<R: Threads + Wait + Clock + Net + Sync>(
     threads: &R,
     settings: &Settings<'_>,
 ) -> u8 {
-    match (settings.mode, settings.answer) {
-        (Mode::Simulate, _) => run_simulate(rt, settings),
-        (Mode::Solve, _) => run_solve(rt, threads, settings),
-        (_, Some(answer)) => run_check(rt, settings.file, answer, settings.fuel),
-        (_, None) => run_alone(rt, settings.file, settings.fuel),
+    match settings.mode {
+        Mode::Alone => run_alone(rt, settings),
+        Mode::Check => run_check(rt, settings),
+        Mode::Simulate => run_simulate(rt, settings),
+        Mode::Solve => run_solve(rt, threads, settings),
     }
+}
+
+/// Tells why words are no settings, and answers the exit status. A fault of the device is passed over.
+fn tell_words(rt: &HostRuntime, fault: &SettingsFault) -> u8 {
+    match fault {
+        SettingsFault::Line(error) => {
+            let _ = error.print(rt);
+        }
+        SettingsFault::Memory => {
+            let _ = eprintln!(rt; "out of memory");
+        }
+    }
+    fault.status()
 }
 
 /// Runs what a command line asks for, and answers the exit status: 2 for a fault of the command line, 0 for help.
@@ -144,13 +153,7 @@ fn run_words<R: Threads + Wait + Clock + Net + Sync>(
 ) -> u8 {
     match settings(rt.alloc(), words) {
         Ok(settings) => run_settings(rt, threads, &settings),
-        Err(SettingsFault::Line(error)) => {
-            let _ = error.print(rt);
-            if error.use_stderr() { 2 } else { 0 }
-        }
-        Err(SettingsFault::Memory) => {
-            tell_fault(&EngineFault::Memory, &mut CountedWriter::new(rt.stderr()))
-        }
+        Err(fault) => tell_words(rt, &fault),
     }
 }
 

@@ -1,6 +1,7 @@
 //! What the command line asks for.
 
-ghost use Rattle.std.specs.Prelude.{◌≡◌, ◌≤◌, is_some};
+ghost use Rattle.std.specs.Prelude.{◌≡◌, ◌≤◌, is_some, true};
+ghost use Rattle.solve_cli.specs.declared.settings.Mode.{Mode};
 
 /// What the program is to do.
 #[derive(Clone, Copy, Debug, PartialEq, Eq)]
@@ -36,6 +37,7 @@ pub struct Settings<'a> {
     pub turns: u32,
     /// How many restarts may be drawn, up to 100.
     pub restarts: u32,
+    pub ghost answered: { mode ≡ Mode.Check → is_some answer ≡ true },
     pub ghost some_fuel: { 1 ≤ fuel },
     pub ghost some_nodes: { 1 ≤ nodes },
     pub ghost most_nodes: { nodes ≤ 16 },

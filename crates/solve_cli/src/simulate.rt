@@ -1,40 +1,51 @@
 //! `simulate`: a world of sites searches a file's problem, by chance.
 
-ghost use Rattle.std.specs.Prelude.{◌≡◌, ◌≢◌, ◌-◌, ◌<◌, ◌^◌, IfErr, IfOk, IfSome};
+ghost use Rattle.std.specs.Prelude.{◌≡◌, ◌≢◌, ◌-◌, ◌<◌, ◌^◌, option_map, IfErr, IfOk, IfSome};
 ghost use Rattle.std.specs.Io.KnownBytes.{IsAtEnd};
-ghost use Rattle.solve_cli.specs.Simulate.{IsSimulated, IsSimulationLeft, IsStoppedEnd, WritesEnd};
+ghost use Rattle.dlx_reader.specs.Writing.{IsWritable};
+ghost use Rattle.solve_cli.specs.Engines.{IsEnded, refuses_none};
+ghost use Rattle.solve_cli.specs.Output.{IsOutputOf};
+ghost use Rattle.solve_cli.specs.Simulate.{IsSimulated, SimulateSays};
 
+use crate::engine::EngineEnd;
 use crate::fault::EngineFault;
 use crate::input::{problem_of, read_all};
 use crate::lines::write_published;
 use crate::settings::Settings;
-use cover_problem::Problem;
+use cover_problem::{Answer, Problem};
 use cover_world::{World, simulate};
 use dlx_reader::{Sink, Source};
 use rand_core::SeedableRng;
 use rand_pcg::Pcg32;
 use std::alloc::Global;
 
-/// How a run of `simulate` ended.
-#[derive(Clone, Copy, Debug, PartialEq, Eq)]
-pub struct SimulateEnd {
-    /// The exit status: 0 for a cover, 1 for none, 4 where nothing was published.
-    pub status: u8,
-    /// How many options of the file were ignored.
-    pub ignored: usize,
+/// How a run of `simulate` ended: with status 0 for a cover, 1 for none, 4 where nothing was published.
+pub type SimulateEnd = EngineEnd;
+
+/// A copy of what is published; the only fault is `Memory`.
+fn copied(published: Option<&Answer>) -> Result<Option<Answer>, EngineFault>
+    ensures answer { IfOk result (λ answer. answer ≡ option_map (λ given. given.now) published.entry) }
+    ensures memory { IfErr result (λ fault. fault ≡ EngineFault.Memory) }
+{
+    let Some(answer) = published else {
+        return Ok(None);
+    };
+    match answer.clone() {
+        Ok(answer) => Ok(Some(answer)),
+        Err(_) => Err(EngineFault::Memory),
+    }
 }
 
-/// Simulates a world that begins with the problem, writes what it publishes, and answers the status.
-fn write_simulation<W: Sink>(
+/// Simulates a world that begins with the problem, as the settings have it, and answers what it publishes. The only fault is
+/// `Memory`.
+fn simulated(
     alloc: Global,
     settings: &Settings,
     problem: &Problem,
-    sink: &mut W,
-) -> Result<u8, EngineFault>
-    requires failed { W.failed sink.old < 2 ^ 64 - 1 }
-    ensures written { IfOk result (WritesEnd problem.now settings.now (W.contents sink.old) (W.contents sink.new)) }
-    ensures stopped { IfErr result (IsStoppedEnd problem.now settings.now (W.contents sink.old) (W.contents sink.new)) }
-    ensures failed { result ≡ Err EngineFault.Write → W.failed sink.old < W.failed sink.new }
+) -> Result<Option<Answer>, EngineFault>
+    ensures simulated { IfOk result (IsSimulated problem.now settings.now) }
+    ensures order { IfOk result (λ answer. IfSome answer (IsWritable problem.now)) }
+    ensures memory { IfErr result (λ fault. fault ≡ EngineFault.Memory) }
 {
     let Ok(mut world) = World::start(alloc, problem, settings.nodes) else {
         return Err(EngineFault::Memory);
@@ -48,9 +59,24 @@ fn write_simulation<W: Sink>(
         settings.restarts,
     );
     match ended {
-        Ok(()) => write_published(problem, world.published(), sink),
+        Ok(()) => copied(world.published()),
         Err(_) => Err(EngineFault::Memory),
     }
+}
+
+/// Writes what a simulation of the problem publishes, and answers the status.
+fn write_simulation<W: Sink>(
+    alloc: Global,
+    settings: &Settings,
+    problem: &Problem,
+    sink: &mut W,
+) -> Result<u8, EngineFault>
+    requires failed { W.failed sink.old < 2 ^ 64 - 1 }
+    ensures output { IsOutputOf (SimulateSays settings.now problem.now) (W.contents sink.old) (W.contents sink.new) result }
+    ensures failed { result ≡ Err EngineFault.Write → W.failed sink.old < W.failed sink.new }
+{
+    let answer = simulated(alloc, settings, problem)?;
+    write_published(problem, answer.as_ref(), sink)
 }
 
 /// Reads a problem to its end, lets a world of sites search it by chance, as the settings have it, and writes the answer
@@ -66,18 +92,16 @@ pub fn simulate_engine<R: Source, W: Sink>(
 ) -> Result<SimulateEnd, EngineFault>
     requires source { R.failed source.old < 2 ^ 64 - 1 }
     requires sink { W.failed sink.old < 2 ^ 64 - 1 }
-    ensures simulated { IfOk result (λ end. IfSome (R.remaining source.old) (λ text.
-        IsSimulated text settings.now (W.contents sink.old) (W.contents sink.new) end.status end.ignored)) }
+    ensures ended { IfSome (R.remaining source.old) (λ text.
+        IsEnded (SimulateSays settings.now) refuses_none text (W.contents sink.old) (W.contents sink.new) result) }
     ensures read { result ≢ Err EngineFault.Read → result ≢ Err EngineFault.Memory → IsAtEnd (R.remaining source.new) }
-    ensures left { IfErr result (λ fault. IfSome (R.remaining source.old) (λ text.
-        IsSimulationLeft text settings.now (W.contents sink.old) (W.contents sink.new) fault)) }
     ensures read_fault { result ≡ Err EngineFault.Read → R.failed source.old < R.failed source.new }
     ensures write_fault { result ≡ Err EngineFault.Write → W.failed sink.old < W.failed sink.new }
 {
     let text = read_all(alloc, source)?;
     let read = problem_of(alloc, &text)?;
     let status = write_simulation(alloc, settings, &read.problem, sink)?;
-    Ok(SimulateEnd {
+    Ok(EngineEnd {
         status,
         ignored: read.ignored,
     })

@@ -2,7 +2,8 @@
 
 ghost use Rattle.std.specs.Prelude.{◌≡◌, ◌+◌, ◌-◌, ◌<◌, ◌^◌, vec_len, IfErr, IfOk};
 ghost use Rattle.run_book.specs.Runs.{IsRunEnd};
-ghost use Rattle.solve_cli.specs.Solve.{run_of, IsStoppedRun, WritesRun};
+ghost use Rattle.solve_cli.specs.Output.{IsOutputOf};
+ghost use Rattle.solve_cli.specs.Solve.{run_of, RunSays};
 
 use crate::fault::EngineFault;
 use crate::lines::write_published;
@@ -86,8 +87,7 @@ fn write_run<
     requires run { J.run ≡ record { problem = problem.now; nodes = settings.now.nodes } }
     requires links { vec_len links ≡ settings.now.nodes + 1 }
     requires failed { W.failed sink.old < 2 ^ 64 - 1 }
-    ensures written { IfOk result (WritesRun J.run (W.contents sink.old) (W.contents sink.new)) }
-    ensures stopped { IfErr result (IsStoppedRun J.run (W.contents sink.old) (W.contents sink.new)) }
+    ensures output { IsOutputOf (RunSays J.run) (W.contents sink.old) (W.contents sink.new) result }
     ensures failed { result ≡ Err EngineFault.Write → W.failed sink.old < W.failed sink.new }
 {
     let end: SolveEnd<J> = solve_engine(rt, alloc, settings, problem, links, gate)?;
@@ -110,8 +110,7 @@ pub fn solve_problem<L: Link + Send, G: Gate + Sync, W: Sink, R: Threads + Wait 
 ) -> Result<u8, EngineFault>
     requires links { vec_len links ≡ settings.now.nodes + 1 }
     requires failed { W.failed sink.old < 2 ^ 64 - 1 }
-    ensures written { IfOk result (WritesRun (run_of problem.now settings.now) (W.contents sink.old) (W.contents sink.new)) }
-    ensures stopped { IfErr result (IsStoppedRun (run_of problem.now settings.now) (W.contents sink.old) (W.contents sink.new)) }
+    ensures output { IsOutputOf (RunSays (run_of problem.now settings.now)) (W.contents sink.old) (W.contents sink.new) result }
     ensures failed { result ≡ Err EngineFault.Write → W.failed sink.old < W.failed sink.new }
 {
     write_run::<Brand, L, G, W, R>(rt, alloc, settings, problem, links, gate, sink)

@@ -1,8 +1,9 @@
 //! What standard error is told, and the exit status that goes with it.
 
 ghost use Rattle.std.specs.Prelude.{◌≡◌};
-ghost use Rattle.solve_cli.specs.Status.{fault_status};
+ghost use Rattle.solve_cli.specs.Status.{end_status, fault_status};
 
+use crate::engine::EngineEnd;
 use crate::fault::EngineFault;
 use dlx_reader::{AnswerFault, ReadFault, Sink};
 
@@ -42,6 +43,16 @@ pub fn tell_fault<E: Sink>(fault: &EngineFault, sink: &mut E) -> u8
             let _ = writeln!(sink, "out of memory");
             5
         }
+    }
+}
+
+/// Tells how an engine ended, and answers the exit status. A fault of the sink is passed over.
+pub fn tell_end<E: Sink>(ended: &Result<EngineEnd, EngineFault>, sink: &mut E) -> u8
+    ensures { result ≡ end_status ended.now }
+{
+    match ended {
+        Ok(end) => tell(end.status, end.ignored, sink),
+        Err(fault) => tell_fault(fault, sink),
     }
 }
 

@@ -5,6 +5,7 @@ mod alone;
 mod check;
 mod command_line;
 mod long;
+mod program;
 mod simulate;
 mod texts;
 mod told;

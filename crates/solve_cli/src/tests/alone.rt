@@ -6,7 +6,7 @@ use super::long::{lines, names};
 use super::texts::{LETTERS, NO_COVER};
 use super::told::Told;
 use crate::alone::alone_engine;
-use crate::tell::{tell, tell_fault};
+use crate::tell::tell_end;
 use dlx_reader::{CountedReader, CountedWriter};
 use std::alloc::Global;
 use std::process::Abort;
@@ -20,10 +20,7 @@ fn alone(alloc: Global, text: &str, fuel: u64) -> Told
     let mut source = CountedReader::new(text.as_bytes());
     let ended = alone_engine(alloc, fuel, &mut source, &mut CountedWriter::new(&mut out));
     let mut sink = CountedWriter::new(&mut errors);
-    let status = match ended {
-        Ok(end) => tell(end.status, end.ignored, &mut sink),
-        Err(fault) => tell_fault(&fault, &mut sink),
-    };
+    let status = tell_end(&ended, &mut sink);
     Told {
         out,
         errors,

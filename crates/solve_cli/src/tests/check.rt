@@ -5,7 +5,7 @@ ghost use Rattle.std.specs.Prelude.{◌≤◌};
 use super::texts::{LETTERS, NO_COVER};
 use super::told::Told;
 use crate::check::check_engine;
-use crate::tell::{tell, tell_fault};
+use crate::tell::tell_end;
 use dlx_reader::{CountedReader, CountedWriter};
 use std::alloc::Global;
 use std::process::Abort;
@@ -26,10 +26,7 @@ fn check(alloc: Global, text: &str, answer: &str, fuel: u64) -> Told
         &mut CountedWriter::new(&mut out),
     );
     let mut sink = CountedWriter::new(&mut errors);
-    let status = match ended {
-        Ok(end) => tell(end.status, end.ignored, &mut sink),
-        Err(fault) => tell_fault(&fault, &mut sink),
-    };
+    let status = tell_end(&ended, &mut sink);
     Told {
         out,
         errors,

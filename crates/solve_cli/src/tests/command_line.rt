@@ -3,7 +3,7 @@
 use super::told::Told;
 use crate::alone::alone_engine;
 use crate::check::check_engine;
-use crate::command_line::{SettingsFault, settings};
+use crate::command_line::settings;
 use crate::fault::EngineFault;
 use crate::settings::Mode;
 use crate::tell::{tell, tell_fault};
@@ -17,8 +17,7 @@ use std::process::Abort;
 fn status_of(alloc: Global, words: &[&str]) -> u8 {
     match settings(alloc, words) {
         Ok(_) => 9,
-        Err(SettingsFault::Line(error)) => { if error.use_stderr() { 2 } else { 0 } }
-        Err(SettingsFault::Memory) => 5,
+        Err(fault) => fault.status(),
     }
 }
 

@@ -4,7 +4,7 @@ use super::texts::{LETTERS, NO_COVER};
 use super::told::Told;
 use crate::settings::{Mode, Settings};
 use crate::simulate::simulate_engine;
-use crate::tell::{tell, tell_fault};
+use crate::tell::tell_end;
 use dlx_reader::{CountedReader, CountedWriter};
 use std::alloc::Global;
 use std::process::Abort;
@@ -21,10 +21,7 @@ fn simulate(alloc: Global, text: &str, settings: &Settings<'_>) -> Told {
         &mut CountedWriter::new(&mut out),
     );
     let mut sink = CountedWriter::new(&mut errors);
-    let status = match ended {
-        Ok(end) => tell(end.status, end.ignored, &mut sink),
-        Err(fault) => tell_fault(&fault, &mut sink),
-    };
+    let status = tell_end(&ended, &mut sink);
     Told {
         out,
         errors,

@@ -1,14 +1,14 @@
 use Rattle.std.proofs.Common.{◌≡◌, []}
-use Rattle.cover_problem.specs.Search.{Covers, outcome}
+use Rattle.cover_problem.specs.Search.{Covers, Spent, outcome}
 use Rattle.solve_cli.proofs.Told.{tells}
 use Rattle.solve_cli.proofs.alone.write_alone.Goals as goal
 
-pub returns-in-Cover-clause-bytes : goal.returns-in-Cover-clause-bytes
-returns-in-Cover-clause-bytes g c =
+pub returns-in-Cover-clause-output : goal.returns-in-Cover-clause-output
+returns-in-Cover-clause-output g c =
     let came : Covers c.found.result.now ≡ outcome c.args.problem.now [] c.args.fuel = rw (c.found.ensures, ← c.in-Ok.ensures) c.in-Cover.ensures.outcome in
-    rw (tells c.args.problem.now c.args.fuel (Covers c.found.result.now) came).text c.write_found.ensures.bytes
+    rw (tells c.args.problem.now c.args.fuel (Covers c.found.result.now) came) c.write_found.ensures.output
 
-pub returns-in-Cover-clause-status : goal.returns-in-Cover-clause-status
-returns-in-Cover-clause-status g c =
-    let came : Covers c.found.result.now ≡ outcome c.args.problem.now [] c.args.fuel = rw (c.found.ensures, ← c.in-Ok.ensures) c.in-Cover.ensures.outcome in
-    rw (← (tells c.args.problem.now c.args.fuel (Covers c.found.result.now) came).told) c.write_found.ensures.status
+pub returns-clause-output : goal.returns-clause-output
+returns-clause-output g c =
+    let came : Spent ≡ outcome c.args.problem.now [] c.args.fuel = rw (← c.in-Ok.ensures) c.in-Spent.ensures.outcome in
+    rw (tells c.args.problem.now c.args.fuel Spent came) c.write_line.ensures.output

@@ -1,6 +1,6 @@
 use Rattle.solve_cli.proofs.check.write_none.Goals as goal
 
-pub returns-in-Cover-clause-bytes : goal.returns-in-Cover-clause-bytes
-returns-in-Cover-clause-bytes g c =
+pub returns-in-Cover-clause-output : goal.returns-in-Cover-clause-output
+returns-in-Cover-clause-output g c =
     let came = rw c.in-Ok.ensures at c.in-Cover.ensures.outcome in
-    rw (← came) c.write_line.ensures.bytes
+    rw (← came) c.write_line.ensures.output

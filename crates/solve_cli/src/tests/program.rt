@@ -1,0 +1,36 @@
+//! The call that main makes, on files that are written first.
+
+use crate::run_words;
+use std::fs;
+
+/// Each with its status; the files are those that are written below.
+static WORDS: [(&[&str], u8); 15] = [
+    (&["solve_cli"], 2),
+    (&["solve_cli", "--help"], 0),
+    (&["solve_cli", "check", "--help"], 0),
+    (&["solve_cli", "alone", "p.dlx", "--fuel", "0"], 2),
+    (&["solve_cli", "alone", "no/such/file"], 3),
+    (&["solve_cli", "check", "no/such/file", "cover.txt"], 3),
+    (&["solve_cli", "check", "p.dlx", "no/such/file"], 3),
+    (&["solve_cli", "alone", "p.dlx"], 0),
+    (&["solve_cli", "alone", "p.dlx", "--fuel", "1"], 4),
+    (&["solve_cli", "check", "p.dlx", "cover.txt"], 0),
+    (&["solve_cli", "check", "p.dlx", "none.txt"], 1),
+    (
+        &["solve_cli", "check", "p.dlx", "none.txt", "--fuel", "1"],
+        4,
+    ),
+    (&["solve_cli", "check", "cover.txt", "p.dlx"], 3),
+    (&["solve_cli", "simulate", "p.dlx"], 0),
+    (&["solve_cli", "solve", "p.dlx", "--turns", "0"], 4),
+];
+
+#[test]
+fn words_end_with_their_status(rt: HostRuntime) {
+    fs::write(&rt, "p.dlx", "a\na\n").expect(&rt, "a folder");
+    fs::write(&rt, "cover.txt", "cover 1\na\n").expect(&rt, "a folder");
+    fs::write(&rt, "none.txt", "none\n").expect(&rt, "a folder");
+    for (words, status) in WORDS.iter() {
+        assert!(rt; run_words(&rt, &rt, words) == *status);
+    }
+}
