@@ -5,7 +5,7 @@ use Rattle.solve_cli.proofs.alone.write_alone.Goals as goal
 
 pub returns-in-Cover-clause-output : goal.returns-in-Cover-clause-output
 returns-in-Cover-clause-output g c =
-    let came : Covers c.found.result.now ≡ outcome c.args.problem.now [] c.args.fuel = rw (c.found.ensures, ← c.in-Ok.ensures) c.in-Cover.ensures.outcome in
+    let came : Covers c.found.result.now ≡ outcome c.args.problem.now [] c.args.fuel = rw (c.found.ensures.found, ← c.in-Ok.ensures) c.in-Cover.ensures.outcome in
     rw (tells c.args.problem.now c.args.fuel (Covers c.found.result.now) came) c.write_found.ensures.output
 
 pub returns-clause-output : goal.returns-clause-output
