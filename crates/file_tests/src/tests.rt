@@ -2,6 +2,7 @@
 
 mod answers;
 mod copies;
+mod devices;
 mod limits;
 mod reading;
 mod texts;
