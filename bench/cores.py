@@ -1,9 +1,15 @@
 #!/usr/bin/env python3
-"""Times the cores: `python3 bench/cores.py`.
+"""Times the cores.
 
-`cycle` is a steal from the first packet to the last: eight events and four packets, a thousand and ten thousand times over; each
-leaves one guest more in the node's table. The others are packets that are delivered, a million times each. Beside each, a plain loop only copies the same packets. Both run by turns, three times each, and the least user time of
-the whole process counts. It wants the program built by `rt run` in crates/workbench.
+    python3 bench/cores.py
+
+`cycle` is a steal from the first packet to the last: eight events and four packets, a thousand and ten thousand times over;
+each leaves one guest more in the node's table. The others are packets that are delivered, a million times each. Beside each, a
+plain loop only copies the same packets. Both run by turns, three times each, and the least user time of the whole process
+counts.
+
+It wants the program: (cd crates/workbench && rt run) builds it. The exit status is 0, or 2 for a fault of the command line or
+where there is no program.
 """
 import os
 import resource
@@ -11,7 +17,9 @@ import subprocess
 import sys
 
 HERE = os.path.dirname(os.path.abspath(__file__))
-PROGRAM = os.path.join(HERE, "..", "crates", "workbench", "out", "workbench")
+sys.path.insert(0, os.path.join(HERE, "..", "scripts"))
+from built import parser_of, want_program, WORKBENCH  # noqa: E402
+
 # what happens, how many events it is, and how many times
 ROWS = [("cycle", 8, 1_000), ("cycle", 8, 10_000)] + [
     (kind, 1, 1_000_000)
@@ -21,11 +29,13 @@ ROWS = [("cycle", 8, 1_000), ("cycle", 8, 10_000)] + [
 
 def seconds(words):
     before = resource.getrusage(resource.RUSAGE_CHILDREN).ru_utime
-    subprocess.run([PROGRAM, *words], check=True)
+    subprocess.run([WORKBENCH, *words], check=True)
     return resource.getrusage(resource.RUSAGE_CHILDREN).ru_utime - before
 
 
 def main():
+    parser_of(__doc__).parse_args()
+    want_program(WORKBENCH, "workbench")
     print("| Kind | Events | Copies, s | Cores, s | Events a second |")
     print("|---|---|---|---|---|")
     for kind, events, times in ROWS:

@@ -1,10 +1,17 @@
 #!/usr/bin/env python3
-"""Writes the benchmark's instances into a folder: `python3 bench/instances.py FOLDER`."""
+"""Writes the benchmark's instances into a folder, which is made where it is missing.
+
+    python3 bench/instances.py FOLDER
+
+It wants no built program. The exit status is 0, or 2 for a fault of the command line or a folder that can't be written.
+"""
 import os
 import random
 import sys
 
-sys.path.insert(0, os.path.join(os.path.dirname(os.path.abspath(__file__)), "..", "examples"))
+HERE = os.path.dirname(os.path.abspath(__file__))
+sys.path[:0] = [os.path.join(HERE, "..", folder) for folder in ("examples", "scripts")]
+from built import parser_of, stop  # noqa: E402
 from generate import PENTOMINOES, langford, orientations, rectangle, shape  # noqa: E402
 import generate  # noqa: E402
 
@@ -38,12 +45,11 @@ def torus_queens(name, n):
     """Queens that attack nobody on a board whose edges meet; all of rows, columns and diagonals are covered exactly."""
     kinds = [("r", lambda r, c: r), ("c", lambda r, c: c), ("a", lambda r, c: (r + c) % n), ("b", lambda r, c: (r - c) % n)]
     options = [[kind + str(line(r, c)) for kind, line in kinds] for r in range(n) for c in range(n)]
-    write(name, [kind + str(k) for kind, _ in kinds[:2] for k in range(n)], [kind + str(k) for kind, _ in kinds[2:] for k in range(n)], options)
+    primary, secondary = ([kind + str(k) for kind, _ in some for k in range(n)] for some in (kinds[:2], kinds[2:]))
+    write(name, primary, secondary, options)
 
 
-def main():
-    generate.HERE = sys.argv[1]
-    os.makedirs(sys.argv[1], exist_ok=True)
+def instances():
     langford("langford-13.dlx", "no pairing", 13)
     shuffled("pentominoes-6x10.dlx", rectangle(6, 10), 7)
     shuffled("pentominoes-3x20.dlx", rectangle(3, 20), 3)
@@ -53,6 +59,17 @@ def main():
         torus_queens(f"torus-queens-{n}.dlx", n)
     generate.sudoku("sudoku-hard.dlx", "few givens, many visits", [
         "..............3.85..1.2.......5.7.....4...1...9.......5......73..2.1........4...9"[k:k + 9] for k in range(0, 81, 9)])
+
+
+def main():
+    parser = parser_of(__doc__)
+    parser.add_argument("folder", metavar="FOLDER", help="where the instances are written")
+    generate.HERE = parser.parse_args().folder
+    try:
+        os.makedirs(generate.HERE, exist_ok=True)
+        instances()
+    except OSError as why:
+        stop(f"{generate.HERE} can't be written: {why.strerror}")
 
 
 if __name__ == "__main__":

@@ -1,9 +1,14 @@
 #!/usr/bin/env python3
-"""Times the program beside the baseline: `python3 bench/run.py [FILE..]`, all instances where none is named.
+"""Times the program beside the baseline, a small C program of the same search.
 
-Each instance is searched by both, by turns, three times each; the least user time of the whole process counts, reading
-included. Both have to come to the same outcome. It prints a table, and the geometric mean of the ratios over the
-instances with more than 100,000 visits. It wants gcc, and the program built by `rt run` in crates/solve_cli.
+    python3 bench/run.py [FILE ..]
+
+Each file, or where none is named each instance of the benchmark, is searched by both, by turns, three times each; the least
+user time of the whole process counts, reading included. It prints a table, and the geometric mean of the ratios over the
+instances with more than 100,000 visits.
+
+It wants gcc, and the program: (cd crates/solve_cli && rt run) builds it. The exit status is 0, 1 where the two come to other
+outcomes, 2 for a fault of the command line or where something is missing.
 """
 import glob
 import math
@@ -14,7 +19,9 @@ import sys
 import tempfile
 
 HERE = os.path.dirname(os.path.abspath(__file__))
-PROGRAM = os.path.join(HERE, "..", "crates", "solve_cli", "out", "solve_cli")
+sys.path.insert(0, os.path.join(HERE, "..", "scripts"))
+from built import parser_of, SOLVE_CLI, stop, want_command, want_program  # noqa: E402
+
 
 
 def timed(words):
@@ -28,7 +35,7 @@ def compare(baseline, file):
     for _ in range(3):
         theirs, seconds = timed([baseline, file])
         best[0] = min(best[0], seconds)
-        ours, seconds = timed([PROGRAM, "alone", file])
+        ours, seconds = timed([SOLVE_CLI, "alone", file])
         best[1] = min(best[1], seconds)
     outcome, visits, _ = theirs.split()
     if not ours.startswith(outcome):
@@ -37,11 +44,19 @@ def compare(baseline, file):
 
 
 def main():
+    words = parser_of(__doc__)
+    words.add_argument("files", nargs="*", metavar="FILE", help="problem files, which the program reads")
+    given = words.parse_args()
+    want_program(SOLVE_CLI)
+    want_command("gcc")
+    for file in given.files:
+        if not os.path.isfile(file):
+            stop(f"there is no file {file}")
     with tempfile.TemporaryDirectory() as folder:
         baseline = os.path.join(folder, "baseline")
         subprocess.run(["gcc", "-O3", "-march=native", "-o", baseline, os.path.join(HERE, "baseline.c")], check=True)
         subprocess.run([sys.executable, os.path.join(HERE, "instances.py"), folder], check=True)
-        files = sys.argv[1:] or sorted(glob.glob(os.path.join(folder, "*.dlx")))
+        files = given.files or sorted(glob.glob(os.path.join(folder, "*.dlx")))
         ratios = []
         print("| Instance | Outcome | Visits | Baseline, s | Ours, s | Ratio |")
         print("|---|---|---|---|---|---|")

@@ -1,13 +1,17 @@
 #!/usr/bin/env python3
-"""Times `solve` beside `alone`: `python3 bench/solve.py [--times N] [NAME..]`, all instances where none is named.
+"""Times `solve` beside `alone`.
 
-Each instance is searched by `alone`, and by `solve` as one node of one, two and four workers and as two and four nodes of one
-worker, by turns, N times each (3 where it isn't said). The least time that passed counts, from the start of the process to its end; the
-figure in brackets is how many times as fast as `alone` it was. All have to come to the same outcome, and covers are tested by `check`.
-A dash stands where `solve` gave no answer each time. It wants the program built by `rt run` in crates/solve_cli, and means something
-on a machine with four processors and nothing else to do.
+    python3 bench/solve.py [--times N] [NAME ..]
+
+Each instance that is named, or each of seven, is searched by `alone`, and by `solve` as one node of one, two and four workers
+and as two and four nodes of one worker, by turns. The least time that passed counts, from the start of the process to its end;
+the figure in brackets is how many times as fast as `alone` it was. All have to come to the same outcome, and covers are tested
+by `check`. A dash stands where `solve` gave no answer each time. The figures mean something on a machine with four processors
+and nothing else to do.
+
+It wants the program: (cd crates/solve_cli && rt run) builds it. The exit status is 0, 1 where an answer is wrong, 2 for a fault
+of the command line or where there is no program.
 """
-import argparse
 import math
 import os
 import subprocess
@@ -16,10 +20,9 @@ import tempfile
 import time
 
 HERE = os.path.dirname(os.path.abspath(__file__))
-PROGRAM = os.path.join(HERE, "..", "crates", "solve_cli", "out", "solve_cli")
-
-sys.path.insert(0, os.path.join(HERE, "..", "examples"))
+sys.path[:0] = [os.path.join(HERE, "..", folder) for folder in ("examples", "scripts")]
 import generate  # noqa: E402
+from built import parser_of, SOLVE_CLI, stop, want_program  # noqa: E402
 
 NAMES = ["langford-13", "torus-queens-15", "skewed", "diamond", "pentominoes-3x20", "sudoku-hard", "mutilated-chessboard"]
 # nodes, workers
@@ -40,7 +43,7 @@ def skewed(folder):
 def timed(words):
     """What the program writes, and how many seconds passed."""
     start = time.monotonic()
-    text = subprocess.run([PROGRAM, *words], capture_output=True, text=True).stdout
+    text = subprocess.run([SOLVE_CLI, *words], capture_output=True, text=True).stdout
     return text, time.monotonic() - start
 
 
@@ -49,7 +52,7 @@ def is_right(file, text, folder):
     answer = os.path.join(folder, "answer")
     with open(answer, "w") as out:
         out.write(text)
-    told = subprocess.run([PROGRAM, "check", file, answer], capture_output=True, text=True).stdout
+    told = subprocess.run([SOLVE_CLI, "check", file, answer], capture_output=True, text=True).stdout
     return told == "right\n"
 
 
@@ -71,19 +74,21 @@ def row(file, times, folder):
 
 
 def main():
-    words = argparse.ArgumentParser(description=__doc__, formatter_class=argparse.RawDescriptionHelpFormatter)
-    words.add_argument("--times", type=int, default=3, help="how often each is run")
-    words.add_argument("names", nargs="*", help="instances, as those that are written by bench/instances.py")
+    words = parser_of(__doc__)
+    words.add_argument("--times", metavar="N", type=int, default=3, help="how often each is run (default 3)")
+    words.add_argument("names", nargs="*", metavar="NAME", help="instances, as those that are written by bench/instances.py")
     given = words.parse_args()
-    if not os.path.exists(PROGRAM):
-        sys.exit("there is no program: build it by `rt run` in crates/solve_cli")
+    want_program(SOLVE_CLI)
     with tempfile.TemporaryDirectory() as folder:
         subprocess.run([sys.executable, os.path.join(HERE, "instances.py"), folder], check=True)
         skewed(folder)
         print("| Instance | Outcome | `alone`, s | " + " | ".join(f"{n} x {w}" for n, w in SITES) + " |")
         print("|---|---|---|" + "---|" * len(SITES))
         for name in given.names or NAMES:
-            outcome, alone, best = row(os.path.join(folder, name + ".dlx"), given.times, folder)
+            file = os.path.join(folder, name + ".dlx")
+            if not os.path.exists(file):
+                stop(f"there is no instance {name}")
+            outcome, alone, best = row(file, given.times, folder)
             told = [f"{s:.2f} ({alone / s:.2f})" if s < math.inf else "-" for s in best]
             print(f"| {name} | {outcome} | {alone:.2f} | " + " | ".join(told) + " |", flush=True)
 

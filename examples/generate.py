@@ -16,7 +16,8 @@
     timetable FILE.csv             lesson,teacher,class,rooms,periods; several rooms or periods stand with spaces between
 
 The first line of each file is a comment that tells what it is and how it was made. A problem beyond 1,000 items, 20,000 options
-or 200,000 occurrences of items in them is refused, since the program reads no such file.
+or 200,000 occurrences of items in them is refused, since the program reads no such file. It wants no built program. The exit
+status is 0, or 2 for a fault of the command line, a file that can't be read, or a problem that is refused.
 """
 import argparse
 import csv

@@ -1,12 +1,16 @@
 #!/usr/bin/env python3
 """A plain search for exact covers, apart from the crates, whose answers the tests compare with.
 
-    plain_search.py FILE        prints the outcome, the visits and the first cover of the empty prefix
+    python3 scripts/plain_search.py FILE
 
-It filters all options at each visit, as the definition says, and keeps no links. It reads the same files, but
-trusts them: no refusal is made here.
+prints the outcome, the visits and the first cover of the empty prefix, by numbers of options from 0. It filters all options
+at each visit, as the definition says, and keeps no links. It reads the same files as the program, but trusts them: no
+refusal is made here. It wants no built program. The exit status is 0, or 2 for a fault of the command line or a file that
+can't be read.
 """
 import sys
+
+from built import parser_of, stop
 
 sys.setrecursionlimit(10000)
 WHITE = b"\t\v\f\r "
@@ -61,8 +65,15 @@ def search(primary, options, prefix):
 
 
 def main():
-    with open(sys.argv[1], "rb") as file:
-        names, primary, options, ignored = read(file.read())
+    parser = parser_of(__doc__)
+    parser.add_argument("file", metavar="FILE", help="the problem's file")
+    path = parser.parse_args().file
+    try:
+        with open(path, "rb") as file:
+            text = file.read()
+    except OSError as why:
+        stop(f"{path} can't be read: {why.strerror}")
+    names, primary, options, ignored = read(text)
     first, visits = search(primary, options, [])
     print("cover" if first is not None else "none", "visits", visits, "first", first, "ignored", ignored)
 

@@ -12,10 +12,9 @@ crates below, so that only the bug's own crate is proved anew, once for all of i
     PROVED              the crate is proved with the bug in it: a hole in a contract
     no longer applies   its text doesn't stand exactly once in the file that it names, or can't be read then
 
-and a last line counts them. The exit status is 1 if any was proved, else 2 if any no longer applies or couldn't be
-tried, else 0.
+and a last line counts them. It wants the toolchain's command `rt` on the path, and builds no program. The exit status is 1
+if any was proved, else 2 if any no longer applies or couldn't be tried, else 0.
 """
-import argparse
 import os
 import re
 import shutil
@@ -23,14 +22,10 @@ import subprocess
 import sys
 import tempfile
 
-TOP = os.path.dirname(os.path.dirname(os.path.abspath(__file__)))
+from built import parser_of, stop, TOP, want_command
+
 BUGS = os.path.join(TOP, "bugs")
 REFUSED, SHAPE, PROVED, STALE = "refused", "by its shape", "PROVED", "no longer applies"
-
-
-def stop(why):
-    print(f"try_bugs: {why}", file=sys.stderr)
-    sys.exit(2)
 
 
 def chosen_bugs(words):
@@ -105,9 +100,10 @@ def try_crate(top, crate, names):
 
 
 def main():
-    parser = argparse.ArgumentParser(description=__doc__, formatter_class=argparse.RawDescriptionHelpFormatter)
+    parser = parser_of(__doc__)
     parser.add_argument("bugs", nargs="*", metavar="CRATE | CRATE/BUG", help="whose bugs are tried; all where none is named")
     chosen = chosen_bugs(parser.parse_args().bugs)
+    want_command("rt")
     kinds = []
     with tempfile.TemporaryDirectory(prefix="try-bugs-") as room:
         top = os.path.join(room, "repository")

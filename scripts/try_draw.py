@@ -6,8 +6,10 @@
 The examples must be written again byte for byte, and the pictures in examples/pictures drawn again. Of problems of each kind
 and of several sizes the drawn text is tested by the kind's own rules: queens that attack nobody, digits once in each row, and
 so on. Each SVG must be well formed, with all its shapes on the sheet. The last line is 'N passed, M failed'.
+
+It wants the program: (cd crates/solve_cli && rt run) builds it. The exit status is 0 where all passed, 1 where something
+failed, 2 for a fault of the command line or where there is no program.
 """
-import argparse
 import os
 import random
 import re
@@ -16,7 +18,8 @@ import sys
 import tempfile
 import xml.etree.ElementTree as tree
 
-TOP = os.path.dirname(os.path.dirname(os.path.abspath(__file__)))
+from built import parser_of, SOLVE_CLI, TOP, want_program
+
 EXAMPLES = os.path.join(TOP, "examples")
 sys.path.insert(0, EXAMPLES)
 import generate  # noqa: E402
@@ -24,7 +27,6 @@ from cover_files import read_problem, shown  # noqa: E402
 from picture_kinds import picture_of  # noqa: E402
 from svg_paper import Paper  # noqa: E402
 
-PROGRAM = os.path.join(TOP, "crates", "solve_cli", "out", "solve_cli")
 HOLE = ["pentominoes", "8x8", "--without", "3,3", "3,4", "4,3", "4,4"]
 SUDOKU = "..............3.85..1.2.......5.7.....4...1...9.......5......73..2.1........4...9"
 # how the drawn texts of some examples begin
@@ -228,11 +230,10 @@ def refusals(trial):
 
 
 def main():
-    parser = argparse.ArgumentParser(description=__doc__, formatter_class=argparse.RawDescriptionHelpFormatter)
-    parser.add_argument("--program", default=PROGRAM, help="the built program (default crates/solve_cli/out/solve_cli)")
+    parser = parser_of(__doc__)
+    parser.add_argument("--program", default=SOLVE_CLI, help="the built program (default crates/solve_cli/out/solve_cli)")
     given = parser.parse_args()
-    if not os.path.isfile(given.program):
-        sys.exit(f"try_draw: the program isn't built: {given.program} is missing; (cd crates/solve_cli && rt run) builds it")
+    want_program(given.program)
     with tempfile.TemporaryDirectory(prefix="try-draw-") as folder:
         trial = Trial(given.program, folder)
         for tests in (examples, beginnings, kinds, tables_and_graphs, strange_names, refusals):

@@ -7,10 +7,11 @@ All examples, some outside cases, and a thousand random files, most of them spoi
 can be read once more with an answer: the program's own, a spoilt one, or a random choice of options. For each it compares
 the program's standard error (and the verdict of `check`) with the lines of explain.py that say what the program says, and
 the name and the line of the fault with those of the first fault that explain.py explains. Each kind of fault must have been
-met. What else is told is tested by a table of files with lines that were worked out by hand. The last
-line counts; the exit status is 1 where one differs.
+met. What else is told is tested by a table of files with lines that were worked out by hand. The last line counts.
+
+It wants the program: (cd crates/solve_cli && rt run) builds it. The exit status is 0 where all agree, 1 where one differs, a
+line is missing or a kind of fault was never met, 2 for a fault of the command line or where there is no program.
 """
-import argparse
 import collections
 import contextlib
 import glob
@@ -23,9 +24,8 @@ import sys
 import tempfile
 
 import explain
+from built import parser_of, SOLVE_CLI, TOP, want_program
 
-TOP = os.path.dirname(os.path.dirname(os.path.abspath(__file__)))
-PROGRAM = os.path.join(TOP, "crates", "solve_cli", "out", "solve_cli")
 FAULTS = ["NoItems", "IllegalByte", "NameTooLong", "DuplicateItem", "SecondBar", "UnknownItem", "DuplicateInOption", "TooManyItems",
           "TooManyOptions", "TooManyNodes", "BadHead", "WrongCount", "UnknownOption", "Uncovered", "CoveredTwice"]
 FUEL = "100000"
@@ -264,13 +264,12 @@ def texts(draw, files):
 
 
 def main():
-    parser = argparse.ArgumentParser(description=__doc__, formatter_class=argparse.RawDescriptionHelpFormatter)
+    parser = parser_of(__doc__)
     parser.add_argument("--files", type=int, default=1000, help="how many random files are tried (default 1000)")
     parser.add_argument("--seed", type=int, default=1, help="the seed of what is drawn (default 1)")
-    parser.add_argument("--program", default=PROGRAM, help="the built program (default crates/solve_cli/out/solve_cli)")
+    parser.add_argument("--program", default=SOLVE_CLI, help="the built program (default crates/solve_cli/out/solve_cli)")
     given = parser.parse_args()
-    if not os.path.isfile(given.program):
-        sys.exit(f"try_explain: the program isn't built: {given.program} is missing; (cd crates/solve_cli && rt run) builds it")
+    want_program(given.program)
     draw = random.Random(given.seed)
     with tempfile.TemporaryDirectory(prefix="try-explain-") as folder:
         trial = Trial(given.program, folder)

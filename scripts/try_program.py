@@ -3,16 +3,18 @@
 
     python3 scripts/try_program.py [PROGRAM]
 
-The program is crates/solve_cli/out/solve_cli where none is named. Each cover of an example is given back to `check`,
-and counted here once more. The last line is 'N passed, M failed'.
+It wants the program, which is crates/solve_cli/out/solve_cli where none is named: (cd crates/solve_cli && rt run) builds that.
+Each cover of an example is given back to `check`, and counted here once more. The last line is 'N passed, M failed'. The exit
+status is 0 where all passed, 1 where something failed, 2 for a fault of the command line or where there is no program.
 """
 import os
 import subprocess
 import sys
 import tempfile
 
-TOP = os.path.dirname(os.path.dirname(os.path.abspath(__file__)))
-PROGRAM = sys.argv[1] if len(sys.argv) > 1 else os.path.join(TOP, "crates/solve_cli/out/solve_cli")
+from built import parser_of, SOLVE_CLI, TOP, want_program
+
+PROGRAM = SOLVE_CLI
 NONE = {"langford-5.dlx", "tetrominoes-4x5.dlx", "mutilated-chessboard.dlx"}
 passed = failed = 0
 
@@ -96,13 +98,18 @@ def bad_input(folder):
 
 def command_line():
     for words, status in [((), 2), (("--help",), 0), (("--version",), 0), (("alone", "--help"), 0), (("alone",), 2),
-                          (("alone", "x", "--fuel", "0"), 2), (("alone", "x", "--fuel", "+1"), 2), (("solve", "x", "--audit"), 2), (("solve", "x"), 3),
-                          (("alone", b"\xff"), 2)]:
+                          (("alone", "x", "--fuel", "0"), 2), (("alone", "x", "--fuel", "+1"), 2),
+                          (("solve", "x", "--audit"), 2), (("solve", "x"), 3), (("alone", b"\xff"), 2)]:
         out, errors, ended = run(*words)
         expect(f"words {words}", ended == status and (bool(out), bool(errors)) == (status == 0, status != 0))
 
 
 def main():
+    global PROGRAM
+    parser = parser_of(__doc__)
+    parser.add_argument("program", nargs="?", metavar="PROGRAM", default=SOLVE_CLI, help="the built program")
+    PROGRAM = os.path.abspath(parser.parse_args().program)
+    want_program(PROGRAM)
     with tempfile.TemporaryDirectory() as folder:
         examples(folder)
         bad_input(folder)

@@ -1,10 +1,15 @@
 #!/usr/bin/env python3
-"""Simulates a search of every example: `python3 scripts/try_simulate.py [SEEDS]` (20 seeds where no number is given).
+"""Simulates a search of every example.
 
-Each file under examples/ is searched by simulated worlds of four nodes, for each seed with searches of 1, 10 and 1,000 visits,
-without restarts and with five. Every answer is given to `check`, which has to call it right. A table tells, file by file, in how
-many of the runs an answer was published within 10,000 turns, without the closing phase, and the turns and packets that the middle one of
-these took. It wants the programs built by `rt run` in crates/solve_cli and in crates/workbench.
+    python3 scripts/try_simulate.py [SEEDS]
+
+Each file of examples/ is searched by simulated worlds of four nodes, for each seed (20 where no number is given) with searches
+of 1, 10 and 1,000 visits, without restarts and with five. Every answer is given to `check`, which has to call it right. A table
+tells, file by file, in how many of the runs an answer was published within 10,000 turns, without the closing phase, and the
+turns and packets that the middle one of these took.
+
+It wants two programs: (cd crates/solve_cli && rt run) and (cd crates/workbench && rt run) build them. The exit status is 0
+where every answer is right, 1 where one is wrong, 2 for a fault of the command line or where a program is missing.
 """
 import glob
 import os
@@ -13,9 +18,8 @@ import subprocess
 import sys
 import tempfile
 
-ROOT = os.path.join(os.path.dirname(os.path.abspath(__file__)), "..")
-PROGRAM = os.path.join(ROOT, "crates", "solve_cli", "out", "solve_cli")
-WORKBENCH = os.path.join(ROOT, "crates", "workbench", "out", "workbench")
+from built import parser_of, SOLVE_CLI, TOP, want_program, WORKBENCH
+
 NODES, TURNS = 4, 10_000
 
 
@@ -24,13 +28,13 @@ def output(words):
 
 
 def is_right(file, answer_file, seed, fuel, restarts):
-    words = [PROGRAM, "simulate", file, "--seed", seed, "--fuel", fuel, "--restarts", restarts]
+    words = [SOLVE_CLI, "simulate", file, "--seed", seed, "--fuel", fuel, "--restarts", restarts]
     answered = output(words)
     if answered.returncode not in (0, 1):
         return False
     with open(answer_file, "w") as answer:
         answer.write(answered.stdout)
-    checked = output([PROGRAM, "check", file, answer_file])
+    checked = output([SOLVE_CLI, "check", file, answer_file])
     return checked.returncode == 0 and checked.stdout == "right\n"
 
 
@@ -41,14 +45,18 @@ def measured(file, seed, fuel, restarts):
 
 
 def main():
-    seeds = int(sys.argv[1]) if len(sys.argv) > 1 else 20
+    parser = parser_of(__doc__)
+    parser.add_argument("seeds", nargs="?", metavar="SEEDS", type=int, default=20, help="how many seeds are tried, from 1 (default 20)")
+    seeds = parser.parse_args().seeds
+    want_program(SOLVE_CLI)
+    want_program(WORKBENCH, "workbench")
     plans = [(str(seed), fuel, restarts) for seed in range(1, seeds + 1)
              for fuel in ("1", "10", "1000") for restarts in ("0", "5")]
     wrong = 0
     print("| File | Runs | Wrong | Published by chance | Turns | Packets |")
     print("|---|---|---|---|---|---|")
     with tempfile.TemporaryDirectory() as folder:
-        for file in sorted(glob.glob(os.path.join(ROOT, "examples", "*.dlx"))):
+        for file in sorted(glob.glob(os.path.join(TOP, "examples", "*.dlx"))):
             answer_file = os.path.join(folder, "answer")
             bad = [plan for plan in plans if not is_right(file, answer_file, *plan)]
             runs = [run for run in (measured(file, *plan) for plan in plans) if run[2]]

@@ -1,12 +1,15 @@
 #!/usr/bin/env python3
-"""Runs `solve` on small problems and on every example: `python3 scripts/try_solve.py --help` tells how.
+"""Runs `solve` on two small problems and on every example, or on the files that are named.
+
+    python3 scripts/try_solve.py [--times N] [--nodes N] [--workers N] [--fuel N] [--limit SECONDS] [FILE ..]
 
 Each problem is solved so many times by nodes with threads of their own. Every answer is given to `check`, which has to call it
 right, and of the two small problems the answer's text is known. With no turns at all there has to be no answer. A table tells,
-problem by problem, how many runs answered, how many were wrong, and the least, the middle and the greatest time in seconds. It wants
-the program built by `rt run` in crates/solve_cli.
+problem by problem, how many runs answered, how many were wrong, and the least, the middle and the greatest time in seconds.
+
+It wants the program: (cd crates/solve_cli && rt run) builds it. The exit status is 0 where no run was wrong (one without an
+answer is none), 1 where one was or took longer than the limit, 2 for a fault of the command line or where there is no program.
 """
-import argparse
 import glob
 import os
 import statistics
@@ -15,8 +18,8 @@ import sys
 import tempfile
 import time
 
-ROOT = os.path.join(os.path.dirname(os.path.abspath(__file__)), "..")
-PROGRAM = os.path.join(ROOT, "crates", "solve_cli", "out", "solve_cli")
+from built import parser_of, SOLVE_CLI, TOP, want_program
+
 LETTERS = "a b c d e f g\nc e\na d g\nb c f\na d f\nb g\nd e g\n"
 SMALL = [
     ("letters, with a cover", LETTERS, "cover 3\nc e\na d f\nb g\n"),
@@ -25,13 +28,13 @@ SMALL = [
 
 
 def words():
-    parser = argparse.ArgumentParser(description="Runs `solve` on small problems and on every example, and tests each answer by `check`.")
+    parser = parser_of(__doc__)
     parser.add_argument("--times", type=int, default=20, help="how often each problem is solved (default 20)")
     parser.add_argument("--nodes", default="4", help="how many nodes there are (default 4)")
     parser.add_argument("--workers", default="2", help="how many workers a node has (default 2)")
     parser.add_argument("--fuel", default="1000", help="how many prefixes a search may visit at first (default 1000)")
     parser.add_argument("--limit", type=float, default=120, help="after how many seconds a run is given up (default 120)")
-    parser.add_argument("files", nargs="*", help="the files, in place of the small problems and all of examples/")
+    parser.add_argument("files", nargs="*", metavar="FILE", help="the files, in place of the small problems and all of examples/")
     return parser.parse_args()
 
 
@@ -45,7 +48,7 @@ def output(given, limit):
 def is_right(file, text, answer_file):
     with open(answer_file, "w") as answer:
         answer.write(text)
-    checked = output([PROGRAM, "check", file, answer_file], None)
+    checked = output([SOLVE_CLI, "check", file, answer_file], None)
     return checked.returncode == 0 and checked.stdout == "right\n"
 
 
@@ -53,7 +56,7 @@ def solved(file, seed, given, expected, answer_file):
     """The time, whether there was an answer, and whether the run was wrong."""
     options = ["--seed", str(seed), "--nodes", given.nodes, "--workers", given.workers, "--fuel", given.fuel]
     begun = time.monotonic()
-    run = output([PROGRAM, "solve", file, *options], given.limit)
+    run = output([SOLVE_CLI, "solve", file, *options], given.limit)
     seconds = time.monotonic() - begun
     if run is None:
         return seconds, False, True
@@ -76,7 +79,7 @@ def tell(name, file, given, expected, answer_file):
 
 
 def says_nothing_without_turns(file):
-    run = output([PROGRAM, "solve", file, "--turns", "0"], 60)
+    run = output([SOLVE_CLI, "solve", file, "--turns", "0"], 60)
     return run is not None and run.returncode == 4 and run.stdout == "no answer\n"
 
 
@@ -90,12 +93,13 @@ def problems(given, folder):
         with open(file, "w") as small:
             small.write(text)
         found.append((name, file, expected))
-    examples = sorted(glob.glob(os.path.join(ROOT, "examples", "*.dlx")))
+    examples = sorted(glob.glob(os.path.join(TOP, "examples", "*.dlx")))
     return found + [(os.path.basename(file), file, None) for file in examples]
 
 
 def main():
     given = words()
+    want_program(SOLVE_CLI)
     wrong = 0
     print("| Problem | Runs | Answered | Wrong | Least | Middle | Greatest |")
     print("|---|---|---|---|---|---|---|")

@@ -1,0 +1,38 @@
+"""Where the built programs stand, and what a script tells where one is missing. For the scripts and benches that run them."""
+import argparse
+import os
+import shutil
+import sys
+
+TOP = os.path.dirname(os.path.dirname(os.path.abspath(__file__)))
+
+
+def program_of(crate):
+    """The program that `rt run` keeps for a crate."""
+    return os.path.join(TOP, "crates", crate, "out", crate)
+
+
+SOLVE_CLI, WORKBENCH = program_of("solve_cli"), program_of("workbench")
+
+
+def parser_of(text):
+    """A command line whose help is this text as it stands."""
+    return argparse.ArgumentParser(description=text, formatter_class=argparse.RawDescriptionHelpFormatter)
+
+
+def stop(why):
+    """Ends the script with status 2 and tells why."""
+    print(f"{os.path.basename(sys.argv[0]).removesuffix('.py')}: {why}", file=sys.stderr)
+    sys.exit(2)
+
+
+def want_program(program, crate="solve_cli"):
+    """Goes on only where there is a program at this place; else tells what builds that of the crate."""
+    if not (os.path.isfile(program) and os.access(program, os.X_OK)):
+        stop(f"there is no program {os.path.relpath(program)}; at the top of the repository (cd crates/{crate} && rt run) builds it")
+
+
+def want_command(name):
+    """Goes on only where this command is on the path."""
+    if not shutil.which(name):
+        stop(f"there is no command {name} on the path")
