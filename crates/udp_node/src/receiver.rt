@@ -19,8 +19,11 @@ use std::time::{Clock, Duration};
 /// How many bytes a receive takes: one more than the longest packet has, so that a longer datagram is seen.
 const BUFFER: usize = 2026;
 
-/// After how many empty receives a site says again what may be lost, and after how many in a row the registry ends.
+/// After how many empty receives a site says again what may be lost.
 const AGAIN: u64 = 20;
+
+/// After how many empty receives in a row the registry ends, once the search is over; at each it tells the end again.
+const LAST: u64 = 10;
 
 /// After how many datagrams it is said again too: where they come without a pause, no receive is empty.
 const HEARD: u64 = 256;
@@ -190,7 +193,7 @@ impl<L: Link> Receiver<L> {
         thread::sleep(rt, Duration::from_micros(NAP));
         self.empty = self.empty.saturating_add(1);
         self.pauses = self.pauses.saturating_add(1);
-        if self.over && self.empty >= AGAIN {
+        if self.over && self.empty >= LAST {
             return (actor, Turn::Ended(Cause::Over));
         }
         let is_deserted = shared.cell.site().node != 0 && shared.signals.is_deserted();
