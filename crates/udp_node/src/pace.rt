@@ -23,6 +23,8 @@ pub struct Pace {
     alone: bool,
     /// How many visits its searches have made.
     visits: u64,
+    /// A search of more than a small job's visits was spent, and none has ended without a cover since then.
+    is_wary: bool,
     /// By the prefix's length, how many visits a search is thought to take.
     expected: Vec<u64>,
 }
@@ -39,6 +41,7 @@ impl Pace {
             base: base.max(1),
             alone,
             visits: 0,
+            is_wary: false,
             expected,
         })
     }
@@ -48,7 +51,8 @@ impl Pace {
     /// With a base of 1 each gets one visit. Else a worker that is alone has no limit; the prefix without an option gets the base;
     /// where the site is hungry, a fifth of it; and else eight times the greater of 30 times the base and a 1,024th of the visits made,
     /// unless it is thought to take more than that greater number: then it gets a fifth of the base, and is thought to take a
-    /// tenth less the next time.
+    /// tenth less the next time. After a search of more than that fifth was spent, each gets a fifth of the base until one ends
+    /// without a cover: what stands behind a spent prefix may take as long, at each length anew.
     pub fn fuel(&mut self, length: usize, is_hungry: bool) -> u64
         ensures { 1 ≤ result }
     {
@@ -58,7 +62,7 @@ impl Pace {
         if self.alone {
             return u64::MAX;
         }
-        if is_hungry || self.is_too_long(length) {
+        if is_hungry || self.is_too_long(length) || self.is_wary {
             return self.small();
         }
         self.plenty().saturating_mul(8).max(1)
@@ -71,6 +75,11 @@ impl Pace {
     pub fn note(&mut self, length: usize, outcome: Outcome, visits: u64) {
         self.visits = self.visits.saturating_add(visits);
         let small = self.small();
+        match outcome {
+            Outcome::Barren => self.is_wary = false,
+            Outcome::Spent if visits > small => self.is_wary = true,
+            Outcome::Cover | Outcome::Spent => {}
+        }
         let Some(expected) = self.expected.get_mut(length) else {
             return;
         };

@@ -153,7 +153,8 @@ impl<'a, J: Run> Worker<'a, J> {
             let (actor, acted) = actor.act(rt, shared, Event::Ask(victim));
             return (actor, after(acted));
         }
-        thread::sleep(rt, Duration::from_micros(nap(idle)));
+        let workers = u64::from(shared.plan.nodes) * u64::from(shared.plan.workers);
+        thread::sleep(rt, Duration::from_micros(nap(idle, workers)));
         (actor, Turn::Waited)
     }
 
@@ -271,9 +272,10 @@ impl<'a, J: Run> Worker<'a, J> {
     }
 }
 
-/// How long an idle turn waits, in microseconds: from 20 on, and at most a thousand.
-fn nap(idle: u32) -> u64 {
-    (20 + u64::from(idle) / 64 * 20).min(1_000)
+/// How long an idle turn waits, in microseconds, after so many in a row: from 20 on, and at most a thousand. After each 64, when it
+/// asked again, it waits one longer for each worker that there is in all: so many that ask at once leave those at work alone.
+fn nap(idle: u32, workers: u64) -> u64 {
+    (20 + u64::from(idle) / 64 * workers).min(1_000)
 }
 
 /// What the reply to a Take tells; the only error is want of memory.

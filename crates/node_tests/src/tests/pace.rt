@@ -16,22 +16,25 @@ enum Step {
 }
 
 /// A worker among others, with a base of 1,000.
-static AMONG_OTHERS: [Step; 15] = [
+static AMONG_OTHERS: [Step; 18] = [
     Asks(0, true, 1_000),
     Asks(0, false, 1_000),
     Asks(3, true, 200),
     Asks(3, false, 240_000),
-    // spent: it is thought to take 480,000, more than 30,000
-    Ends(3, Outcome::Spent, 240_000),
-    Asks(3, false, 200),
-    Asks(4, false, 240_000),
     // a small job that is spent tells nothing
     Ends(4, Outcome::Spent, 200),
     Asks(4, false, 240_000),
-    // three quarters of 432,000 and a quarter of 100
+    // spent: it is thought to take 480,000, more than 30,000, and what stands behind it to take long as well
+    Ends(3, Outcome::Spent, 240_000),
+    Asks(3, false, 200),
+    Asks(4, false, 200),
+    Ends(4, Outcome::Spent, 200),
+    Asks(4, false, 200),
+    // three quarters of 432,000 and a quarter of 100; it is wary no more
     Ends(3, Outcome::Barren, 100),
     Asks(3, false, 200),
-    // 40,240,300 visits were made: a 1,024th of them is 39,297
+    Asks(4, false, 240_000),
+    // 40,240,500 visits were made: a 1,024th of them is 39,297
     Ends(5, Outcome::Barren, 40_000_000),
     Asks(4, false, 314_376),
     Ends(99, Outcome::Barren, 5),
@@ -39,8 +42,9 @@ static AMONG_OTHERS: [Step; 15] = [
 ];
 
 /// What is thought to take too long is searched again once it was thought to take a tenth less often enough.
-static FORGETS: [Step; 7] = [
+static FORGETS: [Step; 8] = [
     Ends(2, Outcome::Spent, 18_000),
+    Ends(1, Outcome::Barren, 100),
     Asks(2, false, 200),
     Asks(2, false, 200),
     Asks(2, false, 240_000),
