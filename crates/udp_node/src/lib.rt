@@ -33,4 +33,5 @@ pub use plan::Plan;
 pub use run::{RunEnd, run_sites};
 pub use site_run::SiteEnd;
 pub use stand::Stand;
+pub use turn::Taken;
 pub use udp_link::{UdpLink, bound};

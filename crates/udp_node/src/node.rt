@@ -16,7 +16,7 @@ use crate::sender::{Sender, Sent, send_all};
 use crate::shared::Shared;
 use crate::signals::Signals;
 use crate::stand::Stand;
-use crate::turn::{Limits, Turn};
+use crate::turn::{Limits, Taken, Turn};
 use crate::worker::Worker;
 use cover_problem::Problem;
 use node_core::Core;
@@ -41,12 +41,23 @@ enum Task<L: Link> {
     Receive(Receiver<L>),
 }
 
+impl<L: Link> Task<L> {
+    /// How many turns it may wait in for each of its turns.
+    fn waits(&self) -> u64 {
+        match self {
+            Task::Work(_) => REST,
+            Task::Receive(_) => SILENCE,
+        }
+    }
+}
+
 /// A thread of a site that acts: its stand while it doesn't run.
 #[derive(Drop)]
 struct Place<N: Room, L: Link> {
     task: Task<L>,
     stand: Option<Stand<N>>,
     losses: u64,
+    taken: Taken,
     cause: Cause,
 }
 
@@ -59,6 +70,7 @@ impl<N: Room, L: Link> Place<N, L> {
             task,
             stand: Some(stand),
             losses: 0,
+            taken: Taken::NONE,
             cause: Cause::Turns,
         }
     }
@@ -75,6 +87,7 @@ impl<N: Room, L: Link> Place<N, L> {
             task,
             stand: place,
             losses: lost,
+            taken,
             cause: why,
         } = self;
         if let Some(stand) = place.take() {
@@ -83,10 +96,11 @@ impl<N: Room, L: Link> Place<N, L> {
                 pass: shared.outbox.pass(),
                 losses: 0,
             };
+            let mut left = Limits::new(shared.plan.turns, task.waits());
             let (actor, cause) = match task {
-                Task::Work(number) => work(rt, shared, actor, *number),
+                Task::Work(number) => work(rt, shared, actor, *number, &mut left),
                 Task::Receive(receiver) => {
-                    let ended = receive(rt, shared, actor, receiver);
+                    let ended = receive(rt, shared, actor, receiver, &mut left);
                     // (nothing that others have for this site gets here any more)
                     shared.signals.end();
                     ended
@@ -98,6 +112,7 @@ impl<N: Room, L: Link> Place<N, L> {
                 losses,
             } = actor;
             *lost = losses;
+            *taken = left.taken();
             *why = cause;
             *place = Some(stand);
         }
@@ -111,6 +126,7 @@ fn work<J: Run, C: Core + Drop, N: Room, G: Gate, R: Wait + Clock>(
     shared: &Shared<'_, '_, '_, '_, '_, J, C, N, G>,
     actor: Actor<N>,
     number: u8,
+    left: &mut Limits,
 ) -> (Actor<N>, Cause)
     requires here { actor.pass.outbox ≡ shared.now.outbox.now }
 {
@@ -119,7 +135,6 @@ fn work<J: Run, C: Core + Drop, N: Room, G: Gate, R: Wait + Clock>(
         return (actor, Cause::Memory);
     };
     let mut actor = actor;
-    let mut left = Limits::new(shared.plan.turns, REST);
     for _turn in 0..u64::MAX {
         if left.is_spent() {
             break;
@@ -141,11 +156,11 @@ fn receive<J: Run, C: Core + Drop, N: Room, L: Link, G: Gate, R: Wait + Clock>(
     shared: &Shared<'_, '_, '_, '_, '_, J, C, N, G>,
     actor: Actor<N>,
     receiver: &mut Receiver<L>,
+    left: &mut Limits,
 ) -> (Actor<N>, Cause)
     requires here { actor.pass.outbox ≡ shared.now.outbox.now }
 {
     let mut actor = actor;
-    let mut left = Limits::new(shared.plan.turns, SILENCE);
     for number in 0..u64::MAX {
         if left.is_spent() {
             break;
@@ -375,6 +390,7 @@ fn ended<N: Room, L: Link>(crew: Crew<N, L>, sent: Sent) -> NodeEnd<N>
         losses: sent.losses,
         dropped: 0,
         failures: sent.failures,
+        taken: sent.taken,
         cause: Cause::Turns,
     };
     for place in places {
@@ -394,6 +410,7 @@ fn with_place<N: Room, L: Link>(end: NodeEnd<N>, place: Place<N, L>) -> NodeEnd<
         task,
         stand,
         losses,
+        taken,
         cause,
     } = place;
     let (dropped, failures) = match &task {
@@ -404,6 +421,7 @@ fn with_place<N: Room, L: Link>(end: NodeEnd<N>, place: Place<N, L>) -> NodeEnd<
     end.losses = end.losses.saturating_add(losses);
     end.dropped = end.dropped.saturating_add(dropped);
     end.failures = end.failures.saturating_add(failures);
+    end.taken = end.taken.max(taken);
     end.cause = end.cause.min(cause);
     if let Some(stand) = stand {
         end.stands.push_reserved(stand);

@@ -4,6 +4,7 @@ ghost use Rattle.udp_node.specs.declared.cause.Cause.TheVariants.{Memory};
 
 use crate::cause::Cause;
 use crate::stand::Stand;
+use crate::turn::Taken;
 use run_book::{Receipt, Room, Seat};
 use std::alloc::Global;
 
@@ -18,6 +19,9 @@ pub struct NodeEnd<N: Room> {
     pub dropped: u64,
     /// How many calls of the link failed.
     pub failures: u64,
+    /// How many turns that one of its threads took which took the most, and in how many one waited which waited in the most. Each
+    /// parcel is a turn of the thread that sends, and each look that found none to send is one in which it waited.
+    pub taken: Taken,
     /// Why they ended: the first of all causes in the order of that type.
     pub cause: Cause,
 }
@@ -32,6 +36,7 @@ impl<N: Room> NodeEnd<N> {
             losses: 0,
             dropped: 0,
             failures: 0,
+            taken: Taken::NONE,
             cause: Cause::Memory,
         }
     }

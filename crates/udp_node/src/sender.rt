@@ -4,7 +4,7 @@ ghost use Rattle.std.specs.Prelude.{◌≡◌};
 
 use crate::link::Link;
 use crate::signals::Signals;
-use crate::turn::Limits;
+use crate::turn::{Limits, Taken};
 use run_book::{Drain, Outbox};
 use std::sync::Wait;
 use std::thread;
@@ -23,6 +23,8 @@ pub struct Sent {
     pub losses: u64,
     /// How many calls of the link failed.
     pub failures: u64,
+    /// How many parcels were taken out to be sent, and how many looks found none.
+    pub taken: Taken,
 }
 
 /// What the thread that sends is given.
@@ -78,5 +80,6 @@ pub fn send_all<L: Link, R: Wait + Clock>(rt: &R, sender: Sender<'_, '_, L>) -> 
     Sent {
         losses,
         failures: link.failures(),
+        taken: left.taken(),
     }
 }

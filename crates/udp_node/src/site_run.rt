@@ -10,6 +10,7 @@ use crate::link::Link;
 use crate::node::{run_node, run_root};
 use crate::node_end::NodeEnd;
 use crate::plan::Plan;
+use crate::turn::Taken;
 use cover_problem::Problem;
 use node_core::{Core, NodeCore};
 use root_registry::Registry;
@@ -56,6 +57,8 @@ pub struct SiteEnd {
     pub dropped: u64,
     /// How many calls of its link failed.
     pub failures: u64,
+    /// How many turns its threads took at most, each by itself, and in how many they waited at most.
+    pub taken: Taken,
 }
 
 impl SiteEnd {
@@ -65,6 +68,7 @@ impl SiteEnd {
         losses: 0,
         dropped: 0,
         failures: 0,
+        taken: Taken::NONE,
     };
 }
 
@@ -262,6 +266,7 @@ fn closed<J: Run, C: Core + Drop, N: Room>(
         losses: end.losses,
         dropped: end.dropped,
         failures: end.failures,
+        taken: end.taken,
     };
     let Ok((seats, receipts)) = end.into_lists(alloc) else {
         told.cause = Cause::Memory;

@@ -11,11 +11,34 @@ pub enum Turn {
     Ended(Cause),
 }
 
-/// How many turns and waits a thread has left.
+/// How many turns a thread took.
+#[derive(Clone, Copy, Debug, PartialEq, Eq)]
+pub struct Taken {
+    /// How many turns it did something in.
+    pub turns: u64,
+    /// How many turns it waited in.
+    pub waits: u64,
+}
+
+impl Taken {
+    /// None.
+    pub const NONE: Taken = Taken { turns: 0, waits: 0 };
+
+    /// The greater number of each.
+    pub fn max(self, other: Taken) -> Taken {
+        Taken {
+            turns: self.turns.max(other.turns),
+            waits: self.waits.max(other.waits),
+        }
+    }
+}
+
+/// How many turns and waits a thread may take, and how many it took.
 #[derive(Clone, Copy, Debug, PartialEq, Eq)]
 pub struct Limits {
     turns: u64,
     waits: u64,
+    taken: Taken,
 }
 
 impl Limits {
@@ -24,21 +47,27 @@ impl Limits {
         Limits {
             turns,
             waits: turns.saturating_mul(waits),
+            taken: Taken::NONE,
         }
+    }
+
+    /// How many it took.
+    pub fn taken(&self) -> Taken {
+        self.taken
     }
 
     /// Whether either is used up.
     pub fn is_spent(&self) -> bool {
-        self.turns == 0 || self.waits == 0
+        self.taken.turns >= self.turns || self.taken.waits >= self.waits
     }
 
-    /// One turn less.
+    /// It took a turn.
     pub fn use_turn(&mut self) {
-        self.turns = self.turns.saturating_sub(1);
+        self.taken.turns = self.taken.turns.saturating_add(1);
     }
 
-    /// One wait less.
+    /// It waited.
     pub fn wait(&mut self) {
-        self.waits = self.waits.saturating_sub(1);
+        self.taken.waits = self.taken.waits.saturating_add(1);
     }
 }

@@ -169,8 +169,12 @@ fn tell_sites<R: Threads + Wait + Clock + Sync>(
     };
     let end = run_over_memory(threads, rt.alloc(), &read.problem, plan)?;
     println!(rt; "{}", end.is_published)?;
-    for (cause, losses) in &end.causes {
-        println!(rt; "{cause:?} {losses}")?;
+    for site in &end.sites {
+        let taken = site.taken;
+        println!(rt;
+            "{:?} {} {} {}",
+            site.cause, site.losses, taken.turns, taken.waits
+        )?;
     }
     for tally in &end.tallies {
         let (entries, searches) = (tally.entries, tally.searches);

@@ -13,7 +13,7 @@ use std::marker::Brand;
 use std::sync::{Arc, Wait};
 use std::thread::Threads;
 use std::time::Clock;
-use udp_node::{Cause, MemoryLink, Open, Plan, RunEnd, Wires, run_sites};
+use udp_node::{MemoryLink, Open, Plan, RunEnd, SiteEnd, Wires, run_sites};
 
 /// What a site's book tells of its searches. The greatest numbers stay.
 #[derive(Clone, Copy, Debug, PartialEq, Eq)]
@@ -58,11 +58,11 @@ impl Tally {
 
 /// How a run came out.
 #[derive(Drop)]
-pub struct SitesEnd {
+pub struct Ran {
     /// Whether the registry published an answer.
     pub is_published: bool,
-    /// Why each site ended, the registry first, and how many parcels it lost.
-    pub causes: Vec<(Cause, u64)>,
+    /// How each site ended, the registry first.
+    pub sites: Vec<SiteEnd>,
     /// What the books tell, the registry's first.
     pub tallies: Vec<Tally>,
 }
@@ -94,7 +94,7 @@ pub fn run_over_memory<R: Threads + Wait + Clock + Sync>(
     alloc: Global,
     problem: &Problem,
     plan: Plan,
-) -> Result<SitesEnd, AllocError>
+) -> Result<Ran, AllocError>
     requires some { 1 ≤ plan.nodes }
     requires most { plan.nodes ≤ 16 }
 {
@@ -107,24 +107,25 @@ fn run_named<J: Run + Send + Sync, R: Threads + Wait + Clock + Sync>(
     alloc: Global,
     problem: &Problem,
     plan: Plan,
-) -> Result<SitesEnd, AllocError>
+) -> Result<Ran, AllocError>
     requires run { J.run ≡ record { problem = problem.now; nodes = plan.nodes } }
     requires some { 1 ≤ plan.nodes }
     requires most { plan.nodes ≤ 16 }
 {
     let links = links(alloc, plan.nodes + 1)?;
     let end: RunEnd<J> = run_sites(rt, alloc, problem, plan, links, &Open)?;
-    let mut causes = Vec::with_capacity(alloc, end.sites.len())?;
-    for site in &end.sites {
-        causes.push((site.cause, site.losses))?;
-    }
-    let mut tallies = Vec::with_capacity(alloc, end.books.len())?;
-    for book in &end.books {
+    let RunEnd {
+        answer,
+        books,
+        sites,
+    } = end;
+    let mut tallies = Vec::with_capacity(alloc, books.len())?;
+    for book in &books {
         tallies.push(tally_of(book.entries()))?;
     }
-    Ok(SitesEnd {
-        is_published: end.answer.is_some(),
-        causes,
+    Ok(Ran {
+        is_published: answer.is_some(),
+        sites,
         tallies,
     })
 }
