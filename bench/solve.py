@@ -3,11 +3,12 @@
 
     python3 bench/solve.py [--times N] [NAME ..]
 
-Each instance that is named, or each of seven, is searched by `alone`, and by `solve` as one node of one, two and four workers
+Each instance that is named, or each of eight, is searched by `alone`, and by `solve` as one node of one, two and four workers
 and as two and four nodes of one worker, by turns. The least time that passed counts, from the start of the process to its end;
 the figure in brackets is how many times as fast as `alone` it was. All have to come to the same outcome, and covers are tested
-by `check`. A dash stands where `solve` gave no answer each time. The figures mean something on a machine with four processors
-and nothing else to do.
+by `check`. A dash stands where `solve` gave no answer each time. The column `4 alone` is what the machine allows: four
+processes of `alone` run at once, and the figure is four times the time of one over the time until all have ended. The figures
+mean something on a machine with four processors and nothing else to do.
 
 It wants the program: (cd crates/solve_cli && rt run) builds it. The exit status is 0, 1 where an answer is wrong, 2 for a fault
 of the command line or where there is no program.
@@ -24,20 +25,34 @@ sys.path[:0] = [os.path.join(HERE, "..", folder) for folder in ("examples", "scr
 import generate  # noqa: E402
 from built import parser_of, SOLVE_CLI, stop, want_program  # noqa: E402
 
-NAMES = ["langford-13", "torus-queens-15", "skewed", "diamond", "pentominoes-3x20", "sudoku-hard", "mutilated-chessboard"]
+NAMES = ["langford-13", "langford-13-long", "torus-queens-15", "skewed", "diamond", "pentominoes-3x20", "sudoku-hard", "mutilated-chessboard"]
 # nodes, workers
 SITES = [(1, 1), (1, 2), (1, 4), (2, 1), (4, 1)]
 
 
+# the pairs' numbers, their places, and the options of Langford pairs of 13, which have no pairing
+NUMBERS = [str(number) for number in range(1, 14)]
+PLACES = [f"s{place}" for place in range(1, 27)]
+PAIRS = [[str(d), f"s{place}", f"s{place + d + 1}"] for d in range(1, 14) for place in range(1, 26 - d)]
+
+
 def skewed(folder):
     """Langford pairs of 13 behind thirty choices, each of which leaves all of the work to one of its two options."""
-    n, choices = 13, 30
-    slots = [f"s{k}" for k in range(1, 2 * n + 1)]
-    options = [[str(d), f"s{k}", f"s{k + d + 1}"] for d in range(1, n + 1) for k in range(1, 2 * n - d)]
-    ways = [[f"x{k}"] + rest for k in range(choices) for rest in (slots, [])]
+    choices = [f"x{k}" for k in range(30)]
+    ways = [[choice] + rest for choice in choices for rest in (PLACES, [])]
     generate.HERE = folder
-    generate.write("skewed.dlx", "thirty choices that leave all of the work to one option", [f"x{k}" for k in range(choices)]
-                   + [str(d) for d in range(1, n + 1)] + slots, [], ways + options)
+    generate.write("skewed.dlx", "thirty choices that leave all of the work to one option", choices + NUMBERS + PLACES, [],
+                   ways + PAIRS)
+
+
+def behind(folder, name, counts):
+    """Langford pairs of 13 behind choices with so many options each: the product of these counts times the work."""
+    choices = [f"x{k}" for k in range(len(counts))]
+    marks = [f"y{k}.{way}" for k, count in enumerate(counts) for way in range(count)]
+    ways = [[f"x{k}", f"y{k}.{way}"] for k, count in enumerate(counts) for way in range(count)]
+    generate.HERE = folder
+    generate.write(f"{name}.dlx", f"choices that make the work {math.prod(counts)} times as much", choices + NUMBERS + PLACES,
+                   marks, ways + PAIRS)
 
 
 def timed(words):
@@ -45,6 +60,14 @@ def timed(words):
     start = time.monotonic()
     text = subprocess.run([SOLVE_CLI, *words], capture_output=True, text=True).stdout
     return text, time.monotonic() - start
+
+
+def at_once(file, count):
+    """The seconds until so many processes of `alone`, started at once, have all ended."""
+    start = time.monotonic()
+    for process in [subprocess.Popen([SOLVE_CLI, "alone", file], stdout=subprocess.DEVNULL) for _ in range(count)]:
+        process.wait()
+    return time.monotonic() - start
 
 
 def is_right(file, text, folder):
@@ -57,11 +80,11 @@ def is_right(file, text, folder):
 
 
 def row(file, times, folder):
-    """The outcome and the least seconds of `alone`, and the least seconds of each `solve`."""
-    alone, least, best = None, math.inf, [math.inf] * len(SITES)
+    """The outcome and the least seconds of `alone`, of four of it at once, and of each `solve`."""
+    alone, least, four, best = None, math.inf, math.inf, [math.inf] * len(SITES)
     for turn in range(times):
         text, seconds = timed(["alone", file])
-        alone, least = text.split()[0], min(least, seconds)
+        alone, least, four = text.split()[0], min(least, seconds), min(four, at_once(file, 4))
         for k, (nodes, workers) in enumerate(SITES):
             words = ["solve", file, "--nodes", str(nodes), "--workers", str(workers), "--seed", str(turn + 1)]
             text, seconds = timed(words)
@@ -70,7 +93,7 @@ def row(file, times, folder):
             if text.split()[0] != alone or (alone == "cover" and not is_right(file, text, folder)):
                 sys.exit(f"a wrong answer: {words}")
             best[k] = min(best[k], seconds)
-    return alone, least, best
+    return alone, least, four, best
 
 
 def main():
@@ -82,15 +105,16 @@ def main():
     with tempfile.TemporaryDirectory() as folder:
         subprocess.run([sys.executable, os.path.join(HERE, "instances.py"), folder], check=True)
         skewed(folder)
-        print("| Instance | Outcome | `alone`, s | " + " | ".join(f"{n} x {w}" for n, w in SITES) + " |")
-        print("|---|---|---|" + "---|" * len(SITES))
+        behind(folder, "langford-13-long", [2, 2])
+        print("| Instance | Outcome | `alone`, s | 4 alone | " + " | ".join(f"{n} x {w}" for n, w in SITES) + " |")
+        print("|---|---|---|---|" + "---|" * len(SITES))
         for name in given.names or NAMES:
             file = os.path.join(folder, name + ".dlx")
             if not os.path.exists(file):
                 stop(f"there is no instance {name}")
-            outcome, alone, best = row(file, given.times, folder)
+            outcome, alone, four, best = row(file, given.times, folder)
             told = [f"{s:.2f} ({alone / s:.2f})" if s < math.inf else "-" for s in best]
-            print(f"| {name} | {outcome} | {alone:.2f} | " + " | ".join(told) + " |", flush=True)
+            print(f"| {name} | {outcome} | {alone:.2f} | {4 * alone / four:.2f} | " + " | ".join(told) + " |", flush=True)
 
 
 if __name__ == "__main__":
