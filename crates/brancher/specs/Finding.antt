@@ -4,11 +4,13 @@ use Rattle.std.specs.Cmp.Lexicographic.{pointwise}
 use Rattle.std.specs.Ordering.{eq_of_both, on}
 use Rattle.cover_problem.specs.Search as search
 
+-- the prefix, how many visits the search was allowed, and its outcome
 pub record Finding : Type 0 where
   pub prefix : List ℕ
   pub fuel : ℕ
   pub outcome : search.Outcome
 
+-- a finding of these
 abbrev pub finding_by : List ℕ → ℕ → search.Outcome → Finding
 finding_by prefix fuel outcome = record { prefix = prefix; fuel = fuel; outcome = outcome }
 

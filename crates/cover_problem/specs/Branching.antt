@@ -31,6 +31,7 @@ fewest_of problem prefix best (i ∷ is) = fewest_of problem prefix (fewer_of pr
 unfoldable pub branch_item : Problem → List ℕ → Option ℕ
 branch_item problem prefix = fewest_of problem prefix None (open_items problem prefix)
 
+-- the children where this is the branch item
 abbrev pub children_at : Problem → List ℕ → Option ℕ → List (List ℕ)
 children_at problem prefix None = []
 children_at problem prefix (Some item) = map (λ o. prefix ++ o ∷ []) (live_options problem prefix item)

@@ -18,5 +18,6 @@ open_items_from problem prefix start = filter (λ item. not (is_covered problem 
 unfoldable pub first_among : Problem → ℕ → List ℕ → List ℕ → Option (List ℕ)
 first_among problem bound prefix options = first_some (λ o. first_within problem bound (prefix ++ o ∷ [])) options
 
+-- how many visits that takes, until the first cover
 unfoldable pub visits_among : Problem → ℕ → List ℕ → List ℕ → ℕ
 visits_among problem bound prefix options = visits_until (λ o. first_within problem bound (prefix ++ o ∷ [])) (λ o. visits_within problem bound (prefix ++ o ∷ [])) options

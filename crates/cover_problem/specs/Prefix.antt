@@ -23,6 +23,7 @@ are_apart problem (o ∷ os) = is_live problem os o && are_apart problem os
 abbrev pub are_options : Problem → List ℕ → Bool
 are_options problem numbers = list_all (λ o. nat_lt o (length problem.options)) numbers
 
+-- the same as a proposition of each
 abbrev pub AreOptions : Problem → List ℕ → Type 0
 AreOptions problem numbers = All (λ o. o < length problem.options) numbers
 

@@ -40,16 +40,19 @@ visits_within problem (suc bound) prefix =
 abbrev pub first : Problem → List ℕ → Option (List ℕ)
 first problem prefix = first_within problem problem.primary prefix
 
+-- how many prefixes are visited until then, or in all
 abbrev pub visits : Problem → List ℕ → ℕ
 visits problem prefix = visits_within problem problem.primary prefix
 
 -- ---- the outcome
 
+-- what a search with limited fuel came to
 pub data Outcome : Type 0 where
   Covers : List ℕ → Outcome
   Barren : Outcome
   Spent : Outcome
 
+-- the first cover, or that there is none
 abbrev pub found_outcome : Option (List ℕ) → Outcome
 found_outcome None = Barren
 found_outcome (Some cover) = Covers cover

@@ -16,10 +16,12 @@ first_uncovered problem options = find (λ item. uses problem (is_in options) it
 abbrev pub first_twice : Problem → List ℕ → Option ℕ
 first_twice problem options = find (λ item. nat_le 2 (uses problem (is_in options) item)) (range_with_len 0 (length problem.names))
 
+-- an item that is covered twice, or that there is none
 abbrev pub twice_or_exact : Option ℕ → Verdict
 twice_or_exact (Some item) = verdicts.CoveredTwice item
 twice_or_exact None = verdicts.Exact
 
+-- a primary item that is uncovered, or what is said where there is none
 abbrev pub uncovered_or : Option ℕ → Verdict → Verdict
 uncovered_or (Some item) later = verdicts.Uncovered item
 uncovered_or None later = later

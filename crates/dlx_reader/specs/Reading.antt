@@ -10,6 +10,7 @@ use Rattle.dlx_reader.specs.Faults.{name_tests, item_tests}
 use Rattle.dlx_reader.specs.declared.fault.ReadFault.{ReadFault}
 use Rattle.dlx_reader.specs.declared.fault.ReadFault.TheVariants as faults
 
+-- one step after another: the first fault ends them
 infixl 10 ◌>>=◌
 abbrev pub ◌>>=◌ : {A B : Type 0} → Result A ReadFault → (A → Result B ReadFault) → Result B ReadFault
 (Ok x) >>= f = f x
@@ -40,6 +41,7 @@ items_from line names divided (word ∷ words) = do
   state ← item_at line names divided word
   items_from line state.0 state.1 words
 
+-- the item that a name has, or the fault where none has it
 abbrev pub known_item : ℕ → Option ℕ → Result ℕ ReadFault
 known_item line None = Err (faults.UnknownItem line)
 known_item line (Some item) = Ok item

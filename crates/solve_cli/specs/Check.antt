@@ -56,6 +56,7 @@ pub record IsListed (problem : Problem) (options : List ℕ) : Type 0 where
   pub within : are_options problem options ≡ true
   pub distinct : is_distinct options ≡ true
 
+-- the same of an answer, which has options if it is a cover
 abbrev pub IsListedAnswer : Problem → Answer → Type 0
 IsListedAnswer problem (Cover options) = IsListed problem options
 IsListedAnswer problem NoCover = Unit {0}

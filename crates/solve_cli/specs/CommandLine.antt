@@ -16,12 +16,15 @@ file_rule id = record (new_rule id) { required = true }
 abbrev pub number_rule : Text → Text → Rule
 number_rule id default = record (new_rule id) { long = Some id; defaults = default ∷ [] }
 
+-- the fuel, which is the greatest number where it is not given
 abbrev pub greatest_fuel_rule : Rule
 greatest_fuel_rule = number_rule (codes "fuel") (codes "18446744073709551615")
 
+-- what one thread searches
 abbrev pub alone_app : App
 alone_app = with_rule (with_rule (new_app (codes "alone")) (file_rule (codes "file"))) greatest_fuel_rule
 
+-- which answer is tested against which file
 abbrev pub check_app : App
 check_app = with_rule (with_rule (with_rule (new_app (codes "check")) (file_rule (codes "file"))) (file_rule (codes "answer"))) greatest_fuel_rule
 
@@ -52,6 +55,7 @@ one_thread_app = with_subcommand (with_subcommand (wanting_subcommand (new_app (
 abbrev pub solver_app : App
 solver_app = with_subcommand (with_subcommand one_thread_app simulate_app.top) solve_app.top
 
+-- the word of the command line that asks for it
 abbrev pub mode_word : Mode → Text
 mode_word modes.Alone = codes "alone"
 mode_word modes.Check = codes "check"
@@ -63,6 +67,7 @@ pub record Spells (text : Text) (number : ℕ) : Type 0 where
   pub digits : IsNumeral 10 text
   pub value : number ≡ digits_value 10 text
 
+-- the option is given and spells a number of visits, at least one
 abbrev pub SpellsFuel : Option Text → ℕ → Type 0
 SpellsFuel given fuel = (text : Text) × (given ≡ Some text) × Spells text fuel × (1 ≤ fuel)
 

@@ -14,6 +14,7 @@ pub record Said : Type 0 where
   pub text : List ℕ
   pub status : ℕ
 
+-- this text with this status
 abbrev pub said : List ℕ → ℕ → Said
 said text status = record { text = text; status = status }
 
@@ -50,6 +51,7 @@ pub record IsBegunOf (may : Said → Type 0) (old new : Option (List ℕ)) : Typ
   pub may_be : may what
   pub written : AppendsFront old new what.text
 
+-- a fault of an engine whose output is one of what may be said: a beginning of it where a write failed, and nothing where memory ran out
 abbrev pub IsStoppedOf : (Said → Type 0) → Option (List ℕ) → Option (List ℕ) → EngineFault → Type 0
 IsStoppedOf may old new faults.Write = IsBegunOf may old new
 IsStoppedOf may old new faults.Memory = Keeps old new
