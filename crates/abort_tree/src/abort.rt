@@ -21,7 +21,8 @@ pub fn abort_below(
 ) -> Result<(), AllocError>
     ensures aborts { OnOk result (AbortsBelow (same_unit unit) table.old.own table.new.own) }
     ensures others { OnOk result (table.new ≡ table_own table.old table.new.own) }
-    ensures list { OnOk result (list.new.items ≡ list.old.items ++ reached 0 table.old.own table.new.own) }
+    ensures list { OnOk result (list.new.items ≡ list.old.items
+        ++ reached 0 table.old.own table.new.own) }
     ensures table { OnErr result (table.new ≡ table.old) }
     ensures unchanged { OnErr result (list.new.items ≡ list.old.items) }
 {

@@ -68,9 +68,11 @@ impl Reach {
     /// takes no memory, and costs a pass through the own children.
     pub fn abort(&self, table: &mut Table, list: &mut Vec<Out>)
         requires marks { length self.now ≡ length table.old.own }
-        requires room { vec_len list.old + length (outs_from 0 self.now table.old.own) ≤ vec_capacity list.old }
+        requires room { vec_len list.old + length
+            (outs_from 0 self.now table.old.own) ≤ vec_capacity list.old }
         ensures table { table.new ≡ table_own table.old (aborted self.now table.old.own) }
-        ensures below { (top : WorkUnit → Bool) → MarksBelow top table.old.own self.now → AbortsBelow top table.old.own table.new.own }
+        ensures below { (top : WorkUnit → Bool) → MarksBelow top table.old.own self.now →
+            AbortsBelow top table.old.own table.new.own }
         ensures list { list.new.items ≡ list.old.items ++ reached 0 table.old.own table.new.own }
     {
         for serial in 0..table.issued() {
@@ -147,10 +149,14 @@ fn is_due(table: &Table, serial: u32, marked: bool) -> bool
 
 /// Aborts an own child if it is marked and open, and appends it if it was out.
 fn abort_at(table: &mut Table, serial: u32, marked: bool, list: &mut Vec<Out>)
-    requires { vec_len list.old + length (out_of marked serial (slice_get table.old.own serial)) ≤ vec_capacity list.old }
-    ensures table { table.new ≡ table_own table.old (change_at (abort_if marked) table.old.own serial) }
-    ensures list { list.new.items ≡ list.old.items ++ out_of marked serial (slice_get table.old.own serial) }
-    ensures len { vec_len list.new ≡ vec_len list.old + length (out_of marked serial (slice_get table.old.own serial)) }
+    requires { vec_len list.old + length
+        (out_of marked serial (slice_get table.old.own serial)) ≤ vec_capacity list.old }
+    ensures table { table.new
+        ≡ table_own table.old (change_at (abort_if marked) table.old.own serial) }
+    ensures list { list.new.items ≡ list.old.items
+        ++ out_of marked serial (slice_get table.old.own serial) }
+    ensures len { vec_len list.new
+        ≡ vec_len list.old + length (out_of marked serial (slice_get table.old.own serial)) }
     ensures room { vec_capacity list.new ≡ vec_capacity list.old }
 {
     if let Some(out) = out_at(table, serial, marked) {

@@ -42,7 +42,8 @@ impl<'a> World<'a> {
         restarts_left: u32,
     ) -> WorldEvent
         requires { node < length self.now.world.sites }
-        ensures { (result, rng.new) ≡ event_of (deck self.now.world fuel restarts_left) row node rng.old }
+        ensures { (result, rng.new)
+            ≡ event_of (deck self.now.world fuel restarts_left) row node rng.old }
     {
         match row {
             0..=4 => self.recent_delivery(rng, node),
@@ -80,7 +81,8 @@ impl<'a> World<'a> {
 
     /// A job that a worker has is searched; where there is none, a worker takes one.
     fn post_or_take(&self, node: u8, fuel: u64) -> WorldEvent
-        ensures { result ≡ post_or_take node fuel (looked_up here_job (slice_get self.now.world.sites node)) }
+        ensures { result ≡ post_or_take node fuel
+            (looked_up here_job (slice_get self.now.world.sites node)) }
     {
         match self.here(node) {
             Some(job) => WorldEvent::Post(node, job, fuel),
@@ -90,7 +92,8 @@ impl<'a> World<'a> {
 
     /// A settled frame is finished; where there is none, the node asks the registry for work.
     fn finish_or_ask(&self, node: u8) -> WorldEvent
-        ensures { result ≡ finish_or_ask node (looked_up ripe_unit (slice_get self.now.world.sites node)) }
+        ensures { result ≡ finish_or_ask node
+            (looked_up ripe_unit (slice_get self.now.world.sites node)) }
     {
         match self.ripe(node) {
             Some(unit) => WorldEvent::Finish(node, unit),

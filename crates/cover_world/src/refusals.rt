@@ -47,7 +47,8 @@ pub fn packet_of_no_node()
 
 /// A node that is over takes part no more.
 pub fn node_that_is_over()
-    ensures { (problem : Problem) (view : View) (event : Event) → view.over ≡ true → NodeRefuses problem view event }
+    ensures { (problem : Problem) (view : View) (event : Event) → view.over ≡ true →
+        NodeRefuses problem view event }
 {}
 
 /// A result is taken only for a job that the site waits for, with its prefix.
@@ -79,7 +80,8 @@ pub fn unsettled_frame()
 
 /// Nobody asks itself for work, nor a node that there isn't.
 pub fn no_such_victim()
-    ensures itself { (problem : Problem) (view : View) → NodeRefuses problem view (Ask view.site.node) }
+    ensures itself { (problem : Problem) (view : View) →
+        NodeRefuses problem view (Ask view.site.node) }
     ensures beyond { (problem : Problem) (view : View) (victim : ℕ) → view.nodes < victim →
         NodeRefuses problem view (Ask victim) }
 {}
@@ -153,7 +155,9 @@ pub fn registry_does_no_work()
     ensures take { (problem : Problem) (view : View) → RegistryRefuses problem view Take }
     ensures post { (problem : Problem) (view : View) (job : Job) (finding : Finding) →
         RegistryRefuses problem view (Post job finding) }
-    ensures finish { (problem : Problem) (view : View) (unit : WorkUnit) → RegistryRefuses problem view (Finish unit) }
-    ensures ask { (problem : Problem) (view : View) (victim : ℕ) → RegistryRefuses problem view (Ask victim) }
+    ensures finish { (problem : Problem) (view : View) (unit : WorkUnit) →
+        RegistryRefuses problem view (Finish unit) }
+    ensures ask { (problem : Problem) (view : View) (victim : ℕ) →
+        RegistryRefuses problem view (Ask victim) }
     ensures greet { (problem : Problem) (view : View) → RegistryRefuses problem view Greet }
 {}

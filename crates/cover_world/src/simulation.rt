@@ -113,7 +113,8 @@ fn attempt(world: &mut World, event: WorldEvent) -> Result<(), AllocError>
 fn deliver_last(world: &mut World) -> Result<(), AllocError>
     ensures problem { world.new.problem ≡ world.old.problem }
     ensures nodes { length world.new.world.sites ≡ length world.old.world.sites }
-    ensures tries { OnOk result (Tries world.old.problem world.old.world (deliver_last world.old.world) world.new.world) }
+    ensures tries { OnOk result
+        (Tries world.old.problem world.old.world (deliver_last world.old.world) world.new.world) }
 {
     attempt(world, WorldEvent::Deliver(world.sent().saturating_sub(1)))
 }
@@ -131,7 +132,8 @@ fn close(world: &mut World) -> Result<(), AllocError>
 /// Every node begins anew and greets, one after another.
 fn all_greet(world: &mut World) -> Result<(), AllocError>
     ensures problem { world.new.problem ≡ world.old.problem }
-    ensures greet { OnOk result (AllGreet world.old.problem (node_count world.old.world) world.old.world world.new.world) }
+    ensures greet { OnOk result
+        (AllGreet world.old.problem (node_count world.old.world) world.old.world world.new.world) }
 {
     for place in 0..world.nodes() {
         greet(world, place + 1)?;

@@ -43,7 +43,8 @@ impl<'a> Sites<'a> {
     pub fn start(alloc: Global, problem: &'a Problem, nodes: u8) -> Result<Sites<'a>, AllocError>
         requires some { 1 ≤ nodes }
         requires most { nodes ≤ 16 }
-        ensures { IfOk result (λ sites. sites ≡ opening_sites problem.now nodes (replicate nodes names_limit)) }
+        ensures { IfOk result (λ sites.
+            sites ≡ opening_sites problem.now nodes (replicate nodes names_limit)) }
     {
         let registry = Registry::start(alloc, problem, nodes)?;
         Ok(Sites {
@@ -65,7 +66,8 @@ impl<'a> Sites<'a> {
 
     /// What the registry publishes.
     pub fn published(&self) -> Option<&Answer>
-        ensures { option_map (λ answer. answer.now) result ≡ published_at self.now.problem (slice_get self.now.sites 0) }
+        ensures { option_map (λ answer. answer.now) result
+            ≡ published_at self.now.problem (slice_get self.now.sites 0) }
     {
         self.registry.published()
     }
@@ -94,7 +96,8 @@ impl<'a> Sites<'a> {
         ensures problem { self.new.problem ≡ self.old.problem }
         ensures acts { IfOk result (λ reply. Appends out.old.items out.new.items (λ sent.
             ActsAt self.old.problem self.old.sites node event reply sent self.new.sites)) }
-        ensures refusal { AnswerTells result (acting_refusal self.old.problem (slice_get self.old.sites node) node event) }
+        ensures refusal { AnswerTells result
+            (acting_refusal self.old.problem (slice_get self.old.sites node) node event) }
         ensures err { OnErr result (self.new ≡ self.old) }
         ensures list { OnErr result (out.new.items ≡ out.old.items) }
     {
@@ -111,8 +114,10 @@ impl<'a> Sites<'a> {
     /// A node begins anew under a greater incarnation.
     pub fn restart(&mut self, node: u8, incarnation: u32) -> Result<(), WorldFault>
         ensures problem { self.new.problem ≡ self.old.problem }
-        ensures begins { OnOk result (BeginsAnew self.old.sites node incarnation names_limit self.new.sites) }
-        ensures refusal { AnswerTells result (restart_refusal (slice_get self.old.sites node) node incarnation) }
+        ensures begins { OnOk result
+            (BeginsAnew self.old.sites node incarnation names_limit self.new.sites) }
+        ensures refusal { AnswerTells result
+            (restart_refusal (slice_get self.old.sites node) node incarnation) }
         ensures err { OnErr result (self.new ≡ self.old) }
     {
         let Some(state) = self.state(node) else {
@@ -172,7 +177,8 @@ fn first_nodes<'a>(
 ) -> Result<Vec<NodeCore<'a>>, AllocError>
     requires some { 1 ≤ nodes }
     requires most { nodes ≤ 16 }
-    ensures { IfOk result (λ cores. cores.items ≡ opening_cores problem.now nodes 1 (replicate nodes names_limit)) }
+    ensures { IfOk result (λ cores.
+        cores.items ≡ opening_cores problem.now nodes 1 (replicate nodes names_limit)) }
 {
     let mut cores = Vec::new(alloc);
     for place in 0..nodes {

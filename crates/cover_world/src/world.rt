@@ -71,7 +71,8 @@ impl<'a> World<'a> {
     /// changes nothing.
     pub fn step(&mut self, event: WorldEvent) -> Result<Reply, WorldFault>
         ensures problem { self.new.problem ≡ self.old.problem }
-        ensures step { IfOk result (λ reply. Stepped self.old.problem self.old.world event reply self.new.world) }
+        ensures step { IfOk result (λ reply.
+            Stepped self.old.problem self.old.world event reply self.new.world) }
         ensures refusal { AnswerTells result (world_refusal self.old.problem self.old.world event) }
         ensures err { OnErr result (self.new ≡ self.old) }
         ensures holds { HoldsThroughout self.old.problem self.old.world self.new.world }
@@ -83,7 +84,8 @@ impl<'a> World<'a> {
     /// Lets one event happen.
     fn happen(&mut self, event: WorldEvent) -> Result<Reply, WorldFault>
         ensures problem { self.new.problem ≡ self.old.problem }
-        ensures step { IfOk result (λ reply. Stepped self.old.problem self.old.world event reply self.new.world) }
+        ensures step { IfOk result (λ reply.
+            Stepped self.old.problem self.old.world event reply self.new.world) }
         ensures refusal { AnswerTells result (world_refusal self.old.problem self.old.world event) }
         ensures err { OnErr result (self.new ≡ self.old) }
     {
@@ -105,8 +107,10 @@ impl<'a> World<'a> {
     /// At want of memory, the only error, it stops before that event: the events before it were taken.
     pub fn run(&mut self, events: &[WorldEvent]) -> Result<usize, Starved>
         ensures problem { self.new.problem ≡ self.old.problem }
-        ensures taken { IfOk result (λ done. TakesAll self.old.problem self.old.world events.now done self.new.world) }
-        ensures starved { IfErr result (λ starved. StopsAt self.old.problem self.old.world events.now starved self.new.world) }
+        ensures taken { IfOk result (λ done.
+            TakesAll self.old.problem self.old.world events.now done self.new.world) }
+        ensures starved { IfErr result (λ starved.
+            StopsAt self.old.problem self.old.world events.now starved self.new.world) }
         ensures holds { HoldsThroughout self.old.problem self.old.world self.new.world }
     {
         safe_over_every_run();
@@ -116,8 +120,10 @@ impl<'a> World<'a> {
     /// Lets the events happen in order.
     fn go_through(&mut self, events: &[WorldEvent]) -> Result<usize, Starved>
         ensures problem { self.new.problem ≡ self.old.problem }
-        ensures taken { IfOk result (λ done. TakesAll self.old.problem self.old.world events.now done self.new.world) }
-        ensures starved { IfErr result (λ starved. StopsAt self.old.problem self.old.world events.now starved self.new.world) }
+        ensures taken { IfOk result (λ done.
+            TakesAll self.old.problem self.old.world events.now done self.new.world) }
+        ensures starved { IfErr result (λ starved.
+            StopsAt self.old.problem self.old.world events.now starved self.new.world) }
     {
         let mut done = 0;
         for at in 0..events.len() {
@@ -133,7 +139,8 @@ impl<'a> World<'a> {
     /// Lets one event happen, or passes it over where it is refused: whether it was a step. The only error is want of memory.
     pub(crate) fn pass(&mut self, event: WorldEvent) -> Result<bool, WorldFault>
         ensures problem { self.new.problem ≡ self.old.problem }
-        ensures passes { IfOk result (λ took. MayPass self.old.problem self.old.world event took self.new.world) }
+        ensures passes { IfOk result (λ took.
+            MayPass self.old.problem self.old.world event took self.new.world) }
         ensures err { OnErr result (self.new ≡ self.old) }
     {
         the_world_acts_unless_it_refuses();
@@ -156,7 +163,8 @@ impl<'a> World<'a> {
     /// What is published: the root's result once it is done, a cover with its options in the order of the file, or that
     /// there is none.
     pub fn published(&self) -> Option<&Answer>
-        ensures { option_map (λ answer. answer.now) result ≡ published self.now.problem self.now.world }
+        ensures { option_map (λ answer. answer.now) result
+            ≡ published self.now.problem self.now.world }
     {
         self.sites.published()
     }
@@ -179,7 +187,8 @@ impl<'a> World<'a> {
     /// The incarnation in which a node, or the registry at 0, runs now.
     pub fn incarnation(&self, node: u8) -> u32
         requires { node < length self.now.world.sites }
-        ensures { option_map (λ view. view.site.incarnation) (slice_get self.now.world.sites node) ≡ Some result }
+        ensures { option_map (λ view. view.site.incarnation) (slice_get self.now.world.sites node)
+            ≡ Some result }
     {
         match self.sites.state(node) {
             Some(state) => state.site().incarnation,
@@ -211,7 +220,8 @@ impl<'a> World<'a> {
 
     /// The own child of a node of least serial that is out.
     pub fn out(&self, node: u8) -> Option<u32>
-        ensures { result ≡ looked_up (λ table. first_out table.own) (slice_get self.now.world.sites node) }
+        ensures { result ≡ looked_up (λ table. first_out table.own)
+            (slice_get self.now.world.sites node) }
     {
         first_out(self.sites.state(node)?.ledger().table())
     }
@@ -221,8 +231,10 @@ impl<'a> World<'a> {
         requires fit { IsFit self.old.problem event }
         requires sent { WasSent self.old.world.sent event }
         ensures problem { self.new.problem ≡ self.old.problem }
-        ensures makes { IfOk result (λ reply. Makes self.old.problem self.old.world (Acts node event) reply self.new.world) }
-        ensures refusal { AnswerTells result (move_refusal self.old.problem self.old.world (Acts node event)) }
+        ensures makes { IfOk result (λ reply.
+            Makes self.old.problem self.old.world (Acts node event) reply self.new.world) }
+        ensures refusal { AnswerTells result
+            (move_refusal self.old.problem self.old.world (Acts node event)) }
         ensures err { OnErr result (self.new ≡ self.old) }
     {
         self.sites.act(node, event, &mut self.sent)
@@ -231,8 +243,11 @@ impl<'a> World<'a> {
     /// A worker of a node has searched the prefix of a job: the world searches it.
     fn post(&mut self, node: u8, job: Job, fuel: u64) -> Result<Reply, WorldFault>
         ensures problem { self.new.problem ≡ self.old.problem }
-        ensures step { IfOk result (λ reply. Stepped self.old.problem self.old.world (WorldEvent.Post node job fuel) reply self.new.world) }
-        ensures refusal { AnswerTells result (world_refusal self.old.problem self.old.world (WorldEvent.Post node job fuel)) }
+        ensures step { IfOk result (λ reply.
+            Stepped self.old.problem self.old.world
+            (WorldEvent.Post node job fuel) reply self.new.world) }
+        ensures refusal { AnswerTells result
+            (world_refusal self.old.problem self.old.world (WorldEvent.Post node job fuel)) }
         ensures err { OnErr result (self.new ≡ self.old) }
     {
         let prefix = self.sites.job_prefix(node, job)?;
@@ -245,8 +260,11 @@ impl<'a> World<'a> {
     /// A packet that was sent comes to the present site of its node.
     fn deliver(&mut self, place: usize) -> Result<Reply, WorldFault>
         ensures problem { self.new.problem ≡ self.old.problem }
-        ensures step { IfOk result (λ reply. Stepped self.old.problem self.old.world (WorldEvent.Deliver place) reply self.new.world) }
-        ensures refusal { AnswerTells result (world_refusal self.old.problem self.old.world (WorldEvent.Deliver place)) }
+        ensures step { IfOk result (λ reply.
+            Stepped self.old.problem self.old.world
+            (WorldEvent.Deliver place) reply self.new.world) }
+        ensures refusal { AnswerTells result
+            (world_refusal self.old.problem self.old.world (WorldEvent.Deliver place)) }
         ensures err { OnErr result (self.new ≡ self.old) }
     {
         let Some(packet) = self.sent.get(place) else {
@@ -259,8 +277,11 @@ impl<'a> World<'a> {
     /// A node begins anew.
     fn restart(&mut self, node: u8, incarnation: u32) -> Result<Reply, WorldFault>
         ensures problem { self.new.problem ≡ self.old.problem }
-        ensures step { IfOk result (λ reply. Stepped self.old.problem self.old.world (WorldEvent.Restart node incarnation) reply self.new.world) }
-        ensures refusal { AnswerTells result (world_refusal self.old.problem self.old.world (WorldEvent.Restart node incarnation)) }
+        ensures step { IfOk result (λ reply.
+            Stepped self.old.problem self.old.world
+            (WorldEvent.Restart node incarnation) reply self.new.world) }
+        ensures refusal { AnswerTells result
+            (world_refusal self.old.problem self.old.world (WorldEvent.Restart node incarnation)) }
         ensures err { OnErr result (self.new ≡ self.old) }
     {
         self.sites.restart(node, incarnation)?;

@@ -346,10 +346,12 @@ fn whole_packet(alloc: Global, bytes: &[u8]) -> Result<Packet, WireFault>
 /// taken for the list alone.
 pub fn read_packet(alloc: Global, bytes: &[u8]) -> Result<Packet, WireFault>
     // What is read is well-formed, and spelled so.
-    ensures found { IfOk result (λ packet. (is_well_formed packet ≡ true) × (bytes.now ≡ spelling packet)) }
+    ensures found { IfOk result (λ packet.
+        (is_well_formed packet ≡ true) × (bytes.now ≡ spelling packet)) }
 
     // What is spelled so is read, unless memory runs out.
-    ensures only { (p : Packet) → is_well_formed p ≡ true → bytes.now ≡ spelling p → Gives (λ packet. packet) result (Ok p) }
+    ensures only { (p : Packet) → is_well_formed p ≡ true → bytes.now ≡ spelling p →
+        Gives (λ packet. packet) result (Ok p) }
 
     // Which fault it is, field by field.
     ensures exact { Gives (λ packet. packet) result (reading bytes.now) }

@@ -17,7 +17,8 @@ use std::alloc::{AllocError, Global};
 fn raised_runs(alloc: Global, runs: &[u32], from: Site) -> Result<Vec<u32>, AllocError>
     requires some { 1 ≤ from.node }
     requires there { from.node < length runs.now }
-    ensures { IfOk result (λ later. later.items ≡ drop 1 (raised runs.now from.node from.incarnation)) }
+    ensures { IfOk result (λ later.
+        later.items ≡ drop 1 (raised runs.now from.node from.incarnation)) }
 {
     let mut later = runs[1..].to_vec(alloc)?;
     let place = from.node as usize - 1;
@@ -37,7 +38,9 @@ fn send_members(state: &SiteState, from: Site, out: &mut Outgoing) -> Result<(),
     requires most { state.now.nodes ≤ 16 }
     requires some { 1 ≤ from.node }
     requires there { from.node ≤ state.now.nodes }
-    ensures ok { OnOk result (Sends out.old (members_packets state.now.site (drop 1 (raised state.now.known from.node from.incarnation))) out.new) }
+    ensures ok { OnOk result
+        (Sends out.old (members_packets state.now.site
+        (drop 1 (raised state.now.known from.node from.incarnation))) out.new) }
     ensures err { OnErr result (MaySend out.old out.new) }
 {
     let ledger = state.ledger();
@@ -58,7 +61,9 @@ pub(crate) fn receive_hello(
     requires most { state.old.nodes ≤ 16 }
     requires some { 1 ≤ from.node }
     requires there { from.node ≤ state.old.nodes }
-    ensures step { IfOk result (λ reply. Sending out.old out.new (λ sent. (reply ≡ Reply.Moved) × HelloStep state.old from sent state.new)) }
+    ensures step { IfOk result (λ reply.
+        Sending out.old out.new (λ sent.
+        (reply ≡ Reply.Moved) × HelloStep state.old from sent state.new)) }
     ensures refusal { refusal_told result ≡ hello_refusal state.old from }
     ensures err { OnErr result (state.new ≡ state.old) }
     ensures list { OnErr result (MaySend out.old out.new) }

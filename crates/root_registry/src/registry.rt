@@ -65,7 +65,8 @@ impl<'a> Registry<'a> {
     /// What is published: the result of the root once that is done, as a cover with its options in the order of the file,
     /// or that there is none. Once there, it stays.
     pub fn published(&self) -> Option<&Answer>
-        ensures { option_map (λ answer. answer.now) result ≡ published_by self.now.problem self.now.view }
+        ensures { option_map (λ answer. answer.now) result
+            ≡ published_by self.now.problem self.now.view }
     {
         self.publication.answer()
     }
@@ -117,10 +118,12 @@ fn answer_event(
     requires fit { IsFit publication.old.problem event }
     ensures step { IfOk result (λ reply. Sending out.old out.new
         (AnswersEvent publication.old.problem state.old event state.new reply)) }
-    ensures refusal { refusal_told result ≡ registry_refusal publication.old.problem state.old event }
+    ensures refusal { refusal_told result
+        ≡ registry_refusal publication.old.problem state.old event }
     ensures err { OnErr result (state.new ≡ state.old) }
     ensures list { OnErr result (MaySend out.old out.new) }
-    ensures published { OnOk result (publication.new ≡ publishing publication.old (entering state.old event)) }
+    ensures published { OnOk result (publication.new
+        ≡ publishing publication.old (entering state.old event)) }
     ensures unpublished { OnErr result (publication.new ≡ publication.old) }
 {
     match event {
@@ -142,10 +145,12 @@ fn deliver(
     requires fit { is_well_formed packet ≡ true }
     ensures step { IfOk result (λ reply. Sending out.old out.new
         (AnswersEvent publication.old.problem state.old (Event.Deliver packet) state.new reply)) }
-    ensures refusal { refusal_told result ≡ registry_refusal publication.old.problem state.old (Event.Deliver packet) }
+    ensures refusal { refusal_told result
+        ≡ registry_refusal publication.old.problem state.old (Event.Deliver packet) }
     ensures err { OnErr result (state.new ≡ state.old) }
     ensures list { OnErr result (MaySend out.old out.new) }
-    ensures published { OnOk result (publication.new ≡ publishing publication.old (entering state.old (Event.Deliver packet))) }
+    ensures published { OnOk result (publication.new
+        ≡ publishing publication.old (entering state.old (Event.Deliver packet))) }
     ensures unpublished { OnErr result (publication.new ≡ publication.old) }
 {
     if is_misdirected(state, &packet) {
@@ -168,10 +173,12 @@ fn hear(
     requires heard { goes_to_registry body ≡ true }
     ensures step { IfOk result (λ reply. Sending out.old out.new
         (AnswersBody publication.old.problem state.old from body state.new reply)) }
-    ensures refusal { refusal_told result ≡ root_hear_refusal publication.old.problem state.old from body }
+    ensures refusal { refusal_told result
+        ≡ root_hear_refusal publication.old.problem state.old from body }
     ensures err { OnErr result (state.new ≡ state.old) }
     ensures list { OnErr result (MaySend out.old out.new) }
-    ensures published { OnOk result (publication.new ≡ publishing publication.old (entering_with state.old from body)) }
+    ensures published { OnOk result (publication.new
+        ≡ publishing publication.old (entering_with state.old from body)) }
     ensures unpublished { OnErr result (publication.new ≡ publication.old) }
 {
     match body {

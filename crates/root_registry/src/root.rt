@@ -33,7 +33,8 @@ pub(crate) fn is_done(state: &SiteState) -> bool
 fn is_awaited(state: &SiteState, from: Site, serial: u32, attempt: Attempt) -> bool
     ensures enters { OnTrue result (judged (slice_get state.now.own serial) from attempt ≡ Enters) }
     ensures out { OnTrue result (has_status is_out (slice_get state.now.own serial) ≡ true) }
-    ensures not_enters { OnFalse result (judged (slice_get state.now.own serial) from attempt ≢ Enters) }
+    ensures not_enters { OnFalse result
+        (judged (slice_get state.now.own serial) from attempt ≢ Enters) }
 {
     matches!(state.ledger().judge(from, serial, attempt), Judged::Enters)
 }
@@ -58,8 +59,11 @@ pub(crate) fn receive_steal(
     from: Site,
     out: &mut Outgoing,
 ) -> Result<Reply, ActFault>
-    ensures step { IfOk result (λ reply. Sending out.old out.new (AnswersBody problem.now state.old from Body.Steal state.new reply)) }
-    ensures refusal { refusal_told result ≡ root_hear_refusal problem.now state.old from Body.Steal }
+    ensures step { IfOk result (λ reply.
+        Sending out.old out.new
+        (AnswersBody problem.now state.old from Body.Steal state.new reply)) }
+    ensures refusal { refusal_told result
+        ≡ root_hear_refusal problem.now state.old from Body.Steal }
     ensures err { OnErr result (state.new ≡ state.old) }
     ensures list { OnErr result (MaySend out.old out.new) }
 {

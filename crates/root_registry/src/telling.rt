@@ -37,7 +37,8 @@ fn send_to_node(
     incarnation: u32,
     out: &mut Outgoing,
 ) -> Result<(), AllocError>
-    ensures ok { OnOk result (Sends out.old (to_each from body.now node (incarnation ∷ [])) out.new) }
+    ensures ok { OnOk result
+        (Sends out.old (to_each from body.now node (incarnation ∷ [])) out.new) }
     ensures err { OnErr result (Sends out.old [] out.new) }
 {
     let body = body.copy()?;
@@ -61,7 +62,8 @@ pub(crate) fn send_over(state: &SiteState, out: &mut Outgoing) -> Result<(), All
 /// Tells each node that the search is over, if it is; the only error is want of memory.
 pub(crate) fn send_over_again(state: &SiteState, out: &mut Outgoing) -> Result<(), AllocError>
     requires { state.now.nodes ≤ 16 }
-    ensures ok { OnOk result (Sends out.old (if_done (root_result state.now) (over_packets state.now)) out.new) }
+    ensures ok { OnOk result
+        (Sends out.old (if_done (root_result state.now) (over_packets state.now)) out.new) }
     ensures err { OnErr result (MaySend out.old out.new) }
 {
     if is_done(state) {

@@ -111,7 +111,8 @@ impl<J: Run, C: Core + Drop, N: Room> Desk<J, C, N> {
         prepared: Prepared,
     ) -> Result<(Seat<N>, Receipt<N>), (Seat<N>, Event, BookFault)>
         requires fit { IsFit J.run.problem prepared.event }
-        ensures entered { IfOk result (λ done. self.new.entries ≡ self.old.entries ++ done.1.entry ∷ []) }
+        ensures entered { IfOk result (λ done.
+            self.new.entries ≡ self.old.entries ++ done.1.entry ∷ []) }
         ensures place { IfOk result (λ done. done.1.place ≡ length self.old.entries) }
         ensures event { IfOk result (λ done. done.1.entry.event ≡ prepared.event) }
         ensures lawful { IfOk result (λ done. IsLawful J.run.problem done.1.entry) }
@@ -119,7 +120,8 @@ impl<J: Run, C: Core + Drop, N: Room> Desk<J, C, N> {
         ensures room { OnOk result (length self.old.entries < self.old.limit) }
         ensures refused { OnErr result (self.new ≡ self.old) }
         ensures back { IfErr result (λ back. (back.0 ≡ seat) × (back.1 ≡ prepared.event)) }
-        ensures fault { IfErr result (λ back. IsTold back.2 (length self.old.entries) self.old.limit) }
+        ensures fault { IfErr result (λ back.
+            IsTold back.2 (length self.old.entries) self.old.limit) }
     {
         let place = self.entries.len() as u64;
         let Prepared {
@@ -169,9 +171,11 @@ impl<J: Run, C: Core + Drop, N: Room> Desk<J, C, N> {
         ensures stand { IfOk result (λ _. AllStand self.entries receipts.items) }
         ensures each { IfOk result (λ _. AreBelow (length self.entries) (places receipts.items)) }
         ensures counted { IfOk result (λ _. sum seats.items ≡ length self.entries) }
-        ensures cause { IfErr result (λ back. IsMissing back.cause seats.items (vec_len receipts) self.given) }
+        ensures cause { IfErr result (λ back.
+            IsMissing back.cause seats.items (vec_len receipts) self.given) }
         ensures desk { IfErr result (λ back. back.desk ≡ self) }
-        ensures back { IfErr result (λ back. (back.seats.items ≡ seats.items) × (back.receipts.items ≡ receipts.items)) }
+        ensures back { IfErr result (λ back.
+            (back.seats.items ≡ seats.items) × (back.receipts.items ≡ receipts.items)) }
     {
         if let Some(cause) = missing(self.seats.given(), seats.as_slice(), receipts.len()) {
             return Err(Unclosed {
@@ -200,7 +204,9 @@ impl<J: Run, C: Core + Drop, N: Room> Desk<J, C, N> {
 fn run<C: Core>(core: &mut C, event: Event) -> Result<Done, ActFault>
     requires fit { IsFit (C.problem core.old) event }
     ensures problem { C.problem core.new ≡ C.problem core.old }
-    ensures acts { IfOk result (λ done. Acts C.step (C.problem core.old) (C.view core.old) event done.reply done.packets.items (C.view core.new)) }
+    ensures acts { IfOk result (λ done.
+        Acts C.step (C.problem core.old) (C.view core.old) event done.reply done.packets.items
+        (C.view core.new)) }
     ensures err { OnErr result (C.view core.new ≡ C.view core.old) }
 {
     let alloc = core.allocator();

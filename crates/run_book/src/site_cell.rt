@@ -112,10 +112,13 @@ impl<J: Run, C: Core + Drop, N: Room> SiteCell<J, C, N> {
     ) -> Result<Book<J>, Unclosed<J, C, N>>
         ensures site { IfOk result (λ book. book.site ≡ N.site) }
         ensures stand { IfOk result (λ book. AllStand book.entries receipts.items) }
-        ensures each { IfOk result (λ book. AreBelow (length book.entries) (places receipts.items)) }
+        ensures each { IfOk result (λ book.
+            AreBelow (length book.entries) (places receipts.items)) }
         ensures counted { IfOk result (λ book. sum seats.items ≡ length book.entries) }
-        ensures cause { IfErr result (λ back. (given : ℕ) × IsMissing back.cause seats.items (vec_len receipts) given) }
-        ensures back { IfErr result (λ back. (back.seats.items ≡ seats.items) × (back.receipts.items ≡ receipts.items)) }
+        ensures cause { IfErr result (λ back.
+            (given : ℕ) × IsMissing back.cause seats.items (vec_len receipts) given) }
+        ensures back { IfErr result (λ back.
+            (back.seats.items ≡ seats.items) × (back.receipts.items ≡ receipts.items)) }
     {
         let SiteCell { site, alloc, lock } = self;
         match lock.into_inner().close(site, seats, receipts) {
