@@ -4,7 +4,7 @@ use Rattle.std.proofs.lemmas.Option.{none-some}
 use Rattle.cover_problem.specs.Examples.{bare}
 use Rattle.cover_world.proofs.Stages.{Stage, aborts_nothing, acts, given_first, opening}
 use Rattle.cover_world.proofs.Stolen.{learns, root_redoable}
-use Rattle.cover_world.specs.LaterRuns.{p0, p2, p3, p5, p6, p7}
+use Rattle.cover_world.specs.LaterRuns.{root_steal, second_hello, first_members, thief_steal, no_work, first_hello}
 use Rattle.cover_world.specs.Worlds.{Restarts, go, opening_node}
 use Rattle.node_core.specs.declared.event.Event.TheVariants.{Again, Ask, Deliver, Greet}
 use Rattle.node_core.specs.declared.reply.Reply.TheVariants.{Ignored, Moved}
@@ -18,7 +18,7 @@ s1 =
 
 abbrev pub s2 : Stage bare
 s2 =
-    acts s1 0 (Deliver p0) Moved _ _ _ refl (0, refl)
+    acts s1 0 (Deliver root_steal) Moved _ _ _ refl (0, refl)
     (refl, omega arith, (refl, inr (record { given = _; ledger = _; gives = given_first root_entry refl refl refl; after = refl; sends = refl })))
 
 -- the second node begins anew
@@ -34,7 +34,7 @@ s4 = acts s3 2 Greet Moved _ _ _ refl tt (refl, (refl, refl, refl))
 -- the root stays out to the first node
 abbrev pub s5 : Stage bare
 s5 =
-    acts s4 0 (Deliver p2) Moved _ _ _ refl (2, refl)
+    acts s4 0 (Deliver second_hello) Moved _ _ _ refl (2, refl)
     (refl, omega arith, (refl, record { known = _; known_is = refl; redoable = root_redoable (is_earlier_run 2 (1 ∷ 1 ∷ 2 ∷ [])); after = refl; sends = refl }))
 
 abbrev pub s6 : Stage bare
@@ -42,7 +42,7 @@ s6 = acts s5 0 Again Moved _ _ _ refl tt (refl, refl, refl)
 
 abbrev pub s7 : Stage bare
 s7 =
-    acts s6 1 (Deliver p3) Moved _ _ _ refl (3, refl) (
+    acts s6 1 (Deliver first_members) Moved _ _ _ refl (3, refl) (
       refl,
       (
         refl,
@@ -75,11 +75,11 @@ s8 =
 
 abbrev pub s9 : Stage bare
 s9 =
-    acts s8 2 (Deliver p5) Moved _ _ _ refl (6, refl)
+    acts s8 2 (Deliver thief_steal) Moved _ _ _ refl (6, refl)
     (refl, (refl, omega arith, (refl, inl (record { because = inr (λ k entry is ready. none-some entry is); after = refl; sends = refl }))))
 
 abbrev pub s10 : Stage bare
-s10 = acts s9 1 (Deliver p6) Ignored _ _ _ refl (7, refl) (refl, (refl, omega arith, (refl, (refl, refl))))
+s10 = acts s9 1 (Deliver no_work) Ignored _ _ _ refl (7, refl) (refl, (refl, omega arith, (refl, (refl, refl))))
 
 -- the thief begins anew
 abbrev pub s11 : Stage bare
@@ -94,5 +94,5 @@ s12 = acts s11 1 Greet Moved _ _ _ refl tt (refl, (refl, refl, refl))
 -- and the root is ready again
 abbrev pub s13 : Stage bare
 s13 =
-    acts s12 0 (Deliver p7) Moved _ _ _ refl (8, refl)
+    acts s12 0 (Deliver first_hello) Moved _ _ _ refl (8, refl)
     (refl, omega arith, (refl, record { known = _; known_is = refl; redoable = root_redoable (is_earlier_run 1 (1 ∷ 2 ∷ 2 ∷ [])); after = refl; sends = refl }))

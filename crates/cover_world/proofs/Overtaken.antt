@@ -6,7 +6,7 @@ use Rattle.cover_problem.specs.ExactCover.{IsExactCover, uses}
 use Rattle.cover_problem.specs.Numbers.{is_in}
 use Rattle.cover_problem.specs.Search.{Covers, Spent, first_within, outcome, visits_within}
 use Rattle.cover_world.proofs.Stages.{Stage, aborts_first, acts, given_first, opening}
-use Rattle.cover_world.specs.Overtaken.{p0, p1, p2, p3, p4, p5, p6, p9, two_ways}
+use Rattle.cover_world.specs.Overtaken.{first_steal, first_give, second_steal, second_give, first_return, second_return, second_accept, late_accept, two_ways}
 use Rattle.cover_world.specs.Plays.{root_guest}
 use Rattle.cover_world.specs.Worlds.{opening_node}
 use Rattle.node_core.specs.SiteView.{View, with_table}
@@ -60,7 +60,7 @@ s1 =
 
 abbrev pub s2 : Stage two_ways
 s2 =
-    acts s1 0 (Deliver p0) Moved _ _ _ refl (0, refl)
+    acts s1 0 (Deliver first_steal) Moved _ _ _ refl (0, refl)
     (refl, omega arith, (refl, inr (record { given = _; ledger = _; gives = given_first root_entry refl refl refl; after = refl; sends = refl })))
 
 abbrev pub s3 : Stage two_ways
@@ -75,17 +75,17 @@ s4 =
 
 abbrev pub s5 : Stage two_ways
 s5 =
-    acts s4 0 (Deliver p2) Moved _ _ _ refl (2, refl)
+    acts s4 0 (Deliver second_steal) Moved _ _ _ refl (2, refl)
     (refl, omega arith, (refl, inr (record { given = _; ledger = _; gives = given_first _ refl refl refl; after = refl; sends = refl })))
 
 abbrev pub s6 : Stage two_ways
 s6 =
-    acts s5 1 (Deliver p1) Moved _ _ _ refl (1, refl)
+    acts s5 1 (Deliver first_give) Moved _ _ _ refl (1, refl)
     (refl, (refl, omega arith, record { ledger = _; admits = record { not_older = refl; is_new = refl; after = refl }; lawful = refl; after = refl; sends = refl }))
 
 abbrev pub s7 : Stage two_ways
 s7 =
-    acts s6 2 (Deliver p3) Moved _ _ _ refl (3, refl)
+    acts s6 2 (Deliver second_give) Moved _ _ _ refl (3, refl)
     (refl, (refl, omega arith, record { ledger = _; admits = record { not_older = refl; is_new = refl; after = refl }; lawful = refl; after = refl; sends = refl }))
 
 abbrev pub s8 : Stage two_ways
@@ -199,20 +199,20 @@ s14 =
 
 abbrev pub s15 : Stage two_ways
 s15 =
-    acts s14 0 (Deliver p5) Moved _ _ _ refl (5, refl)
+    acts s14 0 (Deliver second_return) Moved _ _ _ refl (5, refl)
     (refl, omega arith, (refl, (Enters, refl, ((refl, counted), refl, refl))))
 
 abbrev pub s16 : Stage two_ways
 s16 =
-    acts s15 0 (Deliver p4) Moved _ _ _ refl (4, refl)
+    acts s15 0 (Deliver first_return) Moved _ _ _ refl (4, refl)
     (refl, omega arith, (refl, (Holds (Cover (1 ∷ [])), refl, (refl, refl))))
 
 abbrev pub s17 : Stage two_ways
 s17 =
-    acts s16 1 (Deliver p9) Moved _ _ _ refl (9, refl)
+    acts s16 1 (Deliver late_accept) Moved _ _ _ refl (9, refl)
     (refl, (refl, omega arith, record { ledger = _; settles = record { entry = _; is = refl; finished = refl; after = refl }; after = refl; sends = refl }))
 
 abbrev pub s18 : Stage two_ways
 s18 =
-    acts s17 2 (Deliver p6) Moved _ _ _ refl (6, refl)
+    acts s17 2 (Deliver second_accept) Moved _ _ _ refl (6, refl)
     (refl, (refl, omega arith, record { ledger = _; settles = record { entry = _; is = refl; finished = refl; after = refl }; after = refl; sends = refl }))

@@ -5,7 +5,7 @@ use Rattle.cover_problem.specs.Search.{Barren}
 use Rattle.cover_world.proofs.Searches.{bare_barren}
 use Rattle.cover_world.proofs.Stages.{Stage, acts, given_first, opening}
 use Rattle.cover_world.specs.Plays.{root_guest}
-use Rattle.cover_world.specs.Repeated.{p0, p1, p2, p3}
+use Rattle.cover_world.specs.Repeated.{root_steal, root_give, root_return, root_accept}
 use Rattle.node_core.specs.declared.event.Event.TheVariants.{Ask, Deliver, Post, Take}
 use Rattle.node_core.specs.declared.reply.Reply.TheVariants.{Moved, Taken}
 use Rattle.spawn_frame.specs.declared.child_result.ChildResult.TheVariants.{Empty}
@@ -19,12 +19,12 @@ s1 =
 
 abbrev pub s2 : Stage bare
 s2 =
-    acts s1 0 (Deliver p0) Moved _ _ _ refl (0, refl)
+    acts s1 0 (Deliver root_steal) Moved _ _ _ refl (0, refl)
     (refl, omega arith, (refl, inr (record { given = _; ledger = _; gives = given_first root_entry refl refl refl; after = refl; sends = refl })))
 
 abbrev pub s3 : Stage bare
 s3 =
-    acts s2 1 (Deliver p1) Moved _ _ _ refl (1, refl)
+    acts s2 1 (Deliver root_give) Moved _ _ _ refl (1, refl)
     (refl, (refl, omega arith, record { ledger = _; admits = record { not_older = refl; is_new = refl; after = refl }; lawful = refl; after = refl; sends = refl }))
 
 abbrev pub s4 : Stage bare
@@ -51,12 +51,12 @@ s5 =
     )
 
 abbrev pub s6 : Stage bare
-s6 = acts s5 0 (Deliver p2) Moved _ _ _ refl (2, refl) (refl, omega arith, (refl, (Enters, refl, (tt, refl, refl))))
+s6 = acts s5 0 (Deliver root_return) Moved _ _ _ refl (2, refl) (refl, omega arith, (refl, (Enters, refl, (tt, refl, refl))))
 
 abbrev pub s7 : Stage bare
-s7 = acts s6 0 (Deliver p2) Moved _ _ _ refl (2, refl) (refl, omega arith, (refl, (Holds Empty, refl, (refl, refl))))
+s7 = acts s6 0 (Deliver root_return) Moved _ _ _ refl (2, refl) (refl, omega arith, (refl, (Holds Empty, refl, (refl, refl))))
 
 abbrev pub s8 : Stage bare
 s8 =
-    acts s7 1 (Deliver p3) Moved _ _ _ refl (3, refl)
+    acts s7 1 (Deliver root_accept) Moved _ _ _ refl (3, refl)
     (refl, (refl, omega arith, record { ledger = _; settles = record { entry = _; is = refl; finished = refl; after = refl }; after = refl; sends = refl }))

@@ -5,7 +5,7 @@ use Rattle.cover_problem.specs.Search.{Barren}
 use Rattle.cover_world.proofs.Searches.{bare_barren}
 use Rattle.cover_world.proofs.Stages.{Stage, acts, each_of_one, given_first, opening}
 use Rattle.cover_world.specs.Plays.{root_guest}
-use Rattle.cover_world.specs.SaidAgain.{p0, p1, p4, p6, p7, p9}
+use Rattle.cover_world.specs.SaidAgain.{first_hello, second_hello, root_steal, second_give, second_return, first_over}
 use Rattle.cover_world.specs.Worlds.{Restarts, go, opening_node}
 use Rattle.node_core.specs.declared.event.Event.TheVariants.{Again, Ask, Deliver, Greet, Post, Redo, Take}
 use Rattle.node_core.specs.declared.reply.Reply.TheVariants.{Moved, Taken}
@@ -34,12 +34,12 @@ s3 = acts s2 2 Greet Moved _ _ _ refl tt (refl, (refl, refl, refl))
 
 abbrev pub s4 : Stage bare
 s4 =
-    acts s3 0 (Deliver p1) Moved _ _ _ refl (1, refl)
+    acts s3 0 (Deliver second_hello) Moved _ _ _ refl (1, refl)
     (refl, omega arith, (refl, record { known = _; known_is = refl; redoable = redoable (is_earlier_run 2 (1 ∷ 1 ∷ 2 ∷ [])); after = refl; sends = refl }))
 
 abbrev pub s5 : Stage bare
 s5 =
-    acts s4 0 (Deliver p0) Moved _ _ _ refl (0, refl)
+    acts s4 0 (Deliver first_hello) Moved _ _ _ refl (0, refl)
     (refl, omega arith, (refl, record { known = _; known_is = refl; redoable = redoable (is_earlier_run 2 (1 ∷ 1 ∷ 2 ∷ [])); after = refl; sends = refl }))
 
 abbrev pub s6 : Stage bare
@@ -49,7 +49,7 @@ s6 =
 
 abbrev pub s7 : Stage bare
 s7 =
-    acts s6 0 (Deliver p4) Moved _ _ _ refl (6, refl)
+    acts s6 0 (Deliver root_steal) Moved _ _ _ refl (6, refl)
     (refl, omega arith, (refl, inr (record { given = _; ledger = _; gives = given_first root_entry refl refl refl; after = refl; sends = refl })))
 
 abbrev pub s8 : Stage bare
@@ -59,7 +59,7 @@ s8 =
 
 abbrev pub s9 : Stage bare
 s9 =
-    acts s8 0 (Deliver p4) Moved _ _ _ refl (6, refl)
+    acts s8 0 (Deliver root_steal) Moved _ _ _ refl (6, refl)
     (refl, omega arith, (refl, inr (record { given = _; ledger = _; gives = given_first _ refl refl refl; after = refl; sends = refl })))
 
 abbrev pub s10 : Stage bare
@@ -67,7 +67,7 @@ s10 = acts s9 0 Again Moved _ _ _ refl tt (refl, refl, refl)
 
 abbrev pub s11 : Stage bare
 s11 =
-    acts s10 1 (Deliver p6) Moved _ _ _ refl (8, refl)
+    acts s10 1 (Deliver second_give) Moved _ _ _ refl (8, refl)
     (refl, (refl, omega arith, record { ledger = _; admits = record { not_older = refl; is_new = refl; after = refl }; lawful = refl; after = refl; sends = refl }))
 
 abbrev pub s12 : Stage bare
@@ -97,13 +97,13 @@ abbrev pub s14 : Stage bare
 s14 = acts s13 1 Again Moved _ _ _ refl tt (refl, (refl, refl, refl))
 
 abbrev pub s15 : Stage bare
-s15 = acts s14 0 (Deliver p7) Moved _ _ _ refl (10, refl) (refl, omega arith, (refl, (Enters, refl, (tt, refl, refl))))
+s15 = acts s14 0 (Deliver second_return) Moved _ _ _ refl (10, refl) (refl, omega arith, (refl, (Enters, refl, (tt, refl, refl))))
 
 abbrev pub s16 : Stage bare
 s16 = acts s15 0 Again Moved _ _ _ refl tt (refl, refl, refl)
 
 abbrev pub s17 : Stage bare
-s17 = acts s16 0 (Deliver p4) Moved _ _ _ refl (6, refl) (refl, omega arith, (refl, (refl, refl)))
+s17 = acts s16 0 (Deliver root_steal) Moved _ _ _ refl (6, refl) (refl, omega arith, (refl, (refl, refl)))
 
 abbrev pub s18 : Stage bare
-s18 = acts s17 1 (Deliver p9) Moved _ _ _ refl (13, refl) (refl, (refl, omega arith, (refl, refl, refl)))
+s18 = acts s17 1 (Deliver first_over) Moved _ _ _ refl (13, refl) (refl, (refl, omega arith, (refl, refl, refl)))

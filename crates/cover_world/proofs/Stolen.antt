@@ -9,7 +9,7 @@ use Rattle.cover_problem.specs.Search.{Barren, Covers, Spent}
 use Rattle.cover_world.proofs.Searches.{first_barren, root_spent, second_covers, small_children}
 use Rattle.cover_world.proofs.Stages.{Stage, aborts_first, aborts_none, aborts_nothing, acts, each_of_one, each_of_two, given_first, opening}
 use Rattle.cover_world.specs.Plays.{IsRefused, root_guest, site1, site2}
-use Rattle.cover_world.specs.Stolen.{anew5, anew6, cover, late6, late7, p0, p1, p2, p3, p4, stolen}
+use Rattle.cover_world.specs.Stolen.{anew_hello, anew_first_members, cover, late_return, late_refuse, root_steal, root_give, child_steal, child_give, child_return, stolen}
 use Rattle.cover_world.specs.Worlds.{Acts, Restarts, go, opening_node}
 use Rattle.node_core.specs.SiteView.{View, with_table}
 use Rattle.node_core.specs.declared.event.Event.TheVariants.{Ask, Deliver, Finish, Greet, Post, Take}
@@ -80,12 +80,12 @@ s1 =
 
 abbrev pub s2 : Stage small
 s2 =
-    acts s1 0 (Deliver p0) Moved _ _ _ refl (0, refl)
+    acts s1 0 (Deliver root_steal) Moved _ _ _ refl (0, refl)
     (refl, omega arith, (refl, inr (record { given = _; ledger = _; gives = given_first root_entry refl refl refl; after = refl; sends = refl })))
 
 abbrev pub s3 : Stage small
 s3 =
-    acts s2 1 (Deliver p1) Moved _ _ _ refl (1, refl)
+    acts s2 1 (Deliver root_give) Moved _ _ _ refl (1, refl)
     (refl, (refl, omega arith, record { ledger = _; admits = record { not_older = refl; is_new = refl; after = refl }; lawful = refl; after = refl; sends = refl }))
 
 abbrev pub s4 : Stage small
@@ -125,12 +125,12 @@ s6 =
 
 abbrev pub s7 : Stage small
 s7 =
-    acts s6 1 (Deliver p2) Moved _ _ _ refl (2, refl)
+    acts s6 1 (Deliver child_steal) Moved _ _ _ refl (2, refl)
     (refl, (refl, omega arith, (refl, inr (record { given = _; ledger = _; gives = given_first _ refl refl refl; after = refl; sends = refl }))))
 
 abbrev pub s8 : Stage small
 s8 =
-    acts s7 2 (Deliver p3) Moved _ _ _ refl (3, refl)
+    acts s7 2 (Deliver child_give) Moved _ _ _ refl (3, refl)
     (refl, (refl, omega arith, record { ledger = _; admits = record { not_older = refl; is_new = refl; after = refl }; lawful = refl; after = refl; sends = refl }))
 
 abbrev pub s9 : Stage small
@@ -214,17 +214,17 @@ late13 =
 
 abbrev pub late14 : Stage small
 late14 =
-    acts late13 1 (Deliver p4) Moved _ _ _ refl (4, refl)
+    acts late13 1 (Deliver child_return) Moved _ _ _ refl (4, refl)
     (refl, (refl, omega arith, (refl, (Refuses causes.Aborted, refl, (refl, refl)))))
 
 abbrev pub late15 : Stage small
 late15 =
-    acts late14 2 (Deliver late7) Moved _ _ _ refl (7, refl)
+    acts late14 2 (Deliver late_refuse) Moved _ _ _ refl (7, refl)
     (refl, (refl, omega arith, record { outs = _; ledger = _; drops = record { entry = _; is = refl; open_still = refl; own = []; aborts = aborts_nothing _; after = refl; reaches = refl }; after = refl; sends = refl }))
 
 abbrev pub late16 : Stage small
 late16 =
-    acts late15 0 (Deliver late6) Moved _ _ _ refl (6, refl)
+    acts late15 0 (Deliver late_return) Moved _ _ _ refl (6, refl)
     (refl, omega arith, (refl, (Enters, refl, ((refl, counted), refl, refl))))
 
 -- the second node begins anew
@@ -248,7 +248,7 @@ anew12 = acts anew11 2 Greet Moved _ _ _ refl tt (refl, (refl, refl, refl))
 
 abbrev pub anew13 : Stage small
 anew13 =
-    acts anew12 0 (Deliver anew5) Moved _ _ _ refl (5, refl)
+    acts anew12 0 (Deliver anew_hello) Moved _ _ _ refl (5, refl)
     (refl, omega arith, (refl, record { known = _; known_is = refl; redoable = root_redoable (is_earlier_run 2 (1 ∷ 1 ∷ 2 ∷ [])); after = refl; sends = refl }))
 
 -- what the first node holds when it hears of the restart
@@ -265,7 +265,7 @@ learns old new one two e = omega (arith, one, two, ap (λ v. slice_index v.known
 
 abbrev pub anew14 : Stage small
 anew14 =
-    acts anew13 1 (Deliver anew6) Moved _ _ _ refl (6, refl) (
+    acts anew13 1 (Deliver anew_first_members) Moved _ _ _ refl (6, refl) (
       refl,
       (
         refl,
@@ -293,7 +293,7 @@ anew14 =
 
 abbrev pub anew15 : Stage small
 anew15 =
-    acts anew14 1 (Deliver p4) Moved _ _ _ refl (4, refl)
+    acts anew14 1 (Deliver child_return) Moved _ _ _ refl (4, refl)
     (refl, (refl, omega arith, (refl, (Refuses causes.Superseded, refl, (refl, refl)))))
 
 -- the second run of the second node takes no packet that was for the first

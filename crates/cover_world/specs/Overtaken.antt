@@ -15,59 +15,59 @@ abbrev pub two_ways : Problem
 two_ways = record { names = (97 ∷ []) ∷ []; primary = 1; options = (0 ∷ []) ∷ (0 ∷ []) ∷ [] }
 
 -- the first node asks for work
-abbrev pub p0 : Packet
-p0 = record { from = site1; to = site0; body = Steal }
+abbrev pub first_steal : Packet
+first_steal = record { from = site1; to = site0; body = Steal }
 
 -- it gets the root
-abbrev pub p1 : Packet
-p1 = record { from = site0; to = site1; body = Give 0 1 [] }
+abbrev pub first_give : Packet
+first_give = record { from = site0; to = site1; body = Give 0 1 [] }
 
 -- the second node asks
-abbrev pub p2 : Packet
-p2 = record { from = site2; to = site0; body = Steal }
+abbrev pub second_steal : Packet
+second_steal = record { from = site2; to = site0; body = Steal }
 
 -- it gets the root too, at the next attempt
-abbrev pub p3 : Packet
-p3 = record { from = site0; to = site2; body = Give 0 2 [] }
+abbrev pub second_give : Packet
+second_give = record { from = site0; to = site2; body = Give 0 2 [] }
 
 -- the first node returns the first option
-abbrev pub p4 : Packet
-p4 = record { from = site1; to = site0; body = Return 0 1 (Cover (0 ∷ [])) }
+abbrev pub first_return : Packet
+first_return = record { from = site1; to = site0; body = Return 0 1 (Cover (0 ∷ [])) }
 
 -- the second node returns the second
-abbrev pub p5 : Packet
-p5 = record { from = site2; to = site0; body = Return 0 2 (Cover (1 ∷ [])) }
+abbrev pub second_return : Packet
+second_return = record { from = site2; to = site0; body = Return 0 2 (Cover (1 ∷ [])) }
 
 -- which comes first and is accepted
-abbrev pub p6 : Packet
-p6 = record { from = site0; to = site2; body = Accept 0 2 (Cover (1 ∷ [])) }
+abbrev pub second_accept : Packet
+second_accept = record { from = site0; to = site2; body = Accept 0 2 (Cover (1 ∷ [])) }
 
 -- the search is over
-abbrev pub p7 : Packet
-p7 = record { from = site0; to = site1; body = Over }
+abbrev pub first_over : Packet
+first_over = record { from = site0; to = site1; body = Over }
 
 -- for both nodes
-abbrev pub p8 : Packet
-p8 = record { from = site0; to = site2; body = Over }
+abbrev pub second_over : Packet
+second_over = record { from = site0; to = site2; body = Over }
 
 -- the first node hears of the result that the registry holds, which is not its own
-abbrev pub p9 : Packet
-p9 = record { from = site0; to = site1; body = Accept 0 1 (Cover (1 ∷ [])) }
+abbrev pub late_accept : Packet
+late_accept = record { from = site0; to = site1; body = Accept 0 1 (Cover (1 ∷ [])) }
 
 -- all packets, in the order of sending
 abbrev pub packets : List Packet
-packets = p0 ∷ p1 ∷ p2 ∷ p3 ∷ p4 ∷ p5 ∷ p6 ∷ p7 ∷ p8 ∷ p9 ∷ []
+packets = first_steal ∷ first_give ∷ second_steal ∷ second_give ∷ first_return ∷ second_return ∷ second_accept ∷ first_over ∷ second_over ∷ late_accept ∷ []
 
 -- the events
 abbrev pub events : List WorldMove
 events =
     Acts 1 (Ask 0)
-    ∷ Acts 0 (Deliver p0)
+    ∷ Acts 0 (Deliver first_steal)
     ∷ Acts 0 (Redo 0)
     ∷ Acts 2 (Ask 0)
-    ∷ Acts 0 (Deliver p2)
-    ∷ Acts 1 (Deliver p1)
-    ∷ Acts 2 (Deliver p3)
+    ∷ Acts 0 (Deliver second_steal)
+    ∷ Acts 1 (Deliver first_give)
+    ∷ Acts 2 (Deliver second_give)
     ∷ Acts 1 Take
     ∷ Acts 1 (Post (record { unit = root_guest 1; attempt = 1 }) (record { prefix = []; fuel = 2; outcome = Covers (0 ∷ []) }))
     ∷ Acts 2 Take
@@ -75,8 +75,8 @@ events =
     ∷ Acts 2 Take
     ∷ Acts 2 (Post (record { unit = Own 1; attempt = 1 }) (record { prefix = 1 ∷ []; fuel = 1; outcome = Covers (1 ∷ []) }))
     ∷ Acts 2 (Finish (root_guest 2))
-    ∷ Acts 0 (Deliver p5)
-    ∷ Acts 0 (Deliver p4)
-    ∷ Acts 1 (Deliver p9)
-    ∷ Acts 2 (Deliver p6)
+    ∷ Acts 0 (Deliver second_return)
+    ∷ Acts 0 (Deliver first_return)
+    ∷ Acts 1 (Deliver late_accept)
+    ∷ Acts 2 (Deliver second_accept)
     ∷ []

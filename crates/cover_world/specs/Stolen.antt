@@ -22,40 +22,40 @@ cover = 3 ∷ 4 ∷ 0 ∷ []
 -- ---- until the second node returns
 
 -- the first node asks for work
-abbrev pub p0 : Packet
-p0 = record { from = site1; to = site0; body = Steal }
+abbrev pub root_steal : Packet
+root_steal = record { from = site1; to = site0; body = Steal }
 
 -- it gets the root
-abbrev pub p1 : Packet
-p1 = record { from = site0; to = site1; body = Give 0 1 [] }
+abbrev pub root_give : Packet
+root_give = record { from = site0; to = site1; body = Give 0 1 [] }
 
 -- the second node asks the first
-abbrev pub p2 : Packet
-p2 = record { from = site2; to = site1; body = Steal }
+abbrev pub child_steal : Packet
+child_steal = record { from = site2; to = site1; body = Steal }
 
 -- it gets the first child, whose prefix is option 1
-abbrev pub p3 : Packet
-p3 = record { from = site1; to = site2; body = Give 0 1 (1 ∷ []) }
+abbrev pub child_give : Packet
+child_give = record { from = site1; to = site2; body = Give 0 1 (1 ∷ []) }
 
 -- below which there is no cover
-abbrev pub p4 : Packet
-p4 = record { from = site2; to = site1; body = Return 0 1 Empty }
+abbrev pub child_return : Packet
+child_return = record { from = site2; to = site1; body = Return 0 1 Empty }
 
 -- the packets until then, in the order of sending
 abbrev pub packets : List Packet
-packets = p0 ∷ p1 ∷ p2 ∷ p3 ∷ p4 ∷ []
+packets = root_steal ∷ root_give ∷ child_steal ∷ child_give ∷ child_return ∷ []
 
 -- the events until then
 abbrev pub events : List WorldMove
 events =
     Acts 1 (Ask 0)
-    ∷ Acts 0 (Deliver p0)
-    ∷ Acts 1 (Deliver p1)
+    ∷ Acts 0 (Deliver root_steal)
+    ∷ Acts 1 (Deliver root_give)
     ∷ Acts 1 Take
     ∷ Acts 1 (Post (record { unit = root_guest 1; attempt = 1 }) (record { prefix = []; fuel = 1; outcome = Spent }))
     ∷ Acts 2 (Ask 1)
-    ∷ Acts 1 (Deliver p2)
-    ∷ Acts 2 (Deliver p3)
+    ∷ Acts 1 (Deliver child_steal)
+    ∷ Acts 2 (Deliver child_give)
     ∷ Acts 2 Take
     ∷ Acts 2 (Post (record { unit = stolen; attempt = 1 }) (record { prefix = 1 ∷ []; fuel = 2; outcome = Barren }))
     ∷ []
@@ -63,32 +63,32 @@ events =
 -- ---- one end: the first node finishes before the stolen child's result comes
 
 -- the thief is told that its guest is wanted no more
-abbrev pub late5 : Packet
-late5 = record { from = site1; to = site2; body = Abort 0 1 }
+abbrev pub late_abort : Packet
+late_abort = record { from = site1; to = site2; body = Abort 0 1 }
 
 -- the frame's cover
-abbrev pub late6 : Packet
-late6 = record { from = site1; to = site0; body = Return 0 1 (Cover cover) }
+abbrev pub late_return : Packet
+late_return = record { from = site1; to = site0; body = Return 0 1 (Cover cover) }
 
 -- the late result is refused
-abbrev pub late7 : Packet
-late7 = record { from = site1; to = site2; body = Refuse 0 1 causes.Aborted }
+abbrev pub late_refuse : Packet
+late_refuse = record { from = site1; to = site2; body = Refuse 0 1 causes.Aborted }
 
 -- the cover is accepted
-abbrev pub late8 : Packet
-late8 = record { from = site0; to = site1; body = Accept 0 1 (Cover cover) }
+abbrev pub late_accept : Packet
+late_accept = record { from = site0; to = site1; body = Accept 0 1 (Cover cover) }
 
 -- the search is over
-abbrev pub late9 : Packet
-late9 = record { from = site0; to = site1; body = Over }
+abbrev pub late_first_over : Packet
+late_first_over = record { from = site0; to = site1; body = Over }
 
 -- for both nodes
-abbrev pub late10 : Packet
-late10 = record { from = site0; to = site2; body = Over }
+abbrev pub late_second_over : Packet
+late_second_over = record { from = site0; to = site2; body = Over }
 
 -- all packets, in the order of sending
 abbrev pub late_packets : List Packet
-late_packets = packets ++ late5 ∷ late6 ∷ late7 ∷ late8 ∷ late9 ∷ late10 ∷ []
+late_packets = packets ++ late_abort ∷ late_return ∷ late_refuse ∷ late_accept ∷ late_first_over ∷ late_second_over ∷ []
 
 -- the events
 abbrev pub late_events : List WorldMove
@@ -97,32 +97,32 @@ late_events =
     ++ Acts 1 Take
     ∷ Acts 1 (Post (record { unit = Own 1; attempt = 1 }) (record { prefix = 3 ∷ []; fuel = 3; outcome = Covers cover }))
     ∷ Acts 1 (Finish (root_guest 1))
-    ∷ Acts 1 (Deliver p4)
-    ∷ Acts 2 (Deliver late7)
-    ∷ Acts 0 (Deliver late6)
+    ∷ Acts 1 (Deliver child_return)
+    ∷ Acts 2 (Deliver late_refuse)
+    ∷ Acts 0 (Deliver late_return)
     ∷ []
 
 -- ---- another end: the thief begins anew before its result comes
 
 -- the second node greets in its second run
-abbrev pub anew5 : Packet
-anew5 = record { from = site2_again; to = site0; body = Hello }
+abbrev pub anew_hello : Packet
+anew_hello = record { from = site2_again; to = site0; body = Hello }
 
 -- the registry tells both nodes
-abbrev pub anew6 : Packet
-anew6 = record { from = site0; to = site1; body = Members (1 ∷ 2 ∷ []) }
+abbrev pub anew_first_members : Packet
+anew_first_members = record { from = site0; to = site1; body = Members (1 ∷ 2 ∷ []) }
 
 -- the second node hears the same
-abbrev pub anew7 : Packet
-anew7 = record { from = site0; to = site2_again; body = Members (1 ∷ 2 ∷ []) }
+abbrev pub anew_second_members : Packet
+anew_second_members = record { from = site0; to = site2_again; body = Members (1 ∷ 2 ∷ []) }
 
 -- the result of the earlier run comes after that
-abbrev pub anew8 : Packet
-anew8 = record { from = site1; to = site2; body = Refuse 0 1 causes.Superseded }
+abbrev pub anew_refuse : Packet
+anew_refuse = record { from = site1; to = site2; body = Refuse 0 1 causes.Superseded }
 
 -- all packets, in the order of sending
 abbrev pub anew_packets : List Packet
-anew_packets = packets ++ anew5 ∷ anew6 ∷ anew7 ∷ anew8 ∷ []
+anew_packets = packets ++ anew_hello ∷ anew_first_members ∷ anew_second_members ∷ anew_refuse ∷ []
 
 -- the events
 abbrev pub anew_events : List WorldMove
@@ -130,7 +130,7 @@ anew_events =
     events
     ++ Restarts 2 2 9
     ∷ Acts 2 Greet
-    ∷ Acts 0 (Deliver anew5)
-    ∷ Acts 1 (Deliver anew6)
-    ∷ Acts 1 (Deliver p4)
+    ∷ Acts 0 (Deliver anew_hello)
+    ∷ Acts 1 (Deliver anew_first_members)
+    ∷ Acts 1 (Deliver child_return)
     ∷ []

@@ -48,8 +48,8 @@ pub fn late_result()
 pub fn thief_begins_anew()
     ensures run { Plays small (opening_world 2 limits) stolen.anew_events stolen.anew_packets (λ end.
         (entry_in end 1 (Own 0) ≡ Some (record { parent = Some (root_guest 1); prefix = 1 ∷ []; attempt = 2; status = Ready }))
-        × IsRefused small end (Acts 2 (Deliver stolen.p3))
-        × IsRefused small end (Acts 2 (Deliver stolen.anew8))) }
+        × IsRefused small end (Acts 2 (Deliver stolen.child_give))
+        × IsRefused small end (Acts 2 (Deliver stolen.anew_refuse))) }
 {}
 
 /// A greeting of an earlier run comes late, and no known incarnation falls. A root that is out is given out anew; it, its
