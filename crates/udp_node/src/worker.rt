@@ -275,7 +275,8 @@ impl<'a, J: Run> Worker<'a, J> {
 /// How long an idle turn waits, in microseconds, after so many in a row: from 20 on, and at most a thousand. After each 64, when it
 /// asked again, it waits one longer for each worker that there is in all: so many that ask at once leave those at work alone.
 fn nap(idle: u32, workers: u64) -> u64 {
-    (20 + u64::from(idle) / 64 * workers).min(1_000)
+    let more = u64::from(idle / 64).saturating_mul(workers);
+    more.saturating_add(20).min(1_000)
 }
 
 /// What the reply to a Take tells; the only error is want of memory.
