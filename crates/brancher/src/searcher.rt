@@ -104,7 +104,8 @@ impl<'a> Searcher<'a> {
     }
 
     /// Searches as `find` does until the watch stops it; none where it did. With the finding it tells how many visits were made: all
-    /// those of a prefix without a cover, else the fuel.
+    /// those of a prefix without a cover, else the fuel. It takes the room for a cover first: at want of memory nothing is searched,
+    /// and the prefix comes back.
     pub fn find_until<W: Watch>(
         &mut self,
         prefix: Vec<u16>,
@@ -114,33 +115,23 @@ impl<'a> Searcher<'a> {
         requires prefix { is_prefix self.old.problem prefix.items ≡ true }
         requires fuel { 1 ≤ fuel }
         ensures problem { self.new.problem ≡ self.old.problem }
-        ensures finding { IfOk result (λ ended. IfSome ended (λ found. found.0 ≡ finding_by prefix.items fuel (outcome self.old.problem prefix.items fuel))) }
-        ensures visits { IfOk result (λ ended. IfSome ended (λ found. found.1 ≡ took found.0.outcome (visits self.old.problem prefix.items) fuel)) }
+        ensures finding { IfOk result (λ ended. IfSome ended (λ found.
+            found.0 ≡ finding_by prefix.items fuel (outcome self.old.problem prefix.items fuel))) }
+        ensures visits { IfOk result (λ ended. IfSome ended (λ found.
+            found.1 ≡ took found.0.outcome (visits self.old.problem prefix.items) fuel)) }
+        ensures unchanged { OnErr result (self.new ≡ self.old) }
         ensures back { IfErr result (λ list. list.items ≡ prefix.items) }
     {
+        let Ok(room) = Vec::with_capacity(self.alloc, self.links.problem().primary()) else {
+            return Err(prefix);
+        };
         let (outcome, made) = match self.visit(&prefix, fuel, watch) {
             Visit::Found => (Outcome::Cover, fuel),
             Visit::Barren(left) => (Outcome::Barren, fuel - left),
             Visit::Spent => (Outcome::Spent, fuel),
             Visit::Stopped => return Ok(None),
         };
-        let finding = self.copied_out(prefix, fuel, outcome)?;
-        Ok(Some((finding, made)))
-    }
-
-    /// What a search of the prefix came to, copied out; at want of memory the prefix comes back.
-    fn copied_out(&self, prefix: Vec<u16>, fuel: u64, outcome: Outcome) -> Result<Finding, Vec<u16>>
-        ensures finding { IfOk result (λ finding. finding ≡ finding_by prefix.items fuel (outcome_told outcome self.now.found)) }
-        ensures back { IfErr result (λ list. list.items ≡ prefix.items) }
-    {
-        let cover = match outcome {
-            Outcome::Cover => copied(self.alloc, self.found()),
-            Outcome::Barren | Outcome::Spent => Ok(Vec::new(self.alloc)),
-        };
-        match cover {
-            Ok(cover) => Ok(Finding::from_parts(prefix, fuel, outcome, cover)),
-            Err(_) => Err(prefix),
-        }
+        Ok(Some((self.copied_into(room, prefix, fuel, outcome), made)))
     }
 
     /// The cover that the last search found. It has at most as many options as there are primary items, so at most 1,000.
@@ -165,13 +156,4 @@ fn written(numbers: &[u16], room: Vec<u16>) -> Vec<u16>
         list.push_reserved(*number);
     }
     list
-}
-
-/// A list of the same numbers; the only error is want of memory.
-fn copied(alloc: Global, numbers: &[u16]) -> Result<Vec<u16>, AllocError>
-    ensures { IfOk result (λ list. list.items ≡ numbers.now) }
-{
-    let mut list = Vec::new(alloc);
-    list.extend_from_slice(numbers)?;
-    Ok(list)
 }
