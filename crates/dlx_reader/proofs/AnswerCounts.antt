@@ -1,10 +1,5 @@
 -- The number that decimal digits write.
-use Rattle.dlx_reader.specs.Lines.{texts_of}
-use Rattle.std.proofs.Common.{◌≡◌, ℕ, ◌+◌, ◌-◌, ◌*◌, ◌<◌, ◌≤◌, List, [], ◌∷◌, length, take, get_or, true, ◌∙◌, ap, arith, rules, refl, codes, Option, Some, None, IfSome}
-use Rattle.std.specs.Borrow.{Bor}
-use Rattle.dlx_reader.specs.AnswerSteps.{IsHeadOf, IsCoverOf}
-use Rattle.dlx_reader.specs.declared.answer_head.Head.{Head}
-use Rattle.dlx_reader.specs.declared.answer_head.Head.TheVariants.{NoCover, Cover}
+use Rattle.std.proofs.Common.{◌≡◌, ℕ, ◌+◌, ◌-◌, ◌*◌, ◌<◌, ◌≤◌, List, length, take, get_or, true, ◌∙◌, ap, arith, rules}
 use Rattle.std.proofs.lemmas.Bool.Decides.{nat_tests}
 use Rattle.std.specs.Char.{digit_value, is_ascii_digit}
 use Rattle.std.specs.Int.{IsInRange}
@@ -30,21 +25,3 @@ value_more ds i all inside = digits_value_more 10 ds i inside ∙ ap (λ d. digi
 -- five digits write a small number
 pub value_small : (ds : List ℕ) (i : ℕ) → list_all is_ascii_digit ds ≡ true → length ds ≤ 5 → digits_value 10 (take i ds) < 100000
 value_small ds i all few = omega (arith, digits_value_short numerals ds 5 all few, digits_value-take-le 10 ds i (omega arith))
-
--- one word, and two words
-pub texts_of-one : (words : List (Bor (List ℕ))) (d : Bor (List ℕ)) → length words ≡ 1 → texts_of words ≡ (get_or words 0 d).now ∷ []
-texts_of-one [] d one = absurd (omega arith)
-texts_of-one (w ∷ []) d one = refl
-texts_of-one (w ∷ x ∷ ws) d one = absurd (omega arith)
-
-pub texts_of-two : (words : List (Bor (List ℕ))) (d : Bor (List ℕ)) → length words ≡ 2 → texts_of words ≡ (get_or words 0 d).now ∷ (get_or words 1 d).now ∷ []
-texts_of-two [] d two = absurd (omega arith)
-texts_of-two (w ∷ []) d two = absurd (omega arith)
-texts_of-two (w ∷ x ∷ []) d two = refl
-texts_of-two (w ∷ x ∷ y ∷ ws) d two = absurd (omega arith)
-
--- the head of a cover
-pub is_cover_head : (words : List (List ℕ)) (digits : List ℕ) (head : Option Head) → words ≡ codes "cover" ∷ digits ∷ [] → IfSome head (IsCoverOf digits) → IfSome head (IsHeadOf words)
-is_cover_head words digits None is h = tt
-is_cover_head words digits (Some NoCover) is h = absurd h
-is_cover_head words digits (Some (Cover count)) is h = (digits, is, h)

@@ -1,14 +1,12 @@
 -- A text gives one answer or one fault, and not both.
-use Rattle.std.proofs.Common.{◌≡◌, ◌≢◌, ◌<◌, ℕ, List, get_or, [], ◌∷◌, length, Ok, Err, Result, IfOk, IfErr, refl, sym, ◌∙◌, ap, inl, inr, codes, arith, length-append, subst}
+use Rattle.std.proofs.Common.{◌≡◌, ◌≢◌, ℕ, List, get_or, [], ◌∷◌, length, Ok, Err, Result, IfOk, IfErr, refl, sym, ◌∙◌, ap, inl, inr, codes, arith, length-append, subst}
 use Rattle.std.specs.Result.{MatchResult, IsOkAnd}
 use Rattle.std.specs.Str.Parse.{digits_value}
 use Rattle.cover_problem.specs.Problem.{Problem}
 use Rattle.cover_problem.specs.declared.answer.Answer.{Answer}
 use Rattle.cover_problem.specs.declared.answer.Answer.TheVariants.{Cover, NoCover}
 use Rattle.dlx_reader.specs.Answers.{IsHead, IsNoneHead, IsCoverHead, IsAnswerOf, IsFaultOf, IsReadOf, IsFirstUnknown, AreOptionsOf, worded_lines, head_words, further_lines}
-use Rattle.dlx_reader.specs.AnswerLines.{lines_seen}
 use Rattle.dlx_reader.specs.Lines.{lines_of}
-use Rattle.dlx_reader.specs.declared.lines.Line.{Line}
 use Rattle.dlx_reader.specs.AnswerSteps.{IsHeadOf, IsHeadFault, lines_after}
 use Rattle.dlx_reader.specs.declared.answer_head.Head.{Head}
 use Rattle.dlx_reader.specs.declared.answer_head.Head.TheVariants as heads
@@ -59,11 +57,10 @@ no_head : (count : ℕ) → IsHead [] count → ⊥
 no_head count (inl none) = let clash : [] ≡ codes "none" ∷ [] = none.0 in cc
 no_head count (inr cover) = let clash : [] ≡ codes "cover" ∷ cover.0 ∷ [] = cover.1 in cc
 
-pub no_lines : (text : List ℕ) (lines : List Line) → lines_seen lines ≡ worded_lines 1 (lines_of text) → length lines < 1 → (count : ℕ) → IsHead (head_words text) count → ⊥
-no_lines text [] is few count head =
-    let none : head_words text ≡ [] = ap (λ (ls : List (ℕ × List (List ℕ))). (get_or ls 0 (0, [])).1) (sym is) in
-    no_head count (subst (λ (ws : List (List ℕ)). IsHead ws count) none head)
-no_lines text (line ∷ lines) is few count head = absurd (omega arith)
+pub no_lines : (text : List ℕ) → worded_lines 1 (lines_of text) ≡ [] → (count : ℕ) → IsHead (head_words text) count → ⊥
+no_lines text none count head =
+    let empty : head_words text ≡ [] = ap (λ (ls : List (ℕ × List (List ℕ))). (get_or ls 0 (0, [])).1) none in
+    no_head count (subst (λ (ws : List (List ℕ)). IsHead ws count) empty head)
 
 pub cover_answer : (text : List ℕ) (p : Problem) (words : List (List ℕ)) (further : List (ℕ × List (List ℕ))) (count : ℕ) (options : List ℕ) → head_words text ≡ words → further_lines text ≡ further → IsCoverHead words count → count ≡ length further → AreOptionsOf p further options → IsAnswerOf text p (Cover options)
 cover_answer text p words further count options is are head long by = rw (is, are, ← long) (head, by)

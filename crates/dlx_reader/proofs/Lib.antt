@@ -8,6 +8,7 @@ pub mod AnswerReads
 pub mod AnswerTexts
 pub mod AnswerWords
 pub mod AnswersAgain
+pub mod Cuts
 pub mod Determined
 pub mod Differing
 pub mod FirstFaults

@@ -3,13 +3,11 @@ use Rattle.std.proofs.Common.{◌≡◌, ℕ, ◌+◌, ◌<◌, List, [], ◌∷
 use Rattle.std.proofs.lemmas.Bool.{le-ltb, lt-ltb, ltb-true, and_parts, true≢false, eqb-true}
 use Rattle.std.proofs.lemmas.List.{take_more}
 use Rattle.std.proofs.Math.Seq.{take-length}
-use Rattle.std.specs.Borrow.{Bor}
 use Rattle.std.specs.Cmp.Lexicographic.{bytes_decides}
 use Rattle.std.specs.Option.{unwrap_or}
 use Rattle.cover_problem.specs.Numbers.{are_below}
 use Rattle.cover_problem.specs.Problem.{Problem, IsProblem, items_of, names_differ}
 use Rattle.dlx_reader.specs.Answers.{IsFree, IsLowestFree}
-use Rattle.dlx_reader.specs.Lines.{texts_of}
 use Rattle.dlx_reader.specs.Meant.{item_or_none, IsUnmeant, IsLowestUnmeant}
 use Rattle.dlx_reader.specs.Names.{is_among, item_named}
 use Rattle.dlx_reader.specs.Writing.{name_text}
@@ -67,10 +65,6 @@ names_again p (word ∷ words) below =
     let here = item_name p.names word (item_or_none p.names word) refl (ltb-true (item_or_none p.names word) (length p.names) parts.0) in
     let rest = names_again p words parts.1 in
     ap (λ first. first ∷ map (name_text p) (map (item_or_none p.names) words)) here ∙ ap (λ others. word ∷ others) rest
-
-pub items_of_words : (names : List (List ℕ)) (words : List (Bor (List ℕ))) → map (λ (word : Bor (List ℕ)). item_or_none names word.now) words ≡ map (item_or_none names) (texts_of words)
-items_of_words names [] = refl
-items_of_words names (word ∷ words) = ap (λ others. item_or_none names word.now ∷ others) (items_of_words names words)
 
 -- ---- free options
 

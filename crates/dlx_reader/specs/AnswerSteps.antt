@@ -1,16 +1,11 @@
 -- What a reader of an answer knows on its way.
 use Rattle.std.specs.Prelude.{◌≡◌, ◌≢◌, ℕ, List}
 use Rattle.cover_problem.specs.Problem.{Problem}
-use Rattle.dlx_reader.specs.Answers.{IsHead, IsNoneHead, IsCoverHead, IsCount, IsFirstUnknown}
+use Rattle.dlx_reader.specs.Answers.{IsHead, IsNoneHead, IsCoverHead, IsFirstUnknown}
 use Rattle.dlx_reader.specs.declared.answer_fault.AnswerFault.{AnswerFault}
 use Rattle.dlx_reader.specs.declared.answer_fault.AnswerFault.TheVariants.{BadHead, WrongCount, UnknownOption, Memory}
 use Rattle.dlx_reader.specs.declared.answer_head.Head.{Head}
 use Rattle.dlx_reader.specs.declared.answer_head.Head.TheVariants.{NoCover, Cover}
-
--- the head of a cover of as many options as digits write
-abbrev pub IsCoverOf : List ℕ → Head → Type 0
-IsCoverOf digits NoCover = ⊥
-IsCoverOf digits (Cover count) = IsCount digits count
 
 -- the head that words are
 abbrev pub IsHeadOf : List (List ℕ) → Head → Type 0

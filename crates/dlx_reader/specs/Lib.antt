@@ -1,5 +1,4 @@
 pub mod AnswerLaws
-pub mod AnswerLines
 pub mod AnswerSteps
 pub mod Answers
 pub mod Content
@@ -7,6 +6,7 @@ pub mod Devices
 pub mod Faults
 pub mod Items
 pub mod Kept
+pub mod Left
 pub mod Lines
 pub mod Meant
 pub mod Names

@@ -1,32 +1,30 @@
 //! Answers from text.
 
-ghost use Rattle.dlx_reader.specs.Lines.{texts_of};
 ghost use Rattle.std.specs.Prelude.{◌≡◌, ◌≢◌, ℕ, ◌<◌, length, IfSome, IfNone, IfOk, IfErr, ◌↔◌, IsTrue, Result};
 ghost use Rattle.cover_problem.specs.declared.answer.Answer.{Answer as AnswerValue};
 ghost use Rattle.dlx_reader.specs.declared.answer_fault.AnswerFault.{AnswerFault as Fault};
 ghost use Rattle.dlx_reader.specs.Writing.{item_names};
 ghost use Rattle.dlx_reader.specs.Answers.{AreOptionsOf, IsFirstUnknown, IsAnswerOf, IsFaultOf, IsReadOf};
-ghost use Rattle.dlx_reader.specs.AnswerLines.{lines_seen};
+ghost use Rattle.dlx_reader.specs.Left.{worded_left};
 ghost use Rattle.dlx_reader.specs.AnswerSteps.{IsOptionFault};
 
 use crate::answer_fault::AnswerFault;
 use crate::answer_head::{Head, head_before};
-use crate::answer_lines::answer_lines;
-use crate::lines::Line;
+use crate::left::Lines;
 use crate::meant::{Meant, items_named};
 use crate::names::Names;
 use cover_problem::{Answer, Numbers, Problem};
 use std::alloc::Global;
 
-/// The options of the lines, in their order.
-fn options_of(alloc: Global, lines: &[Line], problem: &Problem) -> Result<Numbers, AnswerFault>
-    ensures options { IfOk result (AreOptionsOf problem.now (lines_seen lines.now)) }
-    ensures fault { IfErr result (IsOptionFault problem.now (lines_seen lines.now)) }
+/// The options of the lines that aren't blank, in their order.
+fn options_of(alloc: Global, mut lines: Lines, problem: &Problem) -> Result<Numbers, AnswerFault>
+    ensures options { IfOk result (AreOptionsOf problem.now (worded_left lines.entry)) }
+    ensures fault { IfErr result (IsOptionFault problem.now (worded_left lines.entry)) }
 {
     let names = Names::of_problem(alloc, problem)?;
     let mut meant = Meant::new(alloc, problem)?;
-    for line in lines {
-        let items = items_named(alloc, &names, &line.words)?;
+    while let Some(line) = lines.take_worded() {
+        let items = items_named(alloc, &names, line.text)?;
         let Some(_option) = meant.take(&items)? else {
             return Err(AnswerFault::UnknownOption(line.number));
         };
@@ -39,13 +37,13 @@ fn answer_of(alloc: Global, text: &[u8], problem: &Problem) -> Result<Answer, An
     ensures answer { IfOk result (IsAnswerOf text.now problem.now) }
     ensures fault { IfErr result (λ fault. fault ≢ AnswerFault.Memory → IsFaultOf text.now problem.now fault) }
 {
-    let lines = answer_lines(alloc, text)?;
-    let [first, further @ ..] = lines.as_slice() else {
+    let mut lines = Lines::of(text);
+    let Some(first) = lines.take_worded() else {
         return Err(AnswerFault::BadHead);
     };
-    match head_before(&first.words, further.len())? {
+    match head_before(first.text, lines.count_worded())? {
         Head::NoCover => Ok(Answer::NoCover),
-        Head::Cover(_) => options_of(alloc, further, problem).map(Answer::Cover),
+        Head::Cover(_) => options_of(alloc, lines, problem).map(Answer::Cover),
     }
 }
 
@@ -57,7 +55,7 @@ fn answer_of(alloc: Global, text: &[u8], problem: &Problem) -> Result<Answer, An
 /// earlier line means. The options of a cover stand in the order of their lines.
 ///
 /// A fault is the first of these: `BadHead`, `WrongCount`, then `UnknownOption` of the first such line. `Memory` comes
-/// only where a growth was refused.
+/// only where a growth was refused. Beside the text it takes memory of the order of the problem, and of the longest line.
 pub fn read_answer(alloc: Global, text: &[u8], problem: &Problem) -> Result<Answer, AnswerFault>
     ensures answer { IfOk result (IsAnswerOf text.now problem.now) }
     ensures fault { IfErr result (λ fault. fault ≢ AnswerFault.Memory → IsFaultOf text.now problem.now fault) }

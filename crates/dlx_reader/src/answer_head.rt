@@ -1,12 +1,13 @@
-ghost use Rattle.dlx_reader.specs.Lines.{texts_of};
-ghost use Rattle.std.specs.Prelude.{◌≡◌, ◌≤◌, ℕ, length, IfSome, IfNone, IfOk, IfErr, true, ◌↔◌, IsTrue};
+ghost use Rattle.dlx_reader.specs.Lines.{words_of};
+ghost use Rattle.std.specs.Prelude.{◌≡◌, ◌≤◌, ℕ, ◌∷◌, codes, length, IfSome, IfNone, IfOk, IfErr, true, ◌↔◌, IsTrue};
 ghost use Rattle.std.specs.List.{list_all};
 ghost use Rattle.std.specs.Char.{is_ascii_digit};
 ghost use Rattle.std.specs.Str.Parse.{digits_value};
 ghost use Rattle.dlx_reader.specs.Answers.{IsCount, IsHead};
-ghost use Rattle.dlx_reader.specs.AnswerSteps.{IsHeadOf, IsCoverOf, IsHeadBefore, IsHeadFault};
+ghost use Rattle.dlx_reader.specs.AnswerSteps.{IsHeadOf, IsHeadBefore, IsHeadFault};
 
 use crate::answer_fault::AnswerFault;
+use crate::lines::{has_words, split_word};
 
 /// What the first line of an answer says.
 #[derive(Clone, Copy)]
@@ -62,34 +63,52 @@ fn count_of(digits: &[u8]) -> Option<usize>
     Some(value_of(digits))
 }
 
-/// The head of the words `cover` and digits, if they are one.
-fn cover_head(digits: &[u8]) -> Option<Head>
-    ensures head { IfSome result (IsCoverOf digits.now) }
-    ensures none { IfNone result ((count : ℕ) → IsCount digits.now count → ⊥) }
+/// The head `none`, where no word stands behind it.
+fn none_head(behind: &[u8]) -> Option<Head>
+    ensures head { IfSome result (IsHeadOf (codes "none" ∷ words_of behind.now)) }
+    ensures none { IfNone result ((count : ℕ) → IsHead (codes "none" ∷ words_of behind.now) count → ⊥) }
 {
+    if has_words(behind) {
+        return None;
+    }
+    Some(Head::NoCover)
+}
+
+/// The head of the word `cover` and digits, where these stand behind it.
+fn cover_head(behind: &[u8]) -> Option<Head>
+    ensures head { IfSome result (IsHeadOf (codes "cover" ∷ words_of behind.now)) }
+    ensures none { IfNone result ((count : ℕ) → IsHead (codes "cover" ∷ words_of behind.now) count → ⊥) }
+{
+    let (digits, rest) = split_word(behind)?;
+    if has_words(rest) {
+        return None;
+    }
     count_of(digits).map(Head::Cover)
 }
 
-/// The head that these words are, if they are one.
-fn head_of(words: &[&[u8]]) -> Option<Head>
-    ensures head { IfSome result (IsHeadOf (texts_of words.now)) }
-    ensures none { IfNone result ((count : ℕ) → IsHead (texts_of words.now) count → ⊥) }
+/// The head that a line is, if it is one.
+fn head_of(line: &[u8]) -> Option<Head>
+    ensures head { IfSome result (IsHeadOf (words_of line.now)) }
+    ensures none { IfNone result ((count : ℕ) → IsHead (words_of line.now) count → ⊥) }
 {
-    match words {
-        [word] if *word == b"none".as_slice() => Some(Head::NoCover),
-        [word, digits] if *word == b"cover".as_slice() => cover_head(digits),
-        _ => None,
+    let (word, behind) = split_word(line)?;
+    if word == b"none".as_slice() {
+        return none_head(behind);
     }
+    if word == b"cover".as_slice() {
+        return cover_head(behind);
+    }
+    None
 }
 
-/// The head that these words are, where as many lines follow as it says.
+/// The head that a line is, where as many lines follow as it says.
 ///
-/// The fault is `BadHead` where they are no head, and else `WrongCount`.
-pub fn head_before(words: &[&[u8]], further: usize) -> Result<Head, AnswerFault>
-    ensures head { IfOk result (IsHeadBefore (texts_of words.now) further) }
-    ensures fault { IfErr result (IsHeadFault (texts_of words.now) further) }
+/// The fault is `BadHead` where it is no head, and else `WrongCount`.
+pub fn head_before(line: &[u8], further: usize) -> Result<Head, AnswerFault>
+    ensures head { IfOk result (IsHeadBefore (words_of line.now) further) }
+    ensures fault { IfErr result (IsHeadFault (words_of line.now) further) }
 {
-    match head_of(words) {
+    match head_of(line) {
         None => Err(AnswerFault::BadHead),
         Some(head) if head.lines() != further => Err(AnswerFault::WrongCount),
         Some(head) => Ok(head),

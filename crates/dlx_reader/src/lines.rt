@@ -1,10 +1,9 @@
-//! The lines of a text, and the words of a line.
+//! The lines of a text and the words of a line, cut off one by one: no list of them is made.
 
-ghost use Rattle.std.specs.Prelude.{◌≡◌, ◌≤◌, ◌+◌, [], ◌∷◌, drop, length, map, IfOk, IfNone, IfSome};
-ghost use Rattle.dlx_reader.specs.Content.{begins_with_bar, is_content, content_from};
-ghost use Rattle.dlx_reader.specs.Lines.{is_white, lines_of, words_of, texts_of};
-
-use std::alloc::{AllocError, Global};
+ghost use Rattle.std.specs.Prelude.{◌≡◌, ◌<◌, ◌==◌, [], ◌∷◌, length, not, position, IfNone, IfSome};
+ghost use Rattle.dlx_reader.specs.Content.{begins_with_bar, is_content};
+ghost use Rattle.dlx_reader.specs.Lines.{is_white, lines_of, words_of};
+ghost use Rattle.dlx_reader.specs.Left.{lines_in};
 
 /// Whether a byte is white space within a line.
 fn is_white(byte: u8) -> bool
@@ -13,20 +12,33 @@ fn is_white(byte: u8) -> bool
     matches!(byte, 9 | 11 | 12 | 13 | 32)
 }
 
-/// The lines of a text.
-pub fn lines_of(alloc: Global, text: &[u8]) -> Result<Vec<&[u8]>, AllocError>
-    ensures { IfOk result (λ v. map (λ line. line.now) v.items ≡ lines_of text.now) }
+/// Where the first word of a line begins, if it has one.
+fn word_start(line: &[u8]) -> Option<usize>
+    ensures place { result ≡ position (λ byte. not (is_white byte)) line.now }
+    ensures within { IfSome result (λ start. start < length line.now) }
 {
-    text.split(|byte| *byte == b'\n').collect(alloc)
+    line.iter().position(|byte| !is_white(*byte))
 }
 
-/// The words of a line.
-pub fn words_of(alloc: Global, line: &[u8]) -> Result<Vec<&[u8]>, AllocError>
-    ensures { IfOk result (λ v. map (λ word. word.now) v.items ≡ words_of line.now) }
+/// Where the first white space stands, if there is some.
+fn word_end(word: &[u8]) -> Option<usize>
+    ensures place { result ≡ position is_white word.now }
+    ensures within { IfSome result (λ end. end < length word.now) }
 {
-    line.split(|byte| is_white(*byte))
-        .filter(|word| !word.is_empty())
-        .collect(alloc)
+    word.iter().position(|byte| is_white(*byte))
+}
+
+/// The first word of a line, and what stands behind it; nothing where the line has no word.
+pub fn split_word(line: &[u8]) -> Option<(&[u8], &[u8])>
+    ensures none { IfNone result (words_of line.now ≡ []) }
+    ensures some { IfSome result (λ parts. words_of line.now ≡ parts.0.now ∷ words_of parts.1.now) }
+    ensures shorter { IfSome result (λ parts. length parts.1.now < length line.now) }
+{
+    let word = &line[word_start(line)?..];
+    match word_end(word) {
+        None => Some((word, &[])),
+        Some(end) => Some(word.split_at(end)),
+    }
 }
 
 /// Whether a word begins with the bar.
@@ -36,36 +48,38 @@ pub fn begins_with_bar(word: &[u8]) -> bool
     matches!(word, [b'|', ..])
 }
 
-/// Whether a line with these words says something: it is neither blank nor a comment.
-pub fn is_content(words: &[&[u8]]) -> bool
-    ensures { result ≡ is_content (texts_of words.now) }
+/// Whether a line says something: it is neither blank nor a comment. No more than its first word is looked at.
+pub fn is_content(line: &[u8]) -> bool
+    ensures { result ≡ is_content (words_of line.now) }
 {
-    match words {
-        [] => false,
-        [word, ..] => !begins_with_bar(word),
+    match split_word(line) {
+        None => false,
+        Some((word, _)) => !begins_with_bar(word),
     }
 }
 
-/// A line: its number from 1, and its words.
-#[derive(Drop)]
-pub struct Line<'a> {
-    pub number: usize,
-    pub words: Vec<&'a [u8]>,
+/// Whether a line has a word. No more than the first is looked at.
+pub fn has_words(line: &[u8]) -> bool
+    ensures { result ≡ not (length (words_of line.now) == 0) }
+{
+    split_word(line).is_some()
 }
 
-/// The first line that says something.
-#[tactic(auto, unfolding(crate::specs::Content::content_from))]
-pub fn item_line<'a>(alloc: Global, lines: &[&'a [u8]]) -> Result<Option<Line<'a>>, AllocError>
-    ensures none { IfOk result (λ line. IfNone line (content_from 1 (texts_of lines.now) ≡ [])) }
-    ensures first { IfOk result (λ line. IfSome line (λ l. content_from 1 (texts_of lines.now) ≡ (l.number, texts_of l.words.items) ∷ content_from (l.number + 1) (texts_of (drop l.number lines.now)))) }
-    ensures number { IfOk result (λ line. IfSome line (λ l. l.number ≤ length lines.now)) }
+/// Where the first line of a text ends, if something ends it.
+fn line_end(text: &[u8]) -> Option<usize>
+    ensures place { result ≡ position (λ byte. byte == 10) text.now }
+    ensures within { IfSome result (λ end. end < length text.now) }
 {
-    for (place, line) in lines.iter().enumerate() {
-        let words = words_of(alloc, line)?;
-        if is_content(&words) {
-            let number = place + 1;
-            return Ok(Some(Line { number, words }));
-        }
+    text.iter().position(|byte| *byte == b'\n')
+}
+
+/// The first line of a text, and what stands behind the byte that ends it, if one does.
+pub fn split_line(text: &[u8]) -> (&[u8], Option<&[u8]>)
+    ensures lines { lines_of text.now ≡ result.0.now ∷ lines_in result.1 }
+    ensures shorter { IfSome result.1 (λ rest. length rest.now < length text.now) }
+{
+    match line_end(text) {
+        None => (text, None),
+        Some(end) => (&text[..end], Some(&text[end + 1..])),
     }
-    Ok(None)
 }

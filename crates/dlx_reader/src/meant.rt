@@ -2,8 +2,10 @@
 
 ghost use Rattle.std.specs.Prelude.{◌≡◌, ℕ, ◌+◌, ◌<◌, [], ◌∷◌, ◌++◌, length, map, IfOk, IfSome, IfNone, OnOk};
 ghost use Rattle.std.specs.BTreeMap.{IsEmpty};
+ghost use Rattle.dlx_reader.specs.Lines.{words_of};
 ghost use Rattle.dlx_reader.specs.Meant.{item_or_none, IsIndexFrom, IsNext, AreNext, IsUnmeant, IsLowestUnmeant};
 
+use crate::lines::split_word;
 use crate::names::Names;
 use cover_problem::Problem;
 use std::alloc::{AllocError, Global};
@@ -18,14 +20,17 @@ fn item_or_none(names: &Names, word: &[u8]) -> u16
     names.item_named(word).unwrap_or(none)
 }
 
-/// The items that words name, where the number of items stands for an unknown name.
-pub fn items_named(alloc: Global, names: &Names, words: &[&[u8]]) -> Result<Vec<u16>, AllocError>
-    ensures { IfOk result (λ items. items.items ≡ map (λ word. item_or_none names.now word.now) words.now) }
+/// The items that the words of a line name, where the number of items stands for an unknown name.
+pub fn items_named(alloc: Global, names: &Names, line: &[u8]) -> Result<Vec<u16>, AllocError>
+    ensures { IfOk result (λ items. items.items ≡ map (item_or_none names.now) (words_of line.now)) }
 {
-    words
-        .iter()
-        .map(|word| item_or_none(names, word))
-        .collect(alloc)
+    let mut items = Vec::new(alloc);
+    let mut left = line;
+    while let Some((word, rest)) = split_word(left) {
+        items.push(item_or_none(names, word))?;
+        left = rest;
+    }
+    Ok(items)
 }
 
 /// Puts an option into the index of the options behind it, and answers the next one with the same items.

@@ -5,14 +5,16 @@ ghost use Rattle.std.specs.List.{list_any, list_all};
 ghost use Rattle.dlx_reader.specs.Content.{is_content, is_word, content_from, content_of};
 ghost use Rattle.dlx_reader.specs.Faults.{first_fault, is_illegal, name_tests};
 ghost use Rattle.dlx_reader.specs.Items.{name_part, primary_in};
-ghost use Rattle.dlx_reader.specs.Lines.{texts_of};
+ghost use Rattle.dlx_reader.specs.Left.{content_left, line_of};
+ghost use Rattle.dlx_reader.specs.Lines.{words_of};
 ghost use Rattle.dlx_reader.specs.ProblemOf.{HasNoProblem, IsProblemOf};
 ghost use Rattle.dlx_reader.specs.Reading.{Gives, after, item_at, items_from, option_item_at, option_from, option_at, options_from, reading_of, read_by};
 ghost use Rattle.dlx_reader.specs.declared.fault.ReadFault.TheVariants.{Memory};
 
 use crate::fault::ReadFault;
 use crate::kept::Kept;
-use crate::lines::{Line, begins_with_bar, is_content, item_line, lines_of, words_of};
+use crate::left::{Line, Lines};
+use crate::lines::{begins_with_bar, split_word};
 use crate::names::Names;
 use cover_problem::Problem;
 use std::alloc::Global;
@@ -85,29 +87,35 @@ fn read_item<'a>(
     Ok(())
 }
 
-/// Reads the words of the item line, which has this number.
+/// Reads the words of the item line.
 #[tactic(auto, unfolding(crate::specs::Reading::items_from))]
-fn read_items<'a>(alloc: Global, words: &[&'a [u8]], line: usize) -> Result<Names<'a>, ReadFault>
-    ensures { Gives (λ names. names) result (items_from line [] false (texts_of words.now)) }
+fn read_items<'a>(alloc: Global, line: Line<'a>) -> Result<Names<'a>, ReadFault>
+    ensures { Gives (λ names. names) result (items_from line.entry.number [] false (words_of line.entry.text.now)) }
 {
     let mut names = Names::new(alloc);
     let mut divided = false;
-    for word in words {
-        read_item(alloc, &mut names, &mut divided, word, line)?;
+    let mut left = line.text;
+    while let Some((word, rest)) = split_word(left) {
+        read_item(alloc, &mut names, &mut divided, word, line.number)?;
+        left = rest;
     }
     Ok(names)
 }
 
-/// How many of the words stand before the separator.
-fn primary_in(words: &[&[u8]]) -> usize
-    ensures { result ≡ primary_in (texts_of words.now) }
+/// How many of the words of a line stand before the separator.
+fn primary_in(line: &[u8]) -> usize
+    ensures { result ≡ primary_in (words_of line.now) }
 {
-    for (place, word) in words.iter().enumerate() {
+    let mut place = 0;
+    let mut left = line;
+    while let Some((word, rest)) = split_word(left) {
         if begins_with_bar(word) {
             return place;
         }
+        place += 1;
+        left = rest;
     }
-    words.len()
+    place
 }
 
 /// Reads a further word of an option.
@@ -133,17 +141,14 @@ fn read_option_item(
 
 /// Reads the words of an option.
 #[tactic(auto, unfolding(crate::specs::Reading::option_from))]
-fn read_option(
-    alloc: Global,
-    names: &Names,
-    words: &[&[u8]],
-    line: usize,
-) -> Result<Vec<u16>, ReadFault>
-    ensures gives { Gives (λ items. items.items) result (option_from line names.now [] (texts_of words.now)) }
+fn read_option(alloc: Global, names: &Names, line: Line) -> Result<Vec<u16>, ReadFault>
+    ensures gives { Gives (λ items. items.items) result (option_from line.entry.number names.now [] (words_of line.entry.text.now)) }
 {
-    let mut items = Vec::with_capacity(alloc, words.len())?;
-    for word in words {
-        read_option_item(names, &mut items, word, line)?;
+    let mut items = Vec::new(alloc);
+    let mut left = line.text;
+    while let Some((word, rest)) = split_word(left) {
+        read_option_item(names, &mut items, word, line.number)?;
+        left = rest;
     }
     Ok(items)
 }
@@ -155,36 +160,29 @@ fn read_option_line(
     names: &Names,
     primary: usize,
     kept: &mut Kept,
-    words: &[&[u8]],
-    line: usize,
+    line: Line,
 ) -> Result<(), ReadFault>
-    requires ignored { kept.old.ignored < line }
-    ensures gives { Gives (λ _. (kept.new.options, kept.new.ignored)) result (option_at names.now primary kept.old.options kept.old.ignored (line, texts_of words.now)) }
+    requires ignored { kept.old.ignored < line.number }
+    ensures gives { Gives (λ _. (kept.new.options, kept.new.ignored)) result (option_at names.now primary kept.old.options kept.old.ignored (line_of line.entry)) }
     ensures ignored { kept.new.ignored ≤ kept.old.ignored + 1 }
 {
-    let items = read_option(alloc, names, words, line)?;
-    kept.keep(primary, items, line)
+    let items = read_option(alloc, names, line)?;
+    kept.keep(primary, items, line.number)
 }
 
-/// Reads the lines of options: those that say something, of the lines after so many.
-#[tactic(auto, unfolding(crate::specs::Reading::options_from, crate::specs::Content::content_from))]
+/// Reads the lines of options: those that say something, of the lines that are left.
+#[tactic(auto, unfolding(crate::specs::Reading::options_from))]
 fn read_options(
     alloc: Global,
     names: &Names,
     primary: usize,
-    lines: &[&[u8]],
-    before: usize,
+    mut lines: Lines,
 ) -> Result<Kept, ReadFault>
-    requires { before + length lines.now < 2 ^ 64 }
-    ensures { Gives (λ kept. (kept.options, kept.ignored)) result (options_from names.now primary [] 0 (content_from (before + 1) (texts_of lines.now))) }
+    ensures { Gives (λ kept. (kept.options, kept.ignored)) result (options_from names.now primary [] 0 (content_left lines.entry)) }
 {
     let mut kept = Kept::new(alloc);
-    for (place, line) in lines.iter().enumerate() {
-        let words = words_of(alloc, line)?;
-        if is_content(&words) {
-            let number = before + place + 1;
-            read_option_line(alloc, names, primary, &mut kept, &words, number)?;
-        }
+    while let Some(line) = lines.take_content() {
+        read_option_line(alloc, names, primary, &mut kept, line)?;
     }
     Ok(kept)
 }
@@ -198,22 +196,16 @@ pub struct Read {
     pub ignored: usize,
 }
 
-/// Reads the words of the item line, which has this number, and the lines after it.
+/// Reads the item line, and the lines that are left behind it.
 #[tactic(auto, unfolding(crate::specs::Reading::reading_of))]
-fn read_content(
-    alloc: Global,
-    words: &[&[u8]],
-    number: usize,
-    others: &[&[u8]],
-) -> Result<Read, ReadFault>
-    requires content { is_content (texts_of words.now) ≡ true }
-    requires words { list_all is_word (texts_of words.now) ≡ true }
-    requires count { number + length others.now < 2 ^ 64 }
-    ensures { Gives (λ read. read_by read.problem read.ignored) result (reading_of ((number, texts_of words.now) ∷ content_from (number + 1) (texts_of others.now))) }
+fn read_content(alloc: Global, items: Line, others: Lines) -> Result<Read, ReadFault>
+    requires content { is_content (words_of items.text.now) ≡ true }
+    requires words { list_all is_word (words_of items.text.now) ≡ true }
+    ensures { Gives (λ read. read_by read.problem read.ignored) result (reading_of (line_of items.entry ∷ content_left others.entry)) }
 {
-    let names = read_items(alloc, words, number)?;
-    let primary = primary_in(words);
-    let kept = read_options(alloc, &names, primary, others, number)?;
+    let names = read_items(alloc, items)?;
+    let primary = primary_in(items.text);
+    let kept = read_options(alloc, &names, primary, others)?;
     let ignored = kept.ignored();
     Ok(Read {
         problem: Problem::from_parts(names.into_list(), primary, kept.into_list()),
@@ -226,11 +218,11 @@ fn read_content(
 fn read_lines(alloc: Global, text: &[u8]) -> Result<Read, ReadFault>
     ensures { Gives (λ read. read_by read.problem read.ignored) result (reading_of (content_of text.now)) }
 {
-    let lines = lines_of(alloc, text)?;
-    let Some(Line { number, words }) = item_line(alloc, &lines)? else {
+    let mut lines = Lines::of(text);
+    let Some(items) = lines.take_content() else {
         return Err(ReadFault::NoItems);
     };
-    read_content(alloc, &words, number, &lines[number..])
+    read_content(alloc, items, lines)
 }
 
 /// Reads a problem in the general form of the input of Knuth's program DLX1.
@@ -240,7 +232,8 @@ fn read_lines(alloc: Global, text: &[u8]) -> Result<Read, ReadFault>
 /// that begins with `|` are secondary. Each later line is an option, a list of different names of items; options without a
 /// primary item are ignored, and counted.
 ///
-/// An error other than `Memory` is the first fault of the text in reading order, with its line counted from 1.
+/// An error other than `Memory` is the first fault of the text in reading order, with its line counted from 1. Beside the text
+/// it takes memory of the order of the problem, whatever else the text has.
 pub fn read_problem(alloc: Global, text: &[u8]) -> Result<Read, ReadFault>
     ensures problem { IfOk result (λ read. IsProblemOf text.now read.problem read.ignored) }
 

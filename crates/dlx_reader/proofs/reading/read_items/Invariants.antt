@@ -1,7 +1,10 @@
-use Rattle.dlx_reader.specs.Lines.{texts_of}
-use Rattle.std.proofs.Common.{◌≡◌, [], drop, false}
+use Rattle.std.proofs.Common.{◌≡◌, [], false, length}
+use Rattle.dlx_reader.specs.Lines.{words_of}
 use Rattle.dlx_reader.specs.Reading.{items_from}
 use Rattle.dlx_reader.proofs.reading.read_items.Given as goal
 
 abbrev pub invariant-loop-word : goal.invariant-loop-word
-invariant-loop-word l = items_from l.line l.names l.divided (texts_of (drop l.word-index l.words)) ≡ items_from l.line [] false (texts_of l.words)
+invariant-loop-word l = items_from l.line.number l.names l.divided (words_of l.left) ≡ items_from l.line.number [] false (words_of l.line.text.now)
+
+abbrev pub decreases-loop-word : goal.decreases-loop-word
+decreases-loop-word l = length l.left
