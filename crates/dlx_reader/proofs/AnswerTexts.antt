@@ -1,8 +1,8 @@
 -- The texts of lists of items and options, from a place on.
 use Rattle.std.proofs.Common.{◌≡◌, ℕ, ◌+◌, ◌<◌, List, ◌∷◌, ◌++◌, length, get_or, drop, add-one, drop-cons, refl, take, ◌-◌, ◌≤◌, [], arith, suc, ap, sym, ◌∙◌, append-nil, Option}
-use Rattle.std.specs.Io.KnownBytes.{Appends}
 use Rattle.dlx_reader.specs.Devices.{AppendsFront}
-use Rattle.dlx_reader.proofs.Written.{Going, going_on, going_fault}
+use Rattle.dlx_reader.specs.Passing.{Passes}
+use Rattle.dlx_reader.proofs.Passed.{Passing, passing_on, passing_fault}
 use Rattle.std.proofs.Math.Seq.{take-length}
 use Rattle.std.specs.List.{flat_map}
 use Rattle.std.proofs.lemmas.List.Elements.{All-drop, All-take}
@@ -22,13 +22,13 @@ options_split p (o ∷ os) h =
 pub others_are : (p : Problem) (os : List ℕ) → AreOptions p os → AreOptions p (take (length os - 1) (drop 1 os))
 others_are p os all = All-take (λ o. o < length p.options) (length os - 1) (drop 1 os) (All-drop (λ o. o < length p.options) 1 os all)
 
--- the first option's line was written, and those of the others are left
-pub option_on : (p : Problem) (a b c : Option (List ℕ)) (os whole : List ℕ) → Going a b (flat_map (option_text p) os) whole → 1 ≤ length os → Appends b c (option_text p (get_or os 0 0)) → Going a c (flat_map (option_text p) (take (length os - 1) (drop 1 os))) whole
-option_on p a b c os whole going some piece = going_on a b c (option_text p (get_or os 0 0)) (flat_map (option_text p) (take (length os - 1) (drop 1 os))) whole (rw (options_split p os some) at going) piece
+-- the first option's line was passed on, and those of the others are left
+pub option_on : (p : Problem) (w x y : List ℕ) (a b c : Option (List ℕ)) (os whole : List ℕ) → Passing w x a b (flat_map (option_text p) os) whole → 1 ≤ length os → Passes x y b c (option_text p (get_or os 0 0)) → Passing w y a c (flat_map (option_text p) (take (length os - 1) (drop 1 os))) whole
+option_on p w x y a b c os whole passing some piece = passing_on w x y a b c (option_text p (get_or os 0 0)) (flat_map (option_text p) (take (length os - 1) (drop 1 os))) whole (rw (options_split p os some) at passing) piece
 
 -- a fault came in the first option's line
-pub option_fault : (p : Problem) (a b c : Option (List ℕ)) (os whole : List ℕ) → Going a b (flat_map (option_text p) os) whole → 1 ≤ length os → AppendsFront b c (option_text p (get_or os 0 0)) → AppendsFront a c whole
-option_fault p a b c os whole going some piece = going_fault a b c (option_text p (get_or os 0 0)) (flat_map (option_text p) (take (length os - 1) (drop 1 os))) whole (rw (options_split p os some) at going) piece
+pub option_fault : (p : Problem) (w x : List ℕ) (a b c : Option (List ℕ)) (os whole : List ℕ) → Passing w x a b (flat_map (option_text p) os) whole → 1 ≤ length os → AppendsFront b c (x ++ option_text p (get_or os 0 0)) → AppendsFront a c (w ++ whole)
+option_fault p w x a b c os whole passing some piece = passing_fault w x a b c (option_text p (get_or os 0 0)) (flat_map (option_text p) (take (length os - 1) (drop 1 os))) whole (rw (options_split p os some) at passing) piece
 
 pub names_step : (p : Problem) (is : List ℕ) (k : ℕ) → k < length is → names_after p (drop k is) ≡ (32 ∷ name_text p (get_or is k 0)) ++ names_after p (drop (k + 1) is)
 names_step p is k h = rw (add-one, drop-cons is k 0) refl

@@ -22,6 +22,7 @@ pub mod MeantNames
 pub mod Naming
 pub mod OptionLines
 pub mod OptionWords
+pub mod Passed
 pub mod Placed
 pub mod Problems
 pub mod Relation

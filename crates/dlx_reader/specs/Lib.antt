@@ -11,6 +11,7 @@ pub mod Lines
 pub mod Meant
 pub mod Names
 pub mod OptionLines
+pub mod Passing
 pub mod ProblemOf
 pub mod Reading
 pub mod Writing

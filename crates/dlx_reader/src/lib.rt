@@ -13,7 +13,9 @@ mod left;
 mod lines;
 mod meant;
 mod names;
+mod passing;
 mod reading;
+mod waiting;
 mod writing;
 
 pub use answer::read_answer;

@@ -142,7 +142,8 @@ fn read_option_item(
 /// Reads the words of an option.
 #[tactic(auto, unfolding(crate::specs::Reading::option_from))]
 fn read_option(alloc: Global, names: &Names, line: Line) -> Result<Vec<u16>, ReadFault>
-    ensures gives { Gives (λ items. items.items) result (option_from line.entry.number names.now [] (words_of line.entry.text.now)) }
+    ensures gives { Gives (λ items. items.items) result
+        (option_from line.entry.number names.now [] (words_of line.entry.text.now)) }
 {
     let mut items = Vec::new(alloc);
     let mut left = line.text;
@@ -163,7 +164,8 @@ fn read_option_line(
     line: Line,
 ) -> Result<(), ReadFault>
     requires ignored { kept.old.ignored < line.number }
-    ensures gives { Gives (λ _. (kept.new.options, kept.new.ignored)) result (option_at names.now primary kept.old.options kept.old.ignored (line_of line.entry)) }
+    ensures gives { Gives (λ _. (kept.new.options, kept.new.ignored)) result
+        (option_at names.now primary kept.old.options kept.old.ignored (line_of line.entry)) }
     ensures ignored { kept.new.ignored ≤ kept.old.ignored + 1 }
 {
     let items = read_option(alloc, names, line)?;
@@ -178,7 +180,8 @@ fn read_options(
     primary: usize,
     mut lines: Lines,
 ) -> Result<Kept, ReadFault>
-    ensures { Gives (λ kept. (kept.options, kept.ignored)) result (options_from names.now primary [] 0 (content_left lines.entry)) }
+    ensures { Gives (λ kept. (kept.options, kept.ignored)) result
+        (options_from names.now primary [] 0 (content_left lines.entry)) }
 {
     let mut kept = Kept::new(alloc);
     while let Some(line) = lines.take_content() {
@@ -201,7 +204,8 @@ pub struct Read {
 fn read_content(alloc: Global, items: Line, others: Lines) -> Result<Read, ReadFault>
     requires content { is_content (words_of items.text.now) ≡ true }
     requires words { list_all is_word (words_of items.text.now) ≡ true }
-    ensures { Gives (λ read. read_by read.problem read.ignored) result (reading_of (line_of items.entry ∷ content_left others.entry)) }
+    ensures { Gives (λ read. read_by read.problem read.ignored) result
+        (reading_of (line_of items.entry ∷ content_left others.entry)) }
 {
     let names = read_items(alloc, items)?;
     let primary = primary_in(items.text);

@@ -1,18 +1,6 @@
-use Rattle.std.proofs.Common.{◌≡◌, ◌∙◌, length, ◌++◌, ◌∷◌, codes}
-use Rattle.std.specs.Fmt.{decimal}
-use Rattle.std.proofs.lemmas.Result.{err_from_is_err_and}
-use Rattle.std.specs.List.{flat_map}
-use Rattle.dlx_reader.specs.Writing.{option_text}
-use Rattle.dlx_reader.proofs.Written.{written_both, front_both}
+use Rattle.dlx_reader.specs.Writing.{cover_text}
+use Rattle.dlx_reader.proofs.Passed.{written_end}
 use Rattle.dlx_reader.proofs.writing.write_cover.Goals as goal
 
-pub returns-in_err-write_two-clause-bytes : goal.returns-in_err-write_two-clause-bytes
-returns-in_err-write_two-clause-bytes g c =
-    let returned = err_from_is_err_and c.from_residual.result c.from_residual.ensures.1 in
-    let text : c.as_bytes-count.result.now ≡ decimal (length c.args.options.now) = c.as_bytes-count.ensures.value ∙ c.format.ensures.text in
-    rw returned.1 (front_both _ _ (codes "cover " ++ decimal (length c.args.options.now)) (10 ∷ flat_map (option_text c.args.problem.now) c.args.options.now) (rw text at c.in_err-write_two.ensures.bytes))
-
 pub returns-clause-bytes : goal.returns-clause-bytes
-returns-clause-bytes g c =
-    let text : c.as_bytes-count.result.now ≡ decimal (length c.args.options.now) = c.as_bytes-count.ensures.value ∙ c.format.ensures.text in
-    written_both _ _ _ (codes "cover " ++ decimal (length c.args.options.now)) (10 ∷ flat_map (option_text c.args.problem.now) c.args.options.now) c.write_line_end.result (rw text at c.in_ok-write_two.ensures.bytes) c.write_line_end.ensures.bytes
+returns-clause-bytes g c = written_end c.pass_cover.new.waiting _ _ _ (cover_text c.args.problem.now c.args.options.now) c.write_bytes.result (rw c.new-waiting.ensures at c.in_ok-pass_cover.ensures.bytes) (rw c.as_slice.ensures at c.write_bytes.ensures.bytes)

@@ -2,12 +2,12 @@ use Rattle.std.proofs.Common.{◌≡◌, length}
 use Rattle.std.specs.List.{flat_map}
 use Rattle.cover_problem.specs.Prefix.{AreOptions}
 use Rattle.dlx_reader.specs.Writing.{option_text}
-use Rattle.dlx_reader.proofs.Written.{Going}
-use Rattle.dlx_reader.proofs.writing.write_options.Given as goal
+use Rattle.dlx_reader.proofs.Passed.{Passing}
+use Rattle.dlx_reader.proofs.passing.pass_options.Given as goal
 
 abbrev pub invariant-loop-left : goal.invariant-loop-left
 invariant-loop-left g l = record {
-  going : Going (g.W.Write.contents l.fn.sink) (g.W.Write.contents l.sink) (flat_map (option_text l.problem) l.left) (flat_map (option_text l.problem) l.options);
+  passing : Passing l.fn.waiting l.waiting (g.W.Write.contents l.fn.sink) (g.W.Write.contents l.sink) (flat_map (option_text l.problem) l.left) (flat_map (option_text l.problem) l.options);
   are : AreOptions l.problem l.left;
   failed : g.W.Sink.failed l.sink ≡ g.W.Sink.failed l.fn.sink;
 }

@@ -1,0 +1,11 @@
+use Rattle.std.proofs.lemmas.Result.{err_from_is_err_and}
+use Rattle.dlx_reader.proofs.Passed.{passed_both, passed_front}
+use Rattle.dlx_reader.proofs.passing.pass_two.Goals as goal
+
+pub returns-in_err-pass_bytes-clause-bytes : goal.returns-in_err-pass_bytes-clause-bytes
+returns-in_err-pass_bytes-clause-bytes g c =
+    let returned = err_from_is_err_and c.from_residual.result c.from_residual.ensures.1 in
+    rw returned.1 (passed_front _ _ _ c.args.first.now c.args.second.now c.in_err-pass_bytes.ensures.bytes)
+
+pub returns-clause-bytes : goal.returns-clause-bytes
+returns-clause-bytes g c = passed_both _ _ _ _ _ _ c.args.first.now c.args.second.now c.pass_bytes-2.result c.in_ok-pass_bytes.ensures.bytes c.pass_bytes-2.ensures.bytes
