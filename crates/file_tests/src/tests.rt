@@ -3,6 +3,7 @@
 mod answers;
 mod copies;
 mod devices;
+mod greatest;
 mod limits;
 mod reading;
 mod texts;
