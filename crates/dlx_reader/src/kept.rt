@@ -1,6 +1,6 @@
 //! The options that are kept.
 
-ghost use Rattle.std.specs.Prelude.{◌≡◌, ◌<◌, ◌≤◌, ◌+◌, []};
+ghost use Rattle.std.specs.Prelude.{◌≡◌, ◌<◌, ◌≤◌, ◌+◌, [], OnErr};
 ghost use Rattle.cover_problem.specs.Numbers.{some_below};
 ghost use Rattle.dlx_reader.specs.Reading.{Gives, keep_at};
 
@@ -79,6 +79,7 @@ impl Kept {
         requires { self.old.ignored < line }
         ensures gives { Gives (λ _. (self.new.options, self.new.ignored)) result (keep_at line primary self.old.options self.old.ignored items.items) }
         ensures ignored { self.new.ignored ≤ self.old.ignored + 1 }
+        ensures unchanged { OnErr result (self.new ≡ self.old) }
     {
         if !some_below(primary, &items) {
             self.ignored += 1;

@@ -1,6 +1,6 @@
 //! The options that lines mean, found by their items.
 
-ghost use Rattle.std.specs.Prelude.{◌≡◌, ℕ, ◌+◌, ◌<◌, [], ◌∷◌, ◌++◌, length, map, IfOk, IfSome, IfNone, OnOk};
+ghost use Rattle.std.specs.Prelude.{◌≡◌, ℕ, ◌+◌, ◌<◌, [], ◌∷◌, ◌++◌, length, map, IfOk, IfSome, IfNone, OnOk, OnErr};
 ghost use Rattle.std.specs.BTreeMap.{IsEmpty};
 ghost use Rattle.dlx_reader.specs.Lines.{words_of};
 ghost use Rattle.dlx_reader.specs.Meant.{item_or_none, IsIndexFrom, IsNext, AreNext, IsUnmeant, IsLowestUnmeant};
@@ -112,6 +112,7 @@ impl<'a> Meant<'a> {
         ensures some { IfOk result (λ taken. IfSome taken (IsLowestUnmeant self.old.problem self.old.options items.now)) }
         ensures more { IfOk result (λ taken. IfSome taken (λ option. self.new.options ≡ self.old.options ++ option ∷ [])) }
         ensures none { IfOk result (λ taken. IfNone taken ((option : ℕ) → IsUnmeant self.old.problem self.old.options items.now option → ⊥)) }
+        ensures unchanged { OnErr result (self.new ≡ self.old) }
     {
         let Some(option) = self.lowest.get(items).copied() else {
             return Ok(None);
