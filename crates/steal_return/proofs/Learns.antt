@@ -1,10 +1,10 @@
 -- What is learnt, redone, dropped and aborted in one call.
-use Rattle.std.proofs.Common.{◌≡◌, ◌≢◌, ◌⊎◌, ℕ, zero, suc, ◌-◌, ◌<◌, Bool, true, false, ◌&&◌, cond, map, List, [], ◌∷◌, length, Option, Some, None, is_some, not, ◌==◌, slice_get, refl, sym, ap, subst, ◌∙◌, inr, ⊎_elim, arith, true≢false}
+use Rattle.std.proofs.Common.{◌≡◌, ◌≢◌, ◌⊎◌, ℕ, zero, suc, ◌-◌, ◌<◌, Bool, true, false, ◌&&◌, cond, map, List, [], ◌∷◌, ◌++◌, length, Option, Some, None, is_some, not, ◌==◌, slice_get, refl, sym, ap, subst, ◌∙◌, inr, ⊎_elim, arith, true≢false}
 use Rattle.std.proofs.lemmas.Bool.{eqb-true}
 use Rattle.std.specs.Bool.{OnFalse, OnTrue}
 use Rattle.std.specs.List.{position_from}
-use Rattle.abort_tree.specs.Below.{MarksBelow, aborted, is_among}
-use Rattle.spawn_frame.specs.Aborts.{AbortsBelow, IsBelow, child, deeper, is_open, reached}
+use Rattle.abort_tree.specs.Below.{aborted, is_among}
+use Rattle.spawn_frame.specs.Aborts.{AbortsBelow, IsBelow, child, deeper, is_open, reached, reached_one}
 use Rattle.spawn_frame.specs.Tables.{IsAscending, has_status}
 use Rattle.spawn_frame.specs.Units.{Entry, GuestEntry, Table, redone, table_guests, table_own, with_status}
 use Rattle.spawn_frame.specs.declared.site.Site.{Site}
@@ -62,16 +62,6 @@ redo_raises lost (c ∷ cs) (suc k) h e = redo_raises lost cs k h (let same : at
 below_none : (own : List Entry) (k : ℕ) → IsBelow (is_among []) own k → ⊥
 below_none own k (child is parent passes) = true≢false (sym passes)
 below_none own k (deeper {parent = above} is parent under) = below_none own above under
-
-marked_none : (marks : List Bool) (own : List Entry) → ((k : ℕ) (m : Bool) → slice_get marks k ≡ Some m → m ≡ false) → aborted marks own ≡ own
-marked_none [] own h = refl
-marked_none (m ∷ ms) [] h = refl
-marked_none (m ∷ ms) (c ∷ cs) h =
-    λ i. cond (h 0 m refl i && is_open c.status) (with_status Aborted c) c ∷ marked_none ms cs (λ k n at. h (suc k) n at) i
-
-none_marked : (own : List Entry) (marks : List Bool) → MarksBelow (is_among []) own marks → (k : ℕ) (m : Bool) → slice_get marks k ≡ Some m → m ≡ false
-none_marked own marks h k true at = absurd (below_none own k (h.marked k at))
-none_marked own marks h k false at = refl
 
 first_of : (us : List WorkUnit) → 0 < length us → (u : WorkUnit) × ((vs : List WorkUnit) × (us ≡ u ∷ vs))
 first_of [] h = absurd (omega (arith, h))
@@ -132,21 +122,6 @@ module _ (was now : Ledger) (same : was ≡ now) (known incarnations : List ℕ)
       rest)
       (subst (λ l. Differs l known lost) (sym same) differs)
 
-  pub rests : MarksBelow (is_among lost) was.own marks → IsAlike now known lost → left_ledger was known third ≡ now
-  rests below alike_now =
-      let alike : IsAlike was known lost = subst (λ l. IsAlike l known lost) (sym same) alike_now in
-      let own : aborted marks own_redone ≡ was.own =
-      ap (aborted marks) (redo_none (is_older known) was.own alike.none_redone)
-      ∙ marked_none marks was.own (none_marked was.own marks (subst (λ us. MarksBelow (is_among us) was.own marks) alike.none_lost below)) in
-      let guests : drop_lost known was.guests ≡ was.guests = none_dropped known was.guests (sym lost_is ∙ alike.none_lost) in
-      ap (left_ledger was known) third_is
-      ∙ (λ i. record {
-        table = record { site = was.site; limit = was.limit; own = own i; guests = guests i };
-        nodes = kept i;
-        known = alike.same i;
-      })
-      ∙ same
-
 -- no more children are out once some were redone and guests were dropped
 pub redone_no_more : (lost : Site → Bool) (old first second : Table) (guests : List GuestEntry) → first ≡ table_own old (redo_lost lost old.own)
     → second ≡ table_guests first guests → NoMoreOut old.own second.own
@@ -154,14 +129,6 @@ redone_no_more lost old first second guests redoes drops =
     subst (λ t. NoMoreOut old.own t.own) (sym (drops ∙ ap (λ t. table_guests t guests) redoes)) (redo_no_more lost old.own)
 
 -- ---- whether there is a difference
-
-pub on_true : {P Q : Type 0} → (b : Bool) → (P → Q) → OnTrue b P → OnTrue b Q
-on_true true f h = f h
-on_true false f h = h
-
-pub on_false : {P Q : Type 0} → (b : Bool) → (P → Q) → OnFalse b P → OnFalse b Q
-on_false true f h = h
-on_false false f h = f h
 
 pub differs_by : (was now : Ledger) → was ≡ now → (known : List ℕ) (lost : List WorkUnit) (o : Option ℕ)
     → o ≡ position_from (λ c. is_out_to (is_older known) c.status) 0 was.own → (b : Bool) → b ≡ is_some o → OnTrue b (Differs now known lost)
@@ -188,3 +155,44 @@ empty_list (u ∷ us) h = absurd (let e : length (u ∷ us) ≡ 0 = eqb-true (le
 pub not_false : (b : Bool) → false ≡ not b → true ≡ b
 not_false true h = refl
 not_false false h = absurd (true≢false (sym h))
+
+-- ---- where there is none
+
+-- nothing is below no units, so nothing is aborted
+none_aborted : (own : List Entry) → AbortsBelow (is_among []) own own
+none_aborted own = record { each = λ k entry at. inr ((λ below still. below_none own k below), at); ends = refl }
+
+same_unreached : (k a : ℕ) (s : Status) → reached_one k a s s ≡ []
+same_unreached k a (Out thief) = refl
+same_unreached k a Ready = refl
+same_unreached k a _ = refl
+
+none_reached : (k : ℕ) (own : List Entry) → [] ≡ reached k own own
+none_reached k [] = refl
+none_reached k (c ∷ cs) = none_reached (suc k) cs ∙ ap (λ l. l ++ reached (suc k) cs cs) (sym (same_unreached k c.attempt c.status))
+
+-- where nothing differs, nothing changes and no thief is told
+pub learns_nothing : (now : Ledger) (known incarnations : List ℕ) (lost : List WorkUnit) → IsAscending now.guests
+    → lost ≡ lost_units known now.guests → known ≡ now_known now.site.node now.known incarnations → IsRedoable (is_older known) now.own
+    → IsAlike now known lost → LearnsMembers now incarnations [] now
+learns_nothing now known incarnations lost ascending lost_is known_is redoable alike =
+    let own : redo_lost (is_older known) now.own ≡ now.own = redo_none (is_older known) now.own alike.none_redone in
+    let guests : drop_lost known now.guests ≡ now.guests = none_dropped known now.guests (sym lost_is ∙ alike.none_lost) in
+    let tops : is_among [] ≡ is_lost_guest known now.guests = ap is_among (sym alike.none_lost ∙ lost_is) ∙ lost_tops known now.guests ascending in
+    let back = sym guests in
+    let learnt = sym alike.same in
+    record {
+      known = known;
+      known_is = known_is;
+      redoable = redoable;
+      own = now.own;
+      aborts =
+          subst (λ xs. AbortsBelow (is_lost_guest known now.guests) xs now.own) (sym own)
+          (subst (λ top. AbortsBelow top now.own now.own) tops (none_aborted now.own));
+      after = λ i. record {
+        table = record { site = now.site; limit = now.limit; own = now.own; guests = back i };
+        nodes = now.nodes;
+        known = learnt i;
+      };
+      reaches = none_reached 0 now.own ∙ ap (λ xs. reached 0 xs now.own) (sym own);
+    }

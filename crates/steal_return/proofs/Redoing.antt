@@ -1,12 +1,13 @@
 -- Own children that are redone, since their thieves are lost.
-use Rattle.std.proofs.Common.{◌≡◌, ℕ, zero, suc, ◌+◌, ◌<◌, Bool, true, false, ◌&&◌, cond, List, [], ◌∷◌, length, Option, Some, None, slice_get, refl, sym, ap, ◌∙◌, arith, add-one, true≢false, nat_le}
-use Rattle.std.proofs.lemmas.Bool.{leb-false, leb-true}
+use Rattle.std.proofs.Common.{◌≡◌, ℕ, zero, suc, ◌+◌, ◌<◌, ◌≤◌, Bool, true, false, ◌&&◌, cond, List, [], ◌∷◌, length, Option, Some, None, slice_get, refl, sym, ap, ◌∙◌, arith, add-one, true≢false, nat_le, nat_lt, ◌==◌, subst}
+use Rattle.std.proofs.lemmas.Bool.{eqb-false, eqb-true, leb-false, leb-true, ltb-false, ltb-true}
 use Rattle.std.proofs.lemmas.Option.{slice_get_within}
-use Rattle.spawn_frame.specs.Tables.{has_status}
+use Rattle.spawn_frame.specs.Tables.{has_status, is_out}
 use Rattle.spawn_frame.specs.Units.{Entry, Table, change_at, last_attempt, redone, table_own}
 use Rattle.spawn_frame.specs.declared.site.Site.{Site}
 use Rattle.spawn_frame.specs.declared.status.Status.{Status}
 use Rattle.spawn_frame.specs.declared.status.Status.TheVariants.{Out, Ready}
+use Rattle.steal_return.proofs.Scans.{onward}
 use Rattle.steal_return.specs.Members.{IsRedoable, is_out_to, is_spent_at, redo_if, redo_lost}
 
 -- the children below n redone, and the others as they were
@@ -104,3 +105,81 @@ pub redo_none : (lost : Site → Bool) (own : List Entry) → ((k : ℕ) (c : En
     → redo_lost lost own ≡ own
 redo_none lost [] h = refl
 redo_none lost (c ∷ cs) h = λ i. kept lost c c.status (h 0 c refl) i ∷ redo_none lost cs (λ k d at. h (suc k) d at) i
+
+-- ---- a walk over the children that are out
+
+-- what is not out is not out to a lost site
+pub not_out : (lost : Site → Bool) (o : Option Entry) → has_status is_out o ≡ false → has_status (is_out_to lost) o ≡ false
+not_out lost None h = refl
+not_out lost (Some entry) h = by entry.status h
+  where
+    by : (s : Status) → is_out s ≡ false → is_out_to lost s ≡ false
+    by (Out thief) g = absurd (true≢false g)
+    by Ready g = refl
+    by _ g = refl
+
+-- nor is it spent
+pub not_spent : (lost : Site → Bool) (o : Option Entry) → has_status is_out o ≡ false → is_spent_at lost o ≡ false
+not_spent lost None h = refl
+not_spent lost (Some entry) h = both (nat_le last_attempt entry.attempt) (not_out lost (Some entry) h)
+  where
+    both : (b : Bool) → is_out_to lost entry.status ≡ false → (b && is_out_to lost entry.status) ≡ false
+    both true g = g
+    both false g = refl
+
+-- a later child stands as it did while those before it are redone
+later_stays : (lost : Site → Bool) (own : List Entry) (n j : ℕ) → n ≤ j → slice_get (redone_below lost n own) j ≡ slice_get own j
+later_stays lost [] n j l = refl
+later_stays lost (c ∷ cs) zero j l = refl
+later_stays lost (c ∷ cs) (suc n) zero l = absurd (omega (arith, l))
+later_stays lost (c ∷ cs) (suc n) (suc j) l = later_stays lost cs n j (omega (arith, l))
+
+-- a child that is not out is as it was when it is redone with the others
+redone_over : (lost : Site → Bool) (own : List Entry) (n : ℕ) → has_status is_out (slice_get own n) ≡ false
+    → redone_below lost (suc n) own ≡ redone_below lost n own
+redone_over lost [] n h = refl
+redone_over lost (c ∷ cs) zero h =
+    (λ i. kept lost c c.status (not_out lost (Some c) h) i ∷ redone_none lost cs i)
+redone_over lost (c ∷ cs) (suc n) h = ap (λ l. redo_if lost c c.status ∷ l) (redone_over lost cs n h)
+
+-- so a walk may pass to the next one that is out
+pub redone_onward : (lost : Site → Bool) (old now : Table) (from k : ℕ) → from ≤ k
+    → ((j : ℕ) → from ≤ j → j < k → has_status is_out (slice_get now.own j) ≡ false)
+    → now ≡ table_own old (redone_below lost from old.own) → now ≡ table_own old (redone_below lost k old.own)
+redone_onward lost old now from k le gap was =
+    was
+    ∙ ap (table_own old)
+    (onward (λ j. redone_below lost from old.own ≡ redone_below lost j old.own) from k le
+    (λ j l m e. e ∙ sym (redone_over lost old.own j (ap (has_status is_out) (sym (stays j l)) ∙ gap j l m))) refl)
+  where
+    stays : (j : ℕ) → from ≤ j → slice_get now.own j ≡ slice_get old.own j
+    stays j l = ap (λ t. slice_get t.own j) was ∙ later_stays lost old.own from j l
+
+-- where no child from here on is out, all that are to be redone are
+pub redone_whole : (lost : Site → Bool) (old now : Table) (from : ℕ) → from ≤ length old.own
+    → ((j : ℕ) → from ≤ j → has_status is_out (slice_get now.own j) ≡ false)
+    → now ≡ table_own old (redone_below lost from old.own) → now ≡ table_own old (redo_lost lost old.own)
+redone_whole lost old now from le none was =
+    redone_onward lost old now from (length old.own) le (λ j l m. none j l) was ∙ ap (table_own old) (redone_all lost old.own)
+
+-- none is spent before the next one that is out, nor that one, where it isn't
+pub unspent_onward : (lost : Site → Bool) (own : List Entry) (from k : ℕ) → ((j : ℕ) → from ≤ j → j < k → has_status is_out (slice_get own j) ≡ false)
+    → ((j : ℕ) → j < from → is_spent_at lost (slice_get own j) ≡ false) → is_spent_at lost (slice_get own k) ≡ false
+    → (j : ℕ) → j < k + 1 → is_spent_at lost (slice_get own j) ≡ false
+unspent_onward lost own from k gap none last j l = go (nat_lt j from) refl (j == k) refl
+  where
+    go : (b : Bool) → nat_lt j from ≡ b → (e : Bool) → (j == k) ≡ e → is_spent_at lost (slice_get own j) ≡ false
+    go true below e same = none j (ltb-true j from below)
+    go false past true same = subst (λ n. is_spent_at lost (slice_get own n) ≡ false) (sym (eqb-true j k same)) last
+    go false past false same =
+        let other = eqb-false j k same in
+        not_spent lost _ (gap j (omega (arith, ltb-false j from past)) (omega (arith, other, l)))
+
+-- nor where none is out from here on
+pub unspent_rest : (lost : Site → Bool) (own : List Entry) (from : ℕ) → ((j : ℕ) → from ≤ j → has_status is_out (slice_get own j) ≡ false)
+    → ((j : ℕ) → j < from → is_spent_at lost (slice_get own j) ≡ false) → (j : ℕ) → is_spent_at lost (slice_get own j) ≡ false
+unspent_rest lost own from rest none j = go (nat_lt j from) refl
+  where
+    go : (b : Bool) → nat_lt j from ≡ b → is_spent_at lost (slice_get own j) ≡ false
+    go true below = none j (ltb-true j from below)
+    go false past = not_spent lost _ (rest j (omega (arith, ltb-false j from past)))

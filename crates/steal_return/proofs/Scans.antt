@@ -1,5 +1,5 @@
 -- A walk over the own children from the first, and what it finds.
-use Rattle.std.proofs.Common.{◌≡◌, ℕ, zero, suc, ◌+◌, ◌<◌, Bool, true, false, cond, List, [], ◌∷◌, Option, Some, None, length, drop, slice_get, refl, sym, ap, subst, ◌∙◌, add-one, arith, true≢false}
+use Rattle.std.proofs.Common.{◌≡◌, ℕ, zero, suc, ◌+◌, ◌-◌, ◌<◌, ◌≤◌, Bool, true, false, cond, List, [], ◌∷◌, Option, Some, None, IfSome, length, drop, slice_get, refl, sym, ap, subst, ◌∙◌, add-one, arith, true≢false}
 use Rattle.std.proofs.lemmas.Option.{none-some, same_Some}
 use Rattle.std.specs.List.{position_from}
 use Rattle.spawn_frame.specs.Picks.{is_ready}
@@ -82,3 +82,104 @@ there test own k h = go (slice_get own k) refl h
 pub ready_status : (s : Status) → is_ready s ≡ true → s ≡ Ready
 ready_status Ready h = refl
 ready_status _ h = absurd (true≢false (sym h))
+
+-- what is found from the start passes, if it is there
+pub each_found : (test : Status → Bool) (own : List Entry) (o : Option ℕ) → o ≡ position_from (λ c. test c.status) 0 own
+    → IfSome o (λ k. has_status test (slice_get own k) ≡ true)
+each_found test own None e = tt
+each_found test own (Some k) e = found_first test own k (sym e)
+
+-- ---- a walk from one that passes to the next
+
+-- The child at k is the first from another on that passes.
+pub record IsNext (test : Status → Bool) (own : List Entry) (from k : ℕ) : Type 0 where
+  pub behind : from ≤ k
+  pub within : k < length own
+  pub passes : has_status test (slice_get own k) ≡ true
+  pub gap : (j : ℕ) → from ≤ j → j < k → has_status test (slice_get own j) ≡ false
+
+-- The same, where the number i stands for the one from which the walk begins.
+record IsNextFrom (test : Status → Bool) (own : List Entry) (from i k : ℕ) : Type 0 where
+  pub place : ℕ
+  pub sum : k + from ≡ i + place
+  pub next : IsNext test own from place
+
+here_first : (test : Status → Bool) (c : Entry) (cs : List Entry) (i k : ℕ) → test c.status ≡ true → i ≡ k → IsNextFrom test (c ∷ cs) 0 i k
+here_first test c cs i k h e = record {
+  place = 0;
+  sum = omega (arith, e);
+  next = record { behind = omega arith; within = omega arith; passes = h; gap = λ j l m. absurd (omega (arith, m)) };
+}
+
+past_first : (test : Status → Bool) (c : Entry) (cs : List Entry) (i k : ℕ) → test c.status ≡ false → IsNextFrom test cs 0 (i + 1) k
+    → IsNextFrom test (c ∷ cs) 0 i k
+past_first test c cs i k h r = record {
+  place = suc r.place;
+  sum = omega (arith, r.sum);
+  next = record { behind = omega arith; within = omega (arith, r.next.within); passes = r.next.passes; gap = gap };
+}
+  where
+    gap : (j : ℕ) → 0 ≤ j → j < suc r.place → has_status test (slice_get (c ∷ cs) j) ≡ false
+    gap zero l m = h
+    gap (suc j) l m = r.next.gap j (omega arith) (omega (arith, m))
+
+one_lower : (test : Status → Bool) (c : Entry) (cs : List Entry) (from i k : ℕ) → IsNextFrom test cs from i k → IsNextFrom test (c ∷ cs) (suc from) i k
+one_lower test c cs from i k r = record {
+  place = suc r.place;
+  sum = omega (arith, r.sum);
+  next = record { behind = omega (arith, r.next.behind); within = omega (arith, r.next.within); passes = r.next.passes; gap = gap };
+}
+  where
+    gap : (j : ℕ) → suc from ≤ j → j < suc r.place → has_status test (slice_get (c ∷ cs) j) ≡ false
+    gap zero l m = absurd (omega (arith, l))
+    gap (suc j) l m = r.next.gap j (omega (arith, l)) (omega (arith, m))
+
+next_from : (test : Status → Bool) (own : List Entry) (from i k : ℕ) → position_from (λ c. test c.status) i (drop from own) ≡ Some k
+    → IsNextFrom test own from i k
+next_from test [] zero i k e = absurd (none-some k e)
+next_from test [] (suc from) i k e = absurd (none-some k e)
+next_from test (c ∷ cs) zero i k e = go (test c.status) refl e (λ f. next_from test cs 0 (i + 1) k f)
+  where
+    go : (b : Bool) → test c.status ≡ b → cond b (Some i) (position_from (λ d. test d.status) (i + 1) cs) ≡ Some k
+        → (position_from (λ d. test d.status) (i + 1) cs ≡ Some k → IsNextFrom test cs 0 (i + 1) k) → IsNextFrom test (c ∷ cs) 0 i k
+    go true h f on = here_first test c cs i k h (same_Some i k f)
+    go false h f on = past_first test c cs i k h (on f)
+next_from test (c ∷ cs) (suc from) i k e = one_lower test c cs from i k (next_from test cs from i k e)
+
+pub next_is : (test : Status → Bool) (own : List Entry) (from k : ℕ) → passes_from test from own ≡ Some k → IsNext test own from k
+next_is test own from k e =
+    let r = next_from test own from from k e in
+    let same : r.place ≡ k = omega (arith, r.sum) in
+    subst (λ n. IsNext test own from n) same r.next
+
+pub none_next : (test : Status → Bool) (own : List Entry) (from i : ℕ) → position_from (λ c. test c.status) i (drop from own) ≡ None
+    → (j : ℕ) → from ≤ j → has_status test (slice_get own j) ≡ false
+none_next test [] from i e j l = refl
+none_next test (c ∷ cs) zero i e j l = go (test c.status) refl e j (λ f n. none_next test cs 0 (i + 1) f n (omega arith))
+  where
+    go : (b : Bool) → test c.status ≡ b → cond b (Some i) (position_from (λ d. test d.status) (i + 1) cs) ≡ None → (j : ℕ)
+        → (position_from (λ d. test d.status) (i + 1) cs ≡ None → (n : ℕ) → has_status test (slice_get cs n) ≡ false) → has_status test (slice_get (c ∷ cs) j) ≡ false
+    go true h f j on = absurd (none-some i (sym f))
+    go false h f zero on = h
+    go false h f (suc j) on = on f j
+none_next test (c ∷ cs) (suc from) i e zero l = absurd (omega (arith, l))
+none_next test (c ∷ cs) (suc from) i e (suc j) l = none_next test cs from i e j (omega (arith, l))
+
+climb : (P : ℕ → Type 0) (from n : ℕ) → ((j : ℕ) → from ≤ j → j < n + from → P j → P (suc j)) → P from → P (n + from)
+climb P from zero step p = let same : from ≡ 0 + from = omega arith in subst P same p
+climb P from (suc n) step p =
+    let next : suc (n + from) ≡ suc n + from = omega arith in
+    subst P next (step (n + from) (omega arith) (omega arith) (climb P from n (λ j l m. step j l (omega (arith, m))) p))
+
+-- what goes on from each number to the next goes on from one to a later one
+pub onward : (P : ℕ → Type 0) (from k : ℕ) → from ≤ k → ((j : ℕ) → from ≤ j → j < k → P j → P (suc j)) → P from → P k
+onward P from k le step p =
+    let whole : k - from + from ≡ k = omega arith in
+    subst P whole (climb P from (k - from) (λ j l m. step j l (omega (arith, m, le))) p)
+
+-- a walk for one test passes over what does not pass it
+pub scan_onward : (test : Status → Bool) (own : List Entry) (from k : ℕ) → from ≤ k → k ≤ length own
+    → ((j : ℕ) → from ≤ j → j < k → has_status test (slice_get own j) ≡ false) → passes_from test from own ≡ passes_from test k own
+scan_onward test own from k le within gap =
+    onward (λ j. passes_from test from own ≡ passes_from test j own) from k le
+    (λ j l m e. e ∙ goes_on test own j (omega (arith, m, within)) (gap j l m) ∙ ap (λ n. passes_from test n own) (add-one j)) refl

@@ -1,4 +1,5 @@
-//! Walks over the own children of a table, by serial.
+//! Walks over the own children of a table that are out, by serial. Each costs a look at each page of the table, and one
+//! at each child of the pages that have a child that is out.
 
 ghost use Rattle.std.specs.Prelude.{◌≡◌, slice_get, false};
 ghost use Rattle.std.specs.Bool.{OnFalse, OnTrue};
@@ -26,10 +27,14 @@ pub fn first_ready(table: &Table) -> Option<u32>
 pub fn first_lost(table: &Table, known: &Known) -> Option<u32>
     ensures { result ≡ position_from (λ c. is_out_to (is_older known.now) c.status) 0 table.now.own }
 {
-    for serial in 0..table.issued() {
+    let issued = table.issued();
+    let mut from = 0;
+    while from < issued {
+        let serial = table.next_out(from)?;
         if is_lost(table, known, serial) {
             return Some(serial);
         }
+        from = serial + 1;
     }
     None
 }
@@ -52,10 +57,16 @@ pub fn is_redoable(table: &Table, known: &Known, told: Told<'_>) -> bool
     ensures able { OnTrue result (IsRedoable (is_older (known_after told.entry known.now)) table.now.own) }
     ensures spent { OnFalse result (IsSpent (is_older (known_after told.entry known.now)) table.now.own) }
 {
-    for serial in 0..table.issued() {
+    let issued = table.issued();
+    let mut from = 0;
+    while from < issued {
+        let Some(serial) = table.next_out(from) else {
+            return true;
+        };
         if is_spent(table, known, told, serial) {
             return false;
         }
+        from = serial + 1;
     }
     true
 }
@@ -80,8 +91,14 @@ pub fn redo_lost(table: &mut Table, known: &Known)
     requires { IsRedoable (is_older known.now) table.old.own }
     ensures { table.new ≡ table_own table.old (redo_lost (is_older known.now) table.old.own) }
 {
-    for serial in 0..table.issued() {
+    let issued = table.issued();
+    let mut from = 0;
+    while from < issued {
+        let Some(serial) = table.next_out(from) else {
+            return;
+        };
         redo_if_lost(table, known, serial);
+        from = serial + 1;
     }
 }
 

@@ -430,7 +430,7 @@ impl Ledger {
     }
 
     /// Whether the incarnations of nodes 1, 2, .. can be learnt: no own child that would have to be redone stands at its
-    /// last attempt. It costs a pass through the own children.
+    /// last attempt. It costs a walk over the own children that are out.
     pub fn may_learn(&self, incarnations: &[u32]) -> bool
         ensures able { OnTrue result (IsRedoable (is_older (now_known self.now.site.node self.now.known incarnations.now)) self.now.own) }
         ensures spent { OnFalse result (IsSpent (is_older (now_known self.now.site.node self.now.known incarnations.now)) self.now.own) }
@@ -445,7 +445,8 @@ impl Ledger {
     /// each of them that is out then is appended to the list, by serial. True where anything changed.
     ///
     /// `NamesSpent` comes exactly where a child that would have to be redone stands at its last attempt, `Memory` only
-    /// where memory ran out; a fault changes nothing.
+    /// where memory ran out; a fault changes nothing. It costs walks over the own children that are out and a pass
+    /// through the guests; where anything changes, also what the redos and the aborts do.
     pub fn learn_members(
         &mut self,
         incarnations: &[u32],
@@ -465,19 +466,21 @@ impl Ledger {
         }
         let known = self.known.learnt(own, incarnations)?;
         let lost = lost_guests(self.alloc, &self.table, &known)?;
+        if !self.differs(&known, &lost) {
+            return Ok(false);
+        }
         let reach = Reach::below(self.alloc, &self.table, &lost)?;
         list.reserve(reach.outs(&self.table))?;
-        let moved = self.differs(&known, &lost);
         redo_lost(&mut self.table, &known);
         drop_guests(&mut self.table, &lost);
         parents_decide();
         reach.abort(&mut self.table, list);
         self.known = known;
-        Ok(moved)
+        Ok(true)
     }
 
     /// Whether it can be learnt that a node runs so: no child that would have to be redone stands at its last attempt.
-    /// It takes no memory, and costs a pass through the own children.
+    /// It takes no memory, and costs a walk over the own children that are out.
     pub fn may_learn_hello(&self, from: Site) -> bool
         ensures able { OnTrue result (IsRedoable (is_earlier_run from.node (raised self.now.known from.node from.incarnation)) self.now.own) }
         ensures spent { OnFalse result (IsSpentForHello self.now from) }
@@ -487,7 +490,7 @@ impl Ledger {
 
     /// Learns that a node runs so: the later run of it is kept, and each child that is out to an earlier run of it is
     /// redone. `NamesSpent`, the only fault, comes exactly where one of them stands at its last attempt; then nothing
-    /// changes. It takes no memory, and costs two passes through the own children.
+    /// changes. It takes no memory, and costs two walks over the own children that are out, and the redos.
     pub fn learn_hello(&mut self, from: Site) -> Result<(), LearnFault>
         requires { from.node ≤ self.old.nodes }
         ensures ok { OnOk result (LearnsHello self.old from self.new) }

@@ -1,16 +1,17 @@
-use Rattle.std.proofs.Common.{◌≡◌, suc, ◌-◌, ◌<◌, ◌≤◌, length, sym, ap, subst, ◌∙◌, arith}
+use Rattle.std.proofs.Common.{◌≡◌, [], append-nil, suc, ◌-◌, ◌<◌, ◌≤◌, length, sym, ap, subst, ◌∙◌, arith}
 use Rattle.abort_tree.specs.Below.{MarksBelow, is_among, outs_from}
 use Rattle.spawn_frame.specs.Units.{table_guests, table_own}
 use Rattle.steal_return.proofs.Dropping.{lost_may_drop}
 use Rattle.steal_return.proofs.Fewer.{appended_few, learnt_few}
 use Rattle.steal_return.proofs.Finishes.{appended}
 use Rattle.steal_return.proofs.Learning.{known_length}
-use Rattle.steal_return.proofs.Learns.{learns_members, moves, on_false, on_true, parents_same, redone_no_more, rests}
+use Rattle.steal_return.proofs.Learns.{learns_members, learns_nothing, moves, parents_same, redone_no_more}
 use Rattle.steal_return.proofs.Marking.{no_more_reached, parents}
 use Rattle.steal_return.proofs.Outrun.{learns}
 use Rattle.steal_return.proofs.ledger.Ledger.learn_members.Goals as goal
 use Rattle.steal_return.proofs.ledger.Ledger.learn_members.Goals.{After-drop-lost-2}
-use Rattle.steal_return.specs.Members.{Differs, IsAlike, IsRedoable, MayDrop, dropped, lost_units, now_known, redo_lost}
+use Rattle.steal_return.specs.Ledger.{Ledger}
+use Rattle.steal_return.specs.Members.{Differs, IsAlike, IsRedoable, LearnsMembers, MayDrop, dropped, lost_units, now_known, redo_lost}
 use Rattle.steal_return.specs.Steals.{is_older}
 
 pub drop_guests-requires : goal.drop_guests-requires
@@ -47,7 +48,7 @@ lost_is : (c : After-drop-lost-2) → c.in_ok-lost.lost.items ≡ lost_units c.i
 lost_is c = c.in_ok-lost.ensures.lost
 
 below : (c : After-drop-lost-2) → MarksBelow (is_among c.in_ok-lost.lost.items) c.self.inside.table.own c.in_ok-reach.reach
-below c = subst (λ us. MarksBelow (is_among us) c.self.inside.table.own c.in_ok-reach.reach) c.deref.ensures.value c.in_ok-reach.ensures
+below c = subst (λ us. MarksBelow (is_among us) c.self.inside.table.own c.in_ok-reach.reach) c.deref-2.ensures.value c.in_ok-reach.ensures
 
 redoes : (c : After-drop-lost-2) → c.redo_lost.new.table ≡ table_own c.self.inside.table (redo_lost (is_older c.in_ok-known.known) c.self.inside.table.own)
 redoes c = c.redo_lost.ensures
@@ -85,21 +86,24 @@ returns-clause-learns c = (
 
 pub returns-clause-moved : goal.returns-clause-moved
 returns-clause-moved c =
-    on_true c.differs-moved.result
-    (λ (d : Differs c.args.self.now c.in_ok-known.known c.deref-2.result.now).
     moves _ c.args.self.now c.self.view_is c.in_ok-known.known c.args.incarnations.now c.in_ok-lost.lost.items c.in_ok-reach.reach
     c.redo_lost.new.table c.drop_guests.new.table c.abort.new.table (redoes c) (drops c) c.abort.ensures.table c.in_ok-lost.ensures.ascending (lost_is c) (kept c)
-    (subst (λ us. Differs c.args.self.now c.in_ok-known.known us) c.deref-2.ensures.value d))
-    c.differs-moved.ensures.differs
+    (subst (λ us. Differs c.args.self.now c.in_ok-known.known us) c.deref.ensures.value c.if-not-differs.ensures.differs)
 
-pub returns-clause-same : goal.returns-clause-same
-returns-clause-same c =
-    on_false c.differs-moved.result
-    (λ (a : IsAlike c.args.self.now c.in_ok-known.known c.deref-2.result.now).
-    rests _ c.args.self.now c.self.view_is c.in_ok-known.known c.args.incarnations.now c.in_ok-lost.lost.items c.in_ok-reach.reach
-    c.redo_lost.new.table c.drop_guests.new.table c.abort.new.table (redoes c) (drops c) c.abort.ensures.table c.in_ok-lost.ensures.ascending (lost_is c) (kept c) (below c)
-    (subst (λ us. IsAlike c.args.self.now c.in_ok-known.known us) c.deref-2.ensures.value a))
-    c.differs-moved.ensures.alike
+pub returns-then-not-differs-clause-learns : goal.returns-then-not-differs-clause-learns
+returns-then-not-differs-clause-learns c =
+    let was : Ledger = record { table = c.self.inside.table; nodes = length c.self.inside.known - 1; known = c.self.inside.known } in
+    let known = c.in_ok-known.known in
+    let lost = c.in_ok-lost.lost.items in
+    let known_is = c.in_ok-known.ensures ∙ ap (λ s. now_known s.node c.self.inside.known c.args.incarnations.now) c.site-own.ensures in
+    let redoable = subst (λ k. IsRedoable (is_older k) c.self.inside.table.own) (sym c.in_ok-known.ensures) c.if-not-is_redoable.ensures.able in
+    let alike = subst (λ us. IsAlike c.args.self.now known us) c.deref.ensures.value c.if-not-differs.ensures.alike in (
+      [],
+      sym (append-nil c.args.list.now.items),
+      subst (λ l. LearnsMembers l c.args.incarnations.now [] l) c.self.view_is
+          (learns_nothing was known c.args.incarnations.now lost c.in_ok-lost.ensures.ascending c.in_ok-lost.ensures.lost known_is redoable
+          (subst (λ l. IsAlike l known lost) (sym c.self.view_is) alike)),
+    )
 
 pub returns-clause-few : goal.returns-clause-few
 returns-clause-few c = appended_few _ _ _ _ (learnt_few c.args.self.now _ c.args.incarnations.now) (returns-clause-learns c)
