@@ -1,9 +1,8 @@
 -- A new guest at its place in the order.
-use Rattle.std.proofs.Common.{◌≡◌, ℕ, suc, ◌+◌, ◌≤◌, Bool, true, false, cond, not, ◌==◌, nat_lt, List, [], ◌∷◌, map, length, insert, position, unwrap_or, Option, Some, None, is_some, IsSome, slice_get, refl, sym, ap, subst, ◌∙◌, ⊎_elim, arith}
+use Rattle.std.proofs.Common.{◌≡◌, ℕ, suc, ◌+◌, ◌≤◌, Bool, true, false, cond, not, ◌==◌, List, [], ◌∷◌, map, insert, Option, Some, None, is_some, IsSome, slice_get, refl, sym, ap, subst, ◌∙◌, ⊎_elim, arith}
 use Rattle.std.specs.List.{AllByRecursion, position_or_len}
-use Rattle.std.proofs.lemmas.List.Sums.{prefix_len-le-length}
 use Rattle.std.proofs.lemmas.Option.{none-some}
-use Rattle.std.proofs.lemmas.Bool.{and_from, both_ways, eq-eqb, false≢true, false_from_ne_true, ltb-false, or_cases, true≢false}
+use Rattle.std.proofs.lemmas.Bool.{and_from, both_ways, eq-eqb, false≢true, false_from_ne_true, or_cases, true≢false}
 use Rattle.spawn_frame.specs.Frames.{is_unit}
 use Rattle.spawn_frame.specs.Names.{guest_before, same_name}
 use Rattle.spawn_frame.specs.Tables.{HasParents, IsAscending}
@@ -23,30 +22,17 @@ abbrev pub put_guest : Guest → List Guest → List Guest
 put_guest new [] = new ∷ []
 put_guest new (g ∷ gs) = cond (guest_before new.name new.work.attempt g.name g.work.attempt) (new ∷ g ∷ gs) (g ∷ put_guest new gs)
 
-place_is_len : {X : Type 0} (p : X → Bool) (xs : List X) → unwrap_or (position p xs) (length xs) ≡ position_or_len p xs
-place_is_len p xs = go (nat_lt (position_or_len p xs) (length xs)) refl
+pub put_is : (new : Guest) (gs : List Guest) → insert gs (position_or_len (λ g. guest_before new.name new.work.attempt g.name g.work.attempt) gs) new ≡ put_guest new gs
+put_is new [] = refl
+put_is new (g ∷ gs) = go (guest_before new.name new.work.attempt g.name g.work.attempt) (put_is new gs)
   where
-    go : (b : Bool) → nat_lt (position_or_len p xs) (length xs) ≡ b → unwrap_or (cond b (Some (position_or_len p xs)) None) (length xs) ≡ position_or_len p xs
-    go true t = refl
-    go false t =
-        let past = ltb-false (position_or_len p xs) (length xs) t in
-        omega (arith, past, prefix_len-le-length (λ x. not (p x)) xs)
-
-pub put_is : (new : Guest) (gs : List Guest)
-    → insert gs (unwrap_or (position (λ g. guest_before new.name new.work.attempt g.name g.work.attempt) gs) (length gs)) new ≡ put_guest new gs
-put_is new gs = ap (λ n. insert gs n new) (place_is_len (λ g. guest_before new.name new.work.attempt g.name g.work.attempt) gs) ∙ by_place new gs
-  where
-    by_place : (new : Guest) (gs : List Guest) → insert gs (position_or_len (λ g. guest_before new.name new.work.attempt g.name g.work.attempt) gs) new ≡ put_guest new gs
-    by_place new [] = refl
-    by_place new (g ∷ gs) = go (guest_before new.name new.work.attempt g.name g.work.attempt) (by_place new gs)
-      where
-        go : (b : Bool) → insert gs (position_or_len (λ x. guest_before new.name new.work.attempt x.name x.work.attempt) gs) new ≡ put_guest new gs
-            → insert (g ∷ gs) (cond (not b) (1 + position_or_len (λ x. guest_before new.name new.work.attempt x.name x.work.attempt) gs) 0) new ≡ cond b (new ∷ g ∷ gs) (g ∷ put_guest new gs)
-        go true e = refl
-        go false e =
-            let n : ℕ = position_or_len (λ x. guest_before new.name new.work.attempt x.name x.work.attempt) gs in
-            let next : 1 + n ≡ suc n = omega arith in
-            ap (λ k. insert (g ∷ gs) k new) next ∙ ap (λ l. g ∷ l) e
+    go : (b : Bool) → insert gs (position_or_len (λ x. guest_before new.name new.work.attempt x.name x.work.attempt) gs) new ≡ put_guest new gs
+        → insert (g ∷ gs) (cond (not b) (1 + position_or_len (λ x. guest_before new.name new.work.attempt x.name x.work.attempt) gs) 0) new ≡ cond b (new ∷ g ∷ gs) (g ∷ put_guest new gs)
+    go true e = refl
+    go false e =
+        let n : ℕ = position_or_len (λ x. guest_before new.name new.work.attempt x.name x.work.attempt) gs in
+        let next : 1 + n ≡ suc n = omega arith in
+        ap (λ k. insert (g ∷ gs) k new) next ∙ ap (λ l. g ∷ l) e
 
 pub put_view : (new : Guest) (gs : List Guest) → map guest_entry (put_guest new gs) ≡ insert_guest (guest_entry new) (map guest_entry gs)
 put_view new [] = refl

@@ -13,6 +13,7 @@ pub mod Winners
 pub mod Picked
 pub mod Ended
 pub mod Orders
+pub mod Halving
 pub mod Admitted
 pub mod Spawned
 pub mod Split

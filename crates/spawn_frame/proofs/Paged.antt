@@ -1,12 +1,15 @@
 -- Pages of own children: what they hold, and what is told of them.
-use Rattle.std.proofs.Common.{◌≡◌, ◌≢◌, ◌⊎◌, inl, inr, subst, ◌==◌, ◌-◌, nat_lt, is_some, get_or, slice_set, ℕ, zero, suc, ◌+◌, ◌*◌, ◌/◌, ◌<◌, ◌≤◌, length-append, Bool, true, false, cond, List, [], ◌∷◌, ◌++◌, length, take, drop, min, Option, Some, None, refl, sym, ap, ◌∙◌, arith}
+use Rattle.std.proofs.Common.{◌≡◌, ◌≢◌, ◌⊎◌, inl, inr, subst, ◌==◌, ◌-◌, nat_lt, is_some, get_or, slice_set, ℕ, zero, suc, ◌+◌, ◌*◌, ◌/◌, ◌<◌, ◌≤◌, length-append, Bool, true, false, cond, List, [], ◌∷◌, ◌++◌, length, map, take, drop, min, Option, Some, None, refl, sym, ap, ◌∙◌, arith}
 use Rattle.std.proofs.Math.Seq.{take-nil}
 use Rattle.std.proofs.lemmas.List.{take_min, length-drop, length-take, length-set, get_or-set_other}
 use Rattle.std.proofs.lemmas.Grind.{get_or-set_at}
+use Rattle.std.proofs.lemmas.List.Sums.{count_by-le-length, sum_by-cons}
+use Rattle.std.specs.List.{count_by}
 use Rattle.std.proofs.lemmas.Bool.{both_ways, eqb-true, eq-eqb, false≢true, ltb-true, ltb-false, or_parts}
 use Rattle.spawn_frame.specs.Pages.{TellsOthers, TellsPages, has_wanted, kinds_of, page_of, page_size, tells}
 use Rattle.spawn_frame.specs.Picks.{either_unit}
-use Rattle.spawn_frame.specs.Works.{change_child, is_wanted, last_wanted}
+use Rattle.spawn_frame.specs.Tables.{is_out, outs_of}
+use Rattle.spawn_frame.specs.Works.{change_child, child_entry, is_wanted, last_wanted}
 use Rattle.spawn_frame.specs.declared.child.Child.{Child}
 use Rattle.spawn_frame.specs.declared.kinds.Kinds.{Kinds}
 use Rattle.spawn_frame.specs.declared.unit.Unit.{Unit as WorkUnit}
@@ -190,3 +193,61 @@ pub others_told : (f : Work → Work) (own seen : List Child) (k : ℕ) (pages l
     → TellsOthers (k / 256) (k / 256 + 1) seen lent
 others_told f own seen k pages lent h is same =
     subst (λ (p : List Child × List Kinds). TellsOthers (k / 256) (k / 256 + 1) p.0 p.1) (λ i. (sym is i, sym same i)) (others_stay f own k pages h)
+
+-- ---- a count, page by page
+
+abbrev pub counted : Wanted → List Child → ℕ
+counted wanted own = count_by (λ c. is_wanted wanted c.work) own
+
+count_step : (wanted : Wanted) (c : Child) (cs : List Child) → counted wanted (c ∷ cs) ≡ cond (is_wanted wanted c.work) 1 0 + counted wanted cs
+count_step wanted c cs = sum_by-cons (λ d. cond (is_wanted wanted d.work) 1 0) c cs
+
+counted_parts : (wanted : Wanted) (a b n : ℕ) (own : List Child) → n ≡ a + b → counted wanted (take n own) ≡ counted wanted (take a own) + counted wanted (take b (drop a own))
+counted_parts wanted zero b n own e =
+    let n_is : n ≡ b = omega arith in
+    let whole : counted wanted (take b own) ≡ 0 + counted wanted (take b own) = omega arith in
+    ap (λ i. counted wanted (take i own)) n_is ∙ whole
+counted_parts wanted (suc a) b n [] e =
+    let none : counted wanted (take n []) ≡ 0 = ap (counted wanted) (take-nil n) in
+    let other : counted wanted (take b []) ≡ 0 = ap (counted wanted) (take-nil b) in
+    omega (arith, none, other)
+counted_parts wanted (suc a) b zero (c ∷ cs) e = absurd (omega (arith, e))
+counted_parts wanted (suc a) b (suc n) (c ∷ cs) e =
+    let rest = counted_parts wanted a b n cs (omega (arith, e)) in
+    omega (arith, rest, count_step wanted c (take n cs), count_step wanted c (take a cs))
+
+none_counted : (wanted : Wanted) (own : List Child) → has_wanted wanted own ≡ false → counted wanted own ≡ 0
+none_counted wanted [] e = refl
+none_counted wanted (c ∷ cs) e =
+    let p = or_parts (is_wanted wanted c.work) (has_wanted wanted cs) e in
+    let one : ℕ = cond (is_wanted wanted c.work) 1 0 in
+    let none : one ≡ 0 = ap (λ b. cond b 1 0) p.0 in
+    omega (arith, none_counted wanted cs p.1, none, count_step wanted c cs)
+
+-- the count of a page goes to that of those before it
+pub page_counted : (wanted : Wanted) (own : List Child) (page count : ℕ) → count ≡ counted wanted (take (page * 256) own)
+    → count + counted wanted (page_of own page) ≡ counted wanted (take ((page + 1) * 256) own)
+page_counted wanted own page count e =
+    let parts = counted_parts wanted (page * 256) 256 ((page + 1) * 256) own (omega arith) in
+    omega (arith, parts, e)
+
+pub page_uncounted : (wanted : Wanted) (own : List Child) (page count : ℕ) → tells wanted (kinds_of (page_of own page)) ≡ false
+    → count ≡ counted wanted (take (page * 256) own) → count ≡ counted wanted (take ((page + 1) * 256) own)
+page_uncounted wanted own page count none e =
+    let more = page_counted wanted own page count e in
+    let nothing = none_counted wanted (page_of own page) (sym (tells_is wanted (page_of own page)) ∙ none) in
+    omega (arith, more, nothing)
+
+pub count_fits : (wanted : Wanted) (own : List Child) (page count : ℕ) → count ≡ counted wanted (take (page * 256) own)
+    → count + counted wanted (page_of own page) ≤ length own
+count_fits wanted own page count e =
+    let more = page_counted wanted own page count e in
+    let most = count_by-le-length (λ c. is_wanted wanted c.work) (take ((page + 1) * 256) own) in
+    omega (arith, more, most, length-take ((page + 1) * 256) own)
+
+-- the children that are out, as the site sees them
+pub outs_seen : (own : List Child) → counted wants.Out own ≡ outs_of (map child_entry own)
+outs_seen [] = refl
+outs_seen (c ∷ cs) =
+    count_step wants.Out c cs ∙ ap (λ k. cond (is_out c.work.status) 1 0 + k) (outs_seen cs)
+    ∙ sym (sum_by-cons (λ d. cond (is_out d.status) 1 0) (child_entry c) (map child_entry cs))

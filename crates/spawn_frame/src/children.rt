@@ -1,14 +1,15 @@
 //! The own children of a site.
 
 ghost use Rattle.std.specs.Prelude.{◌≡◌, ℕ, ◌+◌, ◌/◌, ◌<◌, ◌≤◌, ◌++◌, ◌^◌, drop, get_or, [], length, option_map, slice_get, OnErr, OnOk, Some};
-ghost use Rattle.spawn_frame.specs.Works.{change_child, child_work, frame_says, last_wanted, redone_work, split_work, with_heard, with_work_status, HearsFrom};
+ghost use Rattle.std.specs.List.{count_by};
+ghost use Rattle.spawn_frame.specs.Works.{change_child, child_work, frame_says, is_wanted, last_wanted, redone_work, split_work, with_heard, with_work_status, HearsFrom};
 
 use crate::child::Child;
 use crate::child_result::ChildResult;
 use crate::heard::Heard;
 use crate::kinds::Kinds;
 use crate::next::next_in_pages;
-use crate::pages::{PAGE, last_in_pages, tell_pages};
+use crate::pages::{PAGE, count_in_pages, last_in_pages, tell_pages};
 use crate::status::Status;
 use crate::unit::Unit;
 use crate::wanted::Wanted;
@@ -97,6 +98,13 @@ impl Children {
         ensures { result ≡ next_wanted wanted from (drop from self.now) }
     {
         next_in_pages(&self.items, &self.pages, wanted, from)
+    }
+
+    /// How many are wanted. It costs a look at each page, and passes through the pages that have such a child.
+    pub fn count(&self, wanted: Wanted) -> usize
+        ensures { result ≡ count_by (λ c. is_wanted wanted c.work) self.now }
+    {
+        count_in_pages(&self.items, &self.pages, wanted)
     }
 
     /// Gives a child another status, if it is there. It costs four passes through its page at most, as each change does.

@@ -1,8 +1,9 @@
 //! Pages of own children, and what is told of each.
 
 ghost use Rattle.std.specs.Prelude.{◌≡◌, ◌+◌, ◌*◌, ◌<◌, ◌≤◌, ◌^◌, drop, length};
+ghost use Rattle.std.specs.List.{count_by};
 ghost use Rattle.spawn_frame.specs.Pages.{page_of as children_of, TellsOthers, TellsPages};
-ghost use Rattle.spawn_frame.specs.Works.{last_wanted};
+ghost use Rattle.spawn_frame.specs.Works.{is_wanted, last_wanted};
 
 use crate::child::Child;
 use crate::kinds::Kinds;
@@ -52,6 +53,30 @@ pub fn last_in_pages(own: &[Child], pages: &[Kinds], wanted: Wanted) -> Option<U
         }
     }
     None
+}
+
+/// How many own children are wanted. It costs a look at each page, and passes through the pages that have such a child.
+pub fn count_in_pages(own: &[Child], pages: &[Kinds], wanted: Wanted) -> usize
+    requires { TellsPages own.now pages.now }
+    ensures { result ≡ count_by (λ c. is_wanted wanted c.work) own.now }
+{
+    let mut count = 0;
+    for page in 0..own.len().div_ceil(PAGE) {
+        if pages[page].has(wanted) {
+            count += count_wanted(page_of(own, page), wanted);
+        }
+    }
+    count
+}
+
+/// How many of these children are wanted.
+fn count_wanted(children: &[Child], wanted: Wanted) -> usize
+    ensures { result ≡ count_by (λ c. is_wanted wanted c.work) children.now }
+{
+    children
+        .iter()
+        .filter(|child| child.work.is_wanted(wanted))
+        .count()
 }
 
 /// The one of greatest serial that is wanted among these children, the first of which has this serial.

@@ -35,9 +35,10 @@ use std::marker::Model;
 
 /// The units of work of one site: its own children by serial, and its guests in the order of their names and attempts.
 ///
-/// Only `with_root`, `spawn`, `admit` and `prefix_into` take memory. The own children stand in pages of 256: but for
-/// `outs`, a call looks at each page once and at the children of one or two pages, and makes at most one pass through
-/// the guests; none goes through the children of a frame, whose inlet has heard them.
+/// Only `with_root`, `spawn`, `admit` and `prefix_into` take memory. The own children stand in pages of 256: a call looks
+/// at each page once and at the children of one or two pages, `outs` at those of each page that has one that is out. A
+/// guest is found by halving. Only `ready`, `take` and `ripe` may make a pass through the guests, where they find no own
+/// child. No call goes through the children of a frame, whose inlet has heard them.
 #[derive(Drop)]
 pub struct Table {
     site: Site,
@@ -147,15 +148,11 @@ impl Table {
         self.own.len() as u32
     }
 
-    /// How many own children are out. It costs a pass through the own children.
+    /// How many own children are out. It costs a look at each page, and passes through the pages that have one that is out.
     pub fn outs(&self) -> usize
         ensures { result ≡ outs_of self.now.own }
     {
-        self.own
-            .as_slice()
-            .iter()
-            .filter(|child| child.work.is_out())
-            .count()
+        self.own.count(Wanted::Out)
     }
 
     /// The ready own child of least serial from this one on. It costs a look at each page behind, and passes through two
@@ -180,8 +177,8 @@ impl Table {
         self.own.next(Wanted::Out, from)
     }
 
-    /// A unit's attempt and status; none where it isn't there. An own child is found at once, a guest by a pass
-    /// through the guests.
+    /// A unit's attempt and status; none where it isn't there. An own child is found at once, a guest by
+    /// halving.
     pub fn unit(&self, unit: Unit) -> Option<UnitView<'_>>
         ensures seen { MatchOption result (unit_of self.now unit ≡ None) (λ view. IsSeen (unit_of self.now unit) view.attempt view.status.now) }
         ensures tested { IfSome result (λ view. (test : Status → Bool) → has_status test (unit_of self.now unit) ≡ test view.status.now) }
@@ -225,7 +222,7 @@ impl Table {
         self.own.as_slice()[serial as usize].parent
     }
 
-    /// The least guest, or the least behind the given one, in the order of guests. It costs a pass through the guests.
+    /// The least guest, or the least behind the given one, in the order of guests. It is found by halving.
     pub fn next_guest(&self, after: Option<(ChildName, Attempt)>) -> Option<(ChildName, Attempt)>
         ensures next { result ≡ option_map guest_key (find (is_after after) self.now.guests) }
         ensures ascending { IsAscending self.now.guests }
@@ -374,7 +371,7 @@ impl Table {
     }
 
     /// Another site's child becomes a ready guest; the only error is want of memory, which changes nothing. It costs a
-    /// pass through the guests, and the prefix.
+    /// search by halving, a move of the guests that stand behind, and the prefix.
     pub fn admit(
         &mut self,
         name: ChildName,
@@ -387,12 +384,12 @@ impl Table {
         ensures err { OnErr result (self.new ≡ self.old) }
     {
         let guest = new_guest(self.alloc, name, attempt, prefix)?;
-        let place = place_behind(&self.guests, name, attempt).unwrap_or(self.guests.len());
+        let place = place_behind(&self.guests, name, attempt);
         self.guests.insert(place, guest)?;
         Ok(())
     }
 
-    /// A finished guest settles on the result that its owner accepted. It costs a pass through the guests.
+    /// A finished guest settles on the result that its owner accepted. It costs a look for the guest.
     pub fn settle(&mut self, name: ChildName, attempt: Attempt, child_result: ChildResult)
         requires { has_status is_finished (guest_in self.old.guests name attempt) ≡ true }
         ensures { self.new ≡ table_gets self.old (Unit.Guest name attempt) (Status.Settled child_result) }
@@ -400,7 +397,7 @@ impl Table {
         self.set_status(Unit::Guest(name, attempt), Status::Settled(child_result));
     }
 
-    /// An open guest is wanted no more. It costs a pass through the guests.
+    /// An open guest is wanted no more. It costs a look for the guest.
     pub fn drop_guest(&mut self, name: ChildName, attempt: Attempt)
         requires { has_status is_open (guest_in self.old.guests name attempt) ≡ true }
         ensures { self.new ≡ table_gets self.old (Unit.Guest name attempt) Status.Dropped }

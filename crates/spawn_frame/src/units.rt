@@ -1,8 +1,9 @@
 //! Units among the own children and guests of a table.
 
-ghost use Rattle.std.specs.Prelude.{◌≡◌, ◌<◌, find, map, option_map, position};
+ghost use Rattle.std.specs.Prelude.{◌≡◌, ◌<◌, ◌≤◌, find, length, map, not, option_map, position, slice_get};
+ghost use Rattle.std.specs.List.{position_or_len};
 ghost use Rattle.spawn_frame.specs.Names.{guest_before};
-ghost use Rattle.spawn_frame.specs.Tables.{guest_key, is_after};
+ghost use Rattle.spawn_frame.specs.Tables.{guest_key, is_after, IsAscending};
 ghost use Rattle.spawn_frame.specs.Units.{is_guest};
 ghost use Rattle.spawn_frame.specs.Works.{first_wanted, frame_says, guest_entry, guests_after, guests_told, own_after, own_told, parent_work, split_work, with_heard, with_work_status, work_in, HearsFrom};
 
@@ -27,39 +28,65 @@ pub fn first_guest(guests: &[Guest], wanted: Wanted) -> Option<Unit>
     None
 }
 
-/// The name and attempt of the first guest behind the given one, or of the first of all.
+/// The name and attempt of the first guest behind the given one, or of the first of all. It costs a search by halving.
 pub fn first_after(
     guests: &[Guest],
     after: Option<(ChildName, Attempt)>,
 ) -> Option<(ChildName, Attempt)>
+    requires { IsAscending (map guest_entry guests.now) }
     ensures { result ≡ option_map guest_key (find (is_after after) (map guest_entry guests.now)) }
 {
-    for guest in guests {
-        if guest.is_after(after) {
-            return Some((guest.name, guest.work.attempt));
-        }
+    match after {
+        Some((name, attempt)) => key_at(guests, place_behind(guests, name, attempt)),
+        None => key_at(guests, 0),
     }
-    None
 }
 
-/// The place of the guest of this name and attempt.
+/// The name and attempt of the guest at a place, if there is one.
+fn key_at(guests: &[Guest], place: usize) -> Option<(ChildName, Attempt)>
+    ensures { result ≡ option_map guest_key (slice_get (map guest_entry guests.now) place) }
+{
+    if place < guests.len() {
+        let guest = &guests[place];
+        Some((guest.name, guest.work.attempt))
+    } else {
+        None
+    }
+}
+
+/// The place of the guest of this name and attempt. It costs a search by halving.
 pub fn place_of(guests: &[Guest], name: ChildName, attempt: Attempt) -> Option<usize>
+    requires { IsAscending (map guest_entry guests.now) }
     ensures { result ≡ position (λ g. is_guest name attempt (guest_entry g)) guests.now }
 {
-    guests.iter().position(|guest| guest.is_at(name, attempt))
+    let behind = place_behind(guests, name, attempt);
+    if behind == 0 {
+        return None;
+    }
+    if guests[behind - 1].is_at(name, attempt) {
+        Some(behind - 1)
+    } else {
+        None
+    }
 }
 
-/// The place of the first guest that stands behind this name and attempt in the order of guests.
-pub fn place_behind(guests: &[Guest], name: ChildName, attempt: Attempt) -> Option<usize>
-    ensures { result ≡ position (λ g. guest_before name attempt g.name g.work.attempt) guests.now }
+/// The place of the first guest that stands behind this name and attempt in the order of guests, or the end. It costs a
+/// search by halving.
+pub fn place_behind(guests: &[Guest], name: ChildName, attempt: Attempt) -> usize
+    requires { IsAscending (map guest_entry guests.now) }
+    ensures place { result ≡ position_or_len (λ g. guest_before name attempt g.name g.work.attempt) guests.now }
+    ensures within { result ≤ length guests.now }
 {
-    guests
-        .iter()
-        .position(|guest| guest.is_behind(name, attempt))
+    guests.partition_point(
+        |guest: &Guest| -> bool
+            ensures { result ≡ not (guest_before name attempt guest.now.name guest.now.work.attempt) }
+        { !guest.is_behind(name, attempt) },
+    )
 }
 
 /// Gives a unit another status, if it is there.
 pub fn set_unit(own: &mut Children, guests: &mut [Guest], unit: Unit, status: Status)
+    requires { IsAscending (map guest_entry guests.old) }
     ensures own { own.new ≡ own_after unit (with_work_status status) own.old }
     ensures guests { guests.new ≡ guests_after unit (with_work_status status) guests.old }
 {
@@ -75,7 +102,8 @@ pub fn set_unit(own: &mut Children, guests: &mut [Guest], unit: Unit, status: St
 
 /// Makes a unit a frame of so many children, if it is there.
 pub fn split_unit(own: &mut Children, guests: &mut [Guest], unit: Unit, children: u32)
-    requires { 0 < children }
+    requires some { 0 < children }
+    requires ascending { IsAscending (map guest_entry guests.old) }
     ensures own { own.new ≡ own_after unit (split_work children) own.old }
     ensures guests { guests.new ≡ guests_after unit (split_work children) guests.old }
 {
@@ -97,7 +125,8 @@ fn tell(
     child: u32,
     child_result: &ChildResult,
 ) -> Heard
-    requires { HearsFrom (work_in own.old guests.old unit) }
+    requires hears { HearsFrom (work_in own.old guests.old unit) }
+    requires ascending { IsAscending (map guest_entry guests.old) }
     ensures own { own.new ≡ own_after unit (with_heard child child_result.now) own.old }
     ensures guests { guests.new ≡ guests_after unit (with_heard child child_result.now) guests.old }
     ensures heard { result ≡ frame_says (option_map (with_heard child child_result.now) (work_in own.old guests.old unit)) }
@@ -119,7 +148,8 @@ pub fn tell_parent(
     child: u32,
     child_result: &ChildResult,
 ) -> Heard
-    requires { HearsFrom (parent_work parent own.old guests.old) }
+    requires hears { HearsFrom (parent_work parent own.old guests.old) }
+    requires ascending { IsAscending (map guest_entry guests.old) }
     ensures own { own.new ≡ own_told parent (with_heard child child_result.now) own.old }
     ensures guests { guests.new ≡ guests_told parent (with_heard child child_result.now) guests.old }
     ensures heard { result ≡ frame_says (option_map (with_heard child child_result.now) (parent_work parent own.old guests.old)) }

@@ -1,5 +1,5 @@
 ghost use Rattle.std.specs.Prelude.{◌≡◌, ◌<◌, Option, Some};
-ghost use Rattle.spawn_frame.specs.Tables.{is_at_work, is_out};
+ghost use Rattle.spawn_frame.specs.Tables.{is_at_work};
 ghost use Rattle.spawn_frame.specs.declared.unit.Unit.{Unit as WorkUnit};
 
 use crate::child_result::ChildResult;
@@ -50,13 +50,6 @@ impl Work {
             Wanted::Here => self.status.is_here(),
             Wanted::Out => self.status.is_out(),
         }
-    }
-
-    /// Whether a thief has it.
-    pub fn is_out(&self) -> bool
-        ensures { result ≡ is_out self.now.status }
-    {
-        matches!(self.status, Status::Out(_))
     }
 
     /// Whether a worker of this site has it, at this attempt and with this prefix.

@@ -8,7 +8,7 @@ use Rattle.spawn_frame.proofs.units.tell.Goals as goal
 pub hear-requires-in-Some : goal.hear-requires-in-Some
 hear-requires-in-Some c =
     let e = guest_read c.args.guests.now c.in-Guest.name c.in-Guest.attempt c.in-Some.place c.index-guests-place.result (sym c.in-Some.is ∙ c.place_of.ensures) in
-    subst HearsFrom e (subst (λ u. HearsFrom (work_in c.args.own.now c.args.guests.now u)) c.in-Guest.is c.requires)
+    subst HearsFrom e (subst (λ u. HearsFrom (work_in c.args.own.now c.args.guests.now u)) c.in-Guest.is c.requires.hears)
 
 pub returns-in-Some-clause-guests : goal.returns-in-Some-clause-guests
 returns-in-Some-clause-guests c =

@@ -1,8 +1,9 @@
-use Rattle.std.proofs.Common.{List, length, insert, position, unwrap_or, sym, ap, subst, ◌∙◌}
+use Rattle.std.proofs.Common.{List, insert, map, sym, ap, subst, ◌∙◌}
+use Rattle.std.specs.List.{position_or_len}
 use Rattle.spawn_frame.specs.Names.{guest_before}
-use Rattle.spawn_frame.specs.Tables.{new_guest}
+use Rattle.spawn_frame.specs.Tables.{new_guest, IsAscending}
 use Rattle.spawn_frame.specs.Units.{guest_in, insert_guest, table_guests}
-use Rattle.spawn_frame.specs.Works.{IsTable, fresh_guest, table_of}
+use Rattle.spawn_frame.specs.Works.{IsTable, fresh_guest, guest_entry, table_of}
 use Rattle.spawn_frame.specs.declared.guest.Guest.{Guest}
 use Rattle.spawn_frame.proofs.Admitted.{put_is, put_kept, put_view}
 use Rattle.spawn_frame.proofs.table.Table.admit.Goals as goal
@@ -11,9 +12,7 @@ pub invariant_of-self-2 : goal.invariant_of-self-2
 invariant_of-self-2 c =
     let t = c.self.inside in
     let new = fresh_guest c.args.name c.args.attempt c.args.prefix.now in
-    let first = c.place_behind.ensures ∙ ap (λ (gs : List Guest). position (λ g. guest_before c.args.name c.args.attempt g.name g.work.attempt) gs) c.deref.ensures.value in
-    let size = c.len.ensures ∙ sym c.deref.ensures.len ∙ ap length c.deref.ensures.value in
-    let place = c.unwrap_or-place.ensures ∙ (λ i. unwrap_or (first i) (size i)) in
+    let place = c.place_behind-place.ensures.place ∙ ap (λ (gs : List Guest). position_or_len (λ g. guest_before c.args.name c.args.attempt g.name g.work.attempt) gs) c.deref.ensures.value in
     let put = c.in_ok-insert.ensures.items ∙ (λ i. insert t.guests.items (place i) (c.in_ok-guest.ensures i)) ∙ put_is new t.guests.items in
     subst (λ guests. IsTable (table_of t.site t.names_limit t.own guests) t.own guests) (sym put)
     (put_kept t.site t.names_limit t.own t.guests.items c.self.invariant c.args.name c.args.attempt c.args.prefix.now
@@ -23,10 +22,12 @@ pub returns-clause-ok : goal.returns-clause-ok
 returns-clause-ok c =
     let t = c.self.inside in
     let new = fresh_guest c.args.name c.args.attempt c.args.prefix.now in
-    let first = c.place_behind.ensures ∙ ap (λ (gs : List Guest). position (λ g. guest_before c.args.name c.args.attempt g.name g.work.attempt) gs) c.deref.ensures.value in
-    let size = c.len.ensures ∙ sym c.deref.ensures.len ∙ ap length c.deref.ensures.value in
-    let place = c.unwrap_or-place.ensures ∙ (λ i. unwrap_or (first i) (size i)) in
+    let place = c.place_behind-place.ensures.place ∙ ap (λ (gs : List Guest). position_or_len (λ g. guest_before c.args.name c.args.attempt g.name g.work.attempt) gs) c.deref.ensures.value in
     let put = c.in_ok-insert.ensures.items ∙ (λ i. insert t.guests.items (place i) (c.in_ok-guest.ensures i)) ∙ put_is new t.guests.items in
     ap (λ guests. table_of t.site t.names_limit t.own guests) put
     ∙ ap (table_guests (table_of t.site t.names_limit t.own t.guests.items)) (put_view new t.guests.items)
     ∙ ap (λ v. table_guests v (insert_guest (new_guest c.args.name c.args.attempt c.args.prefix.now) v.guests)) c.self.view_is
+
+pub place_behind-place-requires : goal.place_behind-place-requires
+place_behind-place-requires c =
+    subst (λ (gs : List Guest). IsAscending (map guest_entry gs)) (sym c.deref.ensures.value) c.self.invariant.ascending

@@ -1,7 +1,7 @@
-use Rattle.std.proofs.Common.{List, get_or, option_map, slice_get, sym, ap, subst, ◌∙◌}
-use Rattle.spawn_frame.specs.Tables.{has_status, may_end, parent_heard}
+use Rattle.std.proofs.Common.{List, get_or, option_map, slice_get, sym, ap, subst, ◌∙◌, map}
+use Rattle.spawn_frame.specs.Tables.{has_status, may_end, parent_heard, IsAscending}
 use Rattle.spawn_frame.specs.Units.{table_gets}
-use Rattle.spawn_frame.specs.Works.{HearsFrom, IsTable, frame_says, guests_told, change_child, parent_work, table_of, with_heard, with_work_status}
+use Rattle.spawn_frame.specs.Works.{HearsFrom, IsTable, frame_says, guests_told, change_child, parent_work, table_of, with_heard, with_work_status, guest_entry}
 use Rattle.spawn_frame.specs.declared.child.Child.{Child}
 use Rattle.spawn_frame.specs.declared.guest.Guest.{Guest}
 use Rattle.spawn_frame.specs.declared.status.Status.TheVariants.{Done}
@@ -11,8 +11,8 @@ use Rattle.spawn_frame.proofs.Statuses.{child_here}
 use Rattle.spawn_frame.proofs.Writes.{items_after}
 use Rattle.spawn_frame.proofs.table.Table.set_child_result.Goals as goal
 
-pub tell_parent-heard-requires : goal.tell_parent-heard-requires
-tell_parent-heard-requires c =
+pub tell_parent-heard-requires-clause-hears : goal.tell_parent-heard-requires-clause-hears
+tell_parent-heard-requires-clause-hears c =
     let t = c.self.inside in
     let seen = c.as_slice.result.now in
     let item : Child = get_or seen c.args.serial c.index-as_slice-serial.result in
@@ -73,3 +73,7 @@ returns-clause-heard c =
     ∙ sym (ap (λ v. parent_heard v (Own c.args.serial))
     ((λ i. table_of t.site t.names_limit (e i) (g i))
     ∙ ended_view t.site t.names_limit t.own t.guests.items c.self.invariant c.args.serial there r))
+
+pub tell_parent-heard-requires-clause-ascending : goal.tell_parent-heard-requires-clause-ascending
+tell_parent-heard-requires-clause-ascending c =
+    subst (λ (gs : List Guest). IsAscending (map guest_entry gs)) (sym c.deref_mut.ensures.value) c.self.invariant.ascending

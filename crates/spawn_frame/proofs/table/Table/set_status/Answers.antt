@@ -1,7 +1,7 @@
-use Rattle.std.proofs.Common.{List, sym, ap, subst, ◌∙◌}
-use Rattle.spawn_frame.specs.Tables.{has_status}
+use Rattle.std.proofs.Common.{List, sym, ap, subst, ◌∙◌, map}
+use Rattle.spawn_frame.specs.Tables.{has_status, IsAscending}
 use Rattle.spawn_frame.specs.Units.{table_gets, unit_of}
-use Rattle.spawn_frame.specs.Works.{IsTable, guests_after, may_become, table_of, with_work_status}
+use Rattle.spawn_frame.specs.Works.{IsTable, guests_after, may_become, table_of, with_work_status, guest_entry}
 use Rattle.spawn_frame.specs.declared.child.Child.{Child}
 use Rattle.spawn_frame.specs.declared.guest.Guest.{Guest}
 use Rattle.spawn_frame.proofs.Lookups.{no_parent}
@@ -31,3 +31,7 @@ returns-clause-after c =
 
 pub returns-clause-guests : goal.returns-clause-guests
 returns-clause-guests c = λ name attempt. no_parent _ name attempt
+
+pub set_unit-requires : goal.set_unit-requires
+set_unit-requires c =
+    subst (λ (gs : List Guest). IsAscending (map guest_entry gs)) (sym c.deref_mut.ensures.value) c.self.invariant.ascending

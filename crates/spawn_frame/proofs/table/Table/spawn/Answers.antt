@@ -1,9 +1,9 @@
 use Rattle.std.proofs.Common.{◌≤◌, ◌+◌, ◌++◌, List, [], ◌∷◌, length, map, sym, ap, subst, ◌∙◌, arith}
 use Rattle.std.proofs.lemmas.List.{length-map}
 use Rattle.spawn_frame.specs.Splits.{split_into}
-use Rattle.spawn_frame.specs.Tables.{has_status, is_here, longer_prefixes, prefix_in}
+use Rattle.spawn_frame.specs.Tables.{has_status, is_here, longer_prefixes, prefix_in, IsAscending}
 use Rattle.spawn_frame.specs.Units.{unit_of}
-use Rattle.spawn_frame.specs.Works.{IsTable, fresh_child, guests_after, own_after, split_work, table_of}
+use Rattle.spawn_frame.specs.Works.{IsTable, fresh_child, guests_after, own_after, split_work, table_of, guest_entry}
 use Rattle.spawn_frame.specs.declared.child.Child.{Child}
 use Rattle.spawn_frame.specs.declared.guest.Guest.{Guest}
 use Rattle.spawn_frame.proofs.Split.{split_kept, split_view}
@@ -51,3 +51,7 @@ returns-clause-split c =
     (λ i. table_of t.site t.names_limit (own i) (guests i))
     ∙ split_view t.site t.names_limit t.own t.guests.items c.self.invariant u there.work there.is there.passes ps fits
     ∙ ap (λ v. split_into v u ps) c.self.view_is
+
+pub split_unit-requires-clause-ascending : goal.split_unit-requires-clause-ascending
+split_unit-requires-clause-ascending c =
+    subst (λ (gs : List Guest). IsAscending (map guest_entry gs)) (sym c.deref_mut.ensures.value) c.self.invariant.ascending

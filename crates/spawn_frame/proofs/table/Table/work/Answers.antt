@@ -1,5 +1,6 @@
-use Rattle.std.proofs.Common.{◌≡◌, ◌<◌, List, get_or, length, MatchOption, None, position, sym, ap, subst, ◌∙◌, arith}
+use Rattle.std.proofs.Common.{◌≡◌, ◌<◌, List, get_or, length, MatchOption, None, position, sym, ap, subst, ◌∙◌, arith, map}
 use Rattle.std.proofs.lemmas.Bool.{ltb-true}
+use Rattle.spawn_frame.specs.Tables.{IsAscending}
 use Rattle.spawn_frame.specs.Units.{is_guest, unit_of}
 use Rattle.spawn_frame.specs.Works.{IsWork, child_work, guest_entry, work_in}
 use Rattle.spawn_frame.specs.declared.guest.Guest.{Guest}
@@ -35,3 +36,7 @@ returns-in_ok-place-in-Guest c =
     let at = guest_get t.guests.items c.in-Guest.name c.in-Guest.attempt c.in_ok-place-in-Guest.place guest p c.index.ensures in
     let e = ap (work_in t.own t.guests.items) c.in-Guest.is ∙ at in
     subst (λ v. IsWork v c.args.unit guest.work) c.self.view_is (unit_work t.site t.names_limit t.own t.guests.items c.self.invariant c.args.unit guest.work e)
+
+pub place_of-requires : goal.place_of-requires
+place_of-requires c =
+    subst (λ (gs : List Guest). IsAscending (map guest_entry gs)) (sym c.deref.ensures.value) c.self.invariant.ascending
