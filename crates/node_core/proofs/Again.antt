@@ -1,12 +1,17 @@
 -- What is said again, unit by unit.
-use Rattle.std.proofs.Common.{◌≡◌, ℕ, zero, suc, ◌+◌, ◌<◌, List, [], ◌∷◌, ◌++◌, length, take, slice_get, refl, sym, ap, ◌∙◌, subst, arith, append_assoc, append-nil, add-zero}
+use Rattle.std.proofs.Common.{◌≡◌, ℕ, zero, suc, ◌+◌, ◌<◌, ◌≤◌, false, true≢false, Option, Some, None, List, [], ◌∷◌, ◌++◌, length, take, slice_get, refl, sym, ap, ◌∙◌, subst, arith, append_assoc, append-nil, add-zero}
+use Rattle.std.proofs.Math.Seq.{take-length}
 use Rattle.node_core.proofs.Sending.{sends_more}
 use Rattle.node_core.specs.Outgoing.{Lists, Sends}
 use Rattle.node_core.specs.Requests.{give_again, given_again, gives_again, moved_by, return_again, returned_again, returns_again}
 use Rattle.node_core.specs.declared.reply.Reply.TheVariants.{Ignored, Moved}
 use Rattle.packet_wire.specs.declared.packet.Packet.{Packet}
+use Rattle.spawn_frame.specs.Tables.{has_status, is_out}
 use Rattle.spawn_frame.specs.Units.{Entry, GuestEntry}
 use Rattle.spawn_frame.specs.declared.site.Site.{Site}
+use Rattle.spawn_frame.specs.declared.status.Status.{Status}
+use Rattle.spawn_frame.specs.declared.status.Status.TheVariants.{Out, Ready}
+use Rattle.steal_return.proofs.Scans.{IsNext, onward}
 
 -- the Gives of one child more, of those from serial s on
 pub gives_next : (from : Site) (s : ℕ) (own : List Entry) (i : ℕ) → i < length own
@@ -62,3 +67,48 @@ returns_sent old mid new from guests i l before then =
     let at : take (i + 1) guests ≡ take (suc i) guests = ap (λ k. take k guests) more in
     subst P (sym (ap (returns_again from) at ∙ returns_next from guests i l))
     (sends_more old mid new (returns_again from (take i guests)) (returned_again from (slice_get guests i)) before then)
+
+-- ---- a walk over the children that are out
+
+-- of a child that isn't out nothing is said
+none_given : (from : Site) (s : ℕ) (o : Option Entry) → has_status is_out o ≡ false → given_again from s o ≡ []
+none_given from s None h = refl
+none_given from s (Some entry) h = by entry.status h
+  where
+    by : (status : Status) → is_out status ≡ false → give_again from s entry status ≡ []
+    by (Out thief) g = absurd (true≢false g)
+    by Ready g = refl
+    by _ g = refl
+
+-- so a walk may pass to the next one that is out
+gives_over : (from : Site) (own : List Entry) (i k : ℕ) → i ≤ k → k ≤ length own
+    → ((j : ℕ) → i ≤ j → j < k → has_status is_out (slice_get own j) ≡ false)
+    → gives_again from 0 (take i own) ≡ gives_again from 0 (take k own)
+gives_over from own i k le within gap =
+    onward (λ j. gives_again from 0 (take i own) ≡ gives_again from 0 (take j own)) i k le
+    (λ j l m e.
+    e ∙ sym (append-nil (gives_again from 0 (take j own)))
+    ∙ ap (λ ps. gives_again from 0 (take j own) ++ ps) (sym (none_given from (0 + j) (slice_get own j) (gap j l m)))
+    ∙ sym (gives_next from 0 own j (omega (arith, m, within)))) refl
+
+-- the Gives up to a serial are sent, and that of the next child that is out
+pub gives_to_next : (old mid new : Lists) (from : Site) (own : List Entry) (i k : ℕ) → IsNext is_out own i k
+    → Sends old (gives_again from 0 (take i own)) mid → Sends mid (given_again from k (slice_get own k)) new
+    → Sends old (gives_again from 0 (take (k + 1) own)) new
+gives_to_next old mid new from own i k next before then =
+    gives_sent old mid new from own k next.within
+    (subst (λ ps. Sends old ps mid) (gives_over from own i k next.behind (omega (arith, next.within)) next.gap) before) then
+
+-- where none is out from here on, all Gives are sent
+pub all_given : (old new : Lists) (from : Site) (own : List Entry) (i : ℕ) → i ≤ length own
+    → ((j : ℕ) → i ≤ j → has_status is_out (slice_get own j) ≡ false)
+    → Sends old (gives_again from 0 (take i own)) new → Sends old (gives_again from 0 own) new
+all_given old new from own i le none sent =
+    subst (λ ps. Sends old ps new)
+    (gives_over from own i (length own) le (omega arith) (λ j l m. none j l) ∙ ap (gives_again from 0) (take-length own)) sent
+
+-- where the walk has come to the end, all Gives are sent
+pub whole_given : (old new : Lists) (from : Site) (own : List Entry) (i : ℕ) → i ≡ length own
+    → Sends old (gives_again from 0 (take i own)) new → Sends old (gives_again from 0 own) new
+whole_given old new from own i e sent =
+    subst (λ ps. Sends old ps new) (ap (λ k. gives_again from 0 (take k own)) e ∙ ap (gives_again from 0) (take-length own)) sent

@@ -89,13 +89,21 @@ impl SiteState {
         }
     }
 
-    /// A Give for each child that is out, by serial.
+    /// A Give for each child that is out, by serial. It costs a look at each page of the table, and a pass through the
+    /// pages that have such a child.
     pub fn give_again(&self, out: &mut Outgoing) -> Result<(), AllocError>
         ensures ok { OnOk result (Sends out.old (gives_again self.now.site 0 self.now.own) out.new) }
         ensures err { OnErr result (MaySend out.old out.new) }
     {
-        for serial in 0..self.ledger.table().issued() {
+        let table = self.ledger.table();
+        let issued = table.issued();
+        let mut from = 0;
+        while from < issued {
+            let Some(serial) = table.next_out(from) else {
+                return Ok(());
+            };
             self.give_one_again(serial, out)?;
+            from = serial + 1;
         }
         Ok(())
     }
