@@ -1,8 +1,8 @@
-//! What is looked up in a table: each is a pass through units.
+//! What is looked up in a table. It costs what `Table::next_here` does, and a pass through the guests where no child is here.
 
 ghost use Rattle.std.specs.Prelude.{◌≡◌, slice_get, true, IfSome};
 ghost use Rattle.cover_world.specs.Views.{first_here, first_out, here_child, here_guest, here_job};
-ghost use Rattle.spawn_frame.specs.Tables.{has_status, is_here, is_out};
+ghost use Rattle.spawn_frame.specs.Tables.{has_status, is_here};
 
 use spawn_frame::{Job, Table, Unit};
 
@@ -35,22 +35,7 @@ fn first_here(table: &Table) -> Option<u32>
     ensures least { result ≡ first_here table.now.own }
     ensures here { IfSome result (λ serial. has_status is_here (slice_get table.now.own serial) ≡ true) }
 {
-    for serial in 0..table.issued() {
-        if is_here(table, serial) {
-            return Some(serial);
-        }
-    }
-    None
-}
-
-/// Whether a child is there and a worker has it.
-fn is_here(table: &Table, serial: u32) -> bool
-    ensures { result ≡ has_status is_here (slice_get table.now.own serial) }
-{
-    match table.unit(Unit::Own(serial)) {
-        Some(view) => view.status.is_here(),
-        None => false,
-    }
+    table.next_here(0)
 }
 
 /// The job of the first guest that a worker has.
@@ -68,24 +53,9 @@ fn here_guest(table: &Table) -> Option<Job>
     None
 }
 
-/// The own child of least serial that is out.
+/// The own child of least serial that is out. It costs what `Table::next_out` does.
 pub fn first_out(table: &Table) -> Option<u32>
     ensures { result ≡ first_out table.now.own }
 {
-    for serial in 0..table.issued() {
-        if is_out(table, serial) {
-            return Some(serial);
-        }
-    }
-    None
-}
-
-/// Whether a child is there and out.
-fn is_out(table: &Table, serial: u32) -> bool
-    ensures { result ≡ has_status is_out (slice_get table.now.own serial) }
-{
-    match table.unit(Unit::Own(serial)) {
-        Some(view) => view.status.is_out(),
-        None => false,
-    }
+    table.next_out(0)
 }
