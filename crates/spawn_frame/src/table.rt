@@ -101,7 +101,8 @@ impl Table {
     /// have the next serials, in order; the answer is the first.
     ///
     /// `NamesSpent` comes exactly where the site may not name so many, `Memory` only where memory ran out; a fault
-    /// changes nothing. It costs a look for the unit, the making of the children, and passes through their pages.
+    /// changes nothing. It costs a look for the unit, the making of the children, and passes through their pages; where
+    /// the list of all children is full, it is moved to one twice as long.
     pub fn spawn(&mut self, unit: Unit, options: &[u16]) -> Result<u32, SpawnFault>
         requires here { has_status is_here (unit_of self.old unit) ≡ true }
         requires some { 0 < length options.now }

@@ -74,7 +74,8 @@ pub fn place_of(guests: &[Guest], name: ChildName, attempt: Attempt) -> Option<u
 /// search by halving.
 pub fn place_behind(guests: &[Guest], name: ChildName, attempt: Attempt) -> usize
     requires { IsAscending (map guest_entry guests.now) }
-    ensures place { result ≡ position_or_len (λ g. guest_before name attempt g.name g.work.attempt) guests.now }
+    ensures place { result
+        ≡ position_or_len (λ g. guest_before name attempt g.name g.work.attempt) guests.now }
     ensures within { result ≤ length guests.now }
 {
     guests.partition_point(
