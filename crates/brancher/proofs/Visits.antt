@@ -1,9 +1,8 @@
 -- The loop of a visit over the children of a prefix.
-use Rattle.std.proofs.Common.{◌≡◌, ℕ, zero, suc, ◌+◌, ◌-◌, ◌<◌, ◌≤◌, List, [], ◌∷◌, ◌++◌, length, true, not, Option, Some, None, get_or, take, nat_lt, false, refl, arith, sym, ap, ◌∙◌, slice_get, IfSome, subst, option_map}
+use Rattle.std.proofs.Common.{◌≡◌, ℕ, zero, suc, ◌+◌, ◌-◌, ◌<◌, ◌≤◌, List, [], ◌∷◌, ◌++◌, length, true, not, Option, Some, None, get_or, take, nat_lt, false, refl, arith, sym, ap, ◌∙◌, slice_get, IfSome, subst, option_map, is_some}
 use Rattle.std.specs.Option.{option_map_or}
 use Rattle.std.proofs.lemmas.Bool.Decides.{nat_tests}
-use Rattle.std.proofs.lemmas.Bool.{and_from, and_parts, not-true, not_from_false}
-use Rattle.std.proofs.lemmas.List.{same_from_push}
+use Rattle.std.proofs.lemmas.Bool.{and_from, and_parts, both_ways, not-true, not_from_false}
 use Rattle.cover_problem.specs.Branching.{IsOpen, branch_item, fewest_of, fewer_of, is_choice, live_options, open_items}
 use Rattle.cover_problem.specs.Onward.{open_items_from, live_options_from, first_among, visits_among}
 use Rattle.cover_problem.specs.Prefix.{clash, is_live, is_prefix, are_options, are_apart}
@@ -14,7 +13,7 @@ use Rattle.cover_problem.proofs.Clashes.{clash_both}
 use Rattle.cover_problem.proofs.Prefixes.{open_fewer}
 use Rattle.cover_problem.proofs.Remaining.{open_items_from_take, open_items_start, live_options_from_take, live_options_from_end, live_options_start}
 use Rattle.cover_problem.proofs.Steps.{within_some, left_end, left_barren, left_found, left_spent}
-use Rattle.dancing_links.specs.Choices.{Choices, with_choice, IsChild}
+use Rattle.dancing_links.specs.Choices.{IsChild}
 use Rattle.dancing_links.proofs.Tables.{in_by_place}
 use Rattle.brancher.proofs.Lefts.{items_left, options_left, items_next, options_next, IsOpenItem, IsCounted}
 
@@ -149,17 +148,12 @@ child_deeper p xs i o depth e is deep = omega (arith, open_fewer p xs i o e (chi
 pub next_child : (p : Problem) (xs : List ℕ) (i o : ℕ) (next : Option ℕ) → next ≡ Some o → IfSome next (IsChild p xs i) → IsChild p xs i o
 next_child p xs i o next e h = let P : Option ℕ → Type 0 = λ r. IfSome r (IsChild p xs i) in subst P e h
 
--- what is left once the last choice is taken back
-pub choice_back : (a b : Choices) (r o : ℕ) → with_choice a r ≡ with_choice b o → a ≡ b
-choice_back a b r o e =
-    let problem : a.problem ≡ b.problem = ap (λ (v : Choices). v.problem) e in
-    let chosen : a.chosen ≡ b.chosen = (same_from_push a.chosen b.chosen r o (ap (λ (v : Choices). v.chosen) e)).0 in
-    let P : Problem → Choices = λ p. record { problem = p; chosen = a.chosen } in
-    let Q : List ℕ → Choices = λ os. record { problem = b.problem; chosen = os } in
-    ap P problem ∙ ap Q chosen
+-- ---- whether there is a next option
 
-pub same_choices : (a b : Choices) → a.problem ≡ b.problem → a.chosen ≡ b.chosen → a ≡ b
-same_choices a b problem chosen =
-    let P : Problem → Choices = λ p. record { problem = p; chosen = a.chosen } in
-    let Q : List ℕ → Choices = λ os. record { problem = b.problem; chosen = os } in
-    ap P problem ∙ ap Q chosen
+pub some_next : (next : Option ℕ) → is_some next ≡ true → (o : ℕ) × (next ≡ Some o)
+some_next None e = absurd (both_ways false refl e)
+some_next (Some o) e = (o, refl)
+
+pub none_next : (next : Option ℕ) → is_some next ≡ false → next ≡ None
+none_next None e = refl
+none_next (Some o) e = absurd (both_ways true e refl)

@@ -1,12 +1,10 @@
 -- Items covered one after the other, and uncovered in the reverse order.
-use Rattle.std.proofs.Common.{◌≡◌, ℕ, zero, suc, ◌+◌, ◌-◌, ◌<◌, ◌≤◌, List, [], ◌∷◌, ◌++◌, map, refl, arith, sym, ap, ◌∙◌, subst}
-use Rattle.std.specs.List.{range_with_len}
+use Rattle.std.proofs.Common.{◌≡◌, ℕ, ◌+◌, List, [], ◌∷◌, ◌++◌, refl, sym, ap, ◌∙◌, subst, append_assoc, append-nil}
 use Rattle.dancing_links.specs.declared.link.Link.{Link}
-use Rattle.dancing_links.specs.Columns.{Columns, column_of, IsSpelled, IsTable}
+use Rattle.dancing_links.specs.Columns.{Columns, IsSpelled, IsTable}
 use Rattle.dancing_links.specs.Counting.{IsCounted, CountsCovered, CountsUncovered, CountsCoveredAll, CountsUncoveredAll}
-use Rattle.dancing_links.specs.Covering.{outs, hidden_from, covered, IsOpen, Covers, Uncovers, CoversAll, UncoversAll, items_from, outs_all, links_all, AreOpen}
+use Rattle.dancing_links.specs.Covering.{outs, hidden_from, covered, IsOpen, Covers, Uncovers, CoversAll, UncoversAll, outs_all, links_all, AreOpen}
 use Rattle.dancing_links.specs.Linking.{unlinked, unlinks}
-use Rattle.dancing_links.proofs.Others.{range_step}
 use Rattle.dancing_links.proofs.Walk.{spelled_unlinks, whole_item, item_out}
 use Rattle.dancing_links.proofs.Chain.{going_all}
 
@@ -17,14 +15,6 @@ spelled_cover c out m i t s can =
     let s1 = item_out c out i m t can s in
     let are = going_all c ((c.heads + i) ∷ out) i (unlinked m (c.heads + i)) t can.item s1 (whole_item c out i t can) in
     spelled_unlinks c ((c.heads + i) ∷ out) (unlinked m (c.heads + i)) (hidden_from c ((c.heads + i) ∷ out) i c.heads) s1 are
-
-pub items_step : (c : Columns) (k end : ℕ) → k < end → items_from c k end ≡ column_of c k ∷ items_from c (k + 1) end
-unfolding items_from
-items_step c k end h = let e : end - k ≡ suc (end - (k + 1)) = omega arith in rw (range_step k _ _ e) refl
-
-pub items_end : (c : Columns) (k end : ℕ) → end ≤ k → items_from c k end ≡ []
-unfolding items_from
-items_end c k end h = let e : end - k ≡ 0 = omega arith in rw e refl
 
 -- What is known after some items: the links and the counts that are known there, and the items that are left, lead to those of all items.
 pub record IsOn (c : Columns) (out : List ℕ) (old now : List Link) (all left was is : List ℕ) : Type 0 where
@@ -109,12 +99,47 @@ off_counted c old now all left was is e off = λ out before s are same counted.
     let Q : List ℕ → Type 0 = λ items. IsCounted c (outs_all c out items) is in
     subst Q e (at.counts counted)
 
-items_last_at : (c : Columns) (n k end : ℕ) → end ≡ k + n → map (column_of c) (range_with_len k (suc n)) ≡ map (column_of c) (range_with_len k n) ++ column_of c end ∷ []
-items_last_at c zero k end e = ap (λ j. column_of c j ∷ []) (omega (arith, e))
-items_last_at c (suc n) k end e = ap (λ is. column_of c k ∷ is) (items_last_at c n (k + 1) end (omega (arith, e)))
+-- ---- on the way back over the items of a row: those that are uncovered
 
-pub items_last : (c : Columns) (k end : ℕ) → k ≤ end → items_from c k (end + 1) ≡ items_from c k end ++ column_of c end ∷ []
-unfolding items_from
-items_last c k end h =
-    let e : end + 1 - k ≡ suc (end - k) = omega arith in
-    ap (λ n. map (column_of c) (range_with_len k n)) e ∙ items_last_at c (end - k) k end (omega arith)
+-- whatever is left before them is still covered
+abbrev pub OffAfter : Columns → List Link → List ℕ → List Link → List ℕ → List ℕ → List ℕ → Type 0
+OffAfter c old all now done was is = (left : List ℕ) → all ≡ left ++ done → Off c old all now left was is
+
+pub after_start : (c : Columns) (old : List Link) (all was : List ℕ) → OffAfter c old all old [] was was
+after_start c old all was = λ left e.
+    let P : List ℕ → Type 0 = λ items. Off c old all old items was was in
+    subst P (e ∙ append-nil left) (off_start c old all was)
+
+pub after_step : (c : Columns) (old now new : List Link) (all done was is grown : List ℕ) (i : ℕ) → IsTable c → Uncovers c now i new → CountsUncovered c now i is grown → OffAfter c old all now done was is → OffAfter c old all new (i ∷ done) was grown
+after_step c old now new all done was is grown i t uncovers counts after = λ left e.
+    off_step c old now new all left (left ++ i ∷ []) was is grown i t refl uncovers counts (after (left ++ i ∷ []) (e ∙ sym (append_assoc left (i ∷ []) done)))
+
+pub after_end : (c : Columns) (old now : List Link) (all done was is : List ℕ) → done ≡ all → OffAfter c old all now done was is → UncoversAll c old all now
+after_end c old now all done was is e after = off_end c old now all [] was is refl (after [] (sym e))
+
+pub after_counted : (c : Columns) (old now : List Link) (all done was is : List ℕ) → done ≡ all → OffAfter c old all now done was is → CountsUncoveredAll c old all was is
+after_counted c old now all done was is e after = off_counted c old now all [] was is refl (after [] (sym e))
+
+-- ---- one item, and then more
+
+pub cover_first : (c : Columns) (old mid new : List Link) (i : ℕ) (is : List ℕ) → IsTable c → Covers c old i mid → CoversAll c mid is new → CoversAll c old (i ∷ is) new
+cover_first c old mid new i is t one all = λ out s are.
+    let e : mid ≡ unlinks old (covered c out i) = one out s are.0 in
+    let spelled : IsSpelled c (outs (covered c out i) out) mid = rw e (spelled_cover c out old i t s are.0) in
+    all (outs (covered c out i) out) spelled are.1 ∙ ap (λ (m : List Link). links_all c (outs (covered c out i) out) m is) e
+
+pub cover_first_counts : (c : Columns) (old mid : List Link) (i : ℕ) (is was half now : List ℕ) → IsTable c → Covers c old i mid → CountsCovered c old i was half → CountsCoveredAll c mid is half now → CountsCoveredAll c old (i ∷ is) was now
+cover_first_counts c old mid i is was half now t one counts all = λ out s are counted.
+    let e : mid ≡ unlinks old (covered c out i) = one out s are.0 in
+    let spelled : IsSpelled c (outs (covered c out i) out) mid = rw e (spelled_cover c out old i t s are.0) in
+    all (outs (covered c out i) out) spelled are.1 (counts out s are.0 counted)
+
+pub uncover_first : (c : Columns) (old mid new : List Link) (i : ℕ) (is : List ℕ) → IsTable c → UncoversAll c old is mid → Uncovers c mid i new → UncoversAll c old (i ∷ is) new
+uncover_first c old mid new i is t all one = λ out before s are e.
+    one out before s are.0 (all (outs (covered c out i) out) (unlinks before (covered c out i)) (spelled_cover c out before i t s are.0) are.1 e)
+
+pub uncover_first_counts : (c : Columns) (old mid : List Link) (i : ℕ) (is was half now : List ℕ) → IsTable c → UncoversAll c old is mid → CountsUncoveredAll c old is was half → CountsUncovered c mid i half now → CountsUncoveredAll c old (i ∷ is) was now
+uncover_first_counts c old mid i is was half now t all counts one = λ out before s are e counted.
+    let m : List Link = unlinks before (covered c out i) in
+    let spelled = spelled_cover c out before i t s are.0 in
+    one out before s are.0 (all (outs (covered c out i) out) m spelled are.1 e) (counts (outs (covered c out i) out) m spelled are.1 e counted)

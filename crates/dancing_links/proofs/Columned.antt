@@ -10,16 +10,14 @@ use Rattle.cover_problem.specs.Prefix.{is_covered, is_live}
 use Rattle.cover_problem.specs.Problem.{Problem, IsProblem, items_of, names_item}
 use Rattle.dancing_links.specs.Columns.{Columns, among, option_of, column_of, begin_of, end_of, column_from}
 use Rattle.dancing_links.specs.Covering.{items_from}
-use Rattle.dancing_links.specs.Choices.{covered_items}
 use Rattle.dancing_links.specs.Table.{starts, heads_of, base_of, tails_of, table}
 use Rattle.dancing_links.proofs.Walk.{column_skip_to}
 use Rattle.dancing_links.proofs.Nodes.{column_item, starts_first, starts_end}
 use Rattle.dancing_links.proofs.Parts.{options_part}
-use Rattle.dancing_links.proofs.Present.{IsOut, is_dead, with_all, same_flags}
+use Rattle.dancing_links.proofs.Present.{IsOut, is_dead, same_flags}
 use Rattle.dancing_links.proofs.Tables.{start_of, IsNodeAt, node_by, option_distinct}
 use Rattle.dancing_links.proofs.Prefixed.{live_by_items}
-use Rattle.dancing_links.proofs.Chosen.{range_at}
-use Rattle.dancing_links.proofs.State.{among_covered}
+use Rattle.dancing_links.proofs.Ranges.{range_at}
 
 -- ---- the column of an item
 
@@ -39,28 +37,26 @@ any_same s t [] same = refl
 any_same s t (x ∷ xs) same = ap (λ (b : Bool). b || list_any s xs) (same x) ∙ ap (λ (b : Bool). t x || b) (any_same s t xs same)
 
 -- a node's option is dead where it is not live
-pub node_live : (p : Problem) (os : List ℕ) (k o j : ℕ) → IsNodeAt p k o j → not (is_dead (table p) (with_all [] (covered_items p os)) k) ≡ is_live p os o
+pub node_live : (p : Problem) (os is : List ℕ) (k o j : ℕ) → ((i : ℕ) → among is i ≡ is_covered p os i) → IsNodeAt p k o j → not (is_dead (table p) is k) ≡ is_live p os o
 unfolding items_from
-node_live p os k o j at =
-    let is : List ℕ = with_all [] (covered_items p os) in
+node_live p os is k o j names at =
     let range = range_at p o (begin_of (table p) k) (end_of (table p) k) at.option_in at.begin at.end in
     ap not (
     any_of (column_of (table p)) (among is) (range_with_len (begin_of (table p) k) (end_of (table p) k - begin_of (table p) k))
     ∙ ap (list_any (among is)) range.items
-    ∙ any_same (among is) (is_covered p os) (items_of p o) (among_covered p os)
+    ∙ any_same (among is) (is_covered p os) (items_of p o) names
     )
     ∙ none_any (is_covered p os) (items_of p o)
     ∙ live_by_items p os o
 
 -- the options of the nodes of an uncovered item's column are the live ones that name it
-pub column_options : (p : Problem) (os out : List ℕ) (i : ℕ) → IsProblem p → IsOut (table p) (with_all [] (covered_items p os)) out → i < length p.names → is_covered p os i ≡ false → map (option_of (table p)) (column_from (table p) out i (heads_of p)) ≡ live_options p os i
+pub column_options : (p : Problem) (os is out : List ℕ) (i : ℕ) → IsProblem p → ((i : ℕ) → among is i ≡ is_covered p os i) → IsOut (table p) is out → i < length p.names → is_covered p os i ≡ false → map (option_of (table p)) (column_from (table p) out i (heads_of p)) ≡ live_options p os i
 unfolding column_from live_options
-column_options p os out i is gone h free =
+column_options p os is out i lawful names gone h free =
     let c : Columns = table p in
     let skip : column_from c out i (heads_of p) ≡ column_from c out i (base_of p) =
     column_skip_to c out i (length p.names) (heads_of p) (base_of p) refl (λ y low high own. absurd (omega (arith, column_item p y low high, own, h))) in
     let count : tails_of p - base_of p ≡ sum_by length p.options = omega arith in
-    let covering : List ℕ = with_all [] (covered_items p os) in
     ap (map (option_of c)) (skip ∙ ap (λ n. filter (λ k. (column_of c k == i) && not (among out k)) (range_with_len (base_of p) n)) count)
     ∙ options_part (column_of c) (option_of c) (λ k. not (among out k)) (is_live p os) (λ o. names_item p o i) i 0 p.options (base_of p)
     (λ o j ho hj. (node_by p (start_of p o + j) o j ho hj refl).item)
@@ -70,12 +66,12 @@ column_options p os out i is gone h free =
     let at = node_by p k o j ho hj refl in
     let low : c.heads + c.heads ≤ k + 1 = omega (arith, at.low) in
     let high : k < c.tails = omega (arith, at.high, hj) in
-    let new : among covering (column_of c k) ≡ false = ap (among covering) own ∙ among_covered p os i ∙ free in
+    let new : among is (column_of c k) ≡ false = ap (among is) own ∙ names i ∙ free in
     let e : o ≡ 0 + o = omega arith in
-    ap not (same_flags (among out k) (is_dead c covering k) (gone.out_dead k low high new) (gone.dead_out k low high new))
-    ∙ node_live p os k o j at ∙ ap (is_live p os) e)
+    ap not (same_flags (among out k) (is_dead c is k) (gone.out_dead k low high new) (gone.dead_out k low high new))
+    ∙ node_live p os is k o j names at ∙ ap (is_live p os) e)
     (λ o ho. let e : 0 + o ≡ o = omega arith in ap (λ n. names_item p n i) e)
-    (λ o ho. option_distinct p o is ho)
+    (λ o ho. option_distinct p o lawful ho)
 
 -- ---- the column of an item from an option on
 
@@ -89,11 +85,10 @@ starts_drop s (x ∷ xs) (suc start) o h =
     starts_drop (s + length x) xs start o (omega (arith, h)) ∙ ap (λ k. get_or (starts s (x ∷ xs)) k 0) e
 
 -- the options of the nodes of an uncovered item's column, from where an option begins, are the live ones from that one on
-pub column_options_from : (p : Problem) (os out : List ℕ) (i start : ℕ) → IsProblem p → IsOut (table p) (with_all [] (covered_items p os)) out → i < length p.names → is_covered p os i ≡ false → start ≤ length p.options → map (option_of (table p)) (column_from (table p) out i (start_of p start)) ≡ live_options_from p os i start
+pub column_options_from : (p : Problem) (os is out : List ℕ) (i start : ℕ) → IsProblem p → ((i : ℕ) → among is i ≡ is_covered p os i) → IsOut (table p) is out → i < length p.names → is_covered p os i ≡ false → start ≤ length p.options → map (option_of (table p)) (column_from (table p) out i (start_of p start)) ≡ live_options_from p os i start
 unfolding column_from live_options_from
-column_options_from p os out i start is gone h free within =
+column_options_from p os is out i start lawful names gone h free within =
     let c : Columns = table p in
-    let covering : List ℕ = with_all [] (covered_items p os) in
     let options : List (List ℕ) = drop start p.options in
     let size : length options ≡ length p.options - start = length-drop start p.options in
     let begin : (o : ℕ) → o ≤ length options → get_or (starts (start_of p start) options) o 0 ≡ start_of p (start + o) = (λ o le. starts_drop (base_of p) p.options start o (omega (arith, size, within, le))) in
@@ -113,8 +108,8 @@ column_options_from p os out i start is gone h free within =
     let at = node o j lt in_j in
     let low : c.heads + c.heads ≤ k + 1 = omega (arith, at.low, at.node) in
     let high : k < c.tails = omega (arith, at.high, at.place_in, at.node) in
-    let new : among covering (column_of c k) ≡ false = ap (among covering) own ∙ among_covered p os i ∙ free in
-    ap not (same_flags (among out k) (is_dead c covering k) (gone.out_dead k low high new) (gone.dead_out k low high new)) ∙ node_live p os k (start + o) j at)
+    let new : among is (column_of c k) ≡ false = ap (among is) own ∙ names i ∙ free in
+    ap not (same_flags (among out k) (is_dead c is k) (gone.out_dead k low high new) (gone.dead_out k low high new)) ∙ node_live p os is k (start + o) j names at)
     (λ o lt. ap (λ (xs : List ℕ). is_in xs i) (sym (items o)))
-    (λ o lt. ap is_distinct (items o) ∙ option_distinct p (start + o) is (inside o lt))
+    (λ o lt. ap is_distinct (items o) ∙ option_distinct p (start + o) lawful (inside o lt))
     ∙ ap (λ n. filter (λ o. is_live p os o && names_item p o i) (range_with_len start n)) size

@@ -14,7 +14,10 @@ pub mod Tables
 pub mod Laid
 pub mod Building
 pub mod Prefixed
+pub mod Ranges
+pub mod Entries
 pub mod Chosen
 pub mod State
 pub mod Views
 pub mod Columned
+pub mod Next

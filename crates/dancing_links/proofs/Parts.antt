@@ -30,14 +30,14 @@ option_part col opt inside a i q (y ∷ ys) s cols opts ins d =
       | inr ne ↦ rw (ne_eqb (col s) i (λ e. ne (sym here ∙ e)), ne_eqb y i ne) rest
     ]
 
-range_split : (s n m : ℕ) → range_with_len s (n + m) ≡ range_with_len s n ++ range_with_len (s + n) m
+pub range_split : (s n m : ℕ) → range_with_len s (n + m) ≡ range_with_len s n ++ range_with_len (s + n) m
 range_split s zero m = let e : 0 + m ≡ m = omega arith in let f : s ≡ s + 0 = omega arith in ap (range_with_len s) e ∙ ap (λ t. range_with_len t m) f
 range_split s (suc n) m =
     let e : suc n + m ≡ suc (n + m) = omega arith in
     let f : s + 1 + n ≡ s + suc n = omega arith in
     ap (range_with_len s) e ∙ ap (λ ks. s ∷ ks) (range_split (s + 1) n m ∙ ap (λ t. range_with_len (s + 1) n ++ range_with_len t m) f)
 
-map_append : (f : ℕ → ℕ) (xs ys : List ℕ) → map f (xs ++ ys) ≡ map f xs ++ map f ys
+pub map_append : (f : ℕ → ℕ) (xs ys : List ℕ) → map f (xs ++ ys) ≡ map f xs ++ map f ys
 map_append f [] ys = refl
 map_append f (x ∷ xs) ys = ap (λ ks. f x ∷ ks) (map_append f xs ys)
 

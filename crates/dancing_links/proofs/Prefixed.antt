@@ -1,29 +1,18 @@
 -- What the options of a prefix cover.
-use Rattle.std.proofs.Common.{◌≡◌, ℕ, ◌<◌, List, [], ◌∷◌, ◌++◌, length, Bool, true, false, not, ◌==◌, ◌||◌, refl, sym, ap, ◌∙◌, append-nil}
+use Rattle.std.proofs.Common.{◌≡◌, ℕ, ◌<◌, List, [], ◌∷◌, ◌++◌, length, Bool, true, false, not, ◌==◌, refl, sym, ◌∙◌}
 use Rattle.std.specs.Prelude.{nat_lt}
 use Rattle.std.specs.List.{list_all}
 use Rattle.std.proofs.lemmas.Bool.{both_ways, and_parts, and_from, or_left, or_right, not-true, not_from_false, false_from_ne_true, eq-eqb, ltb-true}
-use Rattle.std.proofs.lemmas.List.Concat.{flat_map-append}
 use Rattle.std.proofs.lemmas.List.Elements.{All-get_or}
 use Rattle.std.proofs.lemmas.List.Folds.{list_all-append}
 use Rattle.cover_problem.specs.Numbers.{is_in, is_distinct, some_below, are_below}
 use Rattle.cover_problem.specs.Prefix.{clash, is_live, are_apart, are_options, is_prefix, is_covered}
 use Rattle.cover_problem.specs.Problem.{Problem, IsProblem, items_of, names_item}
 use Rattle.cover_problem.proofs.Among.{all_at, all_by, any_at, some_with}
-use Rattle.cover_problem.proofs.Clashes.{clash_by, clash_item}
+use Rattle.cover_problem.proofs.Clashes.{clash_by, clash_both, clash_item}
 use Rattle.cover_problem.proofs.Prefixes.{prefix_more}
-use Rattle.dancing_links.specs.Choices.{covered_items}
 use Rattle.dancing_links.proofs.Present.{same_flags}
 use Rattle.dancing_links.proofs.Round.{among-append}
-use Rattle.dancing_links.proofs.Tables.{option_distinct}
-
--- whether an item is among the covered ones
-pub covered_in : (p : Problem) (os : List ℕ) (i : ℕ) → is_in (covered_items p os) i ≡ is_covered p os i
-covered_in p [] i = refl
-covered_in p (o ∷ os) i = among-append (items_of p o) (covered_items p os) i ∙ ap (λ (b : Bool). names_item p o i || b) (covered_in p os i)
-
-pub covered_push : (p : Problem) (os : List ℕ) (o : ℕ) → covered_items p (os ++ o ∷ []) ≡ covered_items p os ++ items_of p o
-covered_push p os o = flat_map-append (items_of p) os (o ∷ []) ∙ ap (λ is. covered_items p os ++ is) (append-nil (items_of p o))
 
 -- an item of a live option is not covered
 pub live_uncovered : (p : Problem) (os : List ℕ) (o i : ℕ) → is_live p os o ≡ true → names_item p o i ≡ true → is_covered p os i ≡ false
@@ -32,7 +21,7 @@ live_uncovered p os o i live named = false_from_ne_true (is_covered p os i) (λ 
     let apart = all_at (λ q. not (clash p q o)) os by.0 live by.1 in
     both_ways (clash p by.0 o) (not-true (clash p by.0 o) apart) (clash_by p by.0 o i by.2 named))
 
-distinct-append : (xs ys : List ℕ) → is_distinct xs ≡ true → is_distinct ys ≡ true → ((i : ℕ) → is_in xs i ≡ true → is_in ys i ≡ false) → is_distinct (xs ++ ys) ≡ true
+pub distinct-append : (xs ys : List ℕ) → is_distinct xs ≡ true → is_distinct ys ≡ true → ((i : ℕ) → is_in xs i ≡ true → is_in ys i ≡ false) → is_distinct (xs ++ ys) ≡ true
 distinct-append [] ys dx dy apart = dy
 distinct-append (x ∷ xs) ys dx dy apart =
     let parts = and_parts (not (is_in xs x)) (is_distinct xs) dx in
@@ -40,15 +29,6 @@ distinct-append (x ∷ xs) ys dx dy apart =
     let new : is_in (xs ++ ys) x ≡ false = among-append xs ys x ∙ rw (not-true (is_in xs x) parts.0, here) refl in
     and_from (not (is_in (xs ++ ys) x)) (is_distinct (xs ++ ys)) (not_from_false (is_in (xs ++ ys) x) new)
     (distinct-append xs ys parts.1 dy (λ i h. apart i (or_right (x == i) (is_in xs i) h)))
-
--- no item is covered twice
-pub covered_distinct : (p : Problem) (os : List ℕ) → IsProblem p → are_options p os ≡ true → are_apart p os ≡ true → is_distinct (covered_items p os) ≡ true
-covered_distinct p [] is options apart = refl
-covered_distinct p (o ∷ os) is options apart =
-    let both = and_parts (nat_lt o (length p.options)) (are_options p os) options in
-    let parts = and_parts (is_live p os o) (are_apart p os) apart in
-    distinct-append (items_of p o) (covered_items p os) (option_distinct p o is (ltb-true o (length p.options) both.0)) (covered_distinct p os is both.1 parts.1)
-    (λ i named. covered_in p os i ∙ live_uncovered p os o i parts.0 named)
 
 -- a live option goes with the prefix
 pub prefix_push : (p : Problem) (os : List ℕ) (o : ℕ) → IsProblem p → is_prefix p os ≡ true → o < length p.options → is_live p os o ≡ true → is_prefix p (os ++ o ∷ []) ≡ true
@@ -71,6 +51,18 @@ prefix_front p xs ys h =
     let parts = and_parts (are_options p (xs ++ ys)) (are_apart p (xs ++ ys)) h in
     let options = sym (list_all-append (λ o. nat_lt o (length p.options)) xs ys) ∙ parts.0 in
     and_from (are_options p xs) (are_apart p xs) (and_parts (are_options p xs) (are_options p ys) options).0 (apart_front p xs ys parts.1)
+
+last_apart : (p : Problem) (os : List ℕ) (o : ℕ) → are_apart p (os ++ o ∷ []) ≡ true → is_live p os o ≡ true
+last_apart p [] o h = refl
+last_apart p (x ∷ xs) o h =
+    let parts = and_parts (is_live p (xs ++ o ∷ []) x) (are_apart p (xs ++ o ∷ [])) h in
+    let live = sym (list_all-append (λ q. not (clash p q x)) xs (o ∷ [])) ∙ parts.0 in
+    let here = (and_parts (not (clash p o x)) true (and_parts (is_live p xs x) (is_live p (o ∷ []) x) live).1).0 in
+    and_from (not (clash p x o)) (is_live p xs o) (not_from_false (clash p x o) (clash_both p o x (not-true (clash p o x) here))) (last_apart p xs o parts.1)
+
+-- the last option of a prefix is live before it
+pub last_live : (p : Problem) (os : List ℕ) (o : ℕ) → is_prefix p (os ++ o ∷ []) ≡ true → is_live p os o ≡ true
+last_live p os o h = last_apart p os o (and_parts (are_options p (os ++ o ∷ [])) (are_apart p (os ++ o ∷ [])) h).1
 
 -- an item that an option names is one of the problem
 pub named_below : (p : Problem) (o i : ℕ) → IsProblem p → o < length p.options → names_item p o i ≡ true → i < length p.names

@@ -1,12 +1,12 @@
 -- What the links tell of the nodes, once items are covered.
-use Rattle.std.proofs.Common.{◌≡◌, ℕ, ◌+◌, ◌<◌, ◌≤◌, List, [], ◌∷◌, length, Bool, true, false, not, ◌==◌, ◌||◌, get_or, refl, arith, sym, ap, ◌∙◌, inl, inr, subst}
+use Rattle.std.proofs.Common.{◌≡◌, ℕ, ◌+◌, ◌<◌, ◌≤◌, List, [], ◌∷◌, length, Bool, true, false, not, ◌==◌, ◌||◌, get_or, map, refl, arith, sym, ap, ◌∙◌, inl, inr, subst}
 use Rattle.std.proofs.lemmas.Bool.{both_ways, or_cases, cases_Bool, cases_eq, eq-eqb, ne_eqb, eqb-true}
 use Rattle.std.proofs.lemmas.List.{get_or_default}
 use Rattle.cover_problem.specs.Prefix.{is_covered}
 use Rattle.cover_problem.specs.Problem.{Problem, IsProblem}
 use Rattle.dancing_links.specs.declared.link.Link.{Link}
 use Rattle.dancing_links.specs.Choices.{IsLinks, covered_items, out_of}
-use Rattle.dancing_links.specs.Columns.{Columns, among, IsTable, IsSpelled}
+use Rattle.dancing_links.specs.Columns.{Columns, among, column_of, IsTable, IsSpelled}
 use Rattle.dancing_links.specs.Covering.{outs, covered, IsOpen, AreOpen, outs_all, links_all}
 use Rattle.dancing_links.specs.Linking.{unlinked, unlinks, up_of, down_of}
 use Rattle.dancing_links.specs.Table.{table, heads_of}
@@ -17,8 +17,8 @@ use Rattle.dancing_links.proofs.Choose.{spelled_cover}
 use Rattle.dancing_links.proofs.Undone.{spelled_all}
 use Rattle.dancing_links.proofs.Unique.{one_spelling}
 use Rattle.dancing_links.proofs.Present.{IsOut, with_all, out_start, out_all}
-use Rattle.dancing_links.proofs.Prefixed.{covered_in}
-use Rattle.dancing_links.proofs.Chosen.{table_of, covered_new, covered_open}
+use Rattle.dancing_links.proofs.Entries.{covered_names, one_nodes}
+use Rattle.dancing_links.proofs.Chosen.{IsFrame, frame_of, frame_table, frame_open, frame_new}
 
 -- a node that is out is not known by its neighbour above
 abbrev pub IsAway : Columns → List ℕ → List Link → Type 0
@@ -67,71 +67,83 @@ among_with_all is (i ∷ items) k =
     ]
 
 -- what the links tell
-pub record IsState (p : Problem) (c : Columns) (os : List ℕ) (m : List Link) : Type 0 where
+pub record IsState (p : Problem) (c : Columns) (os es : List ℕ) (m : List Link) : Type 0 where
   pub is_problem : IsProblem p
   pub layout : c ≡ table p
   pub table_is : IsTable c
-  pub spelled : IsSpelled c (out_of p c os) m
-  pub away : IsAway c (out_of p c os) m
-  pub out : IsOut c (with_all [] (covered_items p os)) (out_of p c os)
+  pub spelled : IsSpelled c (out_of c es) m
+  pub away : IsAway c (out_of c es) m
+  pub out : IsOut c (with_all [] (covered_items c es)) (out_of c es)
+  pub names : (i : ℕ) → among (with_all [] (covered_items c es)) i ≡ is_covered p os i
 
-pub state_of : (p : Problem) (c : Columns) (os : List ℕ) (m : List Link) (counts : List ℕ) (room : ℕ) → IsLinks p c os m counts room → IsState p c os m
-state_of p c os m counts room is =
-    let t = table_of p c is.is_problem is.layout in
-    let are = covered_open p c os is.is_problem is.layout is.prefix in
-    let P : List Link → Type 0 = λ links. IsSpelled c (out_of p c os) links in
-    let Q : List Link → Type 0 = λ links. IsAway c (out_of p c os) links in
-    record {
-      is_problem = is.is_problem;
-      layout = is.layout;
-      table_is = t;
-      spelled = subst P (sym is.history) (spelled_all c [] is.before (covered_items p os) t is.built.spelled are);
-      away = subst Q (sym is.history) (away_all c [] is.before (covered_items p os) t is.built.spelled are (λ y low high gone back. both_ways false refl gone));
-      out = out_all c [] [] (covered_items p os) t (out_start c) (covered_new p c os is.is_problem is.layout is.prefix);
-    }
-
-pub among_covered : (p : Problem) (os : List ℕ) (i : ℕ) → among (with_all [] (covered_items p os)) i ≡ is_covered p os i
-among_covered p os i = among_with_all [] (covered_items p os) i ∙ or_false (among (covered_items p os) i) ∙ covered_in p os i
+-- the items that are covered, as what is out is told by them
+pub among_covered : (p : Problem) (c : Columns) (os es : List ℕ) (room i : ℕ) → IsFrame p c os es room → among (with_all [] (covered_items c es)) i ≡ is_covered p os i
+among_covered p c os es room i f = among_with_all [] (covered_items c es) i ∙ or_false (among (covered_items c es) i) ∙ covered_names p c os es i f.layout f.each_node f.options
   where
     or_false : (b : Bool) → (b || false) ≡ b
     or_false true = refl
     or_false false = refl
 
+pub state_of : (p : Problem) (c : Columns) (os es : List ℕ) (m : List Link) (counts : List ℕ) (room : ℕ) → IsLinks p c os es m counts room → IsState p c os es m
+state_of p c os es m counts room is =
+    let f = frame_of p c os es m counts room is in
+    let t = frame_table p c os es room f in
+    let are = frame_open p c os es room f in
+    let P : List Link → Type 0 = λ links. IsSpelled c (out_of c es) links in
+    let Q : List Link → Type 0 = λ links. IsAway c (out_of c es) links in
+    let h = is.history in
+    record {
+      is_problem = is.is_problem;
+      layout = is.layout;
+      table_is = t;
+      spelled = subst P (sym h.links_are) (spelled_all c [] h.before (covered_items c es) t h.built.spelled are);
+      away = subst Q (sym h.links_are) (away_all c [] h.before (covered_items c es) t h.built.spelled are (λ y low high gone back. both_ways false refl gone));
+      out = out_all c [] [] (covered_items c es) t (out_start c) (frame_new p c os es room f);
+      names = λ i. among_covered p c os es room i f;
+    }
+
 -- whether a node of an item is out
-pub item_gone : (p : Problem) (c : Columns) (os : List ℕ) (m : List Link) (i : ℕ) → IsState p c os m → i < length p.names → among (out_of p c os) (c.heads + i) ≡ is_covered p os i
-item_gone p c os m i s h =
+pub item_gone : (p : Problem) (c : Columns) (os es : List ℕ) (m : List Link) (i : ℕ) → IsState p c os es m → i < length p.names → among (out_of c es) (c.heads + i) ≡ is_covered p os i
+item_gone p c os es m i s h =
     let heads : c.heads ≡ heads_of p = ap (λ (t : Columns). t.heads) s.layout in
     elim (cases_Bool (is_covered p os i)) [
-      | inl hit ↦ s.out.items_in i (omega (arith, heads, h)) (among_covered p os i ∙ hit) ∙ sym hit
-      | inr free ↦ s.out.items_out i (omega (arith, heads, h)) (among_covered p os i ∙ free) ∙ sym free
+      | inl hit ↦ s.out.items_in i (omega (arith, heads, h)) (s.names i ∙ hit) ∙ sym hit
+      | inr free ↦ s.out.items_out i (omega (arith, heads, h)) (s.names i ∙ free) ∙ sym free
     ]
 
 -- an item is covered where its node is not known from above
-pub covered_test : (p : Problem) (c : Columns) (os : List ℕ) (m : List Link) (i : ℕ) → IsState p c os m → i < length p.names → not (down_of m (up_of m (c.heads + i)) == c.heads + i) ≡ is_covered p os i
-covered_test p c os m i s h =
+pub covered_test : (p : Problem) (c : Columns) (os es : List ℕ) (m : List Link) (i : ℕ) → IsState p c os es m → i < length p.names → not (down_of m (up_of m (c.heads + i)) == c.heads + i) ≡ is_covered p os i
+covered_test p c os es m i s h =
     let heads : c.heads ≡ heads_of p = ap (λ (t : Columns). t.heads) s.layout in
-    let gone = item_gone p c os m i s h in
+    let gone = item_gone p c os es m i s h in
     let x : ℕ = c.heads + i in
     let low : c.heads ≤ x = omega arith in
     let high : x < c.tails = omega (arith, s.table_is.order, heads, h) in
     elim (cases_Bool (is_covered p os i)) [
       | inl hit ↦ rw (ne_eqb (down_of m (up_of m x)) x (s.away x low high (gone ∙ hit)), hit) refl
-      | inr free ↦ rw (eq-eqb (down_of m (up_of m x)) x (from_up c (out_of p c os) m x s.spelled low (omega (arith, s.spelled.ends, high)) (gone ∙ free)), free) refl
+      | inr free ↦ rw (eq-eqb (down_of m (up_of m x)) x (from_up c (out_of c es) m x s.spelled low (omega (arith, s.spelled.ends, high)) (gone ∙ free)), free) refl
     ]
 
--- links are known by the problem and what is chosen
-pub one_links : (p : Problem) (c d : Columns) (os : List ℕ) (m n : List Link) (counts tallies : List ℕ) (room more : ℕ) → IsLinks p c os m counts room → IsLinks p d os n tallies more → m ≡ n
-one_links p c d os m n counts tallies room more a b =
+-- links are known by the problem, what is chosen and by which item each
+pub one_links : (p : Problem) (c d : Columns) (os es ks : List ℕ) (m n : List Link) (counts tallies : List ℕ) (room more : ℕ) → IsLinks p c os es m counts room → IsLinks p d os ks n tallies more → map (column_of c) es ≡ map (column_of d) ks → m ≡ n
+one_links p c d os es ks m n counts tallies room more a b branches =
     let e : d ≡ c = b.layout ∙ sym a.layout in
-    let P : Columns → Type 0 = λ t. IsLinks p t os n tallies more in
+    let P : Columns → Type 0 = λ t. IsLinks p t os ks n tallies more in
     let b' = subst P e b in
-    let same : a.before ≡ b'.before = one_spelling c [] a.before b'.before (λ k. refl) a.built.spelled b'.built.spelled (λ k h. a.built.heads_up k h ∙ sym (b'.built.heads_up k h)) (λ k h. a.built.tails_down k h ∙ sym (b'.built.tails_down k h)) in
-    a.history ∙ ap (λ (links : List Link). links_all c [] links (covered_items p os)) same ∙ sym b'.history
+    let columns = branches ∙ ap (λ (t : Columns). map (column_of t) ks) e in
+    let entries : es ≡ ks = one_nodes p c es ks a.layout a.is_problem a.each_node b'.each_node (a.options ∙ sym b'.options) columns in
+    let before = a.history.before in
+    let other = b'.history.before in
+    let same : before ≡ other = one_spelling c [] before other (λ k. refl) a.history.built.spelled b'.history.built.spelled (λ k h. a.history.built.heads_up k h ∙ sym (b'.history.built.heads_up k h)) (λ k h. a.history.built.tails_down k h ∙ sym (b'.history.built.tails_down k h)) in
+    a.history.links_are
+    ∙ ap (λ (links : List Link). links_all c [] links (covered_items c es)) same
+    ∙ ap (λ (nodes : List ℕ). links_all c [] other (covered_items c nodes)) entries
+    ∙ sym b'.history.links_are
 
 -- the same, as the code reads it
-pub covered_read : (p : Problem) (c : Columns) (os : List ℕ) (m : List Link) (counts : List ℕ) (room i : ℕ) (node above : Link) → IsLinks p c os m counts room → i < length p.names → node ≡ get_or m (c.heads + i) node → above ≡ get_or m node.up above → not (above.down == c.heads + i) ≡ is_covered p os i
-covered_read p c os m counts room i node above is h e f =
-    let s = state_of p c os m counts room is in
+pub covered_read : (p : Problem) (c : Columns) (os es : List ℕ) (m : List Link) (counts : List ℕ) (room i : ℕ) (node above : Link) → IsLinks p c os es m counts room → i < length p.names → node ≡ get_or m (c.heads + i) node → above ≡ get_or m node.up above → not (above.down == c.heads + i) ≡ is_covered p os i
+covered_read p c os es m counts room i node above is h e f =
+    let s = state_of p c os es m counts room is in
     let heads : c.heads ≡ heads_of p = ap (λ (t : Columns). t.heads) is.layout in
     let x : ℕ = c.heads + i in
     let inside : x < length m = omega (arith, s.table_is.order, s.table_is.ends, is.linked.0, heads, h) in
@@ -141,4 +153,4 @@ covered_read p c os m counts room i node above is h e f =
     let up : node.up ≡ up_of m x = ap U (e ∙ get_or_default m x node none inside) in
     let up_in : node.up < length m = omega (arith, up, (is.linked.1 x inside).up_in) in
     let down : above.down ≡ down_of m (up_of m x) = ap D (f ∙ get_or_default m node.up above none up_in) ∙ ap (down_of m) up in
-    ap (λ k. not (k == x)) down ∙ covered_test p c os m i s h
+    ap (λ k. not (k == x)) down ∙ covered_test p c os es m i s h

@@ -17,24 +17,24 @@ use Rattle.dancing_links.specs.Walking.{walk, options_left, IsNaming}
 use Rattle.dancing_links.specs.Table.{table, heads_of, base_of, first_list}
 use Rattle.dancing_links.proofs.Walk.{column_skip_to, column_from_take, column_from_end}
 use Rattle.dancing_links.proofs.Nodes.{starts_next, first_at}
-use Rattle.dancing_links.proofs.Tables.{start_of, node_by}
-use Rattle.dancing_links.proofs.Present.{is_dead, with_all, never_true}
-use Rattle.dancing_links.proofs.State.{IsState, state_of, item_gone, among_covered}
+use Rattle.dancing_links.proofs.Tables.{IsNodeAt, start_of, node_by, table_is}
+use Rattle.dancing_links.proofs.Present.{IsOut, is_dead, with_all, never_true}
+use Rattle.dancing_links.proofs.State.{IsState, state_of, item_gone}
 use Rattle.dancing_links.proofs.Columned.{column_options, column_options_from, node_live}
 
 -- an item's column, by options
-pub column_is : (p : Problem) (c : Columns) (os : List ℕ) (m : List Link) (counts : List ℕ) (room i : ℕ) → IsLinks p c os m counts room → i < length p.names → is_covered p os i ≡ false → map (option_of c) (column_from c (out_of p c os) i c.heads) ≡ live_options p os i
-column_is p c os m counts room i is h free =
-    let P : Columns → Type 0 = λ t. IsLinks p t os m counts room in
-    let s = state_of p (table p) os m counts room (subst P is.layout is) in
-    let Q : Columns → Type 0 = λ t. map (option_of t) (column_from t (out_of p t os) i t.heads) ≡ live_options p os i in
-    subst Q (sym is.layout) (column_options p os (out_of p (table p) os) i is.is_problem s.out h free)
+pub column_is : (p : Problem) (c : Columns) (os es : List ℕ) (m : List Link) (counts : List ℕ) (room i : ℕ) → IsLinks p c os es m counts room → i < length p.names → is_covered p os i ≡ false → map (option_of c) (column_from c (out_of c es) i c.heads) ≡ live_options p os i
+column_is p c os es m counts room i is h free =
+    let P : Columns → Type 0 = λ t. IsLinks p t os es m counts room in
+    let s = state_of p (table p) os es m counts room (subst P is.layout is) in
+    let Q : Columns → Type 0 = λ t. map (option_of t) (column_from t (out_of t es) i t.heads) ≡ live_options p os i in
+    subst Q (sym is.layout) (column_options p os (with_all [] (covered_items (table p) es)) (out_of (table p) es) i is.is_problem s.names s.out h free)
 
 -- the count of an item is that of the live options that name it
-pub count_is : (p : Problem) (c : Columns) (os : List ℕ) (m : List Link) (counts : List ℕ) (room i : ℕ) → IsLinks p c os m counts room → i < length p.names → is_covered p os i ≡ false → get_or counts i 0 ≡ length (live_options p os i)
-count_is p c os m counts room i is h free =
+pub count_is : (p : Problem) (c : Columns) (os es : List ℕ) (m : List Link) (counts : List ℕ) (room i : ℕ) → IsLinks p c os es m counts room → i < length p.names → is_covered p os i ≡ false → get_or counts i 0 ≡ length (live_options p os i)
+count_is p c os es m counts room i is h free =
     let heads : c.heads ≡ heads_of p = ap (λ (t : Columns). t.heads) is.layout in
-    is.counted.count i (omega (arith, heads, h)) ∙ sym (length-map (column_from c (out_of p c os) i c.heads) (option_of c)) ∙ ap length (column_is p c os m counts room i is h free)
+    is.history.counted.count i (omega (arith, heads, h)) ∙ sym (length-map (column_from c (out_of c es) i c.heads) (option_of c)) ∙ ap length (column_is p c os es m counts room i is h free)
 
 -- ---- the next uncovered item
 
@@ -50,15 +50,15 @@ pub record IsOnward (p : Problem) (c : Columns) (os : List ℕ) (start d : ℕ) 
   pub some : d < c.heads + p.primary → (slice_get (open_items_from p os start) 0 ≡ Some (d - c.heads)) × IsOpen p os (d - c.heads) × (start ≤ d - c.heads)
   pub none : c.heads + p.primary ≤ d → slice_get (open_items_from p os start) 0 ≡ None
 
-pub onward : (p : Problem) (c : Columns) (os : List ℕ) (m : List Link) (start x : ℕ) → IsState p c os m → x + 1 ≡ c.heads + start → column_of c x + 1 ≡ c.heads → x < c.tails → among (out_of p c os) x ≡ false → IsOnward p c os start (down_of m x)
-onward p c os m start x s at own high here =
+pub onward : (p : Problem) (c : Columns) (os es : List ℕ) (m : List Link) (start x : ℕ) → IsState p c os es m → x + 1 ≡ c.heads + start → column_of c x + 1 ≡ c.heads → x < c.tails → among (out_of c es) x ≡ false → IsOnward p c os start (down_of m x)
+onward p c os es m start x s at own high here =
     let heads : c.heads ≡ heads_of p = ap (λ (t : Columns). t.heads) s.layout in
     let next = s.spelled.down x high here in
     let d : ℕ = down_of m x in
     let between : (k : ℕ) → start ≤ k → c.heads + k < d → k < p.primary → is_covered p os k ≡ true =
     (λ k low under primary.
     let item : k + 1 < c.heads = omega (arith, heads, primary, s.is_problem.primary) in
-    sym (item_gone p c os m k s (omega (arith, primary, s.is_problem.primary)))
+    sym (item_gone p c os es m k s (omega (arith, primary, s.is_problem.primary)))
     ∙ next.nearest (c.heads + k) (omega (arith, at, low)) under (omega (arith, s.table_is.item_columns k item, own))) in
     record {
       low = next.low;
@@ -66,7 +66,7 @@ onward p c os m start x s at own high here =
           let j : ℕ = d - c.heads in
           let e : c.heads + j ≡ d = omega (arith, next.low) in
           let primary : j < p.primary = omega (arith, under, e) in
-          let free : is_covered p os j ≡ false = sym (item_gone p c os m j s (omega (arith, primary, s.is_problem.primary))) ∙ ap (among (out_of p c os)) e ∙ next.in_down in
+          let free : is_covered p os j ≡ false = sym (item_gone p c os es m j s (omega (arith, primary, s.is_problem.primary))) ∙ ap (among (out_of c es)) e ∙ next.in_down in
           let past : start ≤ j = omega (arith, next.below, at, e) in
           let skip = open_skip_to p os (j - start) start j (omega (arith, past)) (omega (arith, primary)) (λ k low less. between k low (omega (arith, less, e)) (omega (arith, less, primary))) in
           (ap (λ (items : List ℕ). slice_get items 0) (skip ∙ open_items_from_take p os j primary free), record { primary = primary; uncovered = free }, past);
@@ -79,19 +79,19 @@ onward p c os m start x s at own high here =
     }
 
 -- the first uncovered item
-pub onward_first : (p : Problem) (c : Columns) (os : List ℕ) (m : List Link) (counts : List ℕ) (room : ℕ) → IsLinks p c os m counts room → IsOnward p c os 0 (down_of m (c.heads - 1))
-onward_first p c os m counts room is =
-    let s = state_of p c os m counts room is in
+pub onward_first : (p : Problem) (c : Columns) (os es : List ℕ) (m : List Link) (counts : List ℕ) (room : ℕ) → IsLinks p c os es m counts room → IsOnward p c os 0 (down_of m (c.heads - 1))
+onward_first p c os es m counts room is =
+    let s = state_of p c os es m counts room is in
     let x : ℕ = c.heads - 1 in
     let lt : x < c.heads = omega (arith, s.table_is.some) in
-    onward p c os m 0 x s (omega (arith, s.table_is.some)) (omega (arith, s.table_is.head_columns x lt, s.table_is.some)) (omega (arith, lt, s.spelled.order)) (s.spelled.heads_in x lt)
+    onward p c os es m 0 x s (omega (arith, s.table_is.some)) (omega (arith, s.table_is.head_columns x lt, s.table_is.some)) (omega (arith, lt, s.spelled.order)) (s.spelled.heads_in x lt)
 
 -- the uncovered item after an uncovered one
-pub onward_next : (p : Problem) (c : Columns) (os : List ℕ) (m : List Link) (counts : List ℕ) (room i : ℕ) → IsLinks p c os m counts room → i < length p.names → is_covered p os i ≡ false → IsOnward p c os (i + 1) (down_of m (c.heads + i))
-onward_next p c os m counts room i is h free =
-    let s = state_of p c os m counts room is in
+pub onward_next : (p : Problem) (c : Columns) (os es : List ℕ) (m : List Link) (counts : List ℕ) (room i : ℕ) → IsLinks p c os es m counts room → i < length p.names → is_covered p os i ≡ false → IsOnward p c os (i + 1) (down_of m (c.heads + i))
+onward_next p c os es m counts room i is h free =
+    let s = state_of p c os es m counts room is in
     let heads : c.heads ≡ heads_of p = ap (λ (t : Columns). t.heads) s.layout in
-    onward p c os m (i + 1) (c.heads + i) s (omega arith) (s.table_is.item_columns i (omega (arith, heads, h))) (omega (arith, s.table_is.order, heads, h)) (item_gone p c os m i s h ∙ free)
+    onward p c os es m (i + 1) (c.heads + i) s (omega arith) (s.table_is.item_columns i (omega (arith, heads, h))) (omega (arith, s.table_is.order, heads, h)) (item_gone p c os es m i s h ∙ free)
 
 -- what the code answers of the node below
 pub answer_item : (p : Problem) (c : Columns) (os : List ℕ) (start d primary : ℕ) (r : Option ℕ) → primary ≡ p.primary → IsOnward p c os start d → MatchOption r (c.heads + primary ≤ d) (λ item. (d < c.heads + primary) × (item ≡ d - c.heads)) → r ≡ slice_get (open_items_from p os start) 0
@@ -102,8 +102,8 @@ pub answer_open : (p : Problem) (c : Columns) (os : List ℕ) (start d primary :
 answer_open p c os start d primary None e o h = tt
 answer_open p c os start d primary (Some x) e o h = let P : ℕ → Type 0 = λ k. IsOpen p os k in subst P (sym h.1) (o.some (omega (arith, e, h.0))).1
 
-pub item_counted_in : (p : Problem) (c : Columns) (os : List ℕ) (m : List Link) (counts : List ℕ) (room i : ℕ) → IsLinks p c os m counts room → i < length p.names → i < length counts
-item_counted_in p c os m counts room i is h = omega (arith, is.counted.columns, ap (λ (t : Columns). t.heads) is.layout, h)
+pub item_counted_in : (p : Problem) (c : Columns) (os es : List ℕ) (m : List Link) (counts : List ℕ) (room i : ℕ) → IsLinks p c os es m counts room → i < length p.names → i < length counts
+item_counted_in p c os es m counts room i is h = omega (arith, is.history.counted.columns, ap (λ (t : Columns). t.heads) is.layout, h)
 
 -- ---- down the column of an item
 
@@ -145,17 +145,17 @@ walk_column c out m i (suc n) node s low own here enough = elim (cases_lt node c
 ]
 
 -- what is left from the head of an uncovered item on
-pub left_all : (p : Problem) (c : Columns) (os : List ℕ) (m : List Link) (counts : List ℕ) (room i : ℕ) → IsLinks p c os m counts room → i < length p.names → is_covered p os i ≡ false → options_left c m (down_of m i) ≡ live_options p os i
-left_all p c os m counts room i is h free =
-    let s = state_of p c os m counts room is in
+pub left_all : (p : Problem) (c : Columns) (os es : List ℕ) (m : List Link) (counts : List ℕ) (room i : ℕ) → IsLinks p c os es m counts room → i < length p.names → is_covered p os i ≡ false → options_left c m (down_of m i) ≡ live_options p os i
+left_all p c os es m counts room i is h free =
+    let s = state_of p c os es m counts room is in
     let heads : c.heads ≡ heads_of p = ap (λ (t : Columns). t.heads) is.layout in
     let head : i < c.heads = omega (arith, heads, h) in
     let own = s.table_is.head_columns i head in
     let next = s.spelled.down i (omega (arith, head, s.spelled.order)) (s.spelled.heads_in i head) in
     let d : ℕ = down_of m i in
-    let skip = column_skip_to c (out_of p c os) i (d - c.heads) c.heads d (omega (arith, next.low)) (λ y above below same. next.nearest y (omega (arith, above, head)) below (same ∙ sym own)) in
-    walk_column c (out_of p c os) m i (c.tails - d) d s.spelled next.low (next.column ∙ own) next.in_down (omega arith)
-    ∙ ap (map (option_of c)) (sym skip) ∙ column_is p c os m counts room i is h free
+    let skip = column_skip_to c (out_of c es) i (d - c.heads) c.heads d (omega (arith, next.low)) (λ y above below same. next.nearest y (omega (arith, above, head)) below (same ∙ sym own)) in
+    walk_column c (out_of c es) m i (c.tails - d) d s.spelled next.low (next.column ∙ own) next.in_down (omega arith)
+    ∙ ap (map (option_of c)) (sym skip) ∙ column_is p c os es m counts room i is h free
 
 -- what a step of the iterator takes
 pub left_step : (c : Columns) (m : List Link) (node option : ℕ) (left : List ℕ) → IsTable c → IsLinked c m → node < c.tails → option ≡ get_or c.option node option → options_left c m node ≡ left → left ≡ option ∷ options_left c m (down_of m node)
@@ -164,14 +164,14 @@ left_step c m node option left t l high e f =
     sym f ∙ left_take c m node t l high ∙ ap (λ o. o ∷ options_left c m (down_of m node)) (sym (e ∙ get_or_default_zero c.option node option inside))
 
 -- the same, as the code reads the head
-pub left_read : (p : Problem) (c : Columns) (os : List ℕ) (m : List Link) (counts : List ℕ) (room i : ℕ) (head : Link) → IsLinks p c os m counts room → i < length p.names → is_covered p os i ≡ false → head ≡ get_or m i head → options_left c m head.down ≡ live_options p os i
-left_read p c os m counts room i head is h free e =
+pub left_read : (p : Problem) (c : Columns) (os es : List ℕ) (m : List Link) (counts : List ℕ) (room i : ℕ) (head : Link) → IsLinks p c os es m counts room → i < length p.names → is_covered p os i ≡ false → head ≡ get_or m i head → options_left c m head.down ≡ live_options p os i
+left_read p c os es m counts room i head is h free e =
     let heads : c.heads ≡ heads_of p = ap (λ (t : Columns). t.heads) is.layout in
-    let s = state_of p c os m counts room is in
+    let s = state_of p c os es m counts room is in
     let inside : i < length m = omega (arith, s.spelled.count, s.table_is.ends, heads, h) in
     let D : Link → ℕ = λ l. l.down in
     let down : head.down ≡ down_of m i = ap D (e ∙ get_or_default m i head (record { up = 0; down = 0 }) inside) in
-    ap (options_left c m) down ∙ left_all p c os m counts room i is h free
+    ap (options_left c m) down ∙ left_all p c os es m counts room i is h free
 
 -- ---- the next option of an item
 
@@ -183,11 +183,33 @@ place_of (y ∷ ys) x h = elim (or_cases (y == x) (is_in ys x) h) [
   | inr r ↦ let rest = place_of ys x r in (suc rest.0, omega (arith, rest.1), rest.2)
 ]
 
-next_at : (p : Problem) (os : List ℕ) (m : List Link) (i o node : ℕ) → IsState p (table p) os m → i < length p.names → is_covered p os i ≡ false → o < length p.options → is_live p os o ≡ true → names_item p o i ≡ true → IsNaming (table p) i (start_of p o) (start_of p o + length (items_of p o)) node → options_left (table p) m (down_of m node) ≡ live_options_from p os i (o + 1)
-next_at p os m i o node s h free inside live named at =
+-- the node of a live option is in
+pub node_in : (p : Problem) (os is out : List ℕ) (i node o j : ℕ) → ((k : ℕ) → among is k ≡ is_covered p os k) → IsOut (table p) is out → IsNodeAt p node o j → column_of (table p) node ≡ i → is_covered p os i ≡ false → is_live p os o ≡ true → among out node ≡ false
+node_in p os is out i node o j names gone at own free live =
     let c : Columns = table p in
-    let out : List ℕ = out_of p c os in
-    let covering : List ℕ = with_all [] (covered_items p os) in
+    let low : c.heads + c.heads ≤ node + 1 = omega (arith, at.low, at.node) in
+    let high : node < c.tails = omega (arith, at.high, at.place_in, at.node) in
+    let new : among is (column_of c node) ≡ false = ap (among is) own ∙ names i ∙ free in
+    let alive : is_dead c is node ≡ false = not-true (is_dead c is node) (node_live p os is node o j names at ∙ live) in
+    never_true (among out node) (λ t. both_ways (is_dead c is node) alive (gone.out_dead node low high new t))
+
+-- after the node of an option its column holds nodes of the live options after it
+pub rest_at : (p : Problem) (os is out : List ℕ) (i node o j : ℕ) → IsProblem p → ((k : ℕ) → among is k ≡ is_covered p os k) → IsOut (table p) is out → i < length p.names → is_covered p os i ≡ false → IsNodeAt p node o j → column_of (table p) node ≡ i → map (option_of (table p)) (column_from (table p) out i (node + 1)) ≡ live_options_from p os i (o + 1)
+rest_at p os is out i node o j lawful names gone h free at own =
+    let c : Columns = table p in
+    let t = table_is p lawful in
+    let low : c.heads + c.heads ≤ node + 1 = omega (arith, at.low, at.node) in
+    let high : node < c.tails = omega (arith, at.high, at.place_in, at.node) in
+    let follow = starts_next (base_of p) p.options o at.option_in in
+    let skip = column_skip_to c out i (start_of p (o + 1) - (node + 1)) (node + 1) (start_of p (o + 1)) (omega (arith, follow, at.node, at.place_in)) (λ y above below same.
+    absurd (omega (arith, above, t.apart node y low high (omega (arith, at.begin, at.node, above)) (omega (arith, at.end, follow, below)) (same ∙ sym own)))) in
+    ap (map (option_of c)) skip ∙ column_options_from p os is out i (o + 1) lawful names gone h free (omega (arith, at.option_in))
+
+next_at : (p : Problem) (os es : List ℕ) (m : List Link) (i o node : ℕ) → IsState p (table p) os es m → i < length p.names → is_covered p os i ≡ false → o < length p.options → is_live p os o ≡ true → names_item p o i ≡ true → IsNaming (table p) i (start_of p o) (start_of p o + length (items_of p o)) node → options_left (table p) m (down_of m node) ≡ live_options_from p os i (o + 1)
+next_at p os es m i o node s h free inside live named at =
+    let c : Columns = table p in
+    let out : List ℕ = out_of c es in
+    let is : List ℕ = with_all [] (covered_items c es) in
     let end : ℕ = start_of p o + length (items_of p o) in
     let there = place_of (items_of p o) i named in
     let before : node < end = elim (cases_lt node end) [
@@ -199,26 +221,19 @@ next_at p os m i o node s h free inside live named at =
     let own : column_of c node ≡ i = at.found before in
     let j : ℕ = node - start_of p o in
     let by = node_by p node o j inside (omega (arith, at.low, before)) (omega (arith, at.low)) in
-    let low : c.heads + c.heads ≤ node + 1 = omega (arith, by.low, by.node) in
     let high : node < c.tails = omega (arith, by.high, before) in
-    let new : among covering (column_of c node) ≡ false = ap (among covering) own ∙ among_covered p os i ∙ free in
-    let alive : is_dead c covering node ≡ false = not-true (is_dead c covering node) (node_live p os node o j by ∙ live) in
-    let here : among out node ≡ false = never_true (among out node) (λ gone. both_ways (is_dead c covering node) alive (s.out.out_dead node low high new gone)) in
-    let next = s.spelled.down node high here in
+    let next = s.spelled.down node high (node_in p os is out i node o j s.names s.out by own free live) in
     let d : ℕ = down_of m node in
-    let follow : start_of p (o + 1) ≡ end = starts_next (base_of p) p.options o inside in
     let skip = column_skip_to c out i (d - (node + 1)) (node + 1) d (omega (arith, next.below)) (λ y above below same. next.nearest y (omega (arith, above)) below (same ∙ sym own)) in
-    let skip_rest = column_skip_to c out i (start_of p (o + 1) - (node + 1)) (node + 1) (start_of p (o + 1)) (omega (arith, follow, before)) (λ y above below same.
-    absurd (omega (arith, above, s.table_is.apart node y low high (omega (arith, by.begin, at.low, above)) (omega (arith, by.end, follow, below)) (same ∙ sym own)))) in
     walk_column c out m i (c.tails - d) d s.spelled next.low (next.column ∙ own) next.in_down (omega arith)
-    ∙ ap (map (option_of c)) (sym skip ∙ skip_rest)
-    ∙ column_options_from p os out i (o + 1) s.is_problem s.out h free (omega (arith, inside))
+    ∙ ap (map (option_of c)) (sym skip)
+    ∙ rest_at p os is out i node o j s.is_problem s.names s.out h free by own
 
 -- the options after an option in the column of an uncovered item
-pub left_after : (p : Problem) (c : Columns) (os : List ℕ) (m : List Link) (counts : List ℕ) (room i o node : ℕ) → IsLinks p c os m counts room → i < length p.names → is_covered p os i ≡ false → o < length p.options → is_live p os o ≡ true → names_item p o i ≡ true → IsNaming c i (get_or c.first o 0) (get_or c.first (o + 1) 0) node → options_left c m (down_of m node) ≡ live_options_from p os i (o + 1)
-left_after p c os m counts room i o node is h free inside live named at =
-    let P : Columns → Type 0 = λ t. IsLinks p t os m counts room in
-    let s = state_of p (table p) os m counts room (subst P is.layout is) in
+pub left_after : (p : Problem) (c : Columns) (os es : List ℕ) (m : List Link) (counts : List ℕ) (room i o node : ℕ) → IsLinks p c os es m counts room → i < length p.names → is_covered p os i ≡ false → o < length p.options → is_live p os o ≡ true → names_item p o i ≡ true → IsNaming c i (get_or c.first o 0) (get_or c.first (o + 1) 0) node → options_left c m (down_of m node) ≡ live_options_from p os i (o + 1)
+left_after p c os es m counts room i o node is h free inside live named at =
+    let P : Columns → Type 0 = λ t. IsLinks p t os es m counts room in
+    let s = state_of p (table p) os es m counts room (subst P is.layout is) in
     let Q : Columns → Type 0 = λ t. IsNaming t i (get_or t.first o 0) (get_or t.first (o + 1) 0) node in
     let at_table = subst Q is.layout at in
     let begin : get_or (first_list p) o 0 ≡ start_of p o = first_at p o (omega (arith, inside)) in
@@ -226,7 +241,7 @@ left_after p c os m counts room i o node is h free inside live named at =
     let R : ℕ → Type 0 = λ b. IsNaming (table p) i b (get_or (first_list p) (o + 1) 0) node in
     let S : ℕ → Type 0 = λ e. IsNaming (table p) i (start_of p o) e node in
     let T : Columns → Type 0 = λ t. options_left t m (down_of m node) ≡ live_options_from p os i (o + 1) in
-    subst T (sym is.layout) (next_at p os m i o node s h free inside live named (subst S end (subst R begin at_table)))
+    subst T (sym is.layout) (next_at p os es m i o node s h free inside live named (subst S end (subst R begin at_table)))
 
 -- the first of what is left below a node
 pub answer_below : (c : Columns) (m : List Link) (below option : ℕ) → IsTable c → IsLinked c m → below < c.tails → option ≡ get_or c.option below option → Some option ≡ slice_get (options_left c m below) 0

@@ -95,3 +95,7 @@ pub record IsTable (c : Columns) : Type 0 where
 -- the option of a node
 abbrev pub option_of : Columns → ℕ → ℕ
 option_of c k = slice_index_or c.option k 0
+
+-- a node of an option
+abbrev pub IsOptionNode : Columns → ℕ → Type 0
+IsOptionNode c k = (c.heads + c.heads ≤ k + 1) × (k < c.tails)

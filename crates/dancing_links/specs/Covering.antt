@@ -53,6 +53,18 @@ Uncovers c old i new = (out : List ℕ) (before : List Link) → IsSpelled c out
 unfoldable pub items_from : Columns → ℕ → ℕ → List ℕ
 items_from c begin end = map (column_of c) (range_with_len begin (end - begin))
 
+-- the items of the other nodes of a row, from the one after a node on
+abbrev pub items_in_turn : Columns → ℕ → ℕ → ℕ → List ℕ
+items_in_turn c begin end node = map (column_of c) (in_turn begin end (node_after begin end node) (end - (begin + 1)))
+
+-- the items of the other nodes of a node's option, from the next one on
+abbrev pub other_items : Columns → ℕ → List ℕ
+other_items c node = map (column_of c) (others c node)
+
+-- the items of a node's option in turn, its own first
+abbrev pub items_by : Columns → ℕ → List ℕ
+items_by c node = column_of c node ∷ other_items c node
+
 -- what is out, once items are covered one after the other
 abbrev pub outs_all : Columns → List ℕ → List ℕ → List ℕ
 outs_all c out [] = out

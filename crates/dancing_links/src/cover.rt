@@ -3,7 +3,7 @@
 ghost use Rattle.std.specs.Prelude.{◌≡◌, ◌<◌, ◌≤◌, ◌+◌, ◌-◌, length};
 ghost use Rattle.dancing_links.specs.Columns.{columns_of, IsLinked, IsTable, column_of};
 ghost use Rattle.dancing_links.specs.Counting.{fewer, more, with_less, with_more, CountsCovered, CountsUncovered, CountsCoveredAll, CountsUncoveredAll};
-ghost use Rattle.dancing_links.specs.Covering.{node_after, in_turn, others, Covers, Uncovers, CoversAll, UncoversAll, items_from};
+ghost use Rattle.dancing_links.specs.Covering.{node_after, in_turn, others, Covers, Uncovers, CoversAll, UncoversAll, other_items, items_by, items_in_turn};
 ghost use Rattle.dancing_links.specs.Linking.{unlinks, relinks, up_of, down_of};
 
 use crate::layout::{Layout, item_at, row_of};
@@ -151,38 +151,110 @@ pub fn uncover(layout: &Layout, links: &mut [Link], counts: &mut [u16], item: us
     relink(layout, links, layout.heads + item);
 }
 
-/// Covers the items of a range of nodes, in their order.
-pub fn cover_all(layout: &Layout, links: &mut [Link], counts: &mut [u16], begin: usize, end: usize)
-    requires range { (layout.now.heads + layout.now.heads ≤ begin + 1) × (begin ≤ end) × (end ≤ layout.now.tails) }
-    requires table { IsTable (columns_of layout.now) }
-    requires linked { IsLinked (columns_of layout.now) links.old }
-    requires counts { length counts.old + 1 ≡ layout.now.heads }
-    ensures linked { IsLinked (columns_of layout.now) links.new }
-    ensures links { CoversAll (columns_of layout.now) links.old (items_from (columns_of layout.now) begin end) links.new }
-    ensures counts { CountsCoveredAll (columns_of layout.now) links.old (items_from (columns_of layout.now) begin end) counts.old counts.new }
-{
-    for node in begin..end {
-        cover(layout, links, counts, item_at(layout, node));
-    }
-}
-
-/// Uncovers the items of a range of nodes that were covered last, in the reverse order.
-pub fn uncover_all(
+/// Covers the items of the other nodes of a row, that of the one after the node first.
+fn cover_row(
     layout: &Layout,
     links: &mut [Link],
     counts: &mut [u16],
+    node: usize,
     begin: usize,
     end: usize,
 )
-    requires range { (layout.now.heads + layout.now.heads ≤ begin + 1) × (begin ≤ end) × (end ≤ layout.now.tails) }
+    requires range { (layout.now.heads + layout.now.heads ≤ begin + 1) × (end ≤ layout.now.tails) }
+    requires row { (begin ≤ node) × (node < end) }
     requires table { IsTable (columns_of layout.now) }
     requires linked { IsLinked (columns_of layout.now) links.old }
     requires counts { length counts.old + 1 ≡ layout.now.heads }
     ensures linked { IsLinked (columns_of layout.now) links.new }
-    ensures links { UncoversAll (columns_of layout.now) links.old (items_from (columns_of layout.now) begin end) links.new }
-    ensures counts { CountsUncoveredAll (columns_of layout.now) links.old (items_from (columns_of layout.now) begin end) counts.old counts.new }
+    ensures links { CoversAll (columns_of layout.now) links.old (items_in_turn (columns_of layout.now) begin end node) links.new }
+    ensures counts { CountsCoveredAll (columns_of layout.now) links.old (items_in_turn (columns_of layout.now) begin end node) counts.old counts.new }
 {
-    for node in (begin..end).rev() {
-        uncover(layout, links, counts, item_at(layout, node));
+    let mut other = node;
+    for _place in begin + 1..end {
+        other = node_after(begin, end, other);
+        cover(layout, links, counts, item_at(layout, other));
     }
+}
+
+/// Covers the items of the other nodes of a node's option, the next one first.
+#[tactic(auto, unfolding(crate::specs::Covering::others))]
+pub fn cover_others(layout: &Layout, links: &mut [Link], counts: &mut [u16], node: usize)
+    requires node { (layout.now.heads + layout.now.heads ≤ node + 1) × (node < layout.now.tails) }
+    requires table { IsTable (columns_of layout.now) }
+    requires linked { IsLinked (columns_of layout.now) links.old }
+    requires counts { length counts.old + 1 ≡ layout.now.heads }
+    ensures linked { IsLinked (columns_of layout.now) links.new }
+    ensures links { CoversAll (columns_of layout.now) links.old (other_items (columns_of layout.now) node) links.new }
+    ensures counts { CountsCoveredAll (columns_of layout.now) links.old (other_items (columns_of layout.now) node) counts.old counts.new }
+{
+    let (begin, end) = row_of(layout, node);
+    cover_row(layout, links, counts, node, begin, end);
+}
+
+/// Uncovers the items of the other nodes of a row, that of the one before the node first.
+fn uncover_row(
+    layout: &Layout,
+    links: &mut [Link],
+    counts: &mut [u16],
+    node: usize,
+    begin: usize,
+    end: usize,
+)
+    requires range { (layout.now.heads + layout.now.heads ≤ begin + 1) × (end ≤ layout.now.tails) }
+    requires row { (begin ≤ node) × (node < end) }
+    requires table { IsTable (columns_of layout.now) }
+    requires linked { IsLinked (columns_of layout.now) links.old }
+    requires counts { length counts.old + 1 ≡ layout.now.heads }
+    ensures linked { IsLinked (columns_of layout.now) links.new }
+    ensures links { UncoversAll (columns_of layout.now) links.old (items_in_turn (columns_of layout.now) begin end node) links.new }
+    ensures counts { CountsUncoveredAll (columns_of layout.now) links.old (items_in_turn (columns_of layout.now) begin end node) counts.old counts.new }
+{
+    let mut other = node;
+    for _place in begin + 1..end {
+        other = node_before(begin, end, other);
+        uncover(layout, links, counts, item_at(layout, other));
+    }
+}
+
+/// Uncovers the items of the other nodes of a node's option, which were covered last, in the reverse order.
+#[tactic(auto, unfolding(crate::specs::Covering::others))]
+pub fn uncover_others(layout: &Layout, links: &mut [Link], counts: &mut [u16], node: usize)
+    requires node { (layout.now.heads + layout.now.heads ≤ node + 1) × (node < layout.now.tails) }
+    requires table { IsTable (columns_of layout.now) }
+    requires linked { IsLinked (columns_of layout.now) links.old }
+    requires counts { length counts.old + 1 ≡ layout.now.heads }
+    ensures linked { IsLinked (columns_of layout.now) links.new }
+    ensures links { UncoversAll (columns_of layout.now) links.old (other_items (columns_of layout.now) node) links.new }
+    ensures counts { CountsUncoveredAll (columns_of layout.now) links.old (other_items (columns_of layout.now) node) counts.old counts.new }
+{
+    let (begin, end) = row_of(layout, node);
+    uncover_row(layout, links, counts, node, begin, end);
+}
+
+/// Covers the items of a node's option: its own first, then the others from the next one on.
+pub fn cover_from(layout: &Layout, links: &mut [Link], counts: &mut [u16], node: usize)
+    requires node { (layout.now.heads + layout.now.heads ≤ node + 1) × (node < layout.now.tails) }
+    requires table { IsTable (columns_of layout.now) }
+    requires linked { IsLinked (columns_of layout.now) links.old }
+    requires counts { length counts.old + 1 ≡ layout.now.heads }
+    ensures linked { IsLinked (columns_of layout.now) links.new }
+    ensures links { CoversAll (columns_of layout.now) links.old (items_by (columns_of layout.now) node) links.new }
+    ensures counts { CountsCoveredAll (columns_of layout.now) links.old (items_by (columns_of layout.now) node) counts.old counts.new }
+{
+    cover(layout, links, counts, item_at(layout, node));
+    cover_others(layout, links, counts, node);
+}
+
+/// Uncovers the items of a node's option, which were covered last, in the reverse order.
+pub fn uncover_from(layout: &Layout, links: &mut [Link], counts: &mut [u16], node: usize)
+    requires node { (layout.now.heads + layout.now.heads ≤ node + 1) × (node < layout.now.tails) }
+    requires table { IsTable (columns_of layout.now) }
+    requires linked { IsLinked (columns_of layout.now) links.old }
+    requires counts { length counts.old + 1 ≡ layout.now.heads }
+    ensures linked { IsLinked (columns_of layout.now) links.new }
+    ensures links { UncoversAll (columns_of layout.now) links.old (items_by (columns_of layout.now) node) links.new }
+    ensures counts { CountsUncoveredAll (columns_of layout.now) links.old (items_by (columns_of layout.now) node) counts.old counts.new }
+{
+    uncover_others(layout, links, counts, node);
+    uncover(layout, links, counts, item_at(layout, node));
 }

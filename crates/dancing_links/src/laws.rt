@@ -1,14 +1,15 @@
 //! What holds of the definitions: each function is a law, and does nothing.
 
-ghost use Rattle.std.specs.Prelude.{◌≡◌, ℕ, List};
+ghost use Rattle.std.specs.Prelude.{◌≡◌, ℕ, List, map};
 ghost use Rattle.cover_problem.specs.Problem.{Problem as ProblemValue};
 ghost use Rattle.dancing_links.specs.declared.link.Link.{Link as LinkValue};
 ghost use Rattle.dancing_links.specs.Choices.{IsLinks};
-ghost use Rattle.dancing_links.specs.Columns.{Columns};
+ghost use Rattle.dancing_links.specs.Columns.{Columns, column_of};
 
-/// Links of one problem in which the same options are chosen in the same order are equal in every link: so undoing a
-/// choice restores every link.
+/// Links of one problem in which the same options are chosen in the same order, each by the same item, are equal in every
+/// link: so undoing a choice restores every link.
 pub fn links_by_choices()
-    ensures { (problem : ProblemValue) (columns others : Columns) (chosen : List ℕ) (links more : List LinkValue) (counts tallies : List ℕ) (room space : ℕ) →
-        IsLinks problem columns chosen links counts room → IsLinks problem others chosen more tallies space → links ≡ more }
+    ensures { (problem : ProblemValue) (columns others : Columns) (chosen entries nodes : List ℕ) (links more : List LinkValue) (counts tallies : List ℕ) (room space : ℕ) →
+        IsLinks problem columns chosen entries links counts room → IsLinks problem others chosen nodes more tallies space →
+        map (column_of columns) entries ≡ map (column_of others) nodes → links ≡ more }
 {}

@@ -1,19 +1,19 @@
 //! The links of a problem in which options are chosen.
 
-ghost use Rattle.std.specs.Prelude.{◌≡◌, ◌+◌, ◌-◌, ◌<◌, ◌≤◌, [], length, IfOk, IfSome, MatchOption, true, false, not, slice_get};
+ghost use Rattle.std.specs.Prelude.{◌≡◌, ℕ, ◌+◌, ◌-◌, ◌<◌, ◌≤◌, [], length, IfOk, IfSome, MatchOption, true, false, not, slice_get};
 ghost use Rattle.std.specs.List.{All, list_all};
 ghost use Rattle.cover_problem.specs.Branching.{live_options, IsOpen};
 ghost use Rattle.cover_problem.specs.Onward.{open_items_from, live_options_from};
 ghost use Rattle.cover_problem.specs.Problem.{IsProblem};
-ghost use Rattle.dancing_links.specs.Choices.{Choices, with_choice, IsChild};
+ghost use Rattle.dancing_links.specs.Choices.{Choices, with_child, with_child_if, with_choice, IsChild, IsNextChoice};
 ghost use Rattle.dancing_links.specs.Columns.{columns_of, IsTable, IsLinked};
 ghost use Rattle.dancing_links.specs.Linking.{down_of};
 ghost use Rattle.dancing_links.specs.Walking.{options_left};
 ghost use Rattle.cover_problem.specs.Prefix.{is_covered, is_live, is_prefix};
 
 use crate::build::{build_counts, build_links};
-use crate::cover::{cover_all, uncover_all};
-use crate::layout::{Layout, layout_of, node_of, node_range};
+use crate::cover::{cover_from, cover_others, uncover, uncover_from, uncover_others};
+use crate::layout::{Layout, item_at, layout_of, node_of, node_range};
 use crate::link::Link;
 use crate::options::OptionsOf;
 use cover_problem::Problem;
@@ -22,26 +22,30 @@ use std::marker::Model;
 
 /// The dancing links of a problem, and the options that are chosen in it.
 ///
-/// Each choice covers the items of its option; only `build` takes memory.
+/// Each choice covers the items of its option, from the one on by which it is made; only `build` takes memory.
 #[derive(Drop)]
 pub struct Links<'a> {
     problem: &'a Problem,
     layout: Layout,
     links: Vec<Link>,
     counts: Vec<u16>,
+    /// The chosen options, in the order of the choices.
     chosen: Vec<u16>,
+    /// The node by which each was chosen: the items of its option were covered from its own on.
+    entries: Vec<u32>,
 }
 
 impl<'a> Model for Links<'a> {
-    ghost use Rattle.std.specs.Prelude.{vec_capacity};
-    ghost use Rattle.dancing_links.specs.Columns.{columns_of};
+    ghost use Rattle.std.specs.Prelude.{vec_capacity, map, ◌≤◌};
+    ghost use Rattle.dancing_links.specs.Columns.{columns_of, column_of};
     ghost use Rattle.dancing_links.specs.Choices.{Choices, IsLinks};
 
     ghost Value = { Choices };
 
-    ghost view = { λ s. record { problem = s.problem.now; chosen = s.chosen.items } };
+    ghost view = { λ s. record { problem = s.problem.now; chosen = s.chosen.items; branches = map (column_of (columns_of s.layout)) s.entries.items } };
 
-    ghost invariant = { λ s. IsLinks s.problem.now (columns_of s.layout) s.chosen.items s.links.items s.counts.items (vec_capacity s.chosen) };
+    ghost invariant = { λ s. IsLinks s.problem.now (columns_of s.layout) s.chosen.items s.entries.items s.links.items s.counts.items (vec_capacity s.chosen)
+        × (s.problem.now.primary ≤ vec_capacity s.entries) };
 }
 
 impl<'a> Links<'a> {
@@ -51,6 +55,7 @@ impl<'a> Links<'a> {
         ensures chosen { IfOk result (λ links. links.chosen ≡ []) }
     {
         let chosen = Vec::with_capacity(alloc, problem.primary())?;
+        let entries = Vec::with_capacity(alloc, problem.primary())?;
         let layout = layout_of(alloc, problem)?;
         let links = build_links(alloc, &layout)?;
         let counts = build_counts(alloc, &layout)?;
@@ -60,6 +65,7 @@ impl<'a> Links<'a> {
             links,
             counts,
             chosen,
+            entries,
         })
     }
 
@@ -85,20 +91,69 @@ impl<'a> Links<'a> {
         requires live { is_live self.old.problem self.old.chosen option ≡ true }
         ensures { self.new ≡ with_choice self.old option }
     {
-        let (begin, end) = node_range(&self.layout, option);
-        cover_all(&self.layout, &mut self.links, &mut self.counts, begin, end);
+        let (first, _) = node_range(&self.layout, option);
+        cover_from(&self.layout, &mut self.links, &mut self.counts, first);
+        self.entries.push_reserved(first as u32);
         self.chosen.push_reserved(option);
     }
 
-    /// Takes the last choice back, and answers it: all links are as before it.
+    /// Chooses the first live option that names an uncovered item, by that item: it is covered first, then the option's
+    /// other items in turn. Answers the option; where there is none, nothing changes.
+    pub fn choose_first(&mut self, item: u16) -> Option<u16>
+        requires item { item < length self.old.problem.names }
+        requires uncovered { is_covered self.old.problem self.old.chosen item ≡ false }
+        ensures first { result ≡ slice_get (live_options_from self.old.problem self.old.chosen item 0) 0 }
+        ensures child { IfSome result (IsChild self.old.problem self.old.chosen item) }
+        ensures chosen { self.new ≡ with_child_if self.old item result }
+    {
+        let node = self.links[item as usize].down as usize;
+        if node >= self.layout.tails {
+            return None;
+        }
+        let option = self.layout.options[node];
+        cover_from(&self.layout, &mut self.links, &mut self.counts, node);
+        self.entries.push_reserved(node as u32);
+        self.chosen.push_reserved(option);
+        Some(option)
+    }
+
+    /// Chooses, in place of the option that was chosen last, the next one that was live and names the item by which that one was
+    /// chosen. The item stays covered. Answers the option; where none follows, the choice is taken back.
     #[inline(always)]
+    pub fn choose_next(&mut self) -> Option<u16>
+        requires { 0 < length self.old.chosen }
+        ensures { (before : Choices) (item option : ℕ) → self.old ≡ with_child before item option → IsNextChoice before item option result self.new }
+    {
+        let node = self.entries[self.entries.len() - 1] as usize;
+        uncover_others(&self.layout, &mut self.links, &mut self.counts, node);
+        self.entries.pop();
+        self.chosen.pop();
+        let next = self.links[node].down as usize;
+        if next >= self.layout.tails {
+            uncover(
+                &self.layout,
+                &mut self.links,
+                &mut self.counts,
+                item_at(&self.layout, node),
+            );
+            return None;
+        }
+        let option = self.layout.options[next];
+        cover_others(&self.layout, &mut self.links, &mut self.counts, next);
+        self.entries.push_reserved(next as u32);
+        self.chosen.push_reserved(option);
+        Some(option)
+    }
+
+    /// Takes the last choice back, and answers it: all links are as before it.
     pub fn undo(&mut self) -> u16
         requires { 0 < length self.old.chosen }
-        ensures { self.old ≡ with_choice self.new result }
+        ensures { (item : ℕ) × (self.old ≡ with_child self.new item result) }
     {
         let option = self.chosen[self.chosen.len() - 1];
-        let (begin, end) = node_range(&self.layout, option);
-        uncover_all(&self.layout, &mut self.links, &mut self.counts, begin, end);
+        let node = self.entries[self.entries.len() - 1] as usize;
+        uncover_from(&self.layout, &mut self.links, &mut self.counts, node);
+        self.entries.pop();
         self.chosen.pop();
         option
     }

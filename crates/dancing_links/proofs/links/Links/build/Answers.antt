@@ -1,5 +1,5 @@
 use Rattle.dancing_links.specs.Columns.{columns_of}
-use Rattle.dancing_links.proofs.Chosen.{table_of}
+use Rattle.dancing_links.proofs.Ranges.{table_of}
 use Rattle.dancing_links.proofs.links.Links.build.Goals as goal
 
 pub build_links-requires : goal.build_links-requires

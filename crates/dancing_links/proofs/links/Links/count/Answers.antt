@@ -12,7 +12,7 @@ returns c =
     let p = c.self.inside.problem.now in
     let inside : c.args.item < length c.self.inside.problem.now.names = omega (arith, c.requires.item, ap (λ (v : Choices). length v.problem.names) c.self.view_is) in
     let free : is_covered c.self.inside.problem.now c.self.inside.chosen.items c.args.item ≡ false = ap (λ (v : Choices). is_covered v.problem v.chosen c.args.item) c.self.view_is ∙ c.requires.uncovered in
-    let room = item_counted_in p (columns_of c.self.inside.layout) c.self.inside.chosen.items c.self.inside.links.items c.self.inside.counts.items (vec_capacity c.self.inside.chosen) c.args.item c.self.invariant inside in
+    let room = item_counted_in p (columns_of c.self.inside.layout) c.self.inside.chosen.items c.self.inside.entries.items c.self.inside.links.items c.self.inside.counts.items (vec_capacity c.self.inside.chosen) c.args.item c.self.invariant.0 inside in
     c.index.ensures ∙ get_or_default_zero c.self.inside.counts.items c.args.item c.index.result.now room
-    ∙ count_is p (columns_of c.self.inside.layout) c.self.inside.chosen.items c.self.inside.links.items c.self.inside.counts.items (vec_capacity c.self.inside.chosen) c.args.item c.self.invariant inside free
+    ∙ count_is p (columns_of c.self.inside.layout) c.self.inside.chosen.items c.self.inside.entries.items c.self.inside.links.items c.self.inside.counts.items (vec_capacity c.self.inside.chosen) c.args.item c.self.invariant.0 inside free
     ∙ ap (λ (v : Choices). length (live_options v.problem v.chosen c.args.item)) c.self.view_is

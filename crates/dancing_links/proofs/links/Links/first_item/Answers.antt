@@ -15,7 +15,7 @@ returns-clause-first c =
     let cs = columns_of c.self.inside.layout in
     let os = c.self.inside.chosen.items in
     let P : List Link → Type 0 = λ m. IsOnward c.self.inside.problem.now (columns_of c.self.inside.layout) c.self.inside.chosen.items 0 (down_of m (c.self.inside.layout.heads - 1)) in
-    let on = subst P (sym c.deref.ensures.value) (onward_first p cs os c.self.inside.links.items c.self.inside.counts.items (vec_capacity c.self.inside.chosen) c.self.invariant) in
+    let on = subst P (sym c.deref.ensures.value) (onward_first p cs os c.self.inside.entries.items c.self.inside.links.items c.self.inside.counts.items (vec_capacity c.self.inside.chosen) c.self.invariant.0) in
     answer_item p cs os 0 (down_of c.deref.result.now (c.self.inside.layout.heads - 1)) c.primary.result c.item_below.result c.primary.ensures.count on c.item_below.ensures
     ∙ ap (λ (v : Choices). slice_get (open_items_from v.problem v.chosen 0) 0) c.self.view_is
 
@@ -25,10 +25,10 @@ returns-clause-uncovered c =
     let cs = columns_of c.self.inside.layout in
     let os = c.self.inside.chosen.items in
     let P : List Link → Type 0 = λ m. IsOnward c.self.inside.problem.now (columns_of c.self.inside.layout) c.self.inside.chosen.items 0 (down_of m (c.self.inside.layout.heads - 1)) in
-    let on = subst P (sym c.deref.ensures.value) (onward_first p cs os c.self.inside.links.items c.self.inside.counts.items (vec_capacity c.self.inside.chosen) c.self.invariant) in
+    let on = subst P (sym c.deref.ensures.value) (onward_first p cs os c.self.inside.entries.items c.self.inside.links.items c.self.inside.counts.items (vec_capacity c.self.inside.chosen) c.self.invariant.0) in
     let found = answer_open p cs os 0 (down_of c.deref.result.now (c.self.inside.layout.heads - 1)) c.primary.result c.item_below.result c.primary.ensures.count on c.item_below.ensures in
     let Q : Choices → Type 0 = λ v. IfSome c.item_below.result (IsOpen v.problem v.chosen) in
     subst Q c.self.view_is found
 
 pub returns-clause-item : goal.returns-clause-item
-returns-clause-item c = open_named c.args.self.now.problem c.args.self.now.chosen c.item_below.result (subst (λ (v : Choices). IsProblem v.problem) c.self.view_is c.self.invariant.is_problem) (returns-clause-uncovered c)
+returns-clause-item c = open_named c.args.self.now.problem c.args.self.now.chosen c.item_below.result (subst (λ (v : Choices). IsProblem v.problem) c.self.view_is c.self.invariant.0.is_problem) (returns-clause-uncovered c)

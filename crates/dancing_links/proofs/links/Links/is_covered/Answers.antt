@@ -8,5 +8,5 @@ use Rattle.dancing_links.proofs.links.Links.is_covered.Goals as goal
 pub returns : goal.returns
 returns c =
     let inside : c.args.item < length c.self.inside.problem.now.names = omega (arith, c.requires, ap (λ (v : Choices). length v.problem.names) c.self.view_is) in
-    covered_read c.self.inside.problem.now (columns_of c.self.inside.layout) c.self.inside.chosen.items c.self.inside.links.items c.self.inside.counts.items (vec_capacity c.self.inside.chosen) c.args.item c.index.result.now c.index-2.result.now c.self.invariant inside c.index.ensures c.index-2.ensures
+    covered_read c.self.inside.problem.now (columns_of c.self.inside.layout) c.self.inside.chosen.items c.self.inside.entries.items c.self.inside.links.items c.self.inside.counts.items (vec_capacity c.self.inside.chosen) c.args.item c.index.result.now c.index-2.result.now c.self.invariant.0 inside c.index.ensures c.index-2.ensures
     ∙ ap (λ (v : Choices). is_covered v.problem v.chosen c.args.item) c.self.view_is

@@ -7,33 +7,33 @@ use Rattle.dancing_links.specs.Choices.{Choices}
 use Rattle.dancing_links.specs.Columns.{columns_of}
 use Rattle.dancing_links.specs.Linking.{down_of}
 use Rattle.dancing_links.specs.Walking.{options_left}
-use Rattle.dancing_links.proofs.Chosen.{table_of, first_room, range_of}
+use Rattle.dancing_links.proofs.Ranges.{table_of, first_room, range_of}
 use Rattle.dancing_links.proofs.Views.{left_after, naming_same, head_child, head_later}
 use Rattle.dancing_links.proofs.links.Links.next_option.Goals as goal
 
 pub node_range-begin-requires : goal.node_range-begin-requires
 node_range-begin-requires c =
     let inside : c.args.option < length c.self.inside.problem.now.options = omega (arith, c.requires.child.inside, ap (λ (v : Choices). length v.problem.options) c.self.view_is) in
-    first_room c.self.inside.problem.now (columns_of c.self.inside.layout) c.args.option c.self.invariant.layout inside
+    first_room c.self.inside.problem.now (columns_of c.self.inside.layout) c.args.option c.self.invariant.0.layout inside
 
 pub node_of-node-requires-clause-range : goal.node_of-node-requires-clause-range
 node_of-node-requires-clause-range c =
     let inside : c.args.option < length c.self.inside.problem.now.options = omega (arith, c.requires.child.inside, ap (λ (v : Choices). length v.problem.options) c.self.view_is) in
-    let range = range_of c.self.inside.problem.now (columns_of c.self.inside.layout) c.args.option c.node_range-begin.result.0 c.node_range-begin.result.1 c.self.invariant.layout inside c.node_range-begin.ensures.begin c.node_range-begin.ensures.end in
+    let range = range_of c.self.inside.problem.now (columns_of c.self.inside.layout) c.args.option c.node_range-begin.result.0 c.node_range-begin.result.1 c.self.invariant.0.layout inside c.node_range-begin.ensures.begin c.node_range-begin.ensures.end in
     (range.low, range.order, range.high)
 
 pub node_of-node-requires-clause-table : goal.node_of-node-requires-clause-table
-node_of-node-requires-clause-table c = table_of c.self.inside.problem.now (columns_of c.self.inside.layout) c.self.invariant.is_problem c.self.invariant.layout
+node_of-node-requires-clause-table c = table_of c.self.inside.problem.now (columns_of c.self.inside.layout) c.self.invariant.0.is_problem c.self.invariant.0.layout
 
 pub option_below-requires-clause-node : goal.option_below-requires-clause-node
 option_below-requires-clause-node c =
     let inside : c.args.option < length c.self.inside.problem.now.options = omega (arith, c.requires.child.inside, ap (λ (v : Choices). length v.problem.options) c.self.view_is) in
-    let range = range_of c.self.inside.problem.now (columns_of c.self.inside.layout) c.args.option c.node_range-begin.result.0 c.node_range-begin.result.1 c.self.invariant.layout inside c.node_range-begin.ensures.begin c.node_range-begin.ensures.end in
-    let t = table_of c.self.inside.problem.now (columns_of c.self.inside.layout) c.self.invariant.is_problem c.self.invariant.layout in
-    omega (arith, c.node_of-node.ensures.high, range.high, t.ends, t.some, c.self.invariant.linked.0, ap length c.deref.ensures.value)
+    let range = range_of c.self.inside.problem.now (columns_of c.self.inside.layout) c.args.option c.node_range-begin.result.0 c.node_range-begin.result.1 c.self.invariant.0.layout inside c.node_range-begin.ensures.begin c.node_range-begin.ensures.end in
+    let t = table_of c.self.inside.problem.now (columns_of c.self.inside.layout) c.self.invariant.0.is_problem c.self.invariant.0.layout in
+    omega (arith, c.node_of-node.ensures.high, range.high, t.ends, t.some, c.self.invariant.0.linked.0, ap length c.deref.ensures.value)
 
 pub option_below-requires-clause-table : goal.option_below-requires-clause-table
-option_below-requires-clause-table c = table_of c.self.inside.problem.now (columns_of c.self.inside.layout) c.self.invariant.is_problem c.self.invariant.layout
+option_below-requires-clause-table c = table_of c.self.inside.problem.now (columns_of c.self.inside.layout) c.self.invariant.0.is_problem c.self.invariant.0.layout
 
 pub returns-clause-next : goal.returns-clause-next
 returns-clause-next c =
@@ -47,7 +47,7 @@ returns-clause-next c =
     let named : names_item c.self.inside.problem.now c.args.option c.args.item ≡ true = ap (λ (v : Choices). names_item v.problem c.args.option c.args.item) c.self.view_is ∙ c.requires.child.named in
     c.option_below.ensures
     ∙ ap (λ (m : List Link). slice_get (options_left cs m (down_of m c.node_of-node.result)) 0) c.deref.ensures.value
-    ∙ ap (λ (left : List ℕ). slice_get left 0) (left_after p cs os c.self.inside.links.items c.self.inside.counts.items (vec_capacity c.self.inside.chosen) c.args.item c.args.option c.node_of-node.result c.self.invariant inside_item free inside live named (naming_same cs c.args.item c.node_range-begin.result.0 c.node_range-begin.result.1 _ _ c.node_of-node.result c.node_range-begin.ensures.begin c.node_range-begin.ensures.end c.node_of-node.ensures))
+    ∙ ap (λ (left : List ℕ). slice_get left 0) (left_after p cs os c.self.inside.entries.items c.self.inside.links.items c.self.inside.counts.items (vec_capacity c.self.inside.chosen) c.args.item c.args.option c.node_of-node.result c.self.invariant.0 inside_item free inside live named (naming_same cs c.args.item c.node_range-begin.result.0 c.node_range-begin.result.1 _ _ c.node_of-node.result c.node_range-begin.ensures.begin c.node_range-begin.ensures.end c.node_of-node.ensures))
     ∙ ap (λ (v : Choices). slice_get (live_options_from v.problem v.chosen c.args.item (c.args.option + 1)) 0) c.self.view_is
 
 pub returns-clause-child : goal.returns-clause-child

@@ -5,12 +5,12 @@ use Rattle.dancing_links.specs.declared.link.Link.{Link}
 use Rattle.dancing_links.specs.Choices.{Choices}
 use Rattle.dancing_links.specs.Columns.{columns_of}
 use Rattle.dancing_links.specs.Walking.{options_left}
-use Rattle.dancing_links.proofs.Chosen.{table_of}
+use Rattle.dancing_links.proofs.Ranges.{table_of}
 use Rattle.dancing_links.proofs.Views.{left_read}
 use Rattle.dancing_links.proofs.links.Links.options_of.Goals as goal
 
 pub from_node-requires-clause-table : goal.from_node-requires-clause-table
-from_node-requires-clause-table c = table_of c.self.inside.problem.now (columns_of c.self.inside.layout) c.self.invariant.is_problem c.self.invariant.layout
+from_node-requires-clause-table c = table_of c.self.inside.problem.now (columns_of c.self.inside.layout) c.self.invariant.0.is_problem c.self.invariant.0.layout
 
 pub returns : goal.returns
 returns c =
@@ -21,5 +21,5 @@ returns c =
     let free : is_covered c.self.inside.problem.now c.self.inside.chosen.items c.args.item ≡ false = ap (λ (v : Choices). is_covered v.problem v.chosen c.args.item) c.self.view_is ∙ c.requires.uncovered in
     c.from_node.ensures
     ∙ ap (λ (m : List Link). options_left cs m c.index.result.now.down) c.deref.ensures.value
-    ∙ left_read p cs os c.self.inside.links.items c.self.inside.counts.items (vec_capacity c.self.inside.chosen) c.args.item c.index.result.now c.self.invariant inside free c.index.ensures
+    ∙ left_read p cs os c.self.inside.entries.items c.self.inside.links.items c.self.inside.counts.items (vec_capacity c.self.inside.chosen) c.args.item c.index.result.now c.self.invariant.0 inside free c.index.ensures
     ∙ ap (λ (v : Choices). live_options v.problem v.chosen c.args.item) c.self.view_is

@@ -1,0 +1,158 @@
+-- The node below the one of the last choice, once the other items of its option are uncovered.
+use Rattle.std.proofs.Common.{◌≡◌, ℕ, ◌+◌, ◌-◌, ◌<◌, ◌≤◌, List, [], ◌∷◌, ◌++◌, length, true, false, ◌||◌, Bool, get_or, map, refl, arith, sym, ap, ◌∙◌, subst, slice_get, Some, None, inl, inr}
+use Rattle.std.proofs.lemmas.Bool.{cases_Bool, both_ways, ne_eqb}
+use Rattle.std.proofs.lemmas.Grind.{get_or_default_zero}
+use Rattle.std.proofs.lemmas.List.{get_or_default}
+use Rattle.cover_problem.specs.Onward.{live_options_from}
+use Rattle.cover_problem.specs.Prefix.{is_covered, is_live}
+use Rattle.cover_problem.specs.Problem.{Problem, IsProblem}
+use Rattle.cover_problem.proofs.Remaining.{live_options_start}
+use Rattle.dancing_links.specs.declared.link.Link.{Link}
+use Rattle.dancing_links.specs.Choices.{IsChild, IsHistory, IsLinks, covered_items, out_of}
+use Rattle.dancing_links.specs.Columns.{Columns, among, column_of, column_from, option_of, IsTable, IsSpelled, IsOptionNode}
+use Rattle.dancing_links.specs.Covering.{outs, outs_all, covered, hidden_from, other_items, IsOpen}
+use Rattle.dancing_links.specs.Linking.{down_of}
+use Rattle.dancing_links.specs.Table.{table, heads_of}
+use Rattle.dancing_links.proofs.Walk.{outs_same, option_node, column_skip_to, column_from_take, column_from_end}
+use Rattle.dancing_links.proofs.Round.{others_at}
+use Rattle.dancing_links.proofs.Undone.{spelled_all, open_parts, out_append}
+use Rattle.dancing_links.proofs.Present.{IsOut, with_all, out_start, out_all, hidden_at, never_true}
+use Rattle.dancing_links.proofs.Prefixed.{last_live}
+use Rattle.dancing_links.proofs.Tables.{IsNodeAt}
+use Rattle.dancing_links.proofs.Entries.{some_node}
+use Rattle.dancing_links.proofs.Chosen.{IsFrame, frame_table, frame_new, frame_front, push_open}
+use Rattle.dancing_links.proofs.State.{among_covered, state_of}
+use Rattle.dancing_links.proofs.Views.{column_is, head_child, node_in, rest_at}
+
+-- covering an item takes no node out of its own column
+own_kept : (c : Columns) (out : List ℕ) (i y : ℕ) → IsTable c → IsOpen c out i → column_of c y ≡ i → among (outs (covered c out i) out) y ≡ among out y
+unfolding covered
+own_kept c out i y t can own =
+    let x : ℕ = c.heads + i in
+    let hidden : List ℕ = hidden_from c (x ∷ out) i c.heads in
+    let item = t.item_columns i can.item in
+    let other : x ≡ y → ⊥ = (λ e. omega (arith, item, ap (column_of c) e, own, can.item)) in
+    let never : among hidden y ≡ false = never_true (among hidden y) (λ hid.
+    let at = hidden_at c (x ∷ out) i y t hid in
+    let option = option_node c i at.node t can.item at.low at.own in
+    let w = t.within at.node option at.high in
+    let in_option = others_at c at.node y w.0 w.1 at.other in
+    in_option.2 (t.apart at.node y option at.high in_option.0 in_option.1 (own ∙ sym at.own))) in
+    outs_same hidden (x ∷ out) y never ∙ ap (λ (b : Bool). b || among out y) (ne_eqb x y other)
+
+-- a node that stands for the first live option that names an item, from one on, or a tail where there is none
+pub record IsBelow (p : Problem) (c : Columns) (os : List ℕ) (i start d : ℕ) : Type 0 where
+  pub some : d < c.tails → IsOptionNode c d × (column_of c d ≡ i) × (slice_get (live_options_from p os i start) 0 ≡ Some (option_of c d))
+  pub none : c.tails ≤ d → slice_get (live_options_from p os i start) 0 ≡ None
+
+below_by : (p : Problem) (c : Columns) (os out : List ℕ) (i start d : ℕ) → IsTable c → i + 1 < c.heads → c.heads ≤ d → column_of c d ≡ i → among out d ≡ false → live_options_from p os i start ≡ map (option_of c) (column_from c out i d) → IsBelow p c os i start d
+below_by p c os out i start d t item low own here rest = record {
+  some = λ high.
+      let take = column_from_take c out i d high own here in
+      ((option_node c i d t item low own, high), own, ap (λ (xs : List ℕ). slice_get xs 0) (rest ∙ ap (map (option_of c)) take));
+  none = λ past. ap (λ (xs : List ℕ). slice_get xs 0) (rest ∙ ap (map (option_of c)) (column_from_end c out i d past));
+}
+
+-- below the head of an uncovered item
+pub below_head : (p : Problem) (c : Columns) (os es : List ℕ) (m : List Link) (counts : List ℕ) (room i : ℕ) (head : Link) → IsLinks p c os es m counts room → i < length p.names → is_covered p os i ≡ false → head ≡ get_or m i head → IsBelow p c os i 0 head.down
+below_head p c os es m counts room i head is h free e =
+    let s = state_of p c os es m counts room is in
+    let heads : c.heads ≡ heads_of p = ap (λ (t : Columns). t.heads) is.layout in
+    let lt : i < c.heads = omega (arith, heads, h) in
+    let item : i + 1 < c.heads = omega (arith, heads, h) in
+    let own = s.table_is.head_columns i lt in
+    let next = s.spelled.down i (omega (arith, lt, s.spelled.order)) (s.spelled.heads_in i lt) in
+    let d : ℕ = down_of m i in
+    let skip = column_skip_to c (out_of c es) i (d - c.heads) c.heads d (omega (arith, next.low)) (λ y above below same. next.nearest y (omega (arith, above, lt)) below (same ∙ sym own)) in
+    let rest : live_options_from p os i 0 ≡ map (option_of c) (column_from c (out_of c es) i (down_of m i)) = live_options_start p os i ∙ sym (column_is p c os es m counts room i is h free) ∙ ap (map (option_of c)) skip in
+    let D : Link → ℕ = λ l. l.down in
+    let inside : i < length m = omega (arith, s.spelled.count, s.table_is.ends, heads, h) in
+    let read : down_of m i ≡ head.down = sym (ap D (e ∙ get_or_default m i head (record { up = 0; down = 0 }) inside)) in
+    let P : ℕ → Type 0 = λ n. IsBelow p c os i 0 n in
+    subst P read (below_by p c os (out_of c es) i 0 d s.table_is item next.low (next.column ∙ own) next.in_down rest)
+
+-- the option that is chosen by such a node
+pub record IsChoice (p : Problem) (c : Columns) (os : List ℕ) (i start k o : ℕ) : Type 0 where
+  pub node : IsOptionNode c k
+  pub column : column_of c k ≡ i
+  pub option : option_of c k ≡ o
+  pub first : Some o ≡ slice_get (live_options_from p os i start) 0
+  pub child : IsChild p os i o
+
+pub choice_of : (p : Problem) (c : Columns) (os : List ℕ) (i start k o : ℕ) → IsTable c → IsBelow p c os i start k → k < c.tails → o ≡ get_or c.option k o → IsChoice p c os i start k o
+choice_of p c os i start k o t below high e =
+    let at = below.some high in
+    let inside : k < length c.option = omega (arith, t.option, t.ends, high) in
+    let own : o ≡ option_of c k = e ∙ get_or_default_zero c.option k o inside in
+    let first : Some o ≡ slice_get (live_options_from p os i start) 0 = ap Some own ∙ sym at.2 in
+    record { node = at.0; column = at.1; option = sym own; first = first; child = head_child p os i start (Some o) first }
+
+-- what was so at the last choice
+pub record IsLast (p : Problem) (c : Columns) (os es : List ℕ) (i o k : ℕ) : Type 0 where
+  pub item : i + 1 < c.heads
+  pub named : i < length p.names
+  pub free : is_covered p os i ≡ false
+  pub live : is_live p os o ≡ true
+  pub can : IsOpen c (out_of c es) i
+  pub here : among (out_of c es) k ≡ false
+  pub rest : map (option_of c) (column_from c (out_of c es) i (k + 1)) ≡ live_options_from p os i (o + 1)
+
+rest_of : (p : Problem) (c : Columns) (os is out : List ℕ) (i k o : ℕ) → c ≡ table p → IsProblem p → ((n : ℕ) → among is n ≡ is_covered p os n) → IsOut c is out → i < length p.names → is_covered p os i ≡ false → is_live p os o ≡ true → IsOptionNode c k → option_of c k ≡ o → column_of c k ≡ i → (among out k ≡ false) × (map (option_of c) (column_from c out i (k + 1)) ≡ live_options_from p os i (o + 1))
+rest_of p c os is out i k o same lawful names =
+    let P : Columns → Type 0 = λ t. IsOut t is out → i < length p.names → is_covered p os i ≡ false → is_live p os o ≡ true → IsOptionNode t k → option_of t k ≡ o → column_of t k ≡ i → (among out k ≡ false) × (map (option_of t) (column_from t out i (k + 1)) ≡ live_options_from p os i (o + 1)) in
+    subst P (sym same) (λ gone named free live node option own.
+    let some = some_node p k node in
+    let N : ℕ → Type 0 = λ q. IsNodeAt p k q some.0 in
+    let at = subst N option some.1 in
+    (node_in p os is out i k o some.0 names gone at own free live, rest_at p os is out i k o some.0 lawful names gone named free at own))
+
+pub last_of : (p : Problem) (c : Columns) (os es : List ℕ) (room o k : ℕ) → IsFrame p c (os ++ o ∷ []) (es ++ k ∷ []) room → IsLast p c os es (column_of c k) o k
+last_of p c os es room o k f =
+    let t = frame_table p c (os ++ o ∷ []) (es ++ k ∷ []) room f in
+    let front = frame_front p c os es room o k f in
+    let i : ℕ = column_of c k in
+    let heads : c.heads ≡ heads_of p = ap (λ (t : Columns). t.heads) f.layout in
+    let item : column_of c k + 1 < c.heads = t.option_columns k front.1.0 front.1.1 in
+    let named : column_of c k < length p.names = omega (arith, item, heads) in
+    let first = (open_parts c [] (covered_items c es ++ i ∷ []) (other_items c k) (push_open p c os es room o k f)).0 in
+    let can = (open_parts c [] (covered_items c es) (i ∷ []) first).1.0 in
+    let is : List ℕ = with_all [] (covered_items c es) in
+    let names : (n : ℕ) → among (with_all [] (covered_items c es)) n ≡ is_covered p os n = (λ n. among_covered p c os es room n front.0) in
+    let gone : IsOut c is (out_of c es) = out_all c [] [] (covered_items c es) t (out_start c) (frame_new p c os es room front.0) in
+    let free : is_covered p os (column_of c k) ≡ false = elim (cases_Bool (is_covered p os (column_of c k))) [
+      | inr f ↦ f
+      | inl hit ↦ absurd (both_ways (among (out_of c es) (c.heads + column_of c k)) can.here (gone.items_in (column_of c k) item (names (column_of c k) ∙ hit)))
+    ] in
+    let live = last_live p os o f.prefix in
+    let rest = rest_of p c os is (out_of c es) i k o f.layout f.is_problem names gone named free live front.1 front.2 refl in
+    record { item = item; named = named; free = free; live = live; can = can; here = rest.0; rest = rest.1 }
+
+pub below_last : (p : Problem) (c : Columns) (os es : List ℕ) (mid : List Link) (half : List ℕ) (room o k : ℕ) → IsFrame p c (os ++ o ∷ []) (es ++ k ∷ []) room → IsHistory c (covered_items c es ++ column_of c k ∷ []) mid half → IsBelow p c os (column_of c k) (o + 1) (down_of mid k)
+below_last p c os es mid half room o k f h =
+    let t = frame_table p c (os ++ o ∷ []) (es ++ k ∷ []) room f in
+    let front = frame_front p c os es room o k f in
+    let i : ℕ = column_of c k in
+    let out : List ℕ = out_of c es in
+    let last = last_of p c os es room o k f in
+    let first = (open_parts c [] (covered_items c es ++ i ∷ []) (other_items c k) (push_open p c os es room o k f)).0 in
+    let both : outs_all c [] (covered_items c es ++ column_of c k ∷ []) ≡ outs (covered c (out_of c es) (column_of c k)) (out_of c es) = out_append c [] (covered_items c es) (i ∷ []) in
+    let P : List Link → Type 0 = λ links. IsSpelled c (outs_all c [] (covered_items c es ++ column_of c k ∷ [])) links in
+    let Q : List ℕ → Type 0 = λ gone. IsSpelled c gone mid in
+    let spelled = subst Q both (subst P (sym h.links_are) (spelled_all c [] h.before (covered_items c es ++ i ∷ []) t h.built.spelled first)) in
+    let own : (y : ℕ) → column_of c y ≡ column_of c k → among (outs (covered c (out_of c es) (column_of c k)) (out_of c es)) y ≡ among (out_of c es) y = (λ y same. own_kept c out i y t last.can same) in
+    let next = spelled.down k front.1.1 (own k refl ∙ last.here) in
+    let d : ℕ = down_of mid k in
+    let skip = column_skip_to c out i (d - (k + 1)) (k + 1) d (omega (arith, next.below)) (λ y above below same. sym (own y same) ∙ next.nearest y (omega (arith, above)) below same) in
+    let rest : live_options_from p os (column_of c k) (o + 1) ≡ map (option_of c) (column_from c (out_of c es) (column_of c k) (down_of mid k)) = sym last.rest ∙ ap (map (option_of c)) skip in
+    below_by p c os out i (o + 1) d t last.item next.low next.column (sym (own d next.column) ∙ next.in_down) rest
+
+-- the same, as the code reads it
+pub below_read : (p : Problem) (c : Columns) (os es : List ℕ) (mid read : List Link) (half : List ℕ) (room o k : ℕ) (link : Link) → IsFrame p c (os ++ o ∷ []) (es ++ k ∷ []) room → IsHistory c (covered_items c es ++ column_of c k ∷ []) mid half → length mid ≡ length c.column → read ≡ mid → link ≡ get_or read k link → IsBelow p c os (column_of c k) (o + 1) link.down
+below_read p c os es mid read half room o k link f h count same e =
+    let t = frame_table p c (os ++ o ∷ []) (es ++ k ∷ []) room f in
+    let node = (frame_front p c os es room o k f).1 in
+    let inside : k < length mid = omega (arith, count, t.ends, node.1) in
+    let D : Link → ℕ = λ l. l.down in
+    let down : link.down ≡ down_of mid k = ap D (e ∙ ap (λ (m : List Link). get_or m k link) same ∙ get_or_default mid k link (record { up = 0; down = 0 }) inside) in
+    let P : ℕ → Type 0 = λ n. IsBelow p c os (column_of c k) (o + 1) n in
+    subst P (sym down) (below_last p c os es mid half room o k f h)

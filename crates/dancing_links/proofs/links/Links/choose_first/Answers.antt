@@ -1,0 +1,152 @@
+use Rattle.std.proofs.Common.{◌≡◌, ◌<◌, length, false, arith, ap, sym, refl, ◌∙◌, [], ◌∷◌, ◌++◌, vec_capacity, slice_get, subst}
+use Rattle.cover_problem.specs.Onward.{live_options_from}
+use Rattle.cover_problem.specs.Prefix.{is_covered}
+use Rattle.dancing_links.specs.Choices.{Choices, IsChild}
+use Rattle.dancing_links.specs.Columns.{columns_of}
+use Rattle.dancing_links.proofs.Ranges.{table_of}
+use Rattle.dancing_links.proofs.Chosen.{room_left, same_length, links_push, put_back, same_links_of, view_push}
+use Rattle.dancing_links.proofs.Next.{below_head, choice_of}
+use Rattle.dancing_links.proofs.links.Links.choose_first.Goals as goal
+
+pub returns-then-node-self-clause-first : goal.returns-then-node-self-clause-first
+returns-then-node-self-clause-first c =
+    let p = c.self.inside.problem.now in
+    let cs = columns_of c.self.inside.layout in
+    let os = c.self.inside.chosen.items in
+    let es = c.self.inside.entries.items in
+    let room = vec_capacity c.self.inside.chosen in
+    let t = table_of p cs c.self.invariant.0.is_problem c.self.invariant.0.layout in
+    let inside : c.args.item < length c.self.inside.problem.now.names = omega (arith, c.requires.item, ap (λ (v : Choices). length v.problem.names) c.self.view_is) in
+    let free : is_covered c.self.inside.problem.now c.self.inside.chosen.items c.args.item ≡ false = ap (λ (v : Choices). is_covered v.problem v.chosen c.args.item) c.self.view_is ∙ c.requires.uncovered in
+    let below = below_head p cs os es c.self.inside.links.items c.self.inside.counts.items room c.args.item c.index.result.now c.self.invariant.0 inside free c.index.ensures in
+    sym (below.none (omega (arith, c.if-node-self.true))) ∙ ap (λ (v : Choices). slice_get (live_options_from v.problem v.chosen c.args.item 0) 0) c.self.view_is
+
+pub index-option-requires : goal.index-option-requires
+index-option-requires c =
+    let p = c.self.inside.problem.now in
+    let cs = columns_of c.self.inside.layout in
+    let os = c.self.inside.chosen.items in
+    let es = c.self.inside.entries.items in
+    let room = vec_capacity c.self.inside.chosen in
+    let t = table_of p cs c.self.invariant.0.is_problem c.self.invariant.0.layout in
+    let inside : c.args.item < length c.self.inside.problem.now.names = omega (arith, c.requires.item, ap (λ (v : Choices). length v.problem.names) c.self.view_is) in
+    let free : is_covered c.self.inside.problem.now c.self.inside.chosen.items c.args.item ≡ false = ap (λ (v : Choices). is_covered v.problem v.chosen c.args.item) c.self.view_is ∙ c.requires.uncovered in
+    let below = below_head p cs os es c.self.inside.links.items c.self.inside.counts.items room c.args.item c.index.result.now c.self.invariant.0 inside free c.index.ensures in
+    let node = (below.some (omega (arith, c.if-node-self.false))).0 in
+    omega (arith, node.1, t.option, t.ends, c.self.inside.layout.options.ok.0)
+
+pub cover_from-requires-clause-node : goal.cover_from-requires-clause-node
+cover_from-requires-clause-node c =
+    let p = c.self.inside.problem.now in
+    let cs = columns_of c.self.inside.layout in
+    let os = c.self.inside.chosen.items in
+    let es = c.self.inside.entries.items in
+    let room = vec_capacity c.self.inside.chosen in
+    let t = table_of p cs c.self.invariant.0.is_problem c.self.invariant.0.layout in
+    let inside : c.args.item < length c.self.inside.problem.now.names = omega (arith, c.requires.item, ap (λ (v : Choices). length v.problem.names) c.self.view_is) in
+    let free : is_covered c.self.inside.problem.now c.self.inside.chosen.items c.args.item ≡ false = ap (λ (v : Choices). is_covered v.problem v.chosen c.args.item) c.self.view_is ∙ c.requires.uncovered in
+    let below = below_head p cs os es c.self.inside.links.items c.self.inside.counts.items room c.args.item c.index.result.now c.self.invariant.0 inside free c.index.ensures in
+    let choice = choice_of p cs os c.args.item 0 c.index.result.now.down c.index-option.result.now t below (omega (arith, c.if-node-self.false)) c.index-option.ensures in
+    choice.node
+
+pub cover_from-requires-clause-table : goal.cover_from-requires-clause-table
+cover_from-requires-clause-table c =
+    let p = c.self.inside.problem.now in
+    let cs = columns_of c.self.inside.layout in
+    let os = c.self.inside.chosen.items in
+    let es = c.self.inside.entries.items in
+    let room = vec_capacity c.self.inside.chosen in
+    let t = table_of p cs c.self.invariant.0.is_problem c.self.invariant.0.layout in
+    t
+
+pub push_reserved-requires : goal.push_reserved-requires
+push_reserved-requires c =
+    let p = c.self.inside.problem.now in
+    let cs = columns_of c.self.inside.layout in
+    let os = c.self.inside.chosen.items in
+    let es = c.self.inside.entries.items in
+    let room = vec_capacity c.self.inside.chosen in
+    let t = table_of p cs c.self.invariant.0.is_problem c.self.invariant.0.layout in
+    let inside : c.args.item < length c.self.inside.problem.now.names = omega (arith, c.requires.item, ap (λ (v : Choices). length v.problem.names) c.self.view_is) in
+    let free : is_covered c.self.inside.problem.now c.self.inside.chosen.items c.args.item ≡ false = ap (λ (v : Choices). is_covered v.problem v.chosen c.args.item) c.self.view_is ∙ c.requires.uncovered in
+    let below = below_head p cs os es c.self.inside.links.items c.self.inside.counts.items room c.args.item c.index.result.now c.self.invariant.0 inside free c.index.ensures in
+    let choice = choice_of p cs os c.args.item 0 c.index.result.now.down c.index-option.result.now t below (omega (arith, c.if-node-self.false)) c.index-option.ensures in
+    let left = room_left p os c.index-option.result.now c.self.invariant.0.is_problem c.self.invariant.0.prefix choice.child.inside choice.child.live in
+    let same = same_length p cs os es c.self.inside.links.items c.self.inside.counts.items room c.self.invariant.0 in
+    omega (arith, left, same, c.self.invariant.1, c.self.inside.entries.ok.0)
+
+pub push_reserved-requires-2 : goal.push_reserved-requires-2
+push_reserved-requires-2 c =
+    let p = c.self.inside.problem.now in
+    let cs = columns_of c.self.inside.layout in
+    let os = c.self.inside.chosen.items in
+    let es = c.self.inside.entries.items in
+    let room = vec_capacity c.self.inside.chosen in
+    let t = table_of p cs c.self.invariant.0.is_problem c.self.invariant.0.layout in
+    let inside : c.args.item < length c.self.inside.problem.now.names = omega (arith, c.requires.item, ap (λ (v : Choices). length v.problem.names) c.self.view_is) in
+    let free : is_covered c.self.inside.problem.now c.self.inside.chosen.items c.args.item ≡ false = ap (λ (v : Choices). is_covered v.problem v.chosen c.args.item) c.self.view_is ∙ c.requires.uncovered in
+    let below = below_head p cs os es c.self.inside.links.items c.self.inside.counts.items room c.args.item c.index.result.now c.self.invariant.0 inside free c.index.ensures in
+    let choice = choice_of p cs os c.args.item 0 c.index.result.now.down c.index-option.result.now t below (omega (arith, c.if-node-self.false)) c.index-option.ensures in
+    let left = room_left p os c.index-option.result.now c.self.invariant.0.is_problem c.self.invariant.0.prefix choice.child.inside choice.child.live in
+    omega (arith, left, c.self.invariant.0.enough, c.self.inside.chosen.ok.0)
+
+pub invariant_of-self : goal.invariant_of-self
+invariant_of-self c =
+    let p = c.self.inside.problem.now in
+    let cs = columns_of c.self.inside.layout in
+    let os = c.self.inside.chosen.items in
+    let es = c.self.inside.entries.items in
+    let room = vec_capacity c.self.inside.chosen in
+    let t = table_of p cs c.self.invariant.0.is_problem c.self.invariant.0.layout in
+    let inside : c.args.item < length c.self.inside.problem.now.names = omega (arith, c.requires.item, ap (λ (v : Choices). length v.problem.names) c.self.view_is) in
+    let free : is_covered c.self.inside.problem.now c.self.inside.chosen.items c.args.item ≡ false = ap (λ (v : Choices). is_covered v.problem v.chosen c.args.item) c.self.view_is ∙ c.requires.uncovered in
+    let below = below_head p cs os es c.self.inside.links.items c.self.inside.counts.items room c.args.item c.index.result.now c.self.invariant.0 inside free c.index.ensures in
+    let choice = choice_of p cs os c.args.item 0 c.index.result.now.down c.index-option.result.now t below (omega (arith, c.if-node-self.false)) c.index-option.ensures in
+    let option = c.index-option.result.now in
+    let node = c.index.result.now.down in
+    let before = same_links_of p cs os os es es c.self.inside.links.items c.deref_mut.result.now c.self.inside.counts.items c.deref_mut-2.result.now room room refl refl c.deref_mut.ensures.value c.deref_mut-2.ensures.value refl c.self.invariant.0 in
+    let after = links_push p cs os es c.deref_mut.result.now c.cover_from.new.links c.deref_mut-2.result.now c.cover_from.new.counts room option node before choice.child.inside choice.child.live choice.node choice.option c.cover_from.ensures.linked c.cover_from.ensures.links c.cover_from.ensures.counts in
+    (same_links_of p cs (os ++ option ∷ []) c.push_reserved-2.new.self.items (es ++ node ∷ []) c.push_reserved.new.self.items c.cover_from.new.links _ c.cover_from.new.counts _ room _ c.push_reserved-2.ensures.items c.push_reserved.ensures.items (put_back c.cover_from.new.links _ c.self.inside.links.len (omega (arith, c.cover_from.ensures.linked.0, c.self.invariant.0.linked.0, c.self.inside.links.ok.0))) (put_back c.cover_from.new.counts _ c.self.inside.counts.len (omega (arith, c.cover_from.auto.counts, c.deref_mut-2.ensures.len, c.self.inside.counts.ok.0))) c.push_reserved-2.ensures.capacity after, omega (arith, c.self.invariant.1, c.push_reserved.ensures.capacity))
+
+pub returns-clause-first : goal.returns-clause-first
+returns-clause-first c =
+    let p = c.self.inside.problem.now in
+    let cs = columns_of c.self.inside.layout in
+    let os = c.self.inside.chosen.items in
+    let es = c.self.inside.entries.items in
+    let room = vec_capacity c.self.inside.chosen in
+    let t = table_of p cs c.self.invariant.0.is_problem c.self.invariant.0.layout in
+    let inside : c.args.item < length c.self.inside.problem.now.names = omega (arith, c.requires.item, ap (λ (v : Choices). length v.problem.names) c.self.view_is) in
+    let free : is_covered c.self.inside.problem.now c.self.inside.chosen.items c.args.item ≡ false = ap (λ (v : Choices). is_covered v.problem v.chosen c.args.item) c.self.view_is ∙ c.requires.uncovered in
+    let below = below_head p cs os es c.self.inside.links.items c.self.inside.counts.items room c.args.item c.index.result.now c.self.invariant.0 inside free c.index.ensures in
+    let choice = choice_of p cs os c.args.item 0 c.index.result.now.down c.index-option.result.now t below (omega (arith, c.if-node-self.false)) c.index-option.ensures in
+    choice.first ∙ ap (λ (v : Choices). slice_get (live_options_from v.problem v.chosen c.args.item 0) 0) c.self.view_is
+
+pub returns-clause-child : goal.returns-clause-child
+returns-clause-child c =
+    let p = c.self.inside.problem.now in
+    let cs = columns_of c.self.inside.layout in
+    let os = c.self.inside.chosen.items in
+    let es = c.self.inside.entries.items in
+    let room = vec_capacity c.self.inside.chosen in
+    let t = table_of p cs c.self.invariant.0.is_problem c.self.invariant.0.layout in
+    let inside : c.args.item < length c.self.inside.problem.now.names = omega (arith, c.requires.item, ap (λ (v : Choices). length v.problem.names) c.self.view_is) in
+    let free : is_covered c.self.inside.problem.now c.self.inside.chosen.items c.args.item ≡ false = ap (λ (v : Choices). is_covered v.problem v.chosen c.args.item) c.self.view_is ∙ c.requires.uncovered in
+    let below = below_head p cs os es c.self.inside.links.items c.self.inside.counts.items room c.args.item c.index.result.now c.self.invariant.0 inside free c.index.ensures in
+    let choice = choice_of p cs os c.args.item 0 c.index.result.now.down c.index-option.result.now t below (omega (arith, c.if-node-self.false)) c.index-option.ensures in
+    let P : Choices → Type 0 = λ v. IsChild v.problem v.chosen c.args.item c.index-option.result.now in
+    subst P c.self.view_is choice.child
+
+pub returns-clause-chosen : goal.returns-clause-chosen
+returns-clause-chosen c =
+    let p = c.self.inside.problem.now in
+    let cs = columns_of c.self.inside.layout in
+    let os = c.self.inside.chosen.items in
+    let es = c.self.inside.entries.items in
+    let room = vec_capacity c.self.inside.chosen in
+    let t = table_of p cs c.self.invariant.0.is_problem c.self.invariant.0.layout in
+    let inside : c.args.item < length c.self.inside.problem.now.names = omega (arith, c.requires.item, ap (λ (v : Choices). length v.problem.names) c.self.view_is) in
+    let free : is_covered c.self.inside.problem.now c.self.inside.chosen.items c.args.item ≡ false = ap (λ (v : Choices). is_covered v.problem v.chosen c.args.item) c.self.view_is ∙ c.requires.uncovered in
+    let below = below_head p cs os es c.self.inside.links.items c.self.inside.counts.items room c.args.item c.index.result.now c.self.invariant.0 inside free c.index.ensures in
+    let choice = choice_of p cs os c.args.item 0 c.index.result.now.down c.index-option.result.now t below (omega (arith, c.if-node-self.false)) c.index-option.ensures in
+    view_push c.args.self.now p cs os es c.push_reserved-2.new.self.items c.push_reserved.new.self.items c.index-option.result.now c.index.result.now.down c.args.item c.self.view_is c.push_reserved-2.ensures.items c.push_reserved.ensures.items choice.column
