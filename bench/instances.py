@@ -49,12 +49,30 @@ def torus_queens(name, n):
     write(name, primary, secondary, options)
 
 
+def crowd(name, choices):
+    """Two hundred long options behind one item, at the end of each way through some choices between two options: all of
+    them take the item that each option of the last primary item wants."""
+    tails = [f"t{k}" for k in range(990 - choices)]
+    options = [[f"c{k}"] for k in range(choices) for _ in "yn"]
+    options += [["many"] + tails for _ in range(200)] + [["last", tails[0]] for _ in range(200)]
+    write(name, [f"c{k}" for k in range(choices)] + ["many", "last"], tails, options)
+
+
+def scattered(name, items, size, count, seed):
+    """Options of this size, drawn at random."""
+    draw = random.Random(seed)
+    names = [f"i{k}" for k in range(items)]
+    write(name, names, [], [sorted(draw.sample(names, size), key=names.index) for _ in range(count)])
+
+
 def instances():
     langford("langford-13.dlx", "no pairing", 13)
     shuffled("pentominoes-6x10.dlx", rectangle(6, 10), 7)
     shuffled("pentominoes-3x20.dlx", rectangle(3, 20), 3)
     shuffled("diamond.dlx", diamond(), 2)
     generate.dominoes("mutilated-chessboard.dlx", "none", rectangle(8, 8) - {(0, 0), (7, 7)})
+    crowd("crowd.dlx", 6)
+    scattered("scattered-19.dlx", 95, 19, 4000, 1)
     for n in (14, 15, 16):
         torus_queens(f"torus-queens-{n}.dlx", n)
     generate.sudoku("sudoku-hard.dlx", "few givens, many visits", [
