@@ -48,7 +48,8 @@ pub fn branch(links: &Links) -> Branch
 pub fn children(links: &Links, item: u16, list: &mut Vec<u16>) -> Result<(), AllocError>
     requires item { item < length links.now.problem.names }
     requires uncovered { is_covered links.now.problem links.now.chosen item ≡ false }
-    ensures appended { OnOk result (list.new.items ≡ list.old.items ++ live_options links.now.problem links.now.chosen item) }
+    ensures appended { OnOk result (list.new.items ≡ list.old.items
+        ++ live_options links.now.problem links.now.chosen item) }
     ensures unchanged { OnErr result (list.new.items ≡ list.old.items) }
 {
     list.reserve(links.count(item))?;

@@ -45,8 +45,10 @@ impl<'a> Searcher<'a> {
         requires prefix { is_prefix self.old.problem prefix.now ≡ true }
         requires fuel { 1 ≤ fuel }
         ensures problem { self.new.problem ≡ self.old.problem }
-        ensures outcome { outcome_told result self.new.found ≡ outcome self.old.problem prefix.now fuel }
-        ensures cover { result ≡ Outcome.Cover → IsCoverOver self.old.problem prefix.now self.new.found }
+        ensures outcome { outcome_told result self.new.found
+            ≡ outcome self.old.problem prefix.now fuel }
+        ensures cover { result ≡ Outcome.Cover →
+            IsCoverOver self.old.problem prefix.now self.new.found }
         ensures short { result ≡ Outcome.Cover → length self.new.found ≤ 1000 }
         ensures barren { result ≡ Outcome.Barren → IsBarren self.old.problem prefix.now }
     {
@@ -64,7 +66,8 @@ impl<'a> Searcher<'a> {
         requires fuel { 1 ≤ fuel }
         ensures problem { self.new.problem ≡ self.old.problem }
         ensures lawful { IsProblem self.old.problem }
-        ensures visit { IsVisit (first self.old.problem prefix.now) (visits self.old.problem prefix.now) fuel prefix.now self.new.found result }
+        ensures visit { IsVisit (first self.old.problem prefix.now)
+            (visits self.old.problem prefix.now) fuel prefix.now self.new.found result }
         ensures stopped { result ≡ Visit.Stopped → W.may_stop ≡ true }
     {
         let depth = self.links.problem().primary();
@@ -78,8 +81,10 @@ impl<'a> Searcher<'a> {
         requires prefix { is_prefix self.old.problem prefix.items ≡ true }
         requires fuel { 1 ≤ fuel }
         ensures problem { self.new.problem ≡ self.old.problem }
-        ensures finding { IfOk result (λ finding. finding ≡ finding_by prefix.items fuel (outcome self.old.problem prefix.items fuel)) }
-        ensures found { OnOk result ((cover : List ℕ) → outcome self.old.problem prefix.items fuel ≡ Covers cover → self.new.found ≡ cover) }
+        ensures finding { IfOk result (λ finding.
+            finding ≡ finding_by prefix.items fuel (outcome self.old.problem prefix.items fuel)) }
+        ensures found { OnOk result ((cover : List ℕ) →
+            outcome self.old.problem prefix.items fuel ≡ Covers cover → self.new.found ≡ cover) }
         ensures unchanged { OnErr result (self.new ≡ self.old) }
         ensures back { IfErr result (λ list. list.items ≡ prefix.items) }
     {

@@ -90,7 +90,8 @@ fn verdict_on(problem: &Problem, options: &[u16]) -> Verdict
 pub fn check_cover(problem: &Problem, options: &[u16]) -> Verdict
     ensures verdict { result ≡ verdict_of problem.now options.now }
     ensures item { TellsItemOf problem.now result }
-    ensures exact { (result ≡ Verdict.Exact) ↔ ((is_distinct options.now ≡ true) × IsExactCover problem.now (is_in options.now)) }
+    ensures exact { (result ≡ Verdict.Exact) ↔ ((is_distinct options.now ≡ true)
+        × IsExactCover problem.now (is_in options.now)) }
 {
     // (for what the getter says: that items are numbered below 1,000)
     let _items = problem.items();

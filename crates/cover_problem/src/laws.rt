@@ -57,7 +57,8 @@ pub fn uses_of_a_list()
 
 /// The options of a list, taken in file order, are in file order, and none of them stands there twice.
 pub fn in_order_is_in_file_order()
-    ensures { (problem : ProblemValue) (options : List ℕ) → InFileOrder problem (in_order problem options) }
+    ensures { (problem : ProblemValue) (options : List ℕ) →
+        InFileOrder problem (in_order problem options) }
 {}
 
 /// A prefix has no more options than there are primary items, which are at most 1,000.

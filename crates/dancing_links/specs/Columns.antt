@@ -53,6 +53,7 @@ pub record IsSpelled (c : Columns) (out : List ℕ) (m : List Link) : Type 0 whe
 abbrev pub begin_of : Columns → ℕ → ℕ
 begin_of c k = (slice_index_or c.rows k (record { begin = 0; end = 0 })).begin
 
+-- the number after its last node
 abbrev pub end_of : Columns → ℕ → ℕ
 end_of c k = (slice_index_or c.rows k (record { begin = 0; end = 0 })).end
 

@@ -9,6 +9,7 @@ use Rattle.dancing_links.specs.Covering.{covered, outs, IsOpen, outs_all, links_
 unfoldable pub with_less : Columns → List ℕ → ℕ → List ℕ
 with_less c counts x = slice_set counts (column_of c x) ((slice_index_or counts (column_of c x) 0 + 65535) % 65536)
 
+-- the counts with one more at the item of a node
 unfoldable pub with_more : Columns → List ℕ → ℕ → List ℕ
 with_more c counts x = slice_set counts (column_of c x) ((slice_index_or counts (column_of c x) 0 + 1) % 65536)
 
@@ -40,6 +41,7 @@ CountsUncovered c links i old new = (out : List ℕ) (before : List Link) → Is
 abbrev pub CountsCoveredAll : Columns → List Link → List ℕ → List ℕ → List ℕ → Type 0
 CountsCoveredAll c links is old new = (out : List ℕ) → IsSpelled c out links → AreOpen c out is → IsCounted c out old → IsCounted c (outs_all c out is) new
 
+-- the same of items that are uncovered, the last first
 abbrev pub CountsUncoveredAll : Columns → List Link → List ℕ → List ℕ → List ℕ → Type 0
 CountsUncoveredAll c links is old new = (out : List ℕ) (before : List Link) → IsSpelled c out before → AreOpen c out is → links ≡ links_all c out before is
     → IsCounted c (outs_all c out is) old → IsCounted c out new

@@ -35,6 +35,7 @@ abbrev pub unlinks : List Link → List ℕ → List Link
 unlinks m [] = m
 unlinks m (x ∷ xs) = unlinks (unlinked m x) xs
 
+-- those nodes put back, the last first
 abbrev pub relinks : List Link → List ℕ → List Link
 relinks m [] = m
 relinks m (x ∷ xs) = relinked (relinks m xs) x

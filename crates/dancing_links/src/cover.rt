@@ -63,7 +63,8 @@ fn hide(layout: &Layout, links: &mut [Link], counts: &mut [u16], node: usize)
     requires counts { length counts.old + 1 ≡ layout.now.heads }
     ensures linked { IsLinked (columns_of layout.now) links.new }
     ensures links { links.new ≡ unlinks links.old (others (columns_of layout.now) node) }
-    ensures counts { counts.new ≡ fewer (columns_of layout.now) counts.old (others (columns_of layout.now) node) }
+    ensures counts { counts.new
+        ≡ fewer (columns_of layout.now) counts.old (others (columns_of layout.now) node) }
 {
     let (begin, end) = row_of(layout, node);
     let mut other = node;
@@ -83,14 +84,18 @@ fn relink_others(
     begin: usize,
     end: usize,
 )
-    requires range { (layout.now.heads + layout.now.heads ≤ begin + 1) × (begin ≤ end) × (end ≤ layout.now.tails) }
+    requires range { (layout.now.heads + layout.now.heads ≤ begin + 1) × (begin ≤ end)
+        × (end ≤ layout.now.tails) }
     requires row { begin < end → (begin ≤ node) × (node < end) }
     requires table { IsTable (columns_of layout.now) }
     requires linked { IsLinked (columns_of layout.now) links.old }
     requires counts { length counts.old + 1 ≡ layout.now.heads }
     ensures linked { IsLinked (columns_of layout.now) links.new }
-    ensures links { links.new ≡ relinks links.old (in_turn begin end (node_after begin end node) (end - (begin + 1))) }
-    ensures counts { counts.new ≡ more (columns_of layout.now) counts.old (in_turn begin end (node_after begin end node) (end - (begin + 1))) }
+    ensures links { links.new
+        ≡ relinks links.old (in_turn begin end (node_after begin end node) (end - (begin + 1))) }
+    ensures counts { counts.new
+        ≡ more (columns_of layout.now) counts.old
+        (in_turn begin end (node_after begin end node) (end - (begin + 1))) }
 {
     let mut other = node;
     for _place in begin + 1..end {
@@ -109,7 +114,8 @@ fn unhide(layout: &Layout, links: &mut [Link], counts: &mut [u16], node: usize)
     requires counts { length counts.old + 1 ≡ layout.now.heads }
     ensures linked { IsLinked (columns_of layout.now) links.new }
     ensures links { links.new ≡ relinks links.old (others (columns_of layout.now) node) }
-    ensures counts { counts.new ≡ more (columns_of layout.now) counts.old (others (columns_of layout.now) node) }
+    ensures counts { counts.new
+        ≡ more (columns_of layout.now) counts.old (others (columns_of layout.now) node) }
 {
     let (begin, end) = row_of(layout, node);
     relink_others(layout, links, counts, node, begin, end);
@@ -166,8 +172,10 @@ fn cover_row(
     requires linked { IsLinked (columns_of layout.now) links.old }
     requires counts { length counts.old + 1 ≡ layout.now.heads }
     ensures linked { IsLinked (columns_of layout.now) links.new }
-    ensures links { CoversAll (columns_of layout.now) links.old (items_in_turn (columns_of layout.now) begin end node) links.new }
-    ensures counts { CountsCoveredAll (columns_of layout.now) links.old (items_in_turn (columns_of layout.now) begin end node) counts.old counts.new }
+    ensures links { CoversAll (columns_of layout.now) links.old
+        (items_in_turn (columns_of layout.now) begin end node) links.new }
+    ensures counts { CountsCoveredAll (columns_of layout.now) links.old
+        (items_in_turn (columns_of layout.now) begin end node) counts.old counts.new }
 {
     let mut other = node;
     for _place in begin + 1..end {
@@ -184,8 +192,10 @@ pub fn cover_others(layout: &Layout, links: &mut [Link], counts: &mut [u16], nod
     requires linked { IsLinked (columns_of layout.now) links.old }
     requires counts { length counts.old + 1 ≡ layout.now.heads }
     ensures linked { IsLinked (columns_of layout.now) links.new }
-    ensures links { CoversAll (columns_of layout.now) links.old (other_items (columns_of layout.now) node) links.new }
-    ensures counts { CountsCoveredAll (columns_of layout.now) links.old (other_items (columns_of layout.now) node) counts.old counts.new }
+    ensures links { CoversAll (columns_of layout.now) links.old
+        (other_items (columns_of layout.now) node) links.new }
+    ensures counts { CountsCoveredAll (columns_of layout.now) links.old
+        (other_items (columns_of layout.now) node) counts.old counts.new }
 {
     let (begin, end) = row_of(layout, node);
     cover_row(layout, links, counts, node, begin, end);
@@ -206,8 +216,10 @@ fn uncover_row(
     requires linked { IsLinked (columns_of layout.now) links.old }
     requires counts { length counts.old + 1 ≡ layout.now.heads }
     ensures linked { IsLinked (columns_of layout.now) links.new }
-    ensures links { UncoversAll (columns_of layout.now) links.old (items_in_turn (columns_of layout.now) begin end node) links.new }
-    ensures counts { CountsUncoveredAll (columns_of layout.now) links.old (items_in_turn (columns_of layout.now) begin end node) counts.old counts.new }
+    ensures links { UncoversAll (columns_of layout.now) links.old
+        (items_in_turn (columns_of layout.now) begin end node) links.new }
+    ensures counts { CountsUncoveredAll (columns_of layout.now) links.old
+        (items_in_turn (columns_of layout.now) begin end node) counts.old counts.new }
 {
     let mut other = node;
     for _place in begin + 1..end {
@@ -224,8 +236,10 @@ pub fn uncover_others(layout: &Layout, links: &mut [Link], counts: &mut [u16], n
     requires linked { IsLinked (columns_of layout.now) links.old }
     requires counts { length counts.old + 1 ≡ layout.now.heads }
     ensures linked { IsLinked (columns_of layout.now) links.new }
-    ensures links { UncoversAll (columns_of layout.now) links.old (other_items (columns_of layout.now) node) links.new }
-    ensures counts { CountsUncoveredAll (columns_of layout.now) links.old (other_items (columns_of layout.now) node) counts.old counts.new }
+    ensures links { UncoversAll (columns_of layout.now) links.old
+        (other_items (columns_of layout.now) node) links.new }
+    ensures counts { CountsUncoveredAll (columns_of layout.now) links.old
+        (other_items (columns_of layout.now) node) counts.old counts.new }
 {
     let (begin, end) = row_of(layout, node);
     uncover_row(layout, links, counts, node, begin, end);
@@ -238,8 +252,10 @@ pub fn cover_from(layout: &Layout, links: &mut [Link], counts: &mut [u16], node:
     requires linked { IsLinked (columns_of layout.now) links.old }
     requires counts { length counts.old + 1 ≡ layout.now.heads }
     ensures linked { IsLinked (columns_of layout.now) links.new }
-    ensures links { CoversAll (columns_of layout.now) links.old (items_by (columns_of layout.now) node) links.new }
-    ensures counts { CountsCoveredAll (columns_of layout.now) links.old (items_by (columns_of layout.now) node) counts.old counts.new }
+    ensures links { CoversAll (columns_of layout.now) links.old
+        (items_by (columns_of layout.now) node) links.new }
+    ensures counts { CountsCoveredAll (columns_of layout.now) links.old
+        (items_by (columns_of layout.now) node) counts.old counts.new }
 {
     cover(layout, links, counts, item_at(layout, node));
     cover_others(layout, links, counts, node);
@@ -252,8 +268,10 @@ pub fn uncover_from(layout: &Layout, links: &mut [Link], counts: &mut [u16], nod
     requires linked { IsLinked (columns_of layout.now) links.old }
     requires counts { length counts.old + 1 ≡ layout.now.heads }
     ensures linked { IsLinked (columns_of layout.now) links.new }
-    ensures links { UncoversAll (columns_of layout.now) links.old (items_by (columns_of layout.now) node) links.new }
-    ensures counts { CountsUncoveredAll (columns_of layout.now) links.old (items_by (columns_of layout.now) node) counts.old counts.new }
+    ensures links { UncoversAll (columns_of layout.now) links.old
+        (items_by (columns_of layout.now) node) links.new }
+    ensures counts { CountsUncoveredAll (columns_of layout.now) links.old
+        (items_by (columns_of layout.now) node) counts.old counts.new }
 {
     uncover_others(layout, links, counts, node);
     uncover(layout, links, counts, item_at(layout, node));

@@ -167,7 +167,8 @@ pub fn row_of(layout: &Layout, node: usize) -> (usize, usize)
     requires table { IsTable (columns_of layout.now) }
     ensures begin { result.0 ≡ begin_of (columns_of layout.now) node }
     ensures end { result.1 ≡ end_of (columns_of layout.now) node }
-    ensures range { (layout.now.heads + layout.now.heads ≤ result.0 + 1) × (result.0 ≤ result.1) × (result.1 ≤ layout.now.tails) }
+    ensures range { (layout.now.heads + layout.now.heads ≤ result.0 + 1) × (result.0 ≤ result.1)
+        × (result.1 ≤ layout.now.tails) }
     ensures within { result.0 < result.1 → (result.0 ≤ node) × (node < result.1) }
 {
     let row = layout.rows[node];
@@ -189,7 +190,8 @@ pub fn node_range(layout: &Layout, option: u16) -> (usize, usize)
 
 /// The first node of a range that stands for an item, or the end of the range.
 pub fn node_of(layout: &Layout, item: u16, begin: usize, end: usize) -> usize
-    requires range { (layout.now.heads + layout.now.heads ≤ begin + 1) × (begin ≤ end) × (end ≤ layout.now.tails) }
+    requires range { (layout.now.heads + layout.now.heads ≤ begin + 1) × (begin ≤ end)
+        × (end ≤ layout.now.tails) }
     requires table { IsTable (columns_of layout.now) }
     ensures { IsNaming (columns_of layout.now) item begin end result }
 {

@@ -102,7 +102,8 @@ impl<'a> Links<'a> {
     pub fn choose_first(&mut self, item: u16) -> Option<u16>
         requires item { item < length self.old.problem.names }
         requires uncovered { is_covered self.old.problem self.old.chosen item ≡ false }
-        ensures first { result ≡ slice_get (live_options_from self.old.problem self.old.chosen item 0) 0 }
+        ensures first { result ≡ slice_get
+            (live_options_from self.old.problem self.old.chosen item 0) 0 }
         ensures child { IfSome result (IsChild self.old.problem self.old.chosen item) }
         ensures chosen { self.new ≡ with_child_if self.old item result }
     {
@@ -122,7 +123,8 @@ impl<'a> Links<'a> {
     #[inline(always)]
     pub fn choose_next(&mut self) -> Option<u16>
         requires { 0 < length self.old.chosen }
-        ensures { (before : Choices) (item option : ℕ) → self.old ≡ with_child before item option → IsNextChoice before item option result self.new }
+        ensures { (before : Choices) (item option : ℕ) → self.old ≡ with_child before item option →
+            IsNextChoice before item option result self.new }
     {
         let node = self.entries[self.entries.len() - 1] as usize;
         uncover_others(&self.layout, &mut self.links, &mut self.counts, node);
@@ -204,7 +206,8 @@ impl<'a> Links<'a> {
     pub fn next_item(&self, item: u16) -> Option<u16>
         requires item { item < length self.now.problem.names }
         requires uncovered { is_covered self.now.problem self.now.chosen item ≡ false }
-        ensures next { result ≡ slice_get (open_items_from self.now.problem self.now.chosen (item + 1)) 0 }
+        ensures next { result ≡ slice_get
+            (open_items_from self.now.problem self.now.chosen (item + 1)) 0 }
         ensures uncovered { IfSome result (IsOpen self.now.problem self.now.chosen) }
         ensures item { IfSome result (λ next. next < length self.now.problem.names) }
         ensures later { IfSome result (λ next. item < next) }
@@ -231,7 +234,8 @@ impl<'a> Links<'a> {
     pub fn first_option(&self, item: u16) -> Option<u16>
         requires item { item < length self.now.problem.names }
         requires uncovered { is_covered self.now.problem self.now.chosen item ≡ false }
-        ensures first { result ≡ slice_get (live_options_from self.now.problem self.now.chosen item 0) 0 }
+        ensures first { result ≡ slice_get
+            (live_options_from self.now.problem self.now.chosen item 0) 0 }
         ensures child { IfSome result (IsChild self.now.problem self.now.chosen item) }
     {
         option_below(&self.layout, &self.links, item as usize)
@@ -242,7 +246,8 @@ impl<'a> Links<'a> {
         requires item { item < length self.now.problem.names }
         requires uncovered { is_covered self.now.problem self.now.chosen item ≡ false }
         requires child { IsChild self.now.problem self.now.chosen item option }
-        ensures next { result ≡ slice_get (live_options_from self.now.problem self.now.chosen item (option + 1)) 0 }
+        ensures next { result ≡ slice_get
+            (live_options_from self.now.problem self.now.chosen item (option + 1)) 0 }
         ensures child { IfSome result (IsChild self.now.problem self.now.chosen item) }
         ensures later { IfSome result (λ next. option < next) }
     {
@@ -254,7 +259,8 @@ impl<'a> Links<'a> {
     /// Whether none of these items is covered.
     fn are_uncovered(&self, items: &[u16]) -> bool
         requires { All (λ item. item < length self.now.problem.names) items.now }
-        ensures { result ≡ list_all (λ item. not (is_covered self.now.problem self.now.chosen item)) items.now }
+        ensures { result ≡ list_all
+            (λ item. not (is_covered self.now.problem self.now.chosen item)) items.now }
     {
         items.iter().all(|item| !self.is_covered(*item))
     }
@@ -266,7 +272,9 @@ fn item_below(layout: &Layout, links: &[Link], primary: u16, node: usize) -> Opt
     requires below { layout.now.heads ≤ down_of links.now node }
     requires primary { primary ≤ 1000 }
     requires heads { layout.now.heads ≤ 1001 }
-    ensures { MatchOption result (layout.now.heads + primary ≤ down_of links.now node) (λ item. (down_of links.now node < layout.now.heads + primary) × (item ≡ down_of links.now node - layout.now.heads)) }
+    ensures { MatchOption result (layout.now.heads + primary ≤ down_of links.now node) (λ item.
+        (down_of links.now node < layout.now.heads + primary)
+        × (item ≡ down_of links.now node - layout.now.heads)) }
 {
     let item = links[node].down as usize - layout.heads;
     if item < primary as usize {
@@ -281,7 +289,8 @@ fn option_below(layout: &Layout, links: &[Link], node: usize) -> Option<u16>
     requires node { node < length links.now }
     requires table { IsTable (columns_of layout.now) }
     requires linked { IsLinked (columns_of layout.now) links.now }
-    ensures { result ≡ slice_get (options_left (columns_of layout.now) links.now (down_of links.now node)) 0 }
+    ensures { result ≡ slice_get
+        (options_left (columns_of layout.now) links.now (down_of links.now node)) 0 }
 {
     let below = links[node].down as usize;
     if below < layout.tails {

@@ -35,7 +35,8 @@ fn options_of(alloc: Global, mut lines: Lines, problem: &Problem) -> Result<Numb
 /// The answer of the text, or its fault.
 fn answer_of(alloc: Global, text: &[u8], problem: &Problem) -> Result<Answer, AnswerFault>
     ensures answer { IfOk result (IsAnswerOf text.now problem.now) }
-    ensures fault { IfErr result (λ fault. fault ≢ AnswerFault.Memory → IsFaultOf text.now problem.now fault) }
+    ensures fault { IfErr result (λ fault.
+        fault ≢ AnswerFault.Memory → IsFaultOf text.now problem.now fault) }
 {
     let mut lines = Lines::of(text);
     let Some(first) = lines.take_worded() else {
@@ -58,7 +59,8 @@ fn answer_of(alloc: Global, text: &[u8], problem: &Problem) -> Result<Answer, An
 /// only where a growth was refused. Beside the text it takes memory of the order of the problem, and of the longest line.
 pub fn read_answer(alloc: Global, text: &[u8], problem: &Problem) -> Result<Answer, AnswerFault>
     ensures answer { IfOk result (IsAnswerOf text.now problem.now) }
-    ensures fault { IfErr result (λ fault. fault ≢ AnswerFault.Memory → IsFaultOf text.now problem.now fault) }
+    ensures fault { IfErr result (λ fault.
+        fault ≢ AnswerFault.Memory → IsFaultOf text.now problem.now fault) }
 
     // An answer or a fault that the text has is the one that is read, unless memory ran out.
     ensures only { (read : Result AnswerValue Fault) → IsReadOf text.now problem.now read →

@@ -66,7 +66,8 @@ fn count_of(digits: &[u8]) -> Option<usize>
 /// The head `none`, where no word stands behind it.
 fn none_head(behind: &[u8]) -> Option<Head>
     ensures head { IfSome result (IsHeadOf (codes "none" ∷ words_of behind.now)) }
-    ensures none { IfNone result ((count : ℕ) → IsHead (codes "none" ∷ words_of behind.now) count → ⊥) }
+    ensures none { IfNone result ((count : ℕ) →
+        IsHead (codes "none" ∷ words_of behind.now) count → ⊥) }
 {
     if has_words(behind) {
         return None;
@@ -77,7 +78,8 @@ fn none_head(behind: &[u8]) -> Option<Head>
 /// The head of the word `cover` and digits, where these stand behind it.
 fn cover_head(behind: &[u8]) -> Option<Head>
     ensures head { IfSome result (IsHeadOf (codes "cover" ∷ words_of behind.now)) }
-    ensures none { IfNone result ((count : ℕ) → IsHead (codes "cover" ∷ words_of behind.now) count → ⊥) }
+    ensures none { IfNone result ((count : ℕ) →
+        IsHead (codes "cover" ∷ words_of behind.now) count → ⊥) }
 {
     let (digits, rest) = split_word(behind)?;
     if has_words(rest) {

@@ -15,12 +15,14 @@ ghost use Rattle.dlx_reader.specs.AnswerLaws.{GivesCover};
 pub fn written_answers_are_read()
     ensures cover { (problem : ProblemValue) (options : List ℕ) → IsProblem problem → InFileOrder problem options →
         GivesCover (answer_text problem (Cover options)) problem options }
-    ensures none { (problem : ProblemValue) → IsAnswerOf (answer_text problem NoCover) problem NoCover }
+    ensures none { (problem : ProblemValue) →
+        IsAnswerOf (answer_text problem NoCover) problem NoCover }
 {}
 
 /// Each text gives an answer or a first fault, and no other.
 pub fn each_text_gives_one_read()
-    ensures some { (text : List ℕ) (problem : ProblemValue) → (read : Result AnswerValue Fault) × IsReadOf text problem read }
+    ensures some { (text : List ℕ) (problem : ProblemValue) → (read : Result AnswerValue Fault)
+        × IsReadOf text problem read }
     ensures one { (text : List ℕ) (problem : ProblemValue) (read other : Result AnswerValue Fault) →
         IsReadOf text problem read → IsReadOf text problem other → read ≡ other }
 {}

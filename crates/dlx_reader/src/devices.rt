@@ -26,7 +26,8 @@ pub trait Source: io::Read {
     fn fetch(&mut self, buffer: &mut [u8]) -> Result<usize, DeviceFault>
         requires { failed self.old < 2 ^ 64 - 1 }
         ensures bound { IfOk result (λ count. count ≤ length buffer.new) }
-        ensures bytes { ReadConsumes (Self.remaining self.old) (Self.remaining self.new) result buffer.new }
+        ensures bytes { ReadConsumes (Self.remaining self.old)
+            (Self.remaining self.new) result buffer.new }
         ensures failed { IsCounted (failed self.old) (failed self.new) result };
 }
 
@@ -46,14 +47,16 @@ pub trait Sink: io::Write {
         requires { failed self.old < 2 ^ 64 - 1 }
         ensures bound { IfOk result (λ count. count ≤ length piece.now) }
         ensures some { IfOk result (λ count. 0 < length piece.now → 0 < count) }
-        ensures bytes { WriteAppends (Self.contents self.old) (Self.contents self.new) result piece.now }
+        ensures bytes { WriteAppends (Self.contents self.old)
+            (Self.contents self.new) result piece.now }
         ensures failed { IsCounted (failed self.old) (failed self.new) result };
 }
 
 /// One read into the buffer, tried again where it was interrupted.
 fn read_again<R: Read>(reader: &mut R, buffer: &mut [u8]) -> io::Result<usize>
     ensures bound { IfOk result (λ count. count ≤ length buffer.new) }
-    ensures bytes { ReadConsumes (R.remaining reader.old) (R.remaining reader.new) result buffer.new }
+    ensures bytes { ReadConsumes (R.remaining reader.old)
+        (R.remaining reader.new) result buffer.new }
 {
     for _ in 0..u64::MAX {
         match reader.read(buffer) {

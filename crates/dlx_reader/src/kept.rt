@@ -77,7 +77,8 @@ impl Kept {
     #[tactic(auto, unfolding(crate::specs::Reading::keep_at))]
     pub fn keep(&mut self, primary: usize, items: Vec<u16>, line: usize) -> Result<(), ReadFault>
         requires { self.old.ignored < line }
-        ensures gives { Gives (λ _. (self.new.options, self.new.ignored)) result (keep_at line primary self.old.options self.old.ignored items.items) }
+        ensures gives { Gives (λ _. (self.new.options, self.new.ignored)) result
+            (keep_at line primary self.old.options self.old.ignored items.items) }
         ensures ignored { self.new.ignored ≤ self.old.ignored + 1 }
         ensures unchanged { OnErr result (self.new ≡ self.old) }
     {

@@ -22,7 +22,8 @@ fn item_or_none(names: &Names, word: &[u8]) -> u16
 
 /// The items that the words of a line name, where the number of items stands for an unknown name.
 pub fn items_named(alloc: Global, names: &Names, line: &[u8]) -> Result<Vec<u16>, AllocError>
-    ensures { IfOk result (λ items. items.items ≡ map (item_or_none names.now) (words_of line.now)) }
+    ensures { IfOk result (λ items.
+        items.items ≡ map (item_or_none names.now) (words_of line.now)) }
 {
     let mut items = Vec::new(alloc);
     let mut left = line;
@@ -109,9 +110,13 @@ impl<'a> Meant<'a> {
     /// The only error is want of memory, and the options are then as before.
     pub fn take(&mut self, items: &[u16]) -> Result<Option<u16>, AllocError>
         ensures problem { self.new.problem ≡ self.old.problem }
-        ensures some { IfOk result (λ taken. IfSome taken (IsLowestUnmeant self.old.problem self.old.options items.now)) }
-        ensures more { IfOk result (λ taken. IfSome taken (λ option. self.new.options ≡ self.old.options ++ option ∷ [])) }
-        ensures none { IfOk result (λ taken. IfNone taken ((option : ℕ) → IsUnmeant self.old.problem self.old.options items.now option → ⊥)) }
+        ensures some { IfOk result (λ taken.
+            IfSome taken (IsLowestUnmeant self.old.problem self.old.options items.now)) }
+        ensures more { IfOk result (λ taken.
+            IfSome taken (λ option. self.new.options ≡ self.old.options ++ option ∷ [])) }
+        ensures none { IfOk result (λ taken.
+            IfNone taken ((option : ℕ) →
+            IsUnmeant self.old.problem self.old.options items.now option → ⊥)) }
         ensures unchanged { OnErr result (self.new ≡ self.old) }
     {
         let Some(option) = self.lowest.get(items).copied() else {

@@ -64,7 +64,8 @@ fn read_item<'a>(
     word: &'a [u8],
     line: usize,
 ) -> Result<(), ReadFault>
-    ensures gives { Gives (λ _. (names.new, divided.new)) result (item_at line names.old divided.old word.now) }
+    ensures gives { Gives (λ _. (names.new, divided.new)) result
+        (item_at line names.old divided.old word.now) }
 {
     let name = name_part(word);
     test_name(name, line)?;
@@ -90,7 +91,8 @@ fn read_item<'a>(
 /// Reads the words of the item line.
 #[tactic(auto, unfolding(crate::specs::Reading::items_from))]
 fn read_items<'a>(alloc: Global, line: Line<'a>) -> Result<Names<'a>, ReadFault>
-    ensures { Gives (λ names. names) result (items_from line.entry.number [] false (words_of line.entry.text.now)) }
+    ensures { Gives (λ names. names) result
+        (items_from line.entry.number [] false (words_of line.entry.text.now)) }
 {
     let mut names = Names::new(alloc);
     let mut divided = false;
@@ -126,7 +128,8 @@ fn read_option_item(
     word: &[u8],
     line: usize,
 ) -> Result<(), ReadFault>
-    ensures gives { Gives (λ _. items.new.items) result (option_item_at line names.now items.old.items word.now) }
+    ensures gives { Gives (λ _. items.new.items) result
+        (option_item_at line names.now items.old.items word.now) }
 {
     test_name(word, line)?;
     let Some(item) = names.item_named(word) else {
@@ -220,7 +223,8 @@ fn read_content(alloc: Global, items: Line, others: Lines) -> Result<Read, ReadF
 /// Reads the lines of a text.
 #[tactic(auto, unfolding(crate::specs::Reading::reading_of))]
 fn read_lines(alloc: Global, text: &[u8]) -> Result<Read, ReadFault>
-    ensures { Gives (λ read. read_by read.problem read.ignored) result (reading_of (content_of text.now)) }
+    ensures { Gives (λ read. read_by read.problem read.ignored) result
+        (reading_of (content_of text.now)) }
 {
     let mut lines = Lines::of(text);
     let Some(items) = lines.take_content() else {

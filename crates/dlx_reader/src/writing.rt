@@ -36,7 +36,8 @@ pub fn write_bytes<W: Sink>(bytes: &[u8], sink: &mut W) -> Result<(), WriteFault
 fn write_cover<W: Sink>(problem: &Problem, options: &[u16], sink: &mut W) -> Result<(), WriteFault>
     requires options { AreOptions problem.now options.now }
     requires failed { W.failed sink.old < 2 ^ 64 - 1 }
-    ensures bytes { IsWritten (W.contents sink.old) (W.contents sink.new) (cover_text problem.now options.now) result }
+    ensures bytes { IsWritten (W.contents sink.old) (W.contents sink.new)
+        (cover_text problem.now options.now) result }
     ensures failed { IsCounted (W.failed sink.old) (W.failed sink.new) result }
 {
     let mut waiting = Waiting::new();
@@ -57,7 +58,8 @@ pub fn write_answer<W: Sink>(
 ) -> Result<(), WriteFault>
     requires order { IsWritable problem.now answer.now }
     requires failed { W.failed sink.old < 2 ^ 64 - 1 }
-    ensures bytes { IsWritten (W.contents sink.old) (W.contents sink.new) (answer_text problem.now answer.now) result }
+    ensures bytes { IsWritten (W.contents sink.old) (W.contents sink.new)
+        (answer_text problem.now answer.now) result }
     ensures failed { IsCounted (W.failed sink.old) (W.failed sink.new) result }
 {
     match answer {

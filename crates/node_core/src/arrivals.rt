@@ -27,8 +27,11 @@ impl SiteState {
         prefix: &[u16],
     ) -> Result<Reply, ActFault>
         requires { 1 ≤ attempt }
-        ensures step { IfOk result (λ reply. GiveStep problem.now self.old from serial attempt prefix.now reply [] self.new) }
-        ensures refusal { refusal_told result ≡ give_refusal problem.now self.old (record { site = from; serial = serial }) attempt prefix.now }
+        ensures step { IfOk result (λ reply.
+            GiveStep problem.now self.old from serial attempt prefix.now reply [] self.new) }
+        ensures refusal { refusal_told result
+            ≡ give_refusal problem.now self.old
+            (record { site = from; serial = serial }) attempt prefix.now }
         ensures err { OnErr result (self.new ≡ self.old) }
     {
         let name = ChildName { site: from, serial };
@@ -50,7 +53,8 @@ impl SiteState {
         attempt: Attempt,
         child_result: ChildResult,
     ) -> Reply
-        ensures { AcceptStep self.old (record { site = from; serial = serial }) attempt child_result result [] self.new }
+        ensures { AcceptStep self.old
+            (record { site = from; serial = serial }) attempt child_result result [] self.new }
     {
         if self
             .ledger

@@ -191,7 +191,8 @@ fn deliver(
     requires node { 1 ≤ state.old.site.node }
     ensures step { Answered result out.old out.new (λ reply sent.
         NodeStep problem.now state.old (Event.Deliver packet) reply sent state.new × AnswersLeast state.old packet.from packet.body sent) }
-    ensures refusal { refusal_told result ≡ node_refusal problem.now state.old (Event.Deliver packet) }
+    ensures refusal { refusal_told result
+        ≡ node_refusal problem.now state.old (Event.Deliver packet) }
     ensures err { OnErr result (state.new ≡ state.old) }
     ensures list { OnErr result (MaySend out.old out.new) }
 {

@@ -60,7 +60,8 @@ impl SiteState {
 
     /// Makes an own child that is out ready again, at the next attempt.
     pub fn redo(&mut self, serial: u32) -> Result<Reply, ActFault>
-        ensures step { IfOk result (λ reply. (reply ≡ Reply.Moved) × RedoStep self.old serial [] self.new) }
+        ensures step { IfOk result (λ reply.
+            (reply ≡ Reply.Moved) × RedoStep self.old serial [] self.new) }
         ensures refusal { refusal_told result ≡ redo_refusal self.old serial }
         ensures err { OnErr result (self.new ≡ self.old) }
     {
@@ -92,7 +93,8 @@ impl SiteState {
     /// A Give for each child that is out, by serial. It costs a look at each page of the table, and a pass through the
     /// pages that have such a child.
     pub fn give_again(&self, out: &mut Outgoing) -> Result<(), AllocError>
-        ensures ok { OnOk result (Sends out.old (gives_again self.now.site 0 self.now.own) out.new) }
+        ensures ok { OnOk result
+            (Sends out.old (gives_again self.now.site 0 self.now.own) out.new) }
         ensures err { OnErr result (MaySend out.old out.new) }
     {
         let table = self.ledger.table();
@@ -111,7 +113,9 @@ impl SiteState {
     /// A Give for a child, if it is out.
     fn give_one_again(&self, serial: u32, out: &mut Outgoing) -> Result<(), AllocError>
         requires { serial < length self.now.own }
-        ensures ok { OnOk result (Sends out.old (given_again self.now.site serial (slice_get self.now.own serial)) out.new) }
+        ensures ok { OnOk result
+            (Sends out.old (given_again self.now.site serial
+            (slice_get self.now.own serial)) out.new) }
         ensures err { OnErr result (Sends out.old [] out.new) }
     {
         let Some(Status::Out(thief)) = self.ledger.table().status(Unit::Own(serial)) else {
@@ -127,7 +131,8 @@ impl SiteState {
 
     /// A Return for each finished guest, in order.
     fn return_again(&self, out: &mut Outgoing) -> Result<(), AllocError>
-        ensures ok { OnOk result (Sends out.old (returns_again self.now.site self.now.guests) out.new) }
+        ensures ok { OnOk result
+            (Sends out.old (returns_again self.now.site self.now.guests) out.new) }
         ensures err { OnErr result (MaySend out.old out.new) }
     {
         for place in 0..self.ledger.table().guest_count() {
@@ -139,7 +144,9 @@ impl SiteState {
     /// A Return for a guest, if it is finished.
     fn return_one_again(&self, place: usize, out: &mut Outgoing) -> Result<(), AllocError>
         requires { place < length self.now.guests }
-        ensures ok { OnOk result (Sends out.old (returned_again self.now.site (slice_get self.now.guests place)) out.new) }
+        ensures ok { OnOk result
+            (Sends out.old (returned_again self.now.site
+            (slice_get self.now.guests place)) out.new) }
         ensures err { OnErr result (Sends out.old [] out.new) }
     {
         let guest = self.ledger.table().guest(place);

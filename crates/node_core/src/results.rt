@@ -33,11 +33,13 @@ impl SiteState {
         out: &mut Outgoing,
     ) -> Result<Reply, ActFault>
         requires right { IsRight links.old.problem finding }
-        requires prefix { has_status is_here (unit_in self.old job.unit) ≡ true → is_prefix links.old.problem (prefix_in (unit_in self.old job.unit)) ≡ true }
+        requires prefix { has_status is_here (unit_in self.old job.unit) ≡ true →
+            is_prefix links.old.problem (prefix_in (unit_in self.old job.unit)) ≡ true }
         ensures problem { links.new.problem ≡ links.old.problem }
         ensures step { Answered result out.old out.new (λ reply sent.
             (reply ≡ Reply.Moved) × PostStep links.old.problem self.old job finding sent self.new) }
-        ensures refusal { refusal_told result ≡ post_refusal links.old.problem self.old job finding }
+        ensures refusal { refusal_told result
+            ≡ post_refusal links.old.problem self.old job finding }
         ensures err { OnErr result (self.new ≡ self.old) }
         ensures list { OnErr result (MaySend out.old out.new) }
     {
@@ -83,7 +85,8 @@ impl SiteState {
         child_result: &ChildResult,
         out: &mut Outgoing,
     ) -> Result<(), AllocError>
-        ensures ok { OnOk result (Sends out.old (return_packets self.now.site unit child_result.now) out.new) }
+        ensures ok { OnOk result
+            (Sends out.old (return_packets self.now.site unit child_result.now) out.new) }
         ensures err { OnErr result (Sends out.old [] out.new) }
     {
         let Unit::Guest(name, attempt) = unit else {
@@ -109,7 +112,8 @@ impl SiteState {
         requires some { 0 < length (children links.old.problem prefix.now) }
         ensures problem { links.new.problem ≡ links.old.problem }
         ensures step { OnOk result (SplitStep links.old.problem self.old unit prefix.now self.new) }
-        ensures refusal { refusal_told result ≡ split_refusal links.old.problem self.old prefix.now }
+        ensures refusal { refusal_told result
+            ≡ split_refusal links.old.problem self.old prefix.now }
         ensures err { OnErr result (self.new ≡ self.old) }
     {
         let options = self.branch_options(links, prefix)?;
@@ -129,9 +133,11 @@ impl SiteState {
         requires lawful { is_prefix links.old.problem prefix.now ≡ true }
         requires some { 0 < length (children links.old.problem prefix.now) }
         ensures problem { links.new.problem ≡ links.old.problem }
-        ensures children { IfOk result (λ options. children links.old.problem prefix.now ≡ longer_prefixes prefix.now options.items) }
+        ensures children { IfOk result (λ options.
+            children links.old.problem prefix.now ≡ longer_prefixes prefix.now options.items) }
         ensures some { IfOk result (λ options. 0 < length options.items) }
-        ensures refusal { refusal_told result ≡ split_refusal links.old.problem self.now prefix.now }
+        ensures refusal { refusal_told result
+            ≡ split_refusal links.old.problem self.now prefix.now }
     {
         choose_prefix(links, prefix);
         let Branch::Item(item) = branch(links) else {
@@ -177,7 +183,9 @@ impl SiteState {
     fn return_load(&self, unit: Unit, out: &Outgoing) -> Result<Option<Load>, AllocError>
         requires split { has_status is_split (unit_in self.now unit) ≡ true }
         requires settled { IsSome (frame_result (frame unit self.now.own)) }
-        ensures { IfOk result (IsReturnLoad self.now.site unit (frame_result (frame unit self.now.own)) out.now.both) }
+        ensures { IfOk result
+            (IsReturnLoad self.now.site unit
+            (frame_result (frame unit self.now.own)) out.now.both) }
     {
         let Unit::Guest(name, attempt) = unit else {
             return Ok(None);

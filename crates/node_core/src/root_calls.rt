@@ -14,7 +14,8 @@ impl SiteState {
     /// The result of a child that is out enters: the child is done with it. It takes no memory.
     pub fn enter(&mut self, serial: u32, child_result: ChildResult)
         requires { has_status is_out (slice_get self.old.own serial) ≡ true }
-        ensures { self.new ≡ with_ledger self.old (returned self.old.ledger serial child_result Enters) }
+        ensures { self.new ≡ with_ledger self.old
+            (returned self.old.ledger serial child_result Enters) }
     {
         self.ledger.enter(serial, child_result);
     }

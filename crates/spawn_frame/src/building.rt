@@ -29,7 +29,8 @@ pub fn new_children(
     prefix: &[u16],
     options: &[u16],
 ) -> Result<Vec<Child>, AllocError>
-    ensures { IfOk result (λ children. children.items ≡ map (fresh_child unit) (longer_prefixes prefix.now options.now)) }
+    ensures { IfOk result (λ children.
+        children.items ≡ map (fresh_child unit) (longer_prefixes prefix.now options.now)) }
 {
     let mut children = Vec::with_capacity(alloc, options.len())?;
     for option in options {

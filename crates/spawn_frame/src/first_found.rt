@@ -53,7 +53,8 @@ impl Inlet for FirstFound {
         ensures stays { heard_of self.old ≡ Heard.Settled → heard_of self.new ≡ Heard.Settled }
         ensures covered { is_cover child_result.now ≡ true → IsSome self.new.winner }
         ensures winner { IsNextWinner child child_result.now self.old.winner self.new.winner }
-        ensures none_left { heard_of self.new ≡ Heard.Settled → self.new.winner ≡ None → self.new.left ≡ 0 }
+        ensures none_left { heard_of self.new ≡ Heard.Settled → self.new.winner ≡ None →
+            self.new.left ≡ 0 }
     {
         self.left -= 1;
         if let ChildResult::Cover(_) = child_result {

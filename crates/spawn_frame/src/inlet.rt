@@ -22,13 +22,16 @@ pub trait Inlet {
         ensures left { left_in self.new + 1 ≡ left_in self.old }
         ensures stays { heard_in self.old ≡ Heard.Settled → heard_in self.new ≡ Heard.Settled }
         ensures covered { is_cover child_result.now ≡ true → IsSome (winner_in self.new) }
-        ensures winner { IsNextWinner child child_result.now (winner_in self.old) (winner_in self.new) }
-        ensures none_left { heard_in self.new ≡ Heard.Settled → winner_in self.new ≡ None → left_in self.new ≡ 0 };
+        ensures winner { IsNextWinner child child_result.now (winner_in self.old)
+            (winner_in self.new) }
+        ensures none_left { heard_in self.new ≡ Heard.Settled → winner_in self.new ≡ None →
+            left_in self.new ≡ 0 };
 
     /// Whether it is settled.
     fn heard(&self) -> Heard
         ensures heard { result ≡ heard_in self.now }
-        ensures none_left { heard_in self.now ≡ Heard.Settled → winner_in self.now ≡ None → left_in self.now ≡ 0 };
+        ensures none_left { heard_in self.now ≡ Heard.Settled → winner_in self.now ≡ None →
+            left_in self.now ≡ 0 };
 
     /// The child whose cover it goes by, if there is one.
     fn winner(&self) -> Option<u32>

@@ -107,8 +107,11 @@ impl Table {
         requires here { has_status is_here (unit_of self.old unit) ≡ true }
         requires some { 0 < length options.now }
         ensures first { IfOk result (λ first. first ≡ length self.old.own) }
-        ensures split { OnOk result (self.new ≡ split_into self.old unit (longer_prefixes (prefix_in (unit_of self.old unit)) options.now)) }
-        ensures spent { IsErrOf result SpawnFault.NamesSpent ↔ (self.old.limit < length self.old.own + length options.now) }
+        ensures split { OnOk result (self.new
+            ≡ split_into self.old unit
+            (longer_prefixes (prefix_in (unit_of self.old unit)) options.now)) }
+        ensures spent { IsErrOf result SpawnFault.NamesSpent ↔
+            (self.old.limit < length self.old.own + length options.now) }
         ensures err { OnErr result (self.new ≡ self.old) }
     {
         let first = self.own.len();
@@ -181,8 +184,11 @@ impl Table {
     /// A unit's attempt and status; none where it isn't there. An own child is found at once, a guest by
     /// halving.
     pub fn unit(&self, unit: Unit) -> Option<UnitView<'_>>
-        ensures seen { MatchOption result (unit_of self.now unit ≡ None) (λ view. IsSeen (unit_of self.now unit) view.attempt view.status.now) }
-        ensures tested { IfSome result (λ view. (test : Status → Bool) → has_status test (unit_of self.now unit) ≡ test view.status.now) }
+        ensures seen { MatchOption result (unit_of self.now unit ≡ None) (λ view.
+            IsSeen (unit_of self.now unit) view.attempt view.status.now) }
+        ensures tested { IfSome result (λ view.
+            (test : Status → Bool) →
+            has_status test (unit_of self.now unit) ≡ test view.status.now) }
     {
         let work = self.work(unit)?;
         Some(UnitView {
@@ -193,8 +199,10 @@ impl Table {
 
     /// A unit's status; none where it isn't there. It is found as `unit` finds it.
     pub fn status(&self, unit: Unit) -> Option<&Status>
-        ensures status { option_map (λ status. status.now) result ≡ status_in (unit_of self.now unit) }
-        ensures tested { IfSome result (λ status. (test : Status → Bool) → has_status test (unit_of self.now unit) ≡ test status.now) }
+        ensures status { option_map (λ status. status.now) result
+            ≡ status_in (unit_of self.now unit) }
+        ensures tested { IfSome result (λ status.
+            (test : Status → Bool) → has_status test (unit_of self.now unit) ≡ test status.now) }
     {
         let work = self.work(unit)?;
         Some(&work.status)
@@ -204,7 +212,8 @@ impl Table {
     /// a look for the unit, and the prefix.
     pub fn prefix_into(&self, unit: Unit, list: &mut Vec<u16>) -> Result<(), AllocError>
         requires { IsSome (unit_of self.now unit) }
-        ensures ok { OnOk result (list.new.items ≡ list.old.items ++ prefix_in (unit_of self.now unit)) }
+        ensures ok { OnOk result (list.new.items ≡ list.old.items
+            ++ prefix_in (unit_of self.now unit)) }
         ensures err { OnErr result (list.new.items ≡ list.old.items) }
     {
         match self.work(unit) {
@@ -279,7 +288,8 @@ impl Table {
         requires { has_status is_split (unit_of self.now unit) ≡ true }
         ensures winner { result ≡ frame_winner unit self.now.own }
         ensures cover { IfSome result (GivesResult unit self.now.own) }
-        ensures empty { IfNone result (IfSome (frame_result (frame unit self.now.own)) (λ came. came ≡ ChildResult.Empty)) }
+        ensures empty { IfNone result (IfSome (frame_result (frame unit self.now.own)) (λ came.
+            came ≡ ChildResult.Empty)) }
     {
         match self.work(unit) {
             Some(work) => match &work.inlet {
@@ -317,8 +327,10 @@ impl Table {
     /// Takes up the ready unit that is taken up next, if there is one. It costs what `ready` and `take_up` do.
     pub fn take(&mut self) -> Option<Job>
         ensures unit { option_map (λ job. job.unit) result ≡ ready_unit self.old }
-        ensures ready { IfSome result (λ job. IsSeen (unit_of self.old job.unit) job.attempt Status.Ready) }
-        ensures after { MatchOption result (self.new ≡ self.old) (λ job. self.new ≡ table_gets self.old job.unit Status.Here) }
+        ensures ready { IfSome result (λ job.
+            IsSeen (unit_of self.old job.unit) job.attempt Status.Ready) }
+        ensures after { MatchOption result (self.new ≡ self.old) (λ job.
+            self.new ≡ table_gets self.old job.unit Status.Here) }
     {
         let unit = self.ready()?;
         Some(self.take_up(unit))
@@ -328,7 +340,8 @@ impl Table {
     /// costs a look for the unit, and the prefix.
     pub fn has_job(&self, job: Job, prefix: &[u16]) -> bool
         ensures tested { result ≡ is_at_work job.attempt prefix.now (unit_of self.now job.unit) }
-        ensures at_work { OnTrue result (IsAtWork job.attempt prefix.now (unit_of self.now job.unit)) }
+        ensures at_work { OnTrue result
+            (IsAtWork job.attempt prefix.now (unit_of self.now job.unit)) }
     {
         match self.work(job.unit) {
             Some(work) => work.is_at_work(job.attempt, prefix),
@@ -381,7 +394,9 @@ impl Table {
     ) -> Result<(), AllocError>
         requires absent { guest_in self.old.guests name attempt ≡ None }
         requires attempt { 1 ≤ attempt }
-        ensures ok { OnOk result (self.new ≡ table_guests self.old (insert_guest (new_guest name attempt prefix.now) self.old.guests)) }
+        ensures ok { OnOk result (self.new
+            ≡ table_guests self.old
+            (insert_guest (new_guest name attempt prefix.now) self.old.guests)) }
         ensures err { OnErr result (self.new ≡ self.old) }
     {
         let guest = new_guest(self.alloc, name, attempt, prefix)?;
@@ -393,7 +408,8 @@ impl Table {
     /// A finished guest settles on the result that its owner accepted. It costs a look for the guest.
     pub fn settle(&mut self, name: ChildName, attempt: Attempt, child_result: ChildResult)
         requires { has_status is_finished (guest_in self.old.guests name attempt) ≡ true }
-        ensures { self.new ≡ table_gets self.old (Unit.Guest name attempt) (Status.Settled child_result) }
+        ensures { self.new ≡ table_gets self.old (Unit.Guest name attempt)
+            (Status.Settled child_result) }
     {
         self.set_status(Unit::Guest(name, attempt), Status::Settled(child_result));
     }
@@ -417,7 +433,8 @@ impl Table {
     /// Gives an own child its result, of which its frame hears.
     fn set_child_result(&mut self, serial: u32, child_result: ChildResult) -> Heard
         requires { has_status may_end (slice_get self.old.own serial) ≡ true }
-        ensures after { self.new ≡ table_gets self.old (Unit.Own serial) (Status.Done child_result) }
+        ensures after { self.new
+            ≡ table_gets self.old (Unit.Own serial) (Status.Done child_result) }
         ensures heard { result ≡ parent_heard self.new (Unit.Own serial) }
     {
         let parent = self.own.as_slice()[serial as usize].parent;
@@ -436,14 +453,16 @@ impl Table {
     fn set_status(&mut self, unit: Unit, status: Status)
         requires { has_status (may_become unit status) (unit_of self.old unit) ≡ true }
         ensures after { self.new ≡ table_gets self.old unit status }
-        ensures guests { (name : ChildName) (attempt : ℕ) → parent_in (guest_in self.new.guests name attempt) ≡ None }
+        ensures guests { (name : ChildName) (attempt : ℕ) →
+            parent_in (guest_in self.new.guests name attempt) ≡ None }
     {
         set_unit(&mut self.own, &mut self.guests, unit, status);
     }
 
     /// What is kept of a unit; none where it isn't there.
     fn work(&self, unit: Unit) -> Option<&Work>
-        ensures { MatchOption result (unit_of self.now unit ≡ None) (λ work. IsWork self.now unit work.now) }
+        ensures { MatchOption result (unit_of self.now unit ≡ None) (λ work.
+            IsWork self.now unit work.now) }
     {
         match unit {
             Unit::Own(serial) => {
@@ -460,7 +479,8 @@ impl Table {
     /// The own child of greatest serial that is wanted, else the least guest.
     fn picked(&self, wanted: Wanted) -> Option<Unit>
         ensures unit { result ≡ wanted_unit wanted self.now }
-        ensures status { IfSome result (λ unit. has_status (wanted_status wanted) (unit_of self.now unit) ≡ true) }
+        ensures status { IfSome result (λ unit.
+            has_status (wanted_status wanted) (unit_of self.now unit) ≡ true) }
     {
         match self.own.last(wanted) {
             Some(unit) => Some(unit),

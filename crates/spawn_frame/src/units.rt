@@ -80,7 +80,8 @@ pub fn place_behind(guests: &[Guest], name: ChildName, attempt: Attempt) -> usiz
 {
     guests.partition_point(
         |guest: &Guest| -> bool
-            ensures { result ≡ not (guest_before name attempt guest.now.name guest.now.work.attempt) }
+            ensures { result ≡ not
+                (guest_before name attempt guest.now.name guest.now.work.attempt) }
         { !guest.is_behind(name, attempt) },
     )
 }
@@ -130,7 +131,8 @@ fn tell(
     requires ascending { IsAscending (map guest_entry guests.old) }
     ensures own { own.new ≡ own_after unit (with_heard child child_result.now) own.old }
     ensures guests { guests.new ≡ guests_after unit (with_heard child child_result.now) guests.old }
-    ensures heard { result ≡ frame_says (option_map (with_heard child child_result.now) (work_in own.old guests.old unit)) }
+    ensures heard { result ≡ frame_says
+        (option_map (with_heard child child_result.now) (work_in own.old guests.old unit)) }
 {
     match unit {
         Unit::Own(serial) => own.hear(serial, child, child_result),
@@ -152,8 +154,10 @@ pub fn tell_parent(
     requires hears { HearsFrom (parent_work parent own.old guests.old) }
     requires ascending { IsAscending (map guest_entry guests.old) }
     ensures own { own.new ≡ own_told parent (with_heard child child_result.now) own.old }
-    ensures guests { guests.new ≡ guests_told parent (with_heard child child_result.now) guests.old }
-    ensures heard { result ≡ frame_says (option_map (with_heard child child_result.now) (parent_work parent own.old guests.old)) }
+    ensures guests { guests.new
+        ≡ guests_told parent (with_heard child child_result.now) guests.old }
+    ensures heard { result ≡ frame_says
+        (option_map (with_heard child child_result.now) (parent_work parent own.old guests.old)) }
 {
     match parent {
         Some(unit) => tell(own, guests, unit, child, child_result),

@@ -54,7 +54,8 @@ impl Work {
 
     /// Whether a worker of this site has it, at this attempt and with this prefix.
     pub fn is_at_work(&self, attempt: Attempt, prefix: &[u16]) -> bool
-        ensures { (parent : Option WorkUnit) → result ≡ is_at_work attempt prefix.now (Some (entry_of parent self.now)) }
+        ensures { (parent : Option WorkUnit) →
+            result ≡ is_at_work attempt prefix.now (Some (entry_of parent self.now)) }
     {
         matches!(self.status, Status::Here)
             && self.attempt == attempt

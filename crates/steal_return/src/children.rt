@@ -25,7 +25,8 @@ pub fn first_ready(table: &Table) -> Option<u32>
 
 /// The child of least serial that is out to a site of which a later run is known.
 pub fn first_lost(table: &Table, known: &Known) -> Option<u32>
-    ensures { result ≡ position_from (λ c. is_out_to (is_older known.now) c.status) 0 table.now.own }
+    ensures { result ≡ position_from
+        (λ c. is_out_to (is_older known.now) c.status) 0 table.now.own }
 {
     let issued = table.issued();
     let mut from = 0;
@@ -41,7 +42,8 @@ pub fn first_lost(table: &Table, known: &Known) -> Option<u32>
 
 /// Whether a child is there and out to such a site.
 fn is_lost(table: &Table, known: &Known, serial: u32) -> bool
-    ensures { result ≡ has_status (is_out_to (is_older known.now)) (slice_get table.now.own serial) }
+    ensures { result ≡ has_status (is_out_to (is_older known.now))
+        (slice_get table.now.own serial) }
 {
     match table.unit(Unit::Own(serial)) {
         Some(view) => match view.status {
@@ -54,8 +56,10 @@ fn is_lost(table: &Table, known: &Known, serial: u32) -> bool
 
 /// Whether each child can be redone that has to be once that is told.
 pub fn is_redoable(table: &Table, known: &Known, told: Told<'_>) -> bool
-    ensures able { OnTrue result (IsRedoable (is_older (known_after told.entry known.now)) table.now.own) }
-    ensures spent { OnFalse result (IsSpent (is_older (known_after told.entry known.now)) table.now.own) }
+    ensures able { OnTrue result
+        (IsRedoable (is_older (known_after told.entry known.now)) table.now.own) }
+    ensures spent { OnFalse result
+        (IsSpent (is_older (known_after told.entry known.now)) table.now.own) }
 {
     let issued = table.issued();
     let mut from = 0;
@@ -73,7 +77,8 @@ pub fn is_redoable(table: &Table, known: &Known, told: Told<'_>) -> bool
 
 /// Whether a child would have to be redone then and stands at its last attempt.
 fn is_spent(table: &Table, known: &Known, told: Told<'_>, serial: u32) -> bool
-    ensures { result ≡ is_spent_at (is_older (known_after told.entry known.now)) (slice_get table.now.own serial) }
+    ensures { result ≡ is_spent_at (is_older (known_after told.entry known.now))
+        (slice_get table.now.own serial) }
 {
     match table.unit(Unit::Own(serial)) {
         Some(view) => match view.status {
@@ -105,7 +110,8 @@ pub fn redo_lost(table: &mut Table, known: &Known)
 /// Redoes a child if it is out to such a site.
 fn redo_if_lost(table: &mut Table, known: &Known, serial: u32)
     requires { is_spent_at (is_older known.now) (slice_get table.old.own serial) ≡ false }
-    ensures { table.new ≡ table_own table.old (change_at (λ c. redo_if (is_older known.now) c c.status) table.old.own serial) }
+    ensures { table.new ≡ table_own table.old
+        (change_at (λ c. redo_if (is_older known.now) c c.status) table.old.own serial) }
 {
     if is_lost(table, known, serial) {
         table.redo(serial);

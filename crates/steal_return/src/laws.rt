@@ -14,7 +14,8 @@ ghost use Rattle.steal_return.specs.Members.{LearnsMembers};
 /// Aborts have no more thieves to tell than own children were out before: so there can be room for all that is told
 /// before anything changes.
 pub fn aborts_are_few()
-    ensures reached { (serial : ℕ) (old new : List Entry) → length (reached serial old new) ≤ outs_of old }
+    ensures reached { (serial : ℕ) (old new : List Entry) →
+        length (reached serial old new) ≤ outs_of old }
     ensures finished { (old new : Ledger) (unit : WorkUnit) (outs : List Reached) →
         FinishesFrame old unit outs new → length outs ≤ outs_of old.own }
     ensures dropped { (old new : Ledger) (name : ChildName) (attempt : ℕ) (outs : List Reached) →

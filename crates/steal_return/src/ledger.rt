@@ -136,8 +136,10 @@ impl Ledger {
     /// Takes up the ready unit that is taken up next, as `Table::take` does.
     pub fn take(&mut self) -> Option<Job>
         ensures unit { option_map (λ job. job.unit) result ≡ ready_unit self.old.table }
-        ensures ready { IfSome result (λ job. IsSeen (unit_of self.old.table job.unit) job.attempt Status.Ready) }
-        ensures after { MatchOption result (self.new ≡ self.old) (λ job. self.new ≡ ledger_gets self.old job.unit Status.Here) }
+        ensures ready { IfSome result (λ job.
+            IsSeen (unit_of self.old.table job.unit) job.attempt Status.Ready) }
+        ensures after { MatchOption result (self.new ≡ self.old) (λ job.
+            self.new ≡ ledger_gets self.old job.unit Status.Here) }
     {
         let unit = self.table.ready()?;
         Some(self.take_up(unit))
@@ -149,7 +151,8 @@ impl Ledger {
         requires some { 0 < length options.now }
         ensures first { IfOk result (λ first. first ≡ length self.old.own) }
         ensures split { OnOk result (self.new ≡ ledger_split self.old unit options.now) }
-        ensures spent { IsErrOf result SpawnFault.NamesSpent ↔ (self.old.limit < length self.old.own + length options.now) }
+        ensures spent { IsErrOf result SpawnFault.NamesSpent ↔
+            (self.old.limit < length self.old.own + length options.now) }
         ensures err { OnErr result (self.new ≡ self.old) }
     {
         self.table.spawn(unit, options)
@@ -170,8 +173,10 @@ impl Ledger {
     pub fn finish(&mut self, unit: Unit, list: &mut Vec<Out>) -> Result<(), AllocError>
         requires split { has_status is_split (unit_of self.old.table unit) ≡ true }
         requires settled { IsSome (frame_result (frame unit self.old.own)) }
-        ensures ok { OnOk result (Appends list.old.items list.new.items (λ outs. FinishesFrame self.old unit outs self.new)) }
-        ensures few { OnOk result (length list.new.items ≤ length list.old.items + outs_of self.old.own) }
+        ensures ok { OnOk result (Appends list.old.items list.new.items (λ outs.
+            FinishesFrame self.old unit outs self.new)) }
+        ensures few { OnOk result
+            (length list.new.items ≤ length list.old.items + outs_of self.old.own) }
         ensures err { OnErr result (self.new ≡ self.old) }
         ensures list { OnErr result (list.new.items ≡ list.old.items) }
     {
@@ -238,7 +243,8 @@ impl Ledger {
         requires not_older { is_older self.old.known thief ≡ false }
         requires ready { has_status is_ready (slice_get self.old.own serial) ≡ true }
         ensures after { self.new ≡ ledger_gets self.old (Unit.Own serial) (Status.Out thief) }
-        ensures gives { (given : Given) → IsGiven self.old.own serial given → GivesChild self.old thief given self.new }
+        ensures gives { (given : Given) → IsGiven self.old.own serial given →
+            GivesChild self.old thief given self.new }
     {
         self.table.give(serial, thief);
     }
@@ -247,7 +253,8 @@ impl Ledger {
     /// known; the child is out then. The only error is want of memory, which changes nothing.
     pub fn give(&mut self, thief: Site) -> Result<Option<Given>, AllocError>
         ensures gives { IfOk result (λ answer. TellsSteal self.old thief answer self.new) }
-        ensures least { IfOk result (λ answer. IfSome answer (λ given. first_ready self.old.own ≡ Some given.serial)) }
+        ensures least { IfOk result (λ answer.
+            IfSome answer (λ given. first_ready self.old.own ≡ Some given.serial)) }
         ensures err { OnErr result (self.new ≡ self.old) }
     {
         let Some(serial) = self.ready_child(thief) else {
@@ -262,8 +269,10 @@ impl Ledger {
     /// child, `NamesSpent` exactly where it stands at its last attempt; a fault changes nothing.
     pub fn redo(&mut self, serial: u32) -> Result<(), RedoFault>
         ensures ok { OnOk result (RedoesChild self.old serial self.new) }
-        ensures not_out { IsErrOf result RedoFault.NotOut ↔ (has_status is_out (slice_get self.old.own serial) ≡ false) }
-        ensures spent { IsErrOf result RedoFault.NamesSpent ↔ IsLastOut (slice_get self.old.own serial) }
+        ensures not_out { IsErrOf result RedoFault.NotOut ↔
+            (has_status is_out (slice_get self.old.own serial) ≡ false) }
+        ensures spent { IsErrOf result RedoFault.NamesSpent ↔ IsLastOut
+            (slice_get self.old.own serial) }
         ensures err { OnErr result (self.new ≡ self.old) }
     {
         let Some(view) = self.table.unit(Unit::Own(serial)) else {
@@ -284,7 +293,8 @@ impl Ledger {
     /// nothing.
     pub fn judge(&self, from: Site, serial: u32, attempt: Attempt) -> Judged<'_>
         ensures judged { judgement_of result ≡ judged (slice_get self.now.own serial) from attempt }
-        ensures out { judgement_of result ≡ Enters → has_status is_out (slice_get self.now.own serial) ≡ true }
+        ensures out { judgement_of result ≡ Enters →
+            has_status is_out (slice_get self.now.own serial) ≡ true }
     {
         let Some(view) = self.table.unit(Unit::Own(serial)) else {
             return Judged::Refuses(Cause::Unknown);
@@ -319,8 +329,12 @@ impl Ledger {
         attempt: Attempt,
         child_result: &ChildResult,
     ) -> Result<ReturnReply, AllocError>
-        ensures reply { IfOk result (λ reply. reply ≡ reply_to child_result.now (judged (slice_get self.old.own serial) from attempt)) }
-        ensures after { OnOk result (self.new ≡ returned self.old serial child_result.now (judged (slice_get self.old.own serial) from attempt)) }
+        ensures reply { IfOk result (λ reply.
+            reply ≡ reply_to child_result.now
+            (judged (slice_get self.old.own serial) from attempt)) }
+        ensures after { OnOk result (self.new
+            ≡ returned self.old serial child_result.now
+            (judged (slice_get self.old.own serial) from attempt)) }
         ensures err { OnErr result (self.new ≡ self.old) }
     {
         match self.judge(from, serial, attempt) {
@@ -345,7 +359,8 @@ impl Ledger {
         prefix: &[u16],
     ) -> Result<bool, AllocError>
         requires { 1 ≤ attempt }
-        ensures ok { IfOk result (λ moved. TellsGive self.old (child_of from serial) attempt prefix.now moved self.new) }
+        ensures ok { IfOk result (λ moved.
+            TellsGive self.old (child_of from serial) attempt prefix.now moved self.new) }
         ensures err { OnErr result (self.new ≡ self.old) }
     {
         let name = ChildName { site: from, serial };
@@ -412,9 +427,14 @@ impl Ledger {
         attempt: Attempt,
         list: &mut Vec<Out>,
     ) -> Result<bool, AllocError>
-        ensures dropped { IfOk result (λ moved. DropsIf moved self.old (child_of from serial) attempt list.old.items list.new.items self.new) }
-        ensures few { OnOk result (length list.new.items ≤ length list.old.items + outs_of self.old.own) }
-        ensures left { IfOk result (λ moved. StaysUnless moved self.old (child_of from serial) attempt list.old.items list.new.items self.new) }
+        ensures dropped { IfOk result (λ moved.
+            DropsIf moved self.old
+            (child_of from serial) attempt list.old.items list.new.items self.new) }
+        ensures few { OnOk result
+            (length list.new.items ≤ length list.old.items + outs_of self.old.own) }
+        ensures left { IfOk result (λ moved.
+            StaysUnless moved self.old
+            (child_of from serial) attempt list.old.items list.new.items self.new) }
         ensures err { OnErr result (self.new ≡ self.old) }
         ensures list { OnErr result (list.new.items ≡ list.old.items) }
     {
@@ -432,7 +452,9 @@ impl Ledger {
     /// Whether the incarnations of nodes 1, 2, .. can be learnt: no own child that would have to be redone stands at its
     /// last attempt. It costs a walk over the own children that are out.
     pub fn may_learn(&self, incarnations: &[u32]) -> bool
-        ensures able { OnTrue result (IsRedoable (is_older (now_known self.now.site.node self.now.known incarnations.now)) self.now.own) }
+        ensures able { OnTrue result
+            (IsRedoable (is_older
+            (now_known self.now.site.node self.now.known incarnations.now)) self.now.own) }
         ensures spent { OnFalse result (IsSpent (is_older (now_known self.now.site.node self.now.known incarnations.now)) self.now.own) }
     {
         let told = Told::Members(self.table.site().node, incarnations);
@@ -452,8 +474,10 @@ impl Ledger {
         incarnations: &[u32],
         list: &mut Vec<Out>,
     ) -> Result<bool, LearnFault>
-        ensures learns { OnOk result (Appends list.old.items list.new.items (λ outs. LearnsMembers self.old incarnations.now outs self.new)) }
-        ensures few { OnOk result (length list.new.items ≤ length list.old.items + outs_of self.old.own) }
+        ensures learns { OnOk result (Appends list.old.items list.new.items (λ outs.
+            LearnsMembers self.old incarnations.now outs self.new)) }
+        ensures few { OnOk result
+            (length list.new.items ≤ length list.old.items + outs_of self.old.own) }
         ensures moved { IfOk result (λ moved. OnTrue moved (self.new ≢ self.old)) }
         ensures same { IfOk result (λ moved. OnFalse moved (self.new ≡ self.old)) }
         ensures spent { IsErrOf result LearnFault.NamesSpent ↔ IsSpentForMembers self.old incarnations.now }
@@ -482,7 +506,9 @@ impl Ledger {
     /// Whether it can be learnt that a node runs so: no child that would have to be redone stands at its last attempt.
     /// It takes no memory, and costs a walk over the own children that are out.
     pub fn may_learn_hello(&self, from: Site) -> bool
-        ensures able { OnTrue result (IsRedoable (is_earlier_run from.node (raised self.now.known from.node from.incarnation)) self.now.own) }
+        ensures able { OnTrue result
+            (IsRedoable (is_earlier_run from.node
+            (raised self.now.known from.node from.incarnation)) self.now.own) }
         ensures spent { OnFalse result (IsSpentForHello self.now from) }
     {
         is_redoable(&self.table, &self.known, Told::Hello(from))
