@@ -63,7 +63,8 @@ fn write_alone<W: Sink>(
 /// in the order of the file, or `none`, or `no answer` where the fuel was spent.
 ///
 /// The faults are `Read` and `Write`, where that device failed, `File`, with the text's first fault, and `Memory`.
-/// After `Write` a beginning of the answer's text was written, after another fault nothing.
+/// After `Write` a beginning of the answer's text was written, after another fault nothing. At `Memory` the source may have been
+/// read in part.
 pub fn alone_engine<R: Source, W: Sink>(
     alloc: Global,
     fuel: u64,

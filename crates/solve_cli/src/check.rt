@@ -151,7 +151,7 @@ fn check_texts<W: Sink>(
 ///
 /// The faults are `Read` and `Write`, where a device failed, `File`, with the first fault of the problem's text, else
 /// `Answer`, with that of the answer's, and `Memory`. After `Write` a beginning of the line was written, after another
-/// fault nothing.
+/// fault nothing. At `Memory` both may have been read in part.
 pub fn check_engine<R: Source, S: Source, W: Sink>(
     alloc: Global,
     fuel: u64,

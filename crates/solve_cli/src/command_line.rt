@@ -357,6 +357,25 @@ fn spelled<'a>(name: &'a str, inner: &ArgMatches<'a>) -> Option<Settings<'a>>
     })
 }
 
+/// What is told of a number out of its range, with the usage of its own subcommand.
+fn range_error(alloc: Global, mode: Mode) -> Result<Error, AllocError> {
+    let mut command = match mode {
+        Mode::Alone => alone_command(alloc)?.bin_name("solve_cli alone")?,
+        Mode::Check => check_command(alloc)?.bin_name("solve_cli check")?,
+        Mode::Simulate => simulate_command(alloc)?.bin_name("solve_cli simulate")?,
+        Mode::Solve => solve_command(alloc)?.bin_name("solve_cli solve")?,
+    };
+    command.error(ErrorKind::ValueValidation, RANGES)
+}
+
+/// The same as a fault.
+fn range_fault(alloc: Global, mode: Mode) -> SettingsFault {
+    match range_error(alloc, mode) {
+        Ok(error) => fault_of(error),
+        Err(_) => SettingsFault::Memory,
+    }
+}
+
 /// The settings that the words of a command line spell; the first word is the program's name.
 ///
 /// `Line` is clap's fault for words that are no command line, or a value that is no number of its range, and its text
@@ -374,6 +393,9 @@ pub fn settings<'a>(alloc: Global, words: &'a [&'a str]) -> Result<Settings<'a>,
     if let Some((name, inner)) = matches.subcommand() {
         if let Some(settings) = spelled(name, inner) {
             return Ok(settings);
+        }
+        if let Some(mode) = mode_of(name) {
+            return Err(range_fault(alloc, mode));
         }
     }
     match command.error(ErrorKind::ValueValidation, RANGES) {

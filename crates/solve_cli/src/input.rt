@@ -14,7 +14,8 @@ use std::alloc::Global;
 
 const PIECE: usize = 16384;
 
-/// Reads all bytes, to the end of the source. The faults are `Read`, where a read failed, and `Memory`.
+/// Reads all bytes, to the end of the source. The faults are `Read`, where a read failed, and `Memory`. After either the source
+/// stands behind the bytes that were read, and these are let go.
 pub fn read_all<R: Source>(alloc: Global, source: &mut R) -> Result<Vec<u8>, EngineFault>
     requires { R.failed source.old < 2 ^ 64 - 1 }
     ensures read { IfOk result (λ text. Consumes (R.remaining source.old) (R.remaining source.new) text.items) }

@@ -83,7 +83,8 @@ fn write_simulation<W: Sink>(
 /// that it publishes, or `no answer` where it publishes none.
 ///
 /// The faults are `Read` and `Write`, where that device failed, `File`, with the text's first fault, and `Memory`.
-/// After `Write` a beginning of the answer's text was written, after another fault nothing.
+/// After `Write` a beginning of the answer's text was written, after another fault nothing. At `Memory` the source may have been
+/// read in part.
 pub fn simulate_engine<R: Source, W: Sink>(
     alloc: Global,
     settings: &Settings,
