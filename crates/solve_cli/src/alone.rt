@@ -27,7 +27,8 @@ fn write_found<W: Sink>(
     sink: &mut W,
 ) -> Result<u8, EngineFault>
     requires { W.failed sink.old < 2 ^ 64 - 1 }
-    ensures output { IsOutput (outcome_said problem.now (Covers chosen.now)) (W.contents sink.old) (W.contents sink.new) result }
+    ensures output { IsOutput (outcome_said problem.now (Covers chosen.now)) (W.contents sink.old)
+        (W.contents sink.new) result }
     ensures failed { result ≡ Err EngineFault.Write → W.failed sink.old < W.failed sink.new }
 {
     let Ok(options) = in_order(alloc, problem, chosen) else {
@@ -46,7 +47,8 @@ fn write_alone<W: Sink>(
 ) -> Result<u8, EngineFault>
     requires fuel { 1 ≤ fuel }
     requires failed { W.failed sink.old < 2 ^ 64 - 1 }
-    ensures output { IsOutput (alone_said problem.now fuel) (W.contents sink.old) (W.contents sink.new) result }
+    ensures output { IsOutput (alone_said problem.now fuel) (W.contents sink.old)
+        (W.contents sink.new) result }
     ensures failed { result ≡ Err EngineFault.Write → W.failed sink.old < W.failed sink.new }
 {
     let Ok(mut searcher) = Searcher::new(alloc, problem) else {
@@ -76,7 +78,8 @@ pub fn alone_engine<R: Source, W: Sink>(
     requires sink { W.failed sink.old < 2 ^ 64 - 1 }
     ensures ended { IfSome (R.remaining source.old) (λ text.
         IsEnded (AloneSays fuel) refuses_none text (W.contents sink.old) (W.contents sink.new) result) }
-    ensures read { result ≢ Err EngineFault.Read → result ≢ Err EngineFault.Memory → IsAtEnd (R.remaining source.new) }
+    ensures read { result ≢ Err EngineFault.Read → result ≢ Err EngineFault.Memory →
+        IsAtEnd (R.remaining source.new) }
     ensures read_fault { result ≡ Err EngineFault.Read → R.failed source.old < R.failed source.new }
     ensures write_fault { result ≡ Err EngineFault.Write → W.failed sink.old < W.failed sink.new }
 {

@@ -46,7 +46,8 @@ fn write_wrong<W: Sink>(
 ) -> Result<u8, EngineFault>
     requires item { item < length problem.now.names }
     requires failed { W.failed sink.old < 2 ^ 64 - 1 }
-    ensures output { IsOutput (item_said problem.now wrong.now item) (W.contents sink.old) (W.contents sink.new) result }
+    ensures output { IsOutput (item_said problem.now wrong.now item) (W.contents sink.old)
+        (W.contents sink.new) result }
     ensures failed { result ≡ Err EngineFault.Write → W.failed sink.old < W.failed sink.new }
 {
     match item_line(alloc, problem, wrong, item) {
@@ -89,7 +90,8 @@ fn write_none<W: Sink>(
 ) -> Result<u8, EngineFault>
     requires fuel { 1 ≤ fuel }
     requires failed { W.failed sink.old < 2 ^ 64 - 1 }
-    ensures output { IsOutput (none_said (outcome problem.now [] fuel)) (W.contents sink.old) (W.contents sink.new) result }
+    ensures output { IsOutput (none_said (outcome problem.now [] fuel)) (W.contents sink.old)
+        (W.contents sink.new) result }
     ensures failed { result ≡ Err EngineFault.Write → W.failed sink.old < W.failed sink.new }
 {
     let Ok(mut searcher) = Searcher::new(alloc, problem) else {
@@ -114,7 +116,8 @@ fn write_check<W: Sink>(
     requires options { IsListedAnswer problem.now answer.now }
     requires fuel { 1 ≤ fuel }
     requires failed { W.failed sink.old < 2 ^ 64 - 1 }
-    ensures output { IsOutput (check_said problem.now answer.now fuel) (W.contents sink.old) (W.contents sink.new) result }
+    ensures output { IsOutput (check_said problem.now answer.now fuel) (W.contents sink.old)
+        (W.contents sink.new) result }
     ensures failed { result ≡ Err EngineFault.Write → W.failed sink.old < W.failed sink.new }
 {
     match answer {
@@ -133,7 +136,8 @@ fn check_texts<W: Sink>(
 ) -> Result<CheckEnd, EngineFault>
     requires fuel { 1 ≤ fuel }
     requires failed { W.failed sink.old < 2 ^ 64 - 1 }
-    ensures ended { IsEnded (CheckSays answer.now fuel) (CheckRefuses answer.now) file.now (W.contents sink.old) (W.contents sink.new) result }
+    ensures ended { IsEnded (CheckSays answer.now fuel) (CheckRefuses answer.now) file.now
+        (W.contents sink.old) (W.contents sink.new) result }
     ensures unread { result ≢ Err EngineFault.Read }
     ensures failed { result ≡ Err EngineFault.Write → W.failed sink.old < W.failed sink.new }
 {
@@ -167,8 +171,10 @@ pub fn check_engine<R: Source, S: Source, W: Sink>(
         IsEnded (CheckSays given fuel) (CheckRefuses given) text (W.contents sink.old) (W.contents sink.new) result)) }
 
     // Both texts are read to their ends before either is tested, so a refusal of one says that the other can be read.
-    ensures file_read { result ≢ Err EngineFault.Read → result ≢ Err EngineFault.Memory → IsAtEnd (R.remaining file.new) }
-    ensures answer_read { result ≢ Err EngineFault.Read → result ≢ Err EngineFault.Memory → IsAtEnd (S.remaining answer.new) }
+    ensures file_read { result ≢ Err EngineFault.Read → result ≢ Err EngineFault.Memory →
+        IsAtEnd (R.remaining file.new) }
+    ensures answer_read { result ≢ Err EngineFault.Read → result ≢ Err EngineFault.Memory →
+        IsAtEnd (S.remaining answer.new) }
     ensures read_fault { result ≡ Err EngineFault.Read →
         (R.failed file.old < R.failed file.new) ⊎ (S.failed answer.old < S.failed answer.new) }
     ensures write_fault { result ≡ Err EngineFault.Write → W.failed sink.old < W.failed sink.new }

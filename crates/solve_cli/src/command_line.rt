@@ -35,7 +35,8 @@ pub enum SettingsFault {
 impl SettingsFault {
     /// The exit status: 2 for words that are no command line, 0 where they ask for help or the version, 5 for want of memory.
     pub fn status(&self) -> u8
-        ensures line { (error : Error) → self.now ≡ SettingsFault.Line error → IsLineStatus (kind_of error) result }
+        ensures line { (error : Error) → self.now ≡ SettingsFault.Line error →
+            IsLineStatus (kind_of error) result }
         ensures memory { self.now ≡ SettingsFault.Memory → result ≡ 5 }
     {
         match self {
@@ -271,7 +272,8 @@ fn nodes(inner: &ArgMatches<'_>) -> Option<u8>
 
 /// How many workers a node has, from 1 to 8.
 fn workers(inner: &ArgMatches<'_>) -> Option<u8>
-    ensures given { IfSome result (SpellsOr 2 (first_value (found_of inner.now) (codes "workers"))) }
+    ensures given { IfSome result
+        (SpellsOr 2 (first_value (found_of inner.now) (codes "workers"))) }
     ensures some { IfSome result (λ workers. 1 ≤ workers) }
     ensures most { IfSome result (λ workers. workers ≤ 8) }
 {
@@ -284,7 +286,8 @@ fn workers(inner: &ArgMatches<'_>) -> Option<u8>
 
 /// How many turns are taken, up to 10,000,000.
 fn turns(inner: &ArgMatches<'_>) -> Option<u32>
-    ensures given { IfSome result (SpellsOr 10000 (first_value (found_of inner.now) (codes "turns"))) }
+    ensures given { IfSome result
+        (SpellsOr 10000 (first_value (found_of inner.now) (codes "turns"))) }
     ensures most { IfSome result (λ turns. turns ≤ 10000000) }
 {
     let turns = number_or(inner, "turns", 10_000)?;
@@ -296,7 +299,8 @@ fn turns(inner: &ArgMatches<'_>) -> Option<u32>
 
 /// How many restarts are drawn, up to 100.
 fn restarts(inner: &ArgMatches<'_>) -> Option<u32>
-    ensures given { IfSome result (SpellsOr 0 (first_value (found_of inner.now) (codes "restarts"))) }
+    ensures given { IfSome result
+        (SpellsOr 0 (first_value (found_of inner.now) (codes "restarts"))) }
     ensures most { IfSome result (λ restarts. restarts ≤ 100) }
 {
     let restarts = number_or(inner, "restarts", 0)?;
@@ -333,15 +337,22 @@ fn answer_file<'a>(mode: Mode, inner: &ArgMatches<'a>) -> Option<Option<&'a str>
 /// The settings that a subcommand's matches spell; none where a number is out of its range.
 fn spelled<'a>(name: &'a str, inner: &ArgMatches<'a>) -> Option<Settings<'a>>
     ensures mode { IfSome result (λ s. mode_word s.mode ≡ name.now) }
-    ensures file { IfSome result (λ s. first_value (found_of inner.now) (codes "file") ≡ Some s.file.now) }
+    ensures file { IfSome result (λ s.
+        first_value (found_of inner.now) (codes "file") ≡ Some s.file.now) }
     ensures answer { IfSome result (λ s. IsAnswerFile s.mode (option_map (λ answer. answer.now) s.answer)
         (first_value (found_of inner.now) (codes "answer"))) }
-    ensures fuel { IfSome result (λ s. SpellsFuel (first_value (found_of inner.now) (codes "fuel")) s.fuel) }
-    ensures nodes { IfSome result (λ s. SpellsOr 4 (first_value (found_of inner.now) (codes "nodes")) s.nodes) }
-    ensures seed { IfSome result (λ s. SpellsOr 1 (first_value (found_of inner.now) (codes "seed")) s.seed) }
-    ensures workers { IfSome result (λ s. SpellsOr 2 (first_value (found_of inner.now) (codes "workers")) s.workers) }
-    ensures turns { IfSome result (λ s. SpellsOr 10000 (first_value (found_of inner.now) (codes "turns")) s.turns) }
-    ensures restarts { IfSome result (λ s. SpellsOr 0 (first_value (found_of inner.now) (codes "restarts")) s.restarts) }
+    ensures fuel { IfSome result (λ s.
+        SpellsFuel (first_value (found_of inner.now) (codes "fuel")) s.fuel) }
+    ensures nodes { IfSome result (λ s.
+        SpellsOr 4 (first_value (found_of inner.now) (codes "nodes")) s.nodes) }
+    ensures seed { IfSome result (λ s.
+        SpellsOr 1 (first_value (found_of inner.now) (codes "seed")) s.seed) }
+    ensures workers { IfSome result (λ s.
+        SpellsOr 2 (first_value (found_of inner.now) (codes "workers")) s.workers) }
+    ensures turns { IfSome result (λ s.
+        SpellsOr 10000 (first_value (found_of inner.now) (codes "turns")) s.turns) }
+    ensures restarts { IfSome result (λ s.
+        SpellsOr 0 (first_value (found_of inner.now) (codes "restarts")) s.restarts) }
 {
     let mode = mode_of(name)?;
     Some(Settings {

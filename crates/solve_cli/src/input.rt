@@ -18,7 +18,8 @@ const PIECE: usize = 16384;
 /// stands behind the bytes that were read, and these are let go.
 pub fn read_all<R: Source>(alloc: Global, source: &mut R) -> Result<Vec<u8>, EngineFault>
     requires { R.failed source.old < 2 ^ 64 - 1 }
-    ensures read { IfOk result (λ text. Consumes (R.remaining source.old) (R.remaining source.new) text.items) }
+    ensures read { IfOk result (λ text.
+        Consumes (R.remaining source.old) (R.remaining source.new) text.items) }
     ensures end { IfOk result (λ _. IsAtEnd (R.remaining source.new)) }
     ensures failed { result ≡ Err EngineFault.Read → R.failed source.old < R.failed source.new }
     ensures fault { IfErr result IsReadFault }
@@ -54,9 +55,12 @@ pub fn problem_of(alloc: Global, text: &[u8]) -> Result<Read, EngineFault>
 /// `Memory`.
 pub fn read_whole<R: Source>(alloc: Global, source: &mut R) -> Result<Read, EngineFault>
     requires { R.failed source.old < 2 ^ 64 - 1 }
-    ensures problem { IfOk result (λ read. IfSome (R.remaining source.old) (λ text. IsProblemOf text read.problem read.ignored)) }
-    ensures read { result ≢ Err EngineFault.Read → result ≢ Err EngineFault.Memory → IsAtEnd (R.remaining source.new) }
-    ensures fault { IfErr result (λ fault. IfSome (R.remaining source.old) (λ text. IsSourceFault text fault)) }
+    ensures problem { IfOk result (λ read.
+        IfSome (R.remaining source.old) (λ text. IsProblemOf text read.problem read.ignored)) }
+    ensures read { result ≢ Err EngineFault.Read → result ≢ Err EngineFault.Memory →
+        IsAtEnd (R.remaining source.new) }
+    ensures fault { IfErr result (λ fault.
+        IfSome (R.remaining source.old) (λ text. IsSourceFault text fault)) }
     ensures failed { result ≡ Err EngineFault.Read → R.failed source.old < R.failed source.new }
 {
     let text = read_all(alloc, source)?;

@@ -11,7 +11,8 @@ use dlx_reader::{Sink, WriteFault, write_answer, write_bytes};
 /// Writes all of a text, and answers the status.
 pub fn write_line<W: Sink>(text: &[u8], status: u8, sink: &mut W) -> Result<u8, EngineFault>
     requires { W.failed sink.old < 2 ^ 64 - 1 }
-    ensures output { IsOutput (said text.now status) (W.contents sink.old) (W.contents sink.new) result }
+    ensures output { IsOutput (said text.now status) (W.contents sink.old)
+        (W.contents sink.new) result }
     ensures failed { result ≡ Err EngineFault.Write → W.failed sink.old < W.failed sink.new }
 {
     match write_bytes(text, sink) {
@@ -28,7 +29,8 @@ pub fn write_solution<W: Sink>(
 ) -> Result<u8, EngineFault>
     requires order { IsWritable problem.now answer.now }
     requires failed { W.failed sink.old < 2 ^ 64 - 1 }
-    ensures output { IsOutput (answer_said problem.now answer.now) (W.contents sink.old) (W.contents sink.new) result }
+    ensures output { IsOutput (answer_said problem.now answer.now) (W.contents sink.old)
+        (W.contents sink.new) result }
     ensures failed { result ≡ Err EngineFault.Write → W.failed sink.old < W.failed sink.new }
 {
     if write_answer(problem, answer, sink).is_err() {

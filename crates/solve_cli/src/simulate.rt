@@ -24,7 +24,8 @@ pub type SimulateEnd = EngineEnd;
 
 /// A copy of what is published; the only fault is `Memory`.
 fn copied(published: Option<&Answer>) -> Result<Option<Answer>, EngineFault>
-    ensures answer { IfOk result (λ answer. answer ≡ option_map (λ given. given.now) published.entry) }
+    ensures answer { IfOk result (λ answer.
+        answer ≡ option_map (λ given. given.now) published.entry) }
     ensures memory { IfErr result (λ fault. fault ≡ EngineFault.Memory) }
 {
     let Some(answer) = published else {
@@ -72,7 +73,8 @@ fn write_simulation<W: Sink>(
     sink: &mut W,
 ) -> Result<u8, EngineFault>
     requires failed { W.failed sink.old < 2 ^ 64 - 1 }
-    ensures output { IsOutputOf (SimulateSays settings.now problem.now) (W.contents sink.old) (W.contents sink.new) result }
+    ensures output { IsOutputOf (SimulateSays settings.now problem.now) (W.contents sink.old)
+        (W.contents sink.new) result }
     ensures failed { result ≡ Err EngineFault.Write → W.failed sink.old < W.failed sink.new }
 {
     let answer = simulated(alloc, settings, problem)?;
@@ -95,7 +97,8 @@ pub fn simulate_engine<R: Source, W: Sink>(
     requires sink { W.failed sink.old < 2 ^ 64 - 1 }
     ensures ended { IfSome (R.remaining source.old) (λ text.
         IsEnded (SimulateSays settings.now) refuses_none text (W.contents sink.old) (W.contents sink.new) result) }
-    ensures read { result ≢ Err EngineFault.Read → result ≢ Err EngineFault.Memory → IsAtEnd (R.remaining source.new) }
+    ensures read { result ≢ Err EngineFault.Read → result ≢ Err EngineFault.Memory →
+        IsAtEnd (R.remaining source.new) }
     ensures read_fault { result ≡ Err EngineFault.Read → R.failed source.old < R.failed source.new }
     ensures write_fault { result ≡ Err EngineFault.Write → W.failed sink.old < W.failed sink.new }
 {

@@ -110,7 +110,8 @@ pub fn solve_problem<L: Link + Send, G: Gate + Sync, W: Sink, R: Threads + Wait 
 ) -> Result<u8, EngineFault>
     requires links { vec_len links ≡ settings.now.nodes + 1 }
     requires failed { W.failed sink.old < 2 ^ 64 - 1 }
-    ensures output { IsOutputOf (RunSays (run_of problem.now settings.now)) (W.contents sink.old) (W.contents sink.new) result }
+    ensures output { IsOutputOf (RunSays (run_of problem.now settings.now)) (W.contents sink.old)
+        (W.contents sink.new) result }
     ensures failed { result ≡ Err EngineFault.Write → W.failed sink.old < W.failed sink.new }
 {
     write_run::<Brand, L, G, W, R>(rt, alloc, settings, problem, links, gate, sink)
