@@ -9,8 +9,8 @@ took, how many processors it used on average from its start to its end, the visi
 (those are made again) as a part of the visits that a plain search makes, how many searches were posted, the entries of the
 fullest book, how many names a node used at most, how many turns a thread took that took the most, and in how many one waited.
 
-`--long` lets one node of four workers search Langford pairs of 13 behind choices that make the work 1,152 times as much, which
-takes some thirteen minutes on four processors, and tells a line each minute: how many processors were used in it.
+`--long` lets one node of four workers search Langford pairs of 13 behind choices that make the work 960 times as much, which
+takes some eleven minutes on four processors, and tells a line each minute: how many processors were used in it.
 
 It wants gcc, and the program: (cd crates/workbench && rt run) builds it. The exit status is 0, or 2 for a fault of the command
 line or where one of these is missing.
@@ -86,7 +86,7 @@ def tell(name, visits, nodes, workers, ran):
 
 def main():
     words = parser_of(__doc__)
-    words.add_argument("--long", action="store_true", help="one run of some thirteen minutes in place of the short ones")
+    words.add_argument("--long", action="store_true", help="one run of some eleven minutes in place of the short ones")
     words.add_argument("names", nargs="*", metavar="NAME", help="instances, as those that are written by bench/instances.py")
     given = words.parse_args()
     want_program(WORKBENCH, "workbench")
@@ -100,7 +100,7 @@ def main():
               "| Most names | Most turns | Most waits |")
         print("|---|---|---|---|---|---|---|---|---|---|---|")
         if given.long:
-            counts = [2] * 7 + [3] * 2
+            counts = [2] * 6 + [3, 5]
             behind(folder, "long", counts)
             visits = math.prod(counts) * visits_of(baseline, os.path.join(folder, "langford-13.dlx"))
             tell("long", visits, 1, 4, run(os.path.join(folder, "long.dlx"), 1, 4, is_watched=True))
