@@ -1,4 +1,3 @@
 pub mod Aborting
 pub mod Marks
 pub mod Reaching
-pub mod Starting
