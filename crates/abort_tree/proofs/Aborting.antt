@@ -47,7 +47,7 @@ far_length (suc k) (m ∷ ms) [] = refl
 far_length (suc k) (m ∷ ms) (c ∷ cs) = ap suc (far_length k ms cs)
 
 -- who stays as it was is not reached
-unreached : (serial attempt : ℕ) (status : Status) → reached_one serial attempt status status ≡ []
+pub unreached : (serial attempt : ℕ) (status : Status) → reached_one serial attempt status status ≡ []
 unreached serial attempt Ready = refl
 unreached serial attempt Here = refl
 unreached serial attempt Split = refl

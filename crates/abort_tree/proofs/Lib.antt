@@ -1,3 +1,4 @@
 pub mod Aborting
 pub mod Marks
 pub mod Reaching
+pub mod Starting

@@ -68,7 +68,7 @@ module _ (top : WorkUnit → Bool) (own : List Entry) (parents_first : (k j : �
       (one_more marks d c (h 0 (length marks) c (omega arith) refl))
 
 -- the first mark after these is that of the next child
-next_mark : (top : WorkUnit → Bool) (marks : List Bool) (own : List Entry) (k : ℕ) (parent : Option WorkUnit) → k < length own → parent_in (slice_get own k) ≡ parent → marks_from top marks (drop k own) ≡ marks_from top (marks ++ is_marked top marks parent ∷ []) (drop (suc k) own)
+pub next_mark : (top : WorkUnit → Bool) (marks : List Bool) (own : List Entry) (k : ℕ) (parent : Option WorkUnit) → k < length own → parent_in (slice_get own k) ≡ parent → marks_from top marks (drop k own) ≡ marks_from top (marks ++ is_marked top marks parent ∷ []) (drop (suc k) own)
 next_mark top marks [] k parent less is = absurd (omega (arith, less))
 next_mark top marks (c ∷ cs) zero parent less is = ap (λ p. marks_from top (marks ++ is_marked top marks p ∷ []) cs) is
 next_mark top marks (c ∷ cs) (suc k) parent less is = next_mark top marks cs k parent (omega (arith, less)) is

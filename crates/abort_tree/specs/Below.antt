@@ -1,8 +1,9 @@
 -- Which own children are below some units, and what an abort makes of them (abort of the Cilk 5.4 manual).
-use Rattle.std.specs.Prelude.{◌≡◌, ℕ, Bool, true, false, ◌&&◌, ◌||◌, if◌then◌else◌, List, [], ◌∷◌, length, Option, Some, None, slice_get, unwrap_or}
+use Rattle.std.specs.Prelude.{◌≡◌, ℕ, suc, ◌<◌, ◌≤◌, Bool, true, false, ◌&&◌, ◌||◌, if◌then◌else◌, List, [], ◌∷◌, ◌++◌, length, Option, Some, None, nat_lt, replicate, slice_get, unwrap_or}
 use Rattle.std.specs.List.{list_any}
 use Rattle.spawn_frame.specs.Aborts.{IsBelow, Reached, is_open, reached, reached_one}
 use Rattle.spawn_frame.specs.Names.{same_unit}
+use Rattle.spawn_frame.specs.Tables.{parent_in}
 use Rattle.spawn_frame.specs.Units.{Entry, with_status}
 use Rattle.spawn_frame.specs.declared.status.Status.TheVariants.{Aborted}
 use Rattle.spawn_frame.specs.declared.unit.Unit.{Unit as WorkUnit}
@@ -44,3 +45,22 @@ is_marked top marks (Some (Guest name attempt)) = top (Guest name attempt)
 abbrev pub out_of : Bool → ℕ → Option Entry → List Reached
 out_of marked serial None = []
 out_of marked serial (Some c) = if marked then reached_one serial c.attempt c.status (abort_if true c).status else []
+
+-- the marks of all own children, of which those before the first one that has a mark are not below
+abbrev pub padded : ℕ → List Bool → List Bool
+padded first marks = replicate first false ++ marks
+
+-- from which serial on an own child can be a child of the unit, or the given one, if that is less
+abbrev pub first_behind : ℕ → WorkUnit → ℕ
+first_behind first (Own serial) = if nat_lt serial first then suc serial else first
+first_behind first (Guest name attempt) = 0
+
+-- a child of one of the units, by its parent
+abbrev pub is_child : (WorkUnit → Bool) → Option WorkUnit → Bool
+is_child top None = false
+is_child top (Some unit) = top unit
+
+-- No own child before this serial is a child of one of the units.
+pub record StartsAt (top : WorkUnit → Bool) (own : List Entry) (first : ℕ) : Type 0 where
+  pub within : first ≤ length own
+  pub none_before : (k : ℕ) → k < first → is_child top (parent_in (slice_get own k)) ≡ false

@@ -1,5 +1,5 @@
 -- The command line of the program, as the shape of a clap command, and what its words spell.
-use Rattle.std.specs.Prelude.{◌≡◌, ◌≢◌, ◌≤◌, ℕ, List, [], ◌∷◌, Option, Some, None, codes, option_map, true}
+use Rattle.std.specs.Prelude.{◌≡◌, ◌≢◌, ◌≤◌, ◌<◌, ◌^◌, ℕ, List, [], ◌∷◌, Option, Some, None, codes, option_map, true}
 use Rattle.std.specs.Str.Parse.{IsNumeral, digits_value}
 use Rattle.clap.specs.declared.error.kind.ErrorKind.{ErrorKind}
 use Rattle.clap.specs.declared.error.kind.ErrorKind.TheVariants.{DisplayHelp, DisplayVersion}
@@ -81,18 +81,26 @@ abbrev pub IsAnswerFile : Mode → Option Text → Option Text → Type 0
 IsAnswerFile modes.Check answer given = (text : Text) × (given ≡ Some text) × (answer ≡ Some text)
 IsAnswerFile _ answer given = answer ≡ None
 
--- The subcommand that clap's definition of a simple command's matches gives for the words, with its values.
+-- The settings that a subcommand's name and the values of its arguments spell; their type has the ranges of the other numbers.
+pub record AreSpelled (name : Text) (given : Text → Option Text) (settings : Settings) : Type 0 where
+  pub mode_named : mode_word settings.mode ≡ name
+  pub file_given : given (codes "file") ≡ Some settings.file.now
+  pub answer_given : IsAnswerFile settings.mode (option_map (λ answer. answer.now) settings.answer) (given (codes "answer"))
+  pub fuel_given : SpellsFuel (given (codes "fuel")) settings.fuel
+  pub fuel_fits : settings.fuel < 2 ^ 64
+  pub nodes_given : SpellsOr 4 (given (codes "nodes")) settings.nodes
+  pub seed_given : SpellsOr 1 (given (codes "seed")) settings.seed
+  pub seed_fits : settings.seed < 2 ^ 64
+  pub workers_given : SpellsOr 2 (given (codes "workers")) settings.workers
+  pub turns_given : SpellsOr 10000 (given (codes "turns")) settings.turns
+  pub restarts_given : SpellsOr 0 (given (codes "restarts")) settings.restarts
+
+-- They are spelled by the subcommand that clap's definition of a simple command's matches gives for the words, with its values.
 pub record AreMet (met : Option (Text × List Row)) (settings : Settings) : Type 0 where
+  pub name : Text
   pub rows : List Row
-  pub subcommand : met ≡ Some (mode_word settings.mode, rows)
-  pub file_given : first_of (codes "file") rows ≡ Some settings.file.now
-  pub answer_given : IsAnswerFile settings.mode (option_map (λ answer. answer.now) settings.answer) (first_of (codes "answer") rows)
-  pub fuel_given : SpellsFuel (first_of (codes "fuel") rows) settings.fuel
-  pub nodes_given : SpellsOr 4 (first_of (codes "nodes") rows) settings.nodes
-  pub seed_given : SpellsOr 1 (first_of (codes "seed") rows) settings.seed
-  pub workers_given : SpellsOr 2 (first_of (codes "workers") rows) settings.workers
-  pub turns_given : SpellsOr 10000 (first_of (codes "turns") rows) settings.turns
-  pub restarts_given : SpellsOr 0 (first_of (codes "restarts") rows) settings.restarts
+  pub subcommand : met ≡ Some (name, rows)
+  pub spelled : AreSpelled name (λ id. first_of id rows) settings
 
 -- The status of what clap has to say: 0 for help and the version, else 2.
 pub record IsLineStatus (kind : ErrorKind) (status : ℕ) : Type 0 where

@@ -1,10 +1,10 @@
 //! The command line, read by clap.
 
-ghost use Rattle.std.specs.Prelude.{◌≡◌, ◌≢◌, ◌↔◌, ◌≤◌, ◌<◌, ◌^◌, Some, List, false, true, IfNone, IfOk, IfSome, IsSome, codes, is_some, map, option_map};
+ghost use Rattle.std.specs.Prelude.{ℕ, Option, ◌≡◌, ◌≢◌, ◌↔◌, ◌≤◌, ◌<◌, ◌^◌, Some, List, false, true, IfNone, IfOk, IfSome, IsSome, codes, is_some, map, option_map};
 ghost use Rattle.std.specs.Str.Parse.{IsNumeral, digits_value};
-ghost use Rattle.clap.specs.Words.{Row, app_of, first_of, first_value, found_of, kind_of, rule_of, subcommand_of};
+ghost use Rattle.clap.specs.Words.{Row, Text, app_of, first_of, first_value, found_of, kind_of, rule_of, subcommand_of};
 ghost use Rattle.clap.specs.declared.builder.command.Command.TheViews.{out-Command};
-ghost use Rattle.solve_cli.specs.CommandLine.{AreMet, IsAnswerFile, IsLineStatus, Spells, SpellsFuel, SpellsOr, alone_app, check_app, file_rule, greatest_fuel_rule, mode_word, number_rule, one_thread_app, simulate_app, sites_app, solve_app, solver_app};
+ghost use Rattle.solve_cli.specs.CommandLine.{AreMet, AreSpelled, IsAnswerFile, IsLineStatus, Spells, SpellsFuel, SpellsOr, alone_app, check_app, file_rule, greatest_fuel_rule, mode_word, number_rule, one_thread_app, simulate_app, sites_app, solve_app, solver_app};
 
 use crate::settings::{Mode, Settings};
 use clap::error::ErrorKind;
@@ -249,7 +249,9 @@ fn fault_of(error: Error) -> SettingsFault
 
 /// The number that an option spells, or its default where the subcommand lacks the option.
 fn number_or(inner: &ArgMatches<'_>, id: &str, default: u64) -> Option<u64>
-    ensures { IfSome result (SpellsOr default (first_value (found_of inner.now) id.now)) }
+    ensures given { IfSome result (SpellsOr default (first_value (found_of inner.now) id.now)) }
+    ensures none { IfNone result ((n : ℕ) →
+        SpellsOr default (first_value (found_of inner.now) id.now) n → n < 2 ^ 64 → ⊥) }
 {
     match inner.get_str(id) {
         Some(text) => number(text),
@@ -262,6 +264,8 @@ fn nodes(inner: &ArgMatches<'_>) -> Option<u8>
     ensures given { IfSome result (SpellsOr 4 (first_value (found_of inner.now) (codes "nodes"))) }
     ensures some { IfSome result (λ nodes. 1 ≤ nodes) }
     ensures most { IfSome result (λ nodes. nodes ≤ 16) }
+    ensures none { IfNone result ((n : ℕ) →
+        SpellsOr 4 (first_value (found_of inner.now) (codes "nodes")) n → 1 ≤ n → n ≤ 16 → ⊥) }
 {
     let nodes = number_or(inner, "nodes", 4)?;
     if nodes == 0 || nodes > 16 {
@@ -276,6 +280,8 @@ fn workers(inner: &ArgMatches<'_>) -> Option<u8>
         (SpellsOr 2 (first_value (found_of inner.now) (codes "workers"))) }
     ensures some { IfSome result (λ workers. 1 ≤ workers) }
     ensures most { IfSome result (λ workers. workers ≤ 8) }
+    ensures none { IfNone result ((n : ℕ) →
+        SpellsOr 2 (first_value (found_of inner.now) (codes "workers")) n → 1 ≤ n → n ≤ 8 → ⊥) }
 {
     let workers = number_or(inner, "workers", 2)?;
     if workers == 0 || workers > 8 {
@@ -289,6 +295,8 @@ fn turns(inner: &ArgMatches<'_>) -> Option<u32>
     ensures given { IfSome result
         (SpellsOr 10000 (first_value (found_of inner.now) (codes "turns"))) }
     ensures most { IfSome result (λ turns. turns ≤ 10000000) }
+    ensures none { IfNone result ((n : ℕ) →
+        SpellsOr 10000 (first_value (found_of inner.now) (codes "turns")) n → n ≤ 10000000 → ⊥) }
 {
     let turns = number_or(inner, "turns", 10_000)?;
     if turns > 10_000_000 {
@@ -302,6 +310,8 @@ fn restarts(inner: &ArgMatches<'_>) -> Option<u32>
     ensures given { IfSome result
         (SpellsOr 0 (first_value (found_of inner.now) (codes "restarts"))) }
     ensures most { IfSome result (λ restarts. restarts ≤ 100) }
+    ensures none { IfNone result ((n : ℕ) →
+        SpellsOr 0 (first_value (found_of inner.now) (codes "restarts")) n → n ≤ 100 → ⊥) }
 {
     let restarts = number_or(inner, "restarts", 0)?;
     if restarts > 100 {
@@ -314,6 +324,8 @@ fn restarts(inner: &ArgMatches<'_>) -> Option<u32>
 fn fuel(inner: &ArgMatches<'_>) -> Option<u64>
     ensures given { IfSome result (SpellsFuel (first_value (found_of inner.now) (codes "fuel"))) }
     ensures some { IfSome result (λ fuel. 1 ≤ fuel) }
+    ensures none { IfNone result ((n : ℕ) →
+        SpellsFuel (first_value (found_of inner.now) (codes "fuel")) n → n < 2 ^ 64 → ⊥) }
 {
     let fuel = number(inner.get_str("fuel")?)?;
     if fuel == 0 {
@@ -327,6 +339,8 @@ fn answer_file<'a>(mode: Mode, inner: &ArgMatches<'a>) -> Option<Option<&'a str>
     ensures given { IfSome result (λ given. IsAnswerFile mode (option_map (λ answer. answer.now) given)
         (first_value (found_of inner.now) (codes "answer"))) }
     ensures checked { IfSome result (λ given. mode ≡ Mode.Check → is_some given ≡ true) }
+    ensures none { IfNone result ((answer : Option Text) →
+        IsAnswerFile mode answer (first_value (found_of inner.now) (codes "answer")) → ⊥) }
 {
     match mode {
         Mode::Check => Some(Some(inner.get_str("answer")?)),
@@ -336,23 +350,9 @@ fn answer_file<'a>(mode: Mode, inner: &ArgMatches<'a>) -> Option<Option<&'a str>
 
 /// The settings that a subcommand's matches spell; none where a number is out of its range.
 fn spelled<'a>(name: &'a str, inner: &ArgMatches<'a>) -> Option<Settings<'a>>
-    ensures mode { IfSome result (λ s. mode_word s.mode ≡ name.now) }
-    ensures file { IfSome result (λ s.
-        first_value (found_of inner.now) (codes "file") ≡ Some s.file.now) }
-    ensures answer { IfSome result (λ s. IsAnswerFile s.mode (option_map (λ answer. answer.now) s.answer)
-        (first_value (found_of inner.now) (codes "answer"))) }
-    ensures fuel { IfSome result (λ s.
-        SpellsFuel (first_value (found_of inner.now) (codes "fuel")) s.fuel) }
-    ensures nodes { IfSome result (λ s.
-        SpellsOr 4 (first_value (found_of inner.now) (codes "nodes")) s.nodes) }
-    ensures seed { IfSome result (λ s.
-        SpellsOr 1 (first_value (found_of inner.now) (codes "seed")) s.seed) }
-    ensures workers { IfSome result (λ s.
-        SpellsOr 2 (first_value (found_of inner.now) (codes "workers")) s.workers) }
-    ensures turns { IfSome result (λ s.
-        SpellsOr 10000 (first_value (found_of inner.now) (codes "turns")) s.turns) }
-    ensures restarts { IfSome result (λ s.
-        SpellsOr 0 (first_value (found_of inner.now) (codes "restarts")) s.restarts) }
+    ensures some { IfSome result (AreSpelled name.now (first_value (found_of inner.now))) }
+    ensures none { IfNone result ((settings : Settings) →
+        AreSpelled name.now (first_value (found_of inner.now)) settings → ⊥) }
 {
     let mode = mode_of(name)?;
     Some(Settings {

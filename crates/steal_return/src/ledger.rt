@@ -170,6 +170,9 @@ impl Ledger {
     /// Gives a settled frame its result: the cover of its child of least serial that has one, else Empty. All open units
     /// below become Aborted, and each of them that was out is appended to the list, by serial. The only error is want of
     /// memory, which changes nothing.
+    ///
+    /// It costs the copy of the cover, looks for the frame's first child, from behind the frame on or for a guest from the
+    /// beginning, passes through the own children from that child on, and the aborts.
     pub fn finish(&mut self, unit: Unit, list: &mut Vec<Out>) -> Result<(), AllocError>
         requires split { has_status is_split (unit_of self.old.table unit) ≡ true }
         requires settled { IsSome (frame_result (frame unit self.old.own)) }
@@ -420,6 +423,9 @@ impl Ledger {
     /// An open guest is wanted no more, since its owner refused its result or aborted it: it is dropped. All open units
     /// below become Aborted, and each of them that was out is appended to the list, by serial. True where it is dropped;
     /// a guest that isn't there or isn't open is left as it is. The only error is want of memory, which changes nothing.
+    ///
+    /// It costs looks for the guest, and where it is dropped looks through the own children for its first child, passes
+    /// through those from that child on, and the aborts.
     pub fn receive_refuse(
         &mut self,
         from: Site,

@@ -139,3 +139,13 @@ fn limits_nodes(rt: HostRuntime) {
     let errors = "refused: TooManyNodes line 202\n";
     is_refused(&rt, rt.alloc(), text.as_str(), errors);
 }
+
+/// 20,000 equal options of ten items, as a text of more than a mebibyte.
+#[test]
+fn greatest_file(rt: HostRuntime) {
+    let line = "item-0 item-1 item-2 item-3 item-4 item-5 item-6 item-7 item-8 item-9";
+    let out = "cover 1\nitem-0 item-1 item-2 item-3 item-4 item-5 item-6 item-7 item-8 item-9\n";
+    let text = lines(&rt, rt.alloc(), line, 20001);
+    assert!(rt; text.len() > 1 << 20);
+    tells(&rt, rt.alloc(), (text.as_str(), u64::MAX), (out, "", 0));
+}

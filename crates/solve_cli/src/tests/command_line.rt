@@ -3,7 +3,7 @@
 use super::told::Told;
 use crate::alone::alone_engine;
 use crate::check::check_engine;
-use crate::command_line::settings;
+use crate::command_line::{SettingsFault, settings};
 use crate::fault::EngineFault;
 use crate::settings::Mode;
 use crate::tell::{tell, tell_fault};
@@ -175,6 +175,42 @@ static WORDS: [(&[&str], u8); 32] = [
 fn refuses_words(rt: HostRuntime) {
     for (words, status) in WORDS.iter() {
         assert!(rt; status_of(rt.alloc(), words) == *status);
+    }
+}
+
+/// What is told of words that are no command line.
+fn line_told<R: Abort>(rt: &R, alloc: Global, words: &[&str]) -> String {
+    match settings(alloc, words) {
+        Err(SettingsFault::Line(error)) => error.to_string(alloc).expect(rt, "memory"),
+        _ => String::new(alloc),
+    }
+}
+
+/// Numbers out of their range, each with the usage that is told: that of its own subcommand.
+static USAGES: [(&[&str], &str); 4] = [
+    (
+        &["solve_cli", "alone", "a", "--fuel", "x"],
+        "\n\nUsage: solve_cli alone [OPTIONS] <file>\n",
+    ),
+    (
+        &["solve_cli", "check", "a", "b", "--fuel", "0"],
+        "\n\nUsage: solve_cli check [OPTIONS] <file> <answer>\n",
+    ),
+    (
+        &["solve_cli", "simulate", "a", "--nodes", "17"],
+        "\n\nUsage: solve_cli simulate [OPTIONS] <file>\n",
+    ),
+    (
+        &["solve_cli", "solve", "a", "--workers", "9"],
+        "\n\nUsage: solve_cli solve [OPTIONS] <file>\n",
+    ),
+];
+
+#[test]
+fn a_number_out_of_its_range_tells_the_usage_of_its_subcommand(rt: HostRuntime) {
+    for (words, usage) in USAGES.iter() {
+        let told = line_told(&rt, rt.alloc(), words);
+        assert!(rt; told.as_str().contains(usage), "{told}");
     }
 }
 

@@ -4,12 +4,13 @@ use crate::run_words;
 use std::fs;
 
 /// Each with its status; the files are those that are written below.
-static WORDS: [(&[&str], u8); 15] = [
+static WORDS: [(&[&str], u8); 17] = [
     (&["solve_cli"], 2),
     (&["solve_cli", "--help"], 0),
     (&["solve_cli", "check", "--help"], 0),
     (&["solve_cli", "alone", "p.dlx", "--fuel", "0"], 2),
     (&["solve_cli", "alone", "no/such/file"], 3),
+    (&["solve_cli", "alone", ""], 3),
     (&["solve_cli", "check", "no/such/file", "cover.txt"], 3),
     (&["solve_cli", "check", "p.dlx", "no/such/file"], 3),
     (&["solve_cli", "alone", "p.dlx"], 0),
@@ -22,6 +23,7 @@ static WORDS: [(&[&str], u8); 15] = [
     ),
     (&["solve_cli", "check", "cover.txt", "p.dlx"], 3),
     (&["solve_cli", "simulate", "p.dlx"], 0),
+    (&["solve_cli", "simulate", "p.dlx", "--fuel", "1"], 0),
     (&["solve_cli", "solve", "p.dlx", "--turns", "0"], 4),
 ];
 

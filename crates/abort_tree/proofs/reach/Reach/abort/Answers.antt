@@ -4,7 +4,21 @@ use Rattle.spawn_frame.specs.Units.{Table, change_at, table_own}
 use Rattle.abort_tree.specs.Below.{abort_if, aborted, out_of, outs_from}
 use Rattle.abort_tree.proofs.Aborting.{far_all, far_next, far_plus, outs_end, outs_plus, so_far}
 use Rattle.abort_tree.proofs.Reaching.{aborts_marked}
+use Rattle.abort_tree.proofs.Starting.{far_start, outs_start, padded_length}
 use Rattle.abort_tree.proofs.reach.Reach.abort.Goals as goal
+
+pub loop-serial-init : goal.loop-serial-init
+loop-serial-init c =
+    let first = c.self.inside.first in
+    let kept = c.self.inside.marks.items in
+    let own = c.args.table.now.own in
+    let outs = subst (λ marks. outs_from first (drop first marks) (drop first own) ≡ outs_from 0 marks own) c.self.view_is (outs_start first kept own) in
+    let far = subst (λ marks. so_far first marks own ≡ own) c.self.view_is (far_start first kept own) in
+    record {
+      own = ap (table_own c.args.table.now) (sym far);
+      list = ap (λ outs. c.args.list.now.items ++ outs) outs;
+      room = omega (arith, ap length outs, c.requires.room);
+    }
 
 pub abort_at-requires : goal.abort_at-requires
 abort_at-requires c =
@@ -37,7 +51,7 @@ done : (g : goal.After-loop-serial) → g.loop-serial.table ≡ table_own g.args
 done c =
     let marks = c.args.self.now in
     let own = c.args.table.now.own in
-    let end : length own ≡ c.loop-serial.serial = omega (arith, c.loop-serial-test.false, c.loop-serial.auto.serial-end, c.issued-serial-end.ensures.issued) in
+    let end : length own ≡ c.loop-serial.serial = omega (arith, c.loop-serial-test.false, c.loop-serial.auto.serial-end, c.issued-serial-end.ensures.issued, ap length c.self.view_is, padded_length c.self.inside.first c.self.inside.marks.items, c.requires.marks) in
     c.loop-serial.invariant.own ∙ ap (table_own c.args.table.now) (subst (λ n. so_far n marks own ≡ aborted marks own) end (far_all marks own c.requires.marks))
 
 pub returns-clause-table : goal.returns-clause-table
@@ -50,7 +64,7 @@ pub returns-clause-list : goal.returns-clause-list
 returns-clause-list c =
     let marks = c.args.self.now in
     let own = c.args.table.now.own in
-    let end : c.loop-serial.serial ≡ length own = omega (arith, c.loop-serial-test.false, c.loop-serial.auto.serial-end, c.issued-serial-end.ensures.issued) in
+    let end : c.loop-serial.serial ≡ length own = omega (arith, c.loop-serial-test.false, c.loop-serial.auto.serial-end, c.issued-serial-end.ensures.issued, ap length c.self.view_is, padded_length c.self.inside.first c.self.inside.marks.items, c.requires.marks) in
     sym (append-nil c.loop-serial.list.items)
     ∙ ap (λ outs. c.loop-serial.list.items ++ outs) (sym (outs_end c.loop-serial.serial marks own c.loop-serial.serial c.requires.marks end))
     ∙ c.loop-serial.invariant.list

@@ -1,7 +1,15 @@
-use Rattle.std.proofs.Common.{◌+◌, ap, arith, drop, length, length-append, slice_get}
+use Rattle.std.proofs.Common.{◌+◌, ◌≡◌, ap, arith, drop, length, length-append, slice_get, subst}
 use Rattle.abort_tree.specs.Below.{out_of, outs_from}
 use Rattle.abort_tree.proofs.Aborting.{outs_fewer, outs_plus}
+use Rattle.abort_tree.proofs.Starting.{outs_start}
 use Rattle.abort_tree.proofs.reach.Reach.outs.Goals as goal
+
+pub loop-serial-init : goal.loop-serial-init
+loop-serial-init c =
+    let first = c.self.inside.first in
+    let own = c.args.table.now.own in
+    let outs = subst (λ marks. outs_from first (drop first marks) (drop first own) ≡ outs_from 0 marks own) c.self.view_is (outs_start first c.self.inside.marks.items own) in
+    omega (arith, ap length outs)
 
 pub overflow_add-count : goal.overflow_add-count
 overflow_add-count c =
