@@ -284,6 +284,32 @@ fn units_are_split_and_given(rt: HostRuntime) {
     run_anew(&rt, rt.alloc(), 3, SPLITS);
 }
 
+/// Any ready child may be given, and that one alone is out.
+static ANY_GIVEN: &[Step] = &[
+    Admit(ROOT, 1, &[]),
+    Take(Guest(ROOT, 1), 1),
+    Split(Guest(ROOT, 1), &[5, 6, 7], Ok(0)),
+    Give(1),
+    Shows(Own(0), "1 R [5]"),
+    Shows(Own(1), "1 O [6]"),
+    Shows(Own(2), "1 R [7]"),
+    Outs(1),
+    Give(2),
+    Outs(2),
+    Redo(1),
+    Shows(Own(0), "1 R [5]"),
+    Shows(Own(1), "2 R [6]"),
+    Shows(Own(2), "1 O [7]"),
+    Take(Own(1), 2),
+    Take(Own(0), 1),
+    Idle,
+];
+
+#[test]
+fn another_child_than_the_first_is_given(rt: HostRuntime) {
+    run_anew(&rt, rt.alloc(), 3, ANY_GIVEN);
+}
+
 /// A guest is a frame of two, its second child a frame of two, and the second child of that one a frame of two.
 static THREE_DEEP: &[Step] = &[
     Admit(ROOT, 1, &[]),

@@ -32,6 +32,14 @@ const ABORT: &[u8] = b"CN\x01\x09\x01\0\0\0\x01\x02\0\0\0\x01\0\0\x01\0\xff\xff\
 
 const OVER: &[u8] = b"CN\x01\x0a\0\0\0\0\x01\x01\0\0\0\x09";
 
+/// A child below the first option and the last that there can be.
+const GIVE_BELOW_THE_LAST: &[u8] =
+    b"CN\x01\x04\x01\0\0\0\x01\x02\0\0\0\x01\0\0\0\0\0\0\0\x01\0\x02\0\0\x4e\x1f";
+
+/// A Return of a cover of 1,001 options, before these.
+const RETURN_OF_1001: &[u8] =
+    b"CN\x01\x06\x02\0\0\0\x01\0\0\0\0\x01\0\0\0\0\0\0\0\x01\x01\x03\xe9";
+
 /// The sender's node and incarnation, the receiver's, and the packet.
 static SPELLINGS: [((u8, u32), (u8, u32), &[u8]); 11] = [
     ((0, 1), (2, 1), GIVE),
@@ -192,6 +200,23 @@ fn reads_return<R: Abort>(rt: &R, alloc: Global, bytes: &[u8], options: &[u16]) 
 #[test]
 fn a_cover_is_read_in_its_order(rt: HostRuntime) {
     assert!(rt; reads_return(&rt, rt.alloc(), RETURN_COVER, &[3, 4, 0]));
+}
+
+/// The packet that gives the first child of node 1 to node 2, with this prefix.
+fn given<R: Abort>(rt: &R, alloc: Global, options: &[u16]) -> Packet {
+    let body = Body::Give {
+        serial: 0,
+        attempt: 1,
+        prefix: list(rt, alloc, options),
+    };
+    packet((1, 1), (2, 1), body)
+}
+
+#[test]
+fn the_last_option_is_given(rt: HostRuntime) {
+    let packet = given(&rt, rt.alloc(), &[0, 19_999]);
+    assert!(rt; writes(&rt, rt.alloc(), &packet, GIVE_BELOW_THE_LAST));
+    assert!(rt; read(&rt, rt.alloc(), GIVE_BELOW_THE_LAST) == packet);
 }
 
 /// Why these bytes aren't read.
@@ -357,6 +382,21 @@ fn spells_longest<R: Abort>(rt: &R, alloc: Global, options: &[u16]) -> bool {
 #[test]
 fn longest_packet_is_written_and_read(rt: HostRuntime) {
     assert!(rt; spells_longest(&rt, rt.alloc(), &most_options(&rt, rt.alloc())));
+}
+
+/// A Return with 1,001 options, which all are there.
+fn return_of_1001<R: Abort>(rt: &R, alloc: Global) -> Vec<u8> {
+    let mut bytes = Vec::from_slice(alloc, RETURN_OF_1001).expect(rt, "memory");
+    for _ in 0..2 * 1_001 {
+        bytes.push(0).expect(rt, "memory");
+    }
+    bytes
+}
+
+#[test]
+fn longer_list_is_refused_where_it_is_whole(rt: HostRuntime) {
+    let bytes = return_of_1001(&rt, rt.alloc());
+    assert!(rt; fault_of(rt.alloc(), &bytes) == Some(Field));
 }
 
 /// Whether a Return of these options is well formed.
