@@ -37,8 +37,7 @@ const GIVE_BELOW_THE_LAST: &[u8] =
     b"CN\x01\x04\x01\0\0\0\x01\x02\0\0\0\x01\0\0\0\0\0\0\0\x01\0\x02\0\0\x4e\x1f";
 
 /// A Return of a cover of 1,001 options, before these.
-const RETURN_OF_1001: &[u8] =
-    b"CN\x01\x06\x02\0\0\0\x01\0\0\0\0\x01\0\0\0\0\0\0\0\x01\x01\x03\xe9";
+const RETURN_OF_1001: &[u8] = b"CN\x01\x06\x02\0\0\0\x01\0\0\0\0\x01\0\0\0\0\0\0\0\x01\x01\x03\xe9";
 
 /// The sender's node and incarnation, the receiver's, and the packet.
 static SPELLINGS: [((u8, u32), (u8, u32), &[u8]); 11] = [
