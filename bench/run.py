@@ -1,14 +1,18 @@
 #!/usr/bin/env python3
-"""Times the program beside the baseline, a small C program of the same search.
+"""Times the program beside the baseline, a small C program of the same search, and beside SageMath's header.
 
-    python3 bench/run.py [FILE ..]
+    python3 bench/run.py [--times N] [--sage FOLDER] [FILE ..]
 
-Each file, or where none is named each instance of the benchmark, is searched by both, by turns, three times each; the least
-user time of the whole process counts, reading included. It prints a table, and the geometric mean of the ratios over the
-instances with more than 100,000 visits.
+Each file, or where none is named each instance of the benchmark, is searched by all of them, by turns; the least user time of
+the whole process counts, reading included. It prints a table, in which the ratio is to the better one of the two others, and
+the geometric mean of the ratios over the instances with more than 100,000 visits.
 
-It wants gcc, and the program: (cd crates/solve_cli && rt run) builds it. The exit status is 0, 1 where the two come to other
-outcomes, 2 for a fault of the command line or where something is missing.
+FOLDER is where the file dancing_links_c.h of SageMath lies; without it that of Debian's package python3-sage is used, if it is
+installed, and else SageMath isn't timed. To have the file alone, `apt-get download python3-sage` and then
+`dpkg-deb -x python3-sage_*.deb HERE` put it into HERE/usr/lib/python3/dist-packages/sage/combinat/matrices.
+
+It wants gcc, with SageMath g++ too, and the program: (cd crates/solve_cli && rt run) builds it. The exit status is 0, 1 where
+two come to other outcomes, 2 for a fault of the command line or where something is missing.
 """
 import glob
 import math
@@ -22,6 +26,8 @@ HERE = os.path.dirname(os.path.abspath(__file__))
 sys.path.insert(0, os.path.join(HERE, "..", "scripts"))
 from built import parser_of, SOLVE_CLI, stop, want_command, want_program  # noqa: E402
 
+HEADER = "dancing_links_c.h"
+INSTALLED = "/usr/lib/python3/dist-packages/sage/combinat/matrices"
 
 
 def timed(words):
@@ -30,43 +36,67 @@ def timed(words):
     return ended.stdout, resource.getrusage(resource.RUSAGE_CHILDREN).ru_utime - before
 
 
-def compare(baseline, file):
-    best = [math.inf, math.inf]
-    for _ in range(3):
-        theirs, seconds = timed([baseline, file])
-        best[0] = min(best[0], seconds)
-        ours, seconds = timed([SOLVE_CLI, "alone", file])
-        best[1] = min(best[1], seconds)
-    outcome, visits, _ = theirs.split()
-    if not ours.startswith(outcome):
+def compare(programs, file, times):
+    """The outcome, the visits, and the least time of each program, ours first and the baseline next."""
+    best = [math.inf] * len(programs)
+    for _ in range(times):
+        told = []
+        for place, words in enumerate(programs):
+            text, seconds = timed([*words, file])
+            told.append(text)
+            best[place] = min(best[place], seconds)
+    outcome, visits, _ = told[1].split()
+    if not all(text.startswith(outcome) for text in told):
         sys.exit(f"{file}: the outcomes differ")
     return outcome, int(visits), best
 
 
-def main():
+def build(folder, sage):
+    """Builds what the program is compared with, and answers how each is run."""
+    baseline = os.path.join(folder, "baseline")
+    subprocess.run(["gcc", "-O3", "-march=native", "-o", baseline, os.path.join(HERE, "baseline.c")], check=True)
+    if not os.path.isfile(os.path.join(sage, HEADER)):
+        return [[baseline]]
+    search = os.path.join(folder, "sage")
+    subprocess.run(["g++", "-O3", "-march=native", "-I", sage, "-o", search, os.path.join(HERE, "sage.cpp")], check=True)
+    return [[baseline], [search]]
+
+
+def given_words():
     words = parser_of(__doc__)
     words.add_argument("files", nargs="*", metavar="FILE", help="problem files, which the program reads")
+    words.add_argument("--times", type=int, default=3, metavar="N", help="how often each is run (default 3)")
+    words.add_argument("--sage", metavar="FOLDER", help="the folder of SageMath's dancing_links_c.h")
     given = words.parse_args()
     want_program(SOLVE_CLI)
     want_command("gcc")
+    if given.sage and not os.path.isfile(os.path.join(given.sage, HEADER)):
+        stop(f"there is no {HEADER} in {given.sage}")
+    if os.path.isfile(os.path.join(given.sage or INSTALLED, HEADER)):
+        want_command("g++")
     for file in given.files:
         if not os.path.isfile(file):
             stop(f"there is no file {file}")
+    return given
+
+
+def main():
+    given = given_words()
     with tempfile.TemporaryDirectory() as folder:
-        baseline = os.path.join(folder, "baseline")
-        subprocess.run(["gcc", "-O3", "-march=native", "-o", baseline, os.path.join(HERE, "baseline.c")], check=True)
+        others = build(folder, given.sage or INSTALLED)
         subprocess.run([sys.executable, os.path.join(HERE, "instances.py"), folder], check=True)
-        files = given.files or sorted(glob.glob(os.path.join(folder, "*.dlx")))
         ratios = []
-        print("| Instance | Outcome | Visits | Baseline, s | Ours, s | Ratio |")
-        print("|---|---|---|---|---|---|")
-        for file in files:
-            outcome, visits, (theirs, ours) = compare(baseline, file)
-            name = os.path.basename(file)[: -len(".dlx")]
+        print("| Instance | Outcome | Visits | Baseline, s | SageMath, s | Ours, s | Ratio |")
+        print("|---|---|---|---|---|---|---|")
+        for file in given.files or sorted(glob.glob(os.path.join(folder, "*.dlx"))):
+            outcome, visits, (ours, baseline, *sage) = compare([[SOLVE_CLI, "alone"], *others], file, given.times)
+            name = os.path.basename(file).removesuffix(".dlx")
+            theirs = min(baseline, *sage) if sage else baseline
             ratio = ours / theirs if theirs > 0.01 else None
-            if visits > 100000:
+            if visits > 100000 and ratio:
                 ratios.append(ratio)
-            print(f"| {name} | {outcome} | {visits:,} | {theirs:.3f} | {ours:.3f} | {f'{ratio:.2f}' if ratio else '-'} |")
+            cells = [name, outcome, f"{visits:,}", f"{baseline:.3f}", f"{sage[0]:.3f}" if sage else "-", f"{ours:.3f}"]
+            print(f"| {' | '.join(cells)} | {f'{ratio:.2f}' if ratio else '-'} |", flush=True)
         if ratios:
             mean = math.exp(sum(map(math.log, ratios)) / len(ratios))
             print(f"\nGeometric mean over {len(ratios)} instances of more than 100,000 visits: {mean:.2f}")
