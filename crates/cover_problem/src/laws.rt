@@ -1,14 +1,14 @@
 //! What holds of the definitions: each function is a law, and does nothing.
 
 ghost use Rattle.std.specs.Prelude.{◌≡◌, ℕ, ◌+◌, ◌<◌, ◌≤◌, List, [], ◌∷◌, length, count_by, Bool, true, false, Option, Some, None};
-ghost use Rattle.std.specs.List.{AllByRecursion, list_any};
-ghost use Rattle.cover_problem.specs.Problem.{IsProblem, Problem as ProblemValue, items_of, names_item};
+ghost use Rattle.std.specs.List.{AllByRecursion};
+ghost use Rattle.cover_problem.specs.Problem.{IsProblem, Problem as ProblemValue, names_item};
 ghost use Rattle.cover_problem.specs.Numbers.{is_in, is_distinct};
 ghost use Rattle.cover_problem.specs.ExactCover.{IsExactCover, uses, in_order};
-ghost use Rattle.cover_problem.specs.Prefix.{IsBarren, is_prefix, agree, clash, is_covered, is_live, extends, InFileOrder, IsCoverOver};
+ghost use Rattle.cover_problem.specs.Prefix.{IsBarren, is_prefix, clash, extends, InFileOrder, IsCoverOver};
 ghost use Rattle.cover_problem.specs.Branching.{branch_item, children, IsOpen, IsFirstFewest};
 ghost use Rattle.cover_problem.specs.Search.{first_some, visits_until, first, visits, outcome, Covers, Barren, Spent};
-ghost use Rattle.cover_problem.specs.Examples.{small, coloured};
+ghost use Rattle.cover_problem.specs.Examples.{small};
 
 /// The branch item is the uncovered primary item with fewest live options, and the first of those. A prefix without one is complete.
 pub fn branch_item_is_first_fewest()
@@ -46,32 +46,6 @@ pub fn one_child_of_each_cover()
 pub fn covers_have_no_clash()
     ensures { (problem : ProblemValue) (chosen : ℕ → Bool) (o p : ℕ) → IsExactCover problem chosen →
         chosen o ≡ true → chosen p ≡ true → (o ≡ p → ⊥) → clash problem o p ≡ false }
-{}
-
-/// A live option names no covered primary item. An option is live exactly where it agrees with each option of the prefix on
-/// every item that both name.
-pub fn live_options_agree()
-    ensures primary { (problem : ProblemValue) (prefix : List ℕ) (option item : ℕ) →
-        is_live problem prefix option ≡ true → item < problem.primary →
-        names_item problem option item ≡ true → is_covered problem prefix item ≡ false }
-    ensures agree { (problem : ProblemValue) (prefix : List ℕ) (option chosen item : ℕ) →
-        is_live problem prefix option ≡ true → is_in prefix chosen ≡ true →
-        names_item problem chosen item ≡ true → names_item problem option item ≡ true →
-        agree problem chosen option item ≡ true }
-    ensures live { (problem : ProblemValue) (prefix : List ℕ) (option : ℕ) →
-        ((chosen item : ℕ) → is_in prefix chosen ≡ true → names_item problem chosen item ≡ true →
-        names_item problem option item ≡ true → agree problem chosen option item ≡ true) →
-        is_live problem prefix option ≡ true }
-{}
-
-/// Without colours two options clash where they have an item in common, and an exact cover names no item twice.
-pub fn without_colours()
-    ensures clash { (problem : ProblemValue) (o p : ℕ) → IsProblem problem →
-        length problem.colour_names ≡ 0 → o < length problem.options →
-        clash problem o p ≡ list_any (λ item. names_item problem p item) (items_of problem o) }
-    ensures once { (problem : ProblemValue) (chosen : ℕ → Bool) (item : ℕ) → IsProblem problem →
-        length problem.colour_names ≡ 0 → IsExactCover problem chosen →
-        uses problem chosen item ≤ 1 }
 {}
 
 /// How often a list without repeats names an item is how often its set does.
@@ -113,13 +87,4 @@ pub fn small_search()
     ensures visits { visits small [] ≡ 6 }
     ensures found { outcome small [] 6 ≡ Covers (3 ∷ 4 ∷ 0 ∷ []) }
     ensures spent { outcome small [] 5 ≡ Spent }
-{}
-
-/// The search of a small problem with colours: of the two options that could come first, one leads nowhere, since the
-/// option that is then left gives an item another colour; the other leads to the cover, whose options share a colour.
-pub fn coloured_search()
-    ensures problem { IsProblem coloured }
-    ensures barren { first coloured (0 ∷ []) ≡ None }
-    ensures first { first coloured [] ≡ Some (3 ∷ 1 ∷ []) }
-    ensures visits { visits coloured [] ≡ 4 }
 {}

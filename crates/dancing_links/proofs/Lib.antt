@@ -4,10 +4,8 @@ pub mod Round
 pub mod Walk
 pub mod Chain
 pub mod Counts
-pub mod Commits
 pub mod Choose
 pub mod Present
-pub mod Agreeing
 pub mod Unique
 pub mod Undone
 pub mod Nodes
@@ -18,10 +16,8 @@ pub mod Building
 pub mod Prefixed
 pub mod Ranges
 pub mod Entries
-pub mod Cast
 pub mod Chosen
 pub mod State
-pub mod Primary
 pub mod Views
 pub mod Columned
 pub mod Next

@@ -1,12 +1,12 @@
 -- The nodes of a problem: which option each belongs to, and at which place of it.
-use Rattle.std.proofs.Common.{◌≡◌, ℕ, zero, suc, ◌+◌, ◌-◌, ◌<◌, ◌≤◌, List, [], ◌∷◌, ◌++◌, length, get_or, map, replicate, refl, arith, ap, sym, ◌∙◌, inl, inr, add-one}
+use Rattle.std.proofs.Common.{◌≡◌, ℕ, zero, suc, ◌+◌, ◌-◌, ◌<◌, ◌≤◌, List, [], ◌∷◌, ◌++◌, length, get_or, replicate, refl, arith, ap, ◌∙◌, inl, inr, add-one}
 use Rattle.std.specs.List.{range_with_len, concat, sum_by}
-use Rattle.std.proofs.lemmas.Bool.{cases_lt, eq-eqb, ne_eqb}
+use Rattle.std.proofs.lemmas.Bool.{cases_lt}
 use Rattle.std.proofs.lemmas.List.{get_or-append_right, get_or_append_left, length-replicate, get_or-replicate, length-append}
 use Rattle.std.proofs.lemmas.List.Sums.{sum_by-cons}
 use Rattle.std.proofs.lemmas.List.FromFn.{length-range_with_len, get_or-range_with_len}
 use Rattle.cover_problem.specs.Problem.{Problem}
-use Rattle.dancing_links.specs.Table.{starts, numbered, heads_of, base_of, tails_of, column_list, colour_list, option_list, first_list}
+use Rattle.dancing_links.specs.Table.{starts, numbered, heads_of, base_of, tails_of, column_list, option_list, first_list}
 
 pub length-starts : (start : ℕ) (options : List (List ℕ)) → length (starts start options) ≡ length options + 1
 length-starts start [] = refl
@@ -90,20 +90,6 @@ option_at_place option start (x ∷ xs) (suc o) j ho hj =
     let e : at + j - start - length x ≡ at + j - (start + length x) = omega (arith, low) in
     get_or-append_right (replicate (length x) option) (numbered (option + 1) xs) (length x) (at + j - start) 0 (length-replicate (length x) option) (omega (arith, low))
     ∙ ap (λ k. get_or (numbered (option + 1) xs) k 0) e ∙ option_at_place (option + 1) (start + length x) xs o j (omega (arith, ho)) hj ∙ omega arith
-
--- the places of nodes are those of lists that are as long
-starts_same : (start : ℕ) (xs ys : List (List ℕ)) → map length xs ≡ map length ys → starts start xs ≡ starts start ys
-starts_same start [] [] e = refl
-starts_same start [] (y ∷ ys) e = absurd (omega (arith, ap length e))
-starts_same start (x ∷ xs) [] e = absurd (omega (arith, ap length e))
-starts_same start (x ∷ xs) (y ∷ ys) e =
-    let first : length x ≡ length y = cc in
-    let rest : map length xs ≡ map length ys = cc in
-    ap (λ n. start ∷ starts (start + n) xs) first ∙ ap (λ ks. start ∷ ks) (starts_same (start + length y) xs ys rest)
-
-pub colour_at_place : (start : ℕ) (options colours : List (List ℕ)) (o j : ℕ) → map length colours ≡ map length options → o < length colours → j < length (get_or colours o []) → get_or (concat colours) (get_or (starts start options) o 0 + j - start) 0 ≡ get_or (get_or colours o []) j 0
-colour_at_place start options colours o j e ho hj =
-    ap (λ (ks : List ℕ). get_or (concat colours) (get_or ks o 0 + j - start) 0) (sym (starts_same start colours options e)) ∙ item_at_place start colours o j ho hj
 
 -- ---- the lists of a problem's table
 
@@ -211,13 +197,3 @@ option_after_list p k low high =
     option_rest p k (omega (arith, low))
     ∙ get_or-append_right (numbered 0 p.options) (replicate (heads_of p) (length p.options)) (sum_by length p.options) (k - base_of p) 0 (length-numbered 0 p.options) (omega (arith, low))
     ∙ get_or-replicate (heads_of p) (k - base_of p - sum_by length p.options) (length p.options) 0 (omega (arith, low, high))
-
--- the colour of a node of an option, where the problem has colours, and where it has none
-pub colour_some : (p : Problem) (k : ℕ) → (length p.colour_names ≡ 0 → ⊥) → base_of p ≤ k → get_or (colour_list p) k 0 ≡ get_or (concat p.colours) (k - base_of p) 0
-unfolding colour_list
-colour_some p k some low =
-    rw (ne_eqb (length p.colour_names) 0 some) (get_or-append_right (replicate (base_of p) 0) (concat p.colours) (base_of p) k 0 (length-replicate (base_of p) 0) low)
-
-pub colour_none : (p : Problem) (k : ℕ) → length p.colour_names ≡ 0 → get_or (colour_list p) k 0 ≡ 0
-unfolding colour_list
-colour_none p k none = rw (eq-eqb (length p.colour_names) 0 none) refl

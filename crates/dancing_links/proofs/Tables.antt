@@ -1,21 +1,20 @@
 -- The columns of a problem are a table.
-use Rattle.std.proofs.Common.{◌≡◌, ℕ, zero, suc, ◌+◌, ◌-◌, ◌<◌, ◌≤◌, List, [], ◌∷◌, length, Bool, true, false, not, ◌==◌, ◌&&◌, get_or, map, filter, refl, arith, sym, ap, ◌∙◌, inl, inr}
+use Rattle.std.proofs.Common.{◌≡◌, ℕ, zero, suc, ◌+◌, ◌-◌, ◌<◌, ◌≤◌, List, [], ◌∷◌, length, Bool, true, not, ◌==◌, ◌&&◌, get_or, map, filter, refl, arith, sym, ap, ◌∙◌, inl, inr}
 use Rattle.std.specs.Prelude.{nat_lt}
 use Rattle.std.specs.List.{sum_by, list_all, concat, range_with_len, All}
-use Rattle.std.proofs.lemmas.Bool.{cases_eq, cases_lt, both_ways, or_cases, eqb-true, eq-eqb, and_parts, or_left, or_right, not-true, ltb-true}
+use Rattle.std.proofs.lemmas.Bool.{cases_lt, both_ways, eq-eqb, and_parts, or_left, or_right, not-true, ltb-true}
 use Rattle.std.proofs.lemmas.List.{length-map, get_or-map}
 use Rattle.std.proofs.lemmas.List.FromFn.{length-range_with_len}
 use Rattle.std.proofs.lemmas.List.Sums.{length-filter, count_by-le-length}
 use Rattle.std.proofs.lemmas.List.Elements.{All-get_or, All-from_get_or}
 use Rattle.cover_problem.specs.Numbers.{is_distinct, is_in, are_below}
-use Rattle.cover_problem.specs.Problem.{Problem, IsProblem, items_of, names_item, colours_of, colour_of}
-use Rattle.cover_problem.proofs.Colours.{colour_at as colour_at_option, colour_named, colours_long, colours_many}
+use Rattle.cover_problem.specs.Problem.{Problem, IsProblem, items_of, names_item}
 use Rattle.dancing_links.specs.declared.row.Row.{Row}
-use Rattle.dancing_links.specs.Columns.{Columns, among, option_of, column_of, colour_at, column_from, begin_of, end_of, IsTable}
-use Rattle.dancing_links.specs.Table.{starts, numbered, heads_of, base_of, tails_of, column_list, colour_list, option_list, first_list, row_at, row_list, table}
+use Rattle.dancing_links.specs.Columns.{Columns, among, option_of, column_of, column_from, begin_of, end_of, IsTable}
+use Rattle.dancing_links.specs.Table.{starts, numbered, heads_of, base_of, tails_of, column_list, option_list, first_list, row_at, row_list, table}
 use Rattle.dancing_links.proofs.Walk.{column_skip_to}
 use Rattle.dancing_links.proofs.Parts.{options_part}
-use Rattle.dancing_links.proofs.Nodes.{starts_next, starts_low, starts_high, starts_end, find_node, item_at_place, option_at_place, colour_at_place, colour_some, colour_none, length-column_list, length-option_list, length-first_list, first_at, first_past, column_head, column_item, column_node, column_tail, option_before, option_node_list, option_after_list}
+use Rattle.dancing_links.proofs.Nodes.{starts_next, starts_low, starts_high, starts_end, find_node, item_at_place, option_at_place, length-column_list, length-option_list, length-first_list, first_at, first_past, column_head, column_item, column_node, column_tail, option_before, option_node_list, option_after_list}
 
 -- where an option begins
 abbrev pub start_of : Problem → ℕ → ℕ
@@ -109,14 +108,6 @@ pub option_distinct : (p : Problem) (o : ℕ) → IsProblem p → o < length p.o
 option_distinct p o is ho =
     let P : List ℕ → Type 0 = λ items. is_distinct items ≡ true in
     All-get_or P p.options o [] ho is.each_distinct
-
--- where a number stands in a list
-pub place_of : (xs : List ℕ) (x : ℕ) → is_in xs x ≡ true → (j : ℕ) × (j < length xs) × (get_or xs j 0 ≡ x)
-place_of [] x h = absurd (both_ways false refl h)
-place_of (y ∷ ys) x h = elim (or_cases (y == x) (is_in ys x) h) [
-  | inl e ↦ (0, omega arith, eqb-true y x e)
-  | inr r ↦ let rest = place_of ys x r in (suc rest.0, omega (arith, rest.1), rest.2)
-]
 
 -- ---- the table
 
@@ -236,33 +227,15 @@ table_is p is =
           omega (arith, by.node, at.at.node, e, at.at.begin);
     }
 
--- a node has the colour that its option gives its item
-pub node_colour : (p : Problem) (k o j : ℕ) → IsProblem p → IsNodeAt p k o j → colour_at (table p) k ≡ colour_of p o (column_of (table p) k)
-node_colour p k o j is at = elim (cases_eq (length p.colour_names) 0) [
-  | inl none ↦
-      let named = colour_named p o (column_of (table p) k) is at.option_in in
-      omega (arith, colour_none p k none, named, none)
-  | inr some ↦
-      let long = colours_long p o is in
-      let place : j < length (colours_of p o) = omega (arith, long, at.place_in) in
-      let inside : o < length p.colours = omega (arith, colours_many p is, at.option_in) in
-      colour_some p k some (omega (arith, at.low, at.node))
-      ∙ ap (λ n. get_or (concat p.colours) (n - base_of p) 0) at.node
-      ∙ colour_at_place (base_of p) p.options p.colours o j is.each_coloured inside place
-      ∙ sym (colour_at_option p o j is at.option_in place)
-      ∙ ap (colour_of p o) (sym at.item)
-]
+abbrev columns_by : ℕ → ℕ → List ℕ → List ℕ → List ℕ → List Row → Columns
+columns_by heads tails column option first rows = record { heads = heads; tails = tails; column = column; option = option; first = first; rows = rows }
 
-abbrev columns_by : ℕ → ℕ → List ℕ → List ℕ → List ℕ → List ℕ → List Row → Columns
-columns_by heads tails column colour option first rows = record { heads = heads; tails = tails; column = column; colour = colour; option = option; first = first; rows = rows }
-
-pub same_table : (p : Problem) (heads tails : ℕ) (column colour option first : List ℕ) (rows : List Row) → heads ≡ heads_of p → tails ≡ tails_of p → column ≡ column_list p → colour ≡ colour_list p → option ≡ option_list p → first ≡ first_list p → rows ≡ map (row_at first) option → columns_by heads tails column colour option first rows ≡ table p
+pub same_table : (p : Problem) (heads tails : ℕ) (column option first : List ℕ) (rows : List Row) → heads ≡ heads_of p → tails ≡ tails_of p → column ≡ column_list p → option ≡ option_list p → first ≡ first_list p → rows ≡ map (row_at first) option → columns_by heads tails column option first rows ≡ table p
 unfolding row_list
-same_table p heads tails column colour option first rows a b c h d e f =
-    ap (λ n. columns_by n tails column colour option first rows) a
-    ∙ ap (λ t. columns_by (heads_of p) t column colour option first rows) b
-    ∙ ap (λ xs. columns_by (heads_of p) (tails_of p) xs colour option first rows) c
-    ∙ ap (λ xs. columns_by (heads_of p) (tails_of p) (column_list p) xs option first rows) h
-    ∙ ap (columns_by (heads_of p) (tails_of p) (column_list p) (colour_list p) option first) f
-    ∙ ap (λ xs. columns_by (heads_of p) (tails_of p) (column_list p) (colour_list p) xs first (map (row_at first) xs)) d
-    ∙ ap (λ xs. columns_by (heads_of p) (tails_of p) (column_list p) (colour_list p) (option_list p) xs (map (row_at xs) (option_list p))) e
+same_table p heads tails column option first rows a b c d e f =
+    ap (λ h. columns_by h tails column option first rows) a
+    ∙ ap (λ t. columns_by (heads_of p) t column option first rows) b
+    ∙ ap (λ xs. columns_by (heads_of p) (tails_of p) xs option first rows) c
+    ∙ ap (columns_by (heads_of p) (tails_of p) (column_list p) option first) f
+    ∙ ap (λ xs. columns_by (heads_of p) (tails_of p) (column_list p) xs first (map (row_at first) xs)) d
+    ∙ ap (λ xs. columns_by (heads_of p) (tails_of p) (column_list p) (option_list p) xs (map (row_at xs) (option_list p))) e

@@ -10,29 +10,23 @@ use Rattle.dancing_links.specs.Linking.{up_of, down_of}
 abbrev pub among : List ℕ → ℕ → Bool
 among xs x = list_any (λ y. y == x) xs
 
--- How many heads there are, the first tail, the column, the colour and the option of each node, the first node of each option, and each node's row. The heads come
--- first and the tails last: a column holds its head, then nodes by rising numbers, then its tail. The last column is that of the items, with a node for each. A node
--- without a colour has 0; so has each node that the list of colours doesn't reach.
+-- How many heads there are, the first tail, the column and the option of each node, the first node of each option, and each node's row. The heads come first and
+-- the tails last: a column holds its head, then nodes by rising numbers, then its tail. The last column is that of the items, with a node for each.
 pub record Columns : Type 0 where
   pub heads : ℕ
   pub tails : ℕ
   pub column : List ℕ
-  pub colour : List ℕ
   pub option : List ℕ
   pub first : List ℕ
   pub rows : List Row
 
 -- the columns that a layout lays out
 abbrev pub columns_of : Layout → Columns
-columns_of l = record { heads = l.heads; tails = l.tails; column = l.items.items; colour = l.colours.items; option = l.options.items; first = l.first.items; rows = l.rows.items }
+columns_of l = record { heads = l.heads; tails = l.tails; column = l.items.items; option = l.options.items; first = l.first.items; rows = l.rows.items }
 
 -- the column of a node
 abbrev pub column_of : Columns → ℕ → ℕ
 column_of c k = slice_index_or c.column k 0
-
--- the colour of a node, 0 for none
-abbrev pub colour_at : Columns → ℕ → ℕ
-colour_at c k = slice_index_or c.colour k 0
 
 -- Two nodes of one column that are in, with none between them that is in.
 pub record IsNext (c : Columns) (out : List ℕ) (x d : ℕ) : Type 0 where

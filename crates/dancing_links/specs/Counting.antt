@@ -29,22 +29,22 @@ pub record IsCounted (c : Columns) (out counts : List ℕ) : Type 0 where
   pub count : (i : ℕ) → i + 1 < c.heads → slice_index_or counts i 0 ≡ length (column_from c out i c.heads)
 
 -- covering keeps the counts true, whatever was out
-abbrev pub CountsCovered : Columns → List Link → ℕ → ℕ → List ℕ → List ℕ → Type 0
-CountsCovered c links i colour old new = (out : List ℕ) → IsSpelled c out links → IsOpen c out i → IsCounted c out old → IsCounted c (outs (covered c out i colour) out) new
+abbrev pub CountsCovered : Columns → List Link → ℕ → List ℕ → List ℕ → Type 0
+CountsCovered c links i old new = (out : List ℕ) → IsSpelled c out links → IsOpen c out i → IsCounted c out old → IsCounted c (outs (covered c out i) out) new
 
 -- and so does uncovering
-abbrev pub CountsUncovered : Columns → List Link → ℕ → ℕ → List ℕ → List ℕ → Type 0
-CountsUncovered c links i colour old new = (out : List ℕ) (before : List Link) → IsSpelled c out before → IsOpen c out i → links ≡ unlinks before (covered c out i colour)
-    → IsCounted c (outs (covered c out i colour) out) old → IsCounted c out new
+abbrev pub CountsUncovered : Columns → List Link → ℕ → List ℕ → List ℕ → Type 0
+CountsUncovered c links i old new = (out : List ℕ) (before : List Link) → IsSpelled c out before → IsOpen c out i → links ≡ unlinks before (covered c out i)
+    → IsCounted c (outs (covered c out i) out) old → IsCounted c out new
 
--- the same for nodes that cover their items one after the other
+-- the same for items that are covered one after the other, and uncovered in the reverse order
 abbrev pub CountsCoveredAll : Columns → List Link → List ℕ → List ℕ → List ℕ → Type 0
-CountsCoveredAll c links ks old new = (out : List ℕ) → IsSpelled c out links → AreOpen c out ks → IsCounted c out old → IsCounted c (outs_all c out ks) new
+CountsCoveredAll c links is old new = (out : List ℕ) → IsSpelled c out links → AreOpen c out is → IsCounted c out old → IsCounted c (outs_all c out is) new
 
 -- the same of items that are uncovered, the last first
 abbrev pub CountsUncoveredAll : Columns → List Link → List ℕ → List ℕ → List ℕ → Type 0
-CountsUncoveredAll c links ks old new = (out : List ℕ) (before : List Link) → IsSpelled c out before → AreOpen c out ks → links ≡ links_all c out before ks
-    → IsCounted c (outs_all c out ks) old → IsCounted c out new
+CountsUncoveredAll c links is old new = (out : List ℕ) (before : List Link) → IsSpelled c out before → AreOpen c out is → links ≡ links_all c out before is
+    → IsCounted c (outs_all c out is) old → IsCounted c out new
 
 -- the counts while they are made: the nodes from one on are not counted yet
 pub record IsCounting (c : Columns) (node : ℕ) (counts : List ℕ) : Type 0 where

@@ -1,7 +1,6 @@
 pub mod Building
 pub mod Choices
 pub mod Columns
-pub mod Committing
 pub mod Counting
 pub mod Covering
 pub mod Linking

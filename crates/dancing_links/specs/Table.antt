@@ -1,5 +1,5 @@
--- The nodes of a problem: heads, nodes of items, nodes of options and tails, with the column, the colour and the option of each.
-use Rattle.std.specs.Prelude.{ℕ, ◌+◌, List, [], ◌∷◌, ◌++◌, length, map, replicate, slice_index_or, ◌==◌, if◌then◌else◌}
+-- The nodes of a problem: heads, nodes of items, nodes of options and tails, with the column and the option of each.
+use Rattle.std.specs.Prelude.{ℕ, ◌+◌, List, [], ◌∷◌, ◌++◌, length, map, replicate, slice_index_or}
 use Rattle.std.specs.List.{range_with_len, concat, sum_by}
 use Rattle.cover_problem.specs.Problem.{Problem}
 use Rattle.dancing_links.specs.declared.row.Row.{Row}
@@ -32,10 +32,6 @@ unfoldable pub column_list : Problem → List ℕ
 column_list problem =
     range_with_len 0 (heads_of problem) ++ (replicate (length problem.names) (length problem.names) ++ (concat problem.options ++ range_with_len 0 (heads_of problem)))
 
--- the colour of each node up to the last of an option; no list at all where the problem has no colours
-unfoldable pub colour_list : Problem → List ℕ
-colour_list problem = if length problem.colour_names == 0 then [] else replicate (base_of problem) 0 ++ concat problem.colours
-
 -- the option of each node; nodes that belong to none have the number after the last option
 unfoldable pub option_list : Problem → List ℕ
 option_list problem =
@@ -55,4 +51,4 @@ row_list problem = map (row_at (first_list problem)) (option_list problem)
 
 -- the columns of a problem
 abbrev pub table : Problem → Columns
-table problem = record { heads = heads_of problem; tails = tails_of problem; column = column_list problem; colour = colour_list problem; option = option_list problem; first = first_list problem; rows = row_list problem }
+table problem = record { heads = heads_of problem; tails = tails_of problem; column = column_list problem; option = option_list problem; first = first_list problem; rows = row_list problem }

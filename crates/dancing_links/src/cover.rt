@@ -1,13 +1,12 @@
-//! Covering of items: they leave the column of items, and the options that name them leave the other columns, but for those that
-//! give an item the colour that it gets.
+//! Covering of items: they leave the column of items, and the options that name them leave the other columns.
 
 ghost use Rattle.std.specs.Prelude.{◌≡◌, ◌<◌, ◌≤◌, ◌+◌, ◌-◌, length};
-ghost use Rattle.dancing_links.specs.Columns.{columns_of, IsLinked, IsTable};
-ghost use Rattle.dancing_links.specs.Counting.{fewer, more, with_less, with_more, CountsCovered, CountsUncovered};
-ghost use Rattle.dancing_links.specs.Covering.{node_after, in_turn, others, has_colour, hidden_at, Covers, Uncovers};
+ghost use Rattle.dancing_links.specs.Columns.{columns_of, IsLinked, IsTable, column_of};
+ghost use Rattle.dancing_links.specs.Counting.{fewer, more, with_less, with_more, CountsCovered, CountsUncovered, CountsCoveredAll, CountsUncoveredAll};
+ghost use Rattle.dancing_links.specs.Covering.{node_after, in_turn, others, Covers, Uncovers, CoversAll, UncoversAll, other_items, items_by, items_in_turn};
 ghost use Rattle.dancing_links.specs.Linking.{unlinks, relinks, up_of, down_of};
 
-use crate::layout::{Layout, colour_at, item_at, row_of};
+use crate::layout::{Layout, item_at, row_of};
 use crate::link::{Link, relink, unlink};
 
 /// Counts a node of an option no more: its item has one live option less.
@@ -35,7 +34,7 @@ fn count_more(layout: &Layout, counts: &mut [u16], node: usize)
 }
 
 /// The node after one in its row; behind the last comes the first.
-pub fn node_after(begin: usize, end: usize, node: usize) -> usize
+fn node_after(begin: usize, end: usize, node: usize) -> usize
     requires row { (begin ≤ node) × (node < end) }
     requires end { end < 4294967296 }
     ensures node { result ≡ node_after begin end node }
@@ -45,7 +44,7 @@ pub fn node_after(begin: usize, end: usize, node: usize) -> usize
 }
 
 /// The node before one in its row; in front of the first comes the last.
-pub fn node_before(begin: usize, end: usize, node: usize) -> usize
+fn node_before(begin: usize, end: usize, node: usize) -> usize
     requires { (begin ≤ node) × (node < end) }
     ensures node { node ≡ node_after begin end result }
     ensures row { (begin ≤ result) × (result < end) }
@@ -122,15 +121,15 @@ fn unhide(layout: &Layout, links: &mut [Link], counts: &mut [u16], node: usize)
     relink_others(layout, links, counts, node, begin, end);
 }
 
-/// Covers an item that gets no colour: takes it out of the column of items, and all options that name it out of the other columns.
+/// Covers an item: takes it out of the column of items, and all options that name it out of the other columns.
 pub fn cover(layout: &Layout, links: &mut [Link], counts: &mut [u16], item: usize)
     requires item { item + 1 < layout.now.heads }
     requires table { IsTable (columns_of layout.now) }
     requires linked { IsLinked (columns_of layout.now) links.old }
     requires counts { length counts.old + 1 ≡ layout.now.heads }
     ensures linked { IsLinked (columns_of layout.now) links.new }
-    ensures links { Covers (columns_of layout.now) links.old item 0 links.new }
-    ensures counts { CountsCovered (columns_of layout.now) links.old item 0 counts.old counts.new }
+    ensures links { Covers (columns_of layout.now) links.old item links.new }
+    ensures counts { CountsCovered (columns_of layout.now) links.old item counts.old counts.new }
 {
     unlink(layout, links, layout.heads + item);
     let mut node = links[item].down as usize;
@@ -140,16 +139,15 @@ pub fn cover(layout: &Layout, links: &mut [Link], counts: &mut [u16], item: usiz
     }
 }
 
-/// Uncovers the item that was covered last, without a colour: all links are as before that.
+/// Uncovers the item that was covered last: all links are as before that.
 pub fn uncover(layout: &Layout, links: &mut [Link], counts: &mut [u16], item: usize)
     requires item { item + 1 < layout.now.heads }
     requires table { IsTable (columns_of layout.now) }
     requires linked { IsLinked (columns_of layout.now) links.old }
     requires counts { length counts.old + 1 ≡ layout.now.heads }
     ensures linked { IsLinked (columns_of layout.now) links.new }
-    ensures links { Uncovers (columns_of layout.now) links.old item 0 links.new }
-    ensures counts { CountsUncovered (columns_of layout.now) links.old item 0
-        counts.old counts.new }
+    ensures links { Uncovers (columns_of layout.now) links.old item links.new }
+    ensures counts { CountsUncovered (columns_of layout.now) links.old item counts.old counts.new }
 {
     let mut node = links[layout.tails + item].up as usize;
     while node >= layout.heads {
@@ -159,87 +157,122 @@ pub fn uncover(layout: &Layout, links: &mut [Link], counts: &mut [u16], item: us
     relink(layout, links, layout.heads + item);
 }
 
-/// Whether a node has this colour; one without a colour has none.
-fn has_colour(layout: &Layout, node: usize, colour: u16) -> bool
-    requires { 0 < colour }
-    ensures { result ≡ has_colour (columns_of layout.now) colour node }
-{
-    colour_at(layout, node) == colour
-}
-
-/// Takes the other nodes of a node's option out of their columns, unless the node has this colour.
-#[tactic(auto, unfolding(crate::specs::Covering::hidden_at))]
-fn hide_unless(layout: &Layout, links: &mut [Link], counts: &mut [u16], node: usize, colour: u16)
-    requires node { (layout.now.heads ≤ node) × (node < layout.now.tails) }
-    requires colour { 0 < colour }
+/// Covers the items of the other nodes of a row, that of the one after the node first.
+fn cover_row(
+    layout: &Layout,
+    links: &mut [Link],
+    counts: &mut [u16],
+    node: usize,
+    begin: usize,
+    end: usize,
+)
+    requires range { (layout.now.heads + layout.now.heads ≤ begin + 1) × (end ≤ layout.now.tails) }
+    requires row { (begin ≤ node) × (node < end) }
     requires table { IsTable (columns_of layout.now) }
     requires linked { IsLinked (columns_of layout.now) links.old }
     requires counts { length counts.old + 1 ≡ layout.now.heads }
     ensures linked { IsLinked (columns_of layout.now) links.new }
-    ensures links { links.new ≡ unlinks links.old (hidden_at (columns_of layout.now) colour node) }
-    ensures counts { counts.new
-        ≡ fewer (columns_of layout.now) counts.old (hidden_at (columns_of layout.now) colour node) }
+    ensures links { CoversAll (columns_of layout.now) links.old
+        (items_in_turn (columns_of layout.now) begin end node) links.new }
+    ensures counts { CountsCoveredAll (columns_of layout.now) links.old
+        (items_in_turn (columns_of layout.now) begin end node) counts.old counts.new }
 {
-    if !has_colour(layout, node, colour) {
-        hide(layout, links, counts, node);
+    let mut other = node;
+    for _place in begin + 1..end {
+        other = node_after(begin, end, other);
+        cover(layout, links, counts, item_at(layout, other));
     }
 }
 
-/// Puts the other nodes of a node's option back, unless the node has this colour.
-#[tactic(auto, unfolding(crate::specs::Covering::hidden_at))]
-fn unhide_unless(layout: &Layout, links: &mut [Link], counts: &mut [u16], node: usize, colour: u16)
-    requires node { (layout.now.heads ≤ node) × (node < layout.now.tails) }
-    requires colour { 0 < colour }
+/// Covers the items of the other nodes of a node's option, the next one first.
+#[tactic(auto, unfolding(crate::specs::Covering::others))]
+pub fn cover_others(layout: &Layout, links: &mut [Link], counts: &mut [u16], node: usize)
+    requires node { (layout.now.heads + layout.now.heads ≤ node + 1) × (node < layout.now.tails) }
     requires table { IsTable (columns_of layout.now) }
     requires linked { IsLinked (columns_of layout.now) links.old }
     requires counts { length counts.old + 1 ≡ layout.now.heads }
     ensures linked { IsLinked (columns_of layout.now) links.new }
-    ensures links { links.new ≡ relinks links.old (hidden_at (columns_of layout.now) colour node) }
-    ensures counts { counts.new
-        ≡ more (columns_of layout.now) counts.old (hidden_at (columns_of layout.now) colour node) }
+    ensures links { CoversAll (columns_of layout.now) links.old
+        (other_items (columns_of layout.now) node) links.new }
+    ensures counts { CountsCoveredAll (columns_of layout.now) links.old
+        (other_items (columns_of layout.now) node) counts.old counts.new }
 {
-    if !has_colour(layout, node, colour) {
-        unhide(layout, links, counts, node);
-    }
+    let (begin, end) = row_of(layout, node);
+    cover_row(layout, links, counts, node, begin, end);
 }
 
-/// Covers an item that gets a colour: takes it out of the column of items, and the options that name it without that colour out
-/// of the other columns.
-pub fn purify(layout: &Layout, links: &mut [Link], counts: &mut [u16], item: usize, colour: u16)
-    requires item { item + 1 < layout.now.heads }
-    requires colour { 0 < colour }
+/// Uncovers the items of the other nodes of a row, that of the one before the node first.
+fn uncover_row(
+    layout: &Layout,
+    links: &mut [Link],
+    counts: &mut [u16],
+    node: usize,
+    begin: usize,
+    end: usize,
+)
+    requires range { (layout.now.heads + layout.now.heads ≤ begin + 1) × (end ≤ layout.now.tails) }
+    requires row { (begin ≤ node) × (node < end) }
     requires table { IsTable (columns_of layout.now) }
     requires linked { IsLinked (columns_of layout.now) links.old }
     requires counts { length counts.old + 1 ≡ layout.now.heads }
     ensures linked { IsLinked (columns_of layout.now) links.new }
-    ensures links { Covers (columns_of layout.now) links.old item colour links.new }
-    ensures counts { CountsCovered (columns_of layout.now) links.old item colour
-        counts.old counts.new }
+    ensures links { UncoversAll (columns_of layout.now) links.old
+        (items_in_turn (columns_of layout.now) begin end node) links.new }
+    ensures counts { CountsUncoveredAll (columns_of layout.now) links.old
+        (items_in_turn (columns_of layout.now) begin end node) counts.old counts.new }
 {
-    unlink(layout, links, layout.heads + item);
-    let mut node = links[item].down as usize;
-    while node < layout.tails {
-        hide_unless(layout, links, counts, node, colour);
-        node = links[node].down as usize;
+    let mut other = node;
+    for _place in begin + 1..end {
+        other = node_before(begin, end, other);
+        uncover(layout, links, counts, item_at(layout, other));
     }
 }
 
-/// Uncovers the item that was covered last, in this colour: all links are as before that.
-pub fn unpurify(layout: &Layout, links: &mut [Link], counts: &mut [u16], item: usize, colour: u16)
-    requires item { item + 1 < layout.now.heads }
-    requires colour { 0 < colour }
+/// Uncovers the items of the other nodes of a node's option, which were covered last, in the reverse order.
+#[tactic(auto, unfolding(crate::specs::Covering::others))]
+pub fn uncover_others(layout: &Layout, links: &mut [Link], counts: &mut [u16], node: usize)
+    requires node { (layout.now.heads + layout.now.heads ≤ node + 1) × (node < layout.now.tails) }
     requires table { IsTable (columns_of layout.now) }
     requires linked { IsLinked (columns_of layout.now) links.old }
     requires counts { length counts.old + 1 ≡ layout.now.heads }
     ensures linked { IsLinked (columns_of layout.now) links.new }
-    ensures links { Uncovers (columns_of layout.now) links.old item colour links.new }
-    ensures counts { CountsUncovered (columns_of layout.now) links.old item colour
-        counts.old counts.new }
+    ensures links { UncoversAll (columns_of layout.now) links.old
+        (other_items (columns_of layout.now) node) links.new }
+    ensures counts { CountsUncoveredAll (columns_of layout.now) links.old
+        (other_items (columns_of layout.now) node) counts.old counts.new }
 {
-    let mut node = links[layout.tails + item].up as usize;
-    while node >= layout.heads {
-        unhide_unless(layout, links, counts, node, colour);
-        node = links[node].up as usize;
-    }
-    relink(layout, links, layout.heads + item);
+    let (begin, end) = row_of(layout, node);
+    uncover_row(layout, links, counts, node, begin, end);
+}
+
+/// Covers the items of a node's option: its own first, then the others from the next one on.
+pub fn cover_from(layout: &Layout, links: &mut [Link], counts: &mut [u16], node: usize)
+    requires node { (layout.now.heads + layout.now.heads ≤ node + 1) × (node < layout.now.tails) }
+    requires table { IsTable (columns_of layout.now) }
+    requires linked { IsLinked (columns_of layout.now) links.old }
+    requires counts { length counts.old + 1 ≡ layout.now.heads }
+    ensures linked { IsLinked (columns_of layout.now) links.new }
+    ensures links { CoversAll (columns_of layout.now) links.old
+        (items_by (columns_of layout.now) node) links.new }
+    ensures counts { CountsCoveredAll (columns_of layout.now) links.old
+        (items_by (columns_of layout.now) node) counts.old counts.new }
+{
+    cover(layout, links, counts, item_at(layout, node));
+    cover_others(layout, links, counts, node);
+}
+
+/// Uncovers the items of a node's option, which were covered last, in the reverse order.
+pub fn uncover_from(layout: &Layout, links: &mut [Link], counts: &mut [u16], node: usize)
+    requires node { (layout.now.heads + layout.now.heads ≤ node + 1) × (node < layout.now.tails) }
+    requires table { IsTable (columns_of layout.now) }
+    requires linked { IsLinked (columns_of layout.now) links.old }
+    requires counts { length counts.old + 1 ≡ layout.now.heads }
+    ensures linked { IsLinked (columns_of layout.now) links.new }
+    ensures links { UncoversAll (columns_of layout.now) links.old
+        (items_by (columns_of layout.now) node) links.new }
+    ensures counts { CountsUncoveredAll (columns_of layout.now) links.old
+        (items_by (columns_of layout.now) node) counts.old counts.new }
+{
+    uncover_others(layout, links, counts, node);
+    uncover(layout, links, counts, item_at(layout, node));
 }

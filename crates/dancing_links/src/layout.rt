@@ -1,16 +1,16 @@
-//! Which column and which option each node belongs to, and which colour it has.
+//! Which column and which option each node belongs to.
 
-ghost use Rattle.std.specs.Prelude.{◌≡◌, ◌<◌, ◌≤◌, ◌+◌, ◌++◌, length, map, replicate, slice_index, IfOk, IsTrue, ℕ};
+ghost use Rattle.std.specs.Prelude.{◌≡◌, ◌<◌, ◌≤◌, ◌+◌, ◌++◌, length, map, replicate, slice_index, IfOk};
 ghost use Rattle.std.specs.List.{range_with_len, concat, All};
-ghost use Rattle.dancing_links.specs.Columns.{columns_of, column_of, colour_at, begin_of, end_of, IsTable};
-ghost use Rattle.dancing_links.specs.Walking.{IsNaming, IsBelowIn};
-ghost use Rattle.dancing_links.specs.Table.{table, column_list, colour_list, option_list, first_list, row_at, numbered};
+ghost use Rattle.dancing_links.specs.Columns.{columns_of, column_of, begin_of, end_of, IsTable};
+ghost use Rattle.dancing_links.specs.Walking.{IsNaming};
+ghost use Rattle.dancing_links.specs.Table.{table, column_list, option_list, first_list, row_at, numbered};
 
 use crate::row::Row;
 use cover_problem::Problem;
 use std::alloc::{AllocError, Global};
 
-/// What never changes: the column, the colour and the option of each node, and where each option begins.
+/// What never changes: the column and the option of each node, and where each option begins.
 ///
 /// The heads of the columns come first: one for each item, and one for the column of items. Then come the nodes of the
 /// items, the nodes of the options in file order, and the tails of the columns.
@@ -18,8 +18,6 @@ use std::alloc::{AllocError, Global};
 pub struct Layout {
     /// The column of each node: for a node of an option, the item that it stands for.
     pub items: Vec<u16>,
-    /// The colour of each node, 0 for none; an empty list where the problem has no colours.
-    pub colours: Vec<u16>,
     /// The option of each node; the number of options for a node that belongs to none.
     pub options: Vec<u16>,
     /// The first node of each option; then, twice, the first tail.
@@ -37,7 +35,6 @@ pub fn layout_of(alloc: Global, problem: &Problem) -> Result<Layout, AllocError>
     ensures { IfOk result (λ layout. columns_of layout ≡ table problem.now) }
 {
     let items = node_items(alloc, problem)?;
-    let colours = node_colours(alloc, problem)?;
     let options = node_options(alloc, problem)?;
     let first = first_nodes(alloc, problem)?;
     let rows = node_rows(alloc, &options, &first)?;
@@ -45,7 +42,6 @@ pub fn layout_of(alloc: Global, problem: &Problem) -> Result<Layout, AllocError>
     let tails = items.len() - heads;
     Ok(Layout {
         items,
-        colours,
         options,
         first,
         rows,
@@ -65,19 +61,6 @@ fn node_items(alloc: Global, problem: &Problem) -> Result<Vec<u16>, AllocError>
     push_copies(&mut list, items, items as usize)?;
     push_items(&mut list, problem)?;
     push_range(&mut list, items + 1)?;
-    Ok(list)
-}
-
-/// The colour of each node up to the last of an option; an empty list where the problem has no colours.
-#[tactic(auto, unfolding(crate::specs::Table::colour_list))]
-fn node_colours(alloc: Global, problem: &Problem) -> Result<Vec<u16>, AllocError>
-    ensures { IfOk result (λ list. list.items ≡ colour_list problem.now) }
-{
-    let mut list = Vec::new(alloc);
-    if problem.colour_names() != 0 {
-        push_copies(&mut list, 0, 2 * problem.items() + 1)?;
-        push_colours(&mut list, problem)?;
-    }
     Ok(list)
 }
 
@@ -124,17 +107,6 @@ fn push_items(list: &mut Vec<u16>, problem: &Problem) -> Result<(), AllocError>
 {
     for option in 0..problem.options() as u16 {
         list.extend_from_slice(problem.option(option))?;
-    }
-    Ok(())
-}
-
-/// Appends the colours of each option's items.
-#[tactic(auto, using(crate::proofs::Laid::items_push, crate::proofs::Laid::items_all_pushed))]
-fn push_colours(list: &mut Vec<u16>, problem: &Problem) -> Result<(), AllocError>
-    ensures { IfOk result (λ _. list.new.items ≡ list.old.items ++ concat problem.now.colours) }
-{
-    for option in 0..problem.options() as u16 {
-        list.extend_from_slice(problem.colours(option))?;
     }
     Ok(())
 }
@@ -189,23 +161,6 @@ pub fn item_at(layout: &Layout, node: usize) -> usize
     layout.items[node] as usize
 }
 
-/// Whether no node has a colour, since the problem has none.
-pub fn is_plain(layout: &Layout) -> bool
-    ensures { IsTrue result → (k : ℕ) → colour_at (columns_of layout.now) k ≡ 0 }
-{
-    layout.colours.is_empty()
-}
-
-/// The colour of a node, 0 for none.
-pub fn colour_at(layout: &Layout, node: usize) -> u16
-    ensures { result ≡ colour_at (columns_of layout.now) node }
-{
-    match layout.colours.get(node) {
-        Some(colour) => *colour,
-        None => 0,
-    }
-}
-
 /// The row of a node's option: its first node, and the number after the last.
 pub fn row_of(layout: &Layout, node: usize) -> (usize, usize)
     requires node { (layout.now.heads ≤ node) × (node < layout.now.tails) }
@@ -242,21 +197,6 @@ pub fn node_of(layout: &Layout, item: u16, begin: usize, end: usize) -> usize
 {
     for node in begin..end {
         if item_at(layout, node) == item as usize {
-            return node;
-        }
-    }
-    end
-}
-
-/// The first node of a range that stands for an item below a bound, or the end of the range.
-pub fn node_below(layout: &Layout, bound: usize, begin: usize, end: usize) -> usize
-    requires range { (layout.now.heads + layout.now.heads ≤ begin + 1) × (begin ≤ end)
-        × (end ≤ layout.now.tails) }
-    requires table { IsTable (columns_of layout.now) }
-    ensures { IsBelowIn (columns_of layout.now) bound begin end result }
-{
-    for node in begin..end {
-        if item_at(layout, node) < bound {
             return node;
         }
     }

@@ -2,11 +2,9 @@
 use Rattle.std.specs.Prelude.{◌≡◌, ℕ, ◌≤◌, List, length}
 use Rattle.std.specs.List.{sum_by}
 
--- the options kept so far with their colours, the names of these, and how many options were ignored
+-- the options kept so far, and how many were ignored
 pub record KeptOptions : Type 0 where
   pub options : List (List ℕ)
-  pub colours : List (List ℕ)
-  pub colour_names : List (List ℕ)
   pub ignored : ℕ
 
 -- These options keep the limits, and have so many items together.

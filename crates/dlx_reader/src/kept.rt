@@ -1,17 +1,11 @@
 //! The options that are kept.
 
-ghost use Rattle.std.specs.Prelude.{◌≡◌, ◌<◌, ◌≤◌, ◌+◌, [], map, OnErr};
+ghost use Rattle.std.specs.Prelude.{◌≡◌, ◌<◌, ◌≤◌, ◌+◌, [], OnErr};
 ghost use Rattle.cover_problem.specs.Numbers.{some_below};
-ghost use Rattle.dlx_reader.specs.Kept.{KeptOptions};
-ghost use Rattle.dlx_reader.specs.Lines.{words_of};
-ghost use Rattle.dlx_reader.specs.Occurrences.{colour_part};
-ghost use Rattle.dlx_reader.specs.Reading.{Gives, colour_at, colours_from, keep_at, none_kept};
+ghost use Rattle.dlx_reader.specs.Reading.{Gives, keep_at};
 
 use crate::fault::ReadFault;
-use crate::left::Line;
-use crate::lines::{colour_part, split_word};
-use crate::names::Names;
-use cover_problem::{Name, Numbers};
+use cover_problem::Numbers;
 use std::alloc::Global;
 use std::marker::Model;
 
@@ -21,9 +15,6 @@ const MOST_OPTIONS: usize = 20000;
 /// The greatest number of items in all of these together.
 const MOST_NODES: usize = 200000;
 
-/// The greatest number of different colours in all of these.
-const MOST_COLOURS: usize = 10000;
-
 /// Whether one of the numbers is below the bound.
 fn some_below(bound: usize, numbers: &[u16]) -> bool
     ensures { result ≡ some_below bound numbers.now }
@@ -31,90 +22,32 @@ fn some_below(bound: usize, numbers: &[u16]) -> bool
     numbers.iter().any(|number| usize::from(*number) < bound)
 }
 
-/// The number of a colour, which is added to the names where it is new; 0 where it has no name.
-#[tactic(auto, unfolding(crate::specs::Reading::colour_at))]
-fn number_colour<'a>(
-    alloc: Global,
-    names: &mut Names<'a>,
-    colour: &'a [u8],
-    line: usize,
-) -> Result<u16, ReadFault>
-    ensures { Gives (λ number. (names.new, number)) result (colour_at line names.old colour.now) }
-{
-    if colour.is_empty() {
-        return Ok(0);
-    }
-    if let Some(number) = names.item_named(colour) {
-        return Ok(number + 1);
-    }
-    if names.len() >= MOST_COLOURS {
-        return Err(ReadFault::TooManyColours(line));
-    }
-    names.push(alloc, colour)?;
-    Ok(names.len() as u16)
-}
-
-/// The numbers of the colours in the words of an option's line, of which the new ones are added to the names.
-#[tactic(auto, unfolding(crate::specs::Reading::colours_from))]
-fn number_colours<'a>(
-    alloc: Global,
-    names: &mut Names<'a>,
-    line: Line<'a>,
-) -> Result<Vec<u16>, ReadFault>
-    ensures { Gives (λ numbers. (names.new, numbers.items)) result
-        (colours_from line.entry.number names.old []
-        (map colour_part (words_of line.entry.text.now))) }
-{
-    let mut numbers = Vec::new(alloc);
-    let mut left = line.text;
-    while let Some((word, rest)) = split_word(left) {
-        let number = number_colour(alloc, names, colour_part(word), line.number)?;
-        numbers.push(number)?;
-        left = rest;
-    }
-    Ok(numbers)
-}
-
-/// The options kept so far and their colours, how many items they have together, and how many options were ignored.
+/// The options kept so far, how many items they have together, and how many options were ignored.
 #[derive(Drop)]
-pub struct Kept<'a> {
+pub struct Kept {
     options: Vec<Numbers>,
-    colours: Vec<Numbers>,
-    colour_names: Names<'a>,
     nodes: usize,
     ignored: usize,
 }
 
-impl<'a> Model for Kept<'a> {
+impl Model for Kept {
     ghost use Rattle.dlx_reader.specs.Kept.{KeptOptions, KeepsLimits};
 
     ghost Value = { KeptOptions };
 
-    ghost view = { λ k. record { options = k.options.items; colours = k.colours.items; colour_names = k.colour_names; ignored = k.ignored } };
+    ghost view = { λ k. record { options = k.options.items; ignored = k.ignored } };
 
     ghost invariant = { λ k. KeepsLimits k.options.items k.nodes };
 }
 
-/// What is kept, as the parts of a problem.
-#[derive(Drop)]
-pub struct KeptParts {
-    /// The options in their order.
-    pub options: Vec<Numbers>,
-    /// For each of them the colours of its items.
-    pub colours: Vec<Numbers>,
-    /// The names of the colours.
-    pub colour_names: Vec<Name>,
-}
-
-impl<'a> Kept<'a> {
+impl Kept {
     /// No options.
-    pub fn new(alloc: Global) -> Kept<'a>
-        ensures { result ≡ none_kept }
+    pub fn new(alloc: Global) -> Kept
+        ensures options { result.options ≡ [] }
+        ensures ignored { result.ignored ≡ 0 }
     {
         Kept {
             options: Vec::new(alloc),
-            colours: Vec::new(alloc),
-            colour_names: Names::new(alloc),
             nodes: 0,
             ignored: 0,
         }
@@ -127,60 +60,40 @@ impl<'a> Kept<'a> {
         self.ignored
     }
 
-    /// The options, their colours and the names of these, each in its order.
-    pub fn into_parts(self) -> KeptParts
-        ensures options { result.options.items ≡ self.entry.options }
-        ensures colours { result.colours.items ≡ self.entry.colours }
-        ensures colour_names { result.colour_names.items ≡ self.entry.colour_names }
+    /// The options in their order.
+    pub fn into_list(self) -> Vec<Numbers>
+        ensures { result.items ≡ self.options }
     {
         let Kept {
             options,
-            colours,
-            colour_names,
             nodes: _,
             ignored: _,
         } = self;
-        KeptParts {
-            options,
-            colours,
-            colour_names: colour_names.into_list(),
-        }
+        options
     }
 
     /// Keeps an option with these items of a line, or counts it as ignored where none of them is primary. Beside want of
-    /// memory, the errors are the limits, tested in this order. After an error the options are as before; names of colours
-    /// may have come.
+    /// memory, the errors are the limits, tested in this order.
     #[tactic(auto, unfolding(crate::specs::Reading::keep_at))]
-    pub fn keep(
-        &mut self,
-        alloc: Global,
-        primary: usize,
-        items: Vec<u16>,
-        line: Line<'a>,
-    ) -> Result<(), ReadFault>
-        requires { self.old.ignored < line.number }
-        ensures gives { Gives (λ _. self.new) result
-            (keep_at line.entry.number primary self.old items.items
-            (words_of line.entry.text.now)) }
+    pub fn keep(&mut self, primary: usize, items: Vec<u16>, line: usize) -> Result<(), ReadFault>
+        requires { self.old.ignored < line }
+        ensures gives { Gives (λ _. (self.new.options, self.new.ignored)) result
+            (keep_at line primary self.old.options self.old.ignored items.items) }
         ensures ignored { self.new.ignored ≤ self.old.ignored + 1 }
-        ensures options { OnErr result (self.new.options ≡ self.old.options) }
-        ensures colours { OnErr result (self.new.colours ≡ self.old.colours) }
+        ensures unchanged { OnErr result (self.new ≡ self.old) }
     {
         if !some_below(primary, &items) {
             self.ignored += 1;
             return Ok(());
         }
         if self.options.len() == MOST_OPTIONS {
-            return Err(ReadFault::TooManyOptions(line.number));
+            return Err(ReadFault::TooManyOptions(line));
         }
         if self.nodes + items.len() > MOST_NODES {
-            return Err(ReadFault::TooManyNodes(line.number));
+            return Err(ReadFault::TooManyNodes(line));
         }
         let nodes = self.nodes + items.len();
-        let colours = number_colours(alloc, &mut self.colour_names, line)?;
-        self.options.reserve(1)?;
-        self.colours.push(Numbers::from_vec(colours))?;
-        self.options.push_reserved(Numbers::from_vec(items));
+        self.options.push(Numbers::from_vec(items))?;
         self.nodes = nodes;
         Ok(())
     }

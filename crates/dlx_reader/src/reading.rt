@@ -1,21 +1,20 @@
-//! Reading a problem, in the general form of the inputs of Knuth's programs DLX1 and DLX2.
+//! Reading a problem, in the general form of the input of Knuth's program DLX1.
 
-ghost use Rattle.std.specs.Prelude.{◌≡◌, ◌≢◌, ◌<◌, ◌≤◌, ◌+◌, ◌^◌, [], ◌∷◌, length, true, false, is_some, Some, IfOk, IfErr};
+ghost use Rattle.std.specs.Prelude.{◌≡◌, ◌≢◌, ◌<◌, ◌≤◌, ◌+◌, ◌^◌, [], ◌∷◌, length, true, false, Some, IfOk, IfErr};
 ghost use Rattle.std.specs.List.{list_any, list_all};
 ghost use Rattle.dlx_reader.specs.Content.{is_content, is_word, content_from, content_of};
-ghost use Rattle.dlx_reader.specs.Faults.{first_fault, is_bad_colour, is_illegal, name_tests, part_tests};
+ghost use Rattle.dlx_reader.specs.Faults.{first_fault, is_illegal, name_tests};
 ghost use Rattle.dlx_reader.specs.Items.{name_part, primary_in};
 ghost use Rattle.dlx_reader.specs.Left.{content_left, line_of};
 ghost use Rattle.dlx_reader.specs.Lines.{words_of};
-ghost use Rattle.dlx_reader.specs.Occurrences.{bytes_in};
 ghost use Rattle.dlx_reader.specs.ProblemOf.{HasNoProblem, IsProblemOf};
-ghost use Rattle.dlx_reader.specs.Reading.{Gives, after, item_at, items_from, none_kept, option_item_at, option_from, option_at, options_from, reading_of, read_by};
+ghost use Rattle.dlx_reader.specs.Reading.{Gives, after, item_at, items_from, option_item_at, option_from, option_at, options_from, reading_of, read_by};
 ghost use Rattle.dlx_reader.specs.declared.fault.ReadFault.TheVariants.{Memory};
 
 use crate::fault::ReadFault;
-use crate::kept::{Kept, KeptParts};
+use crate::kept::Kept;
 use crate::left::{Line, Lines};
-use crate::lines::{begins_with_bar, split_colour, split_word};
+use crate::lines::{begins_with_bar, split_word};
 use crate::names::Names;
 use cover_problem::Problem;
 use std::alloc::Global;
@@ -65,10 +64,8 @@ fn read_item<'a>(
     word: &'a [u8],
     line: usize,
 ) -> Result<(), ReadFault>
-    requires { length names.old ≤ 1000 }
     ensures gives { Gives (λ _. (names.new, divided.new)) result
         (item_at line names.old divided.old word.now) }
-    ensures few { length names.new ≤ 1000 }
 {
     let name = name_part(word);
     test_name(name, line)?;
@@ -123,55 +120,23 @@ fn primary_in(line: &[u8]) -> usize
     place
 }
 
-/// Whether nothing stands before a colon or behind it, or too much behind it.
-fn is_bad_colour(name: &[u8], colour: Option<&[u8]>) -> bool
-    ensures { result ≡ is_bad_colour (is_some colour.entry) name.now (bytes_in colour.entry) }
-{
-    match colour {
-        None => false,
-        Some(colour) => name.is_empty() || colour.is_empty() || colour.len() > LONGEST_NAME,
-    }
-}
-
-/// Tests the parts of an option's word: the name of the item, and that of the colour behind the colon, if there is one.
-fn test_parts(name: &[u8], colour: Option<&[u8]>, line: usize) -> Result<(), ReadFault>
-    ensures { Gives (λ _. name.now) result
-        (after (part_tests line (is_some colour.entry) name.now (bytes_in colour.entry)) name.now) }
-{
-    if has_illegal(name) || has_illegal(colour.unwrap_or(&[])) {
-        return Err(ReadFault::IllegalByte(line));
-    }
-    if name.len() > LONGEST_NAME {
-        return Err(ReadFault::NameTooLong(line));
-    }
-    if is_bad_colour(name, colour) {
-        return Err(ReadFault::BadColour(line));
-    }
-    Ok(())
-}
-
 /// Reads a further word of an option.
 #[tactic(auto, unfolding(crate::specs::Reading::option_item_at))]
 fn read_option_item(
     names: &Names,
-    primary: usize,
     items: &mut Vec<u16>,
     word: &[u8],
     line: usize,
 ) -> Result<(), ReadFault>
     ensures gives { Gives (λ _. items.new.items) result
-        (option_item_at line names.now primary items.old.items word.now) }
+        (option_item_at line names.now items.old.items word.now) }
 {
-    let (name, colour) = split_colour(word);
-    test_parts(name, colour, line)?;
-    let Some(item) = names.item_named(name) else {
+    test_name(word, line)?;
+    let Some(item) = names.item_named(word) else {
         return Err(ReadFault::UnknownItem(line));
     };
     if items.contains(&item) {
         return Err(ReadFault::DuplicateInOption(line));
-    }
-    if colour.is_some() && usize::from(item) < primary {
-        return Err(ReadFault::ColourOnPrimary(line));
     }
     items.push(item)?;
     Ok(())
@@ -179,19 +144,14 @@ fn read_option_item(
 
 /// Reads the words of an option.
 #[tactic(auto, unfolding(crate::specs::Reading::option_from))]
-fn read_option(
-    alloc: Global,
-    names: &Names,
-    primary: usize,
-    line: Line,
-) -> Result<Vec<u16>, ReadFault>
+fn read_option(alloc: Global, names: &Names, line: Line) -> Result<Vec<u16>, ReadFault>
     ensures gives { Gives (λ items. items.items) result
-        (option_from line.entry.number names.now primary [] (words_of line.entry.text.now)) }
+        (option_from line.entry.number names.now [] (words_of line.entry.text.now)) }
 {
     let mut items = Vec::new(alloc);
     let mut left = line.text;
     while let Some((word, rest)) = split_word(left) {
-        read_option_item(names, primary, &mut items, word, line.number)?;
+        read_option_item(names, &mut items, word, line.number)?;
         left = rest;
     }
     Ok(items)
@@ -199,32 +159,32 @@ fn read_option(
 
 /// Reads an option's line, and keeps the option or counts it as ignored.
 #[tactic(auto, unfolding(crate::specs::Reading::option_at))]
-fn read_option_line<'a>(
+fn read_option_line(
     alloc: Global,
     names: &Names,
     primary: usize,
-    kept: &mut Kept<'a>,
-    line: Line<'a>,
+    kept: &mut Kept,
+    line: Line,
 ) -> Result<(), ReadFault>
     requires ignored { kept.old.ignored < line.number }
-    ensures gives { Gives (λ _. kept.new) result
-        (option_at names.now primary kept.old (line_of line.entry)) }
+    ensures gives { Gives (λ _. (kept.new.options, kept.new.ignored)) result
+        (option_at names.now primary kept.old.options kept.old.ignored (line_of line.entry)) }
     ensures ignored { kept.new.ignored ≤ kept.old.ignored + 1 }
 {
-    let items = read_option(alloc, names, primary, line)?;
-    kept.keep(alloc, primary, items, line)
+    let items = read_option(alloc, names, line)?;
+    kept.keep(primary, items, line.number)
 }
 
 /// Reads the lines of options: those that say something, of the lines that are left.
 #[tactic(auto, unfolding(crate::specs::Reading::options_from))]
-fn read_options<'a>(
+fn read_options(
     alloc: Global,
     names: &Names,
     primary: usize,
-    mut lines: Lines<'a>,
-) -> Result<Kept<'a>, ReadFault>
-    ensures { Gives (λ kept. kept) result
-        (options_from names.now primary none_kept (content_left lines.entry)) }
+    mut lines: Lines,
+) -> Result<Kept, ReadFault>
+    ensures { Gives (λ kept. (kept.options, kept.ignored)) result
+        (options_from names.now primary [] 0 (content_left lines.entry)) }
 {
     let mut kept = Kept::new(alloc);
     while let Some(line) = lines.take_content() {
@@ -247,7 +207,6 @@ pub struct Read {
 fn read_content(alloc: Global, items: Line, others: Lines) -> Result<Read, ReadFault>
     requires content { is_content (words_of items.text.now) ≡ true }
     requires words { list_all is_word (words_of items.text.now) ≡ true }
-    requires others { list_all (λ line. list_all is_word line.1) (content_left others) ≡ true }
     ensures { Gives (λ read. read_by read.problem read.ignored) result
         (reading_of (line_of items.entry ∷ content_left others.entry)) }
 {
@@ -255,14 +214,8 @@ fn read_content(alloc: Global, items: Line, others: Lines) -> Result<Read, ReadF
     let primary = primary_in(items.text);
     let kept = read_options(alloc, &names, primary, others)?;
     let ignored = kept.ignored();
-    let KeptParts {
-        options,
-        colours,
-        colour_names,
-    } = kept.into_parts();
-    let names = names.into_list();
     Ok(Read {
-        problem: Problem::from_parts(names, primary, options, colours, colour_names),
+        problem: Problem::from_parts(names.into_list(), primary, kept.into_list()),
         ignored,
     })
 }
@@ -280,12 +233,12 @@ fn read_lines(alloc: Global, text: &[u8]) -> Result<Read, ReadFault>
     read_content(alloc, items, lines)
 }
 
-/// Reads a problem in the general form of the inputs of Knuth's programs DLX1 and DLX2.
+/// Reads a problem in the general form of the input of Knuth's program DLX1.
 ///
 /// A line ends at byte 10 or at the end of the text; words are divided by the bytes 9, 11, 12, 13 and 32. Blank lines, and
 /// lines whose first word begins with `|`, are skipped. The first other line names the items, of which those behind a word
-/// that begins with `|` are secondary. Each later line is an option, a list of different names of items; behind that of a
-/// secondary item a `:` and the name of a colour may stand. Options without a primary item are ignored, and counted.
+/// that begins with `|` are secondary. Each later line is an option, a list of different names of items; options without a
+/// primary item are ignored, and counted.
 ///
 /// An error other than `Memory` is the first fault of the text in reading order, with its line counted from 1. Beside the text
 /// it takes memory of the order of the problem, whatever else the text has.

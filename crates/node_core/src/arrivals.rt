@@ -10,7 +10,7 @@ use crate::act_fault::ActFault;
 use crate::outgoing::Outgoing;
 use crate::reply::Reply;
 use crate::site_state::SiteState;
-use cover_problem::{Numbers, Problem, is_prefix};
+use cover_problem::{Problem, is_prefix};
 use packet_wire::{Body, Packet};
 use spawn_frame::{Attempt, ChildName, ChildResult, Site};
 use steal_return::{Given, Judged, aborts_are_few};
@@ -24,21 +24,21 @@ impl SiteState {
         from: Site,
         serial: u32,
         attempt: Attempt,
-        prefix: Numbers,
+        prefix: &[u16],
     ) -> Result<Reply, ActFault>
         requires { 1 ≤ attempt }
         ensures step { IfOk result (λ reply.
-            GiveStep problem.now self.old from serial attempt prefix reply [] self.new) }
+            GiveStep problem.now self.old from serial attempt prefix.now reply [] self.new) }
         ensures refusal { refusal_told result
             ≡ give_refusal problem.now self.old
-            (record { site = from; serial = serial }) attempt prefix }
+            (record { site = from; serial = serial }) attempt prefix.now }
         ensures err { OnErr result (self.new ≡ self.old) }
     {
         let name = ChildName { site: from, serial };
         if !self.ledger.is_new(name, attempt) {
             return Ok(Reply::Ignored);
         }
-        if !is_prefix(problem, prefix.as_slice()) {
+        if !is_prefix(problem, prefix) {
             return Err(ActFault::BadPrefix);
         }
         self.ledger.admit(name, attempt, prefix)?;

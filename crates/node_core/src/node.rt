@@ -158,7 +158,7 @@ fn hear(
             serial,
             attempt,
             prefix,
-        } => state.receive_give(problem, from, serial, attempt, prefix),
+        } => state.receive_give(problem, from, serial, attempt, prefix.as_slice()),
         Body::NoWork => Ok(Reply::Ignored),
         Body::Return {
             serial,

@@ -1,6 +1,6 @@
 -- Sites of a run: how each begins, and its steps.
 use Rattle.std.specs.Prelude.{◌≡◌, ℕ, zero, suc, ◌≤◌, List, []}
-use Rattle.cover_problem.specs.Problem.{IsProblem, Problem, uncoloured}
+use Rattle.cover_problem.specs.Problem.{IsProblem, Problem}
 use Rattle.node_core.specs.Acting.{StepOf}
 use Rattle.node_core.specs.Formed.{IsFormedNode, MayBegin}
 use Rattle.node_core.specs.NodeStep.{NodeStep}
@@ -61,4 +61,4 @@ StepsAt node Step =
 
 -- the run of no problem
 abbrev pub no_run : RunName
-no_run = record { problem = uncoloured [] 0 []; nodes = 0 }
+no_run = record { problem = record { names = []; primary = 0; options = [] }; nodes = 0 }

@@ -370,7 +370,6 @@ impl Ledger {
         if !self.is_new(name, attempt) {
             return Ok(false);
         }
-        let prefix = Numbers::from_vec(Vec::from_slice(self.alloc, prefix)?);
         self.admit(name, attempt, prefix)?;
         Ok(true)
     }
@@ -384,17 +383,16 @@ impl Ledger {
         !self.known.is_older(name.site) && self.table.unit(Unit::Guest(name, attempt)).is_none()
     }
 
-    /// A new child of another site becomes a ready guest, which keeps the prefix that is handed in; the only error is want
-    /// of memory, which changes nothing.
+    /// A new child of another site becomes a ready guest; the only error is want of memory, which changes nothing.
     pub fn admit(
         &mut self,
         name: ChildName,
         attempt: Attempt,
-        prefix: Numbers,
+        prefix: &[u16],
     ) -> Result<(), AllocError>
         requires new { IsNew self.old name attempt }
         requires attempt { 1 ≤ attempt }
-        ensures ok { OnOk result (AdmitsGuest self.old name attempt prefix self.new) }
+        ensures ok { OnOk result (AdmitsGuest self.old name attempt prefix.now self.new) }
         ensures err { OnErr result (self.new ≡ self.old) }
     {
         self.table.admit(name, attempt, prefix)

@@ -7,9 +7,6 @@
 //! `workbench greet THREADS TIMES` lets so many threads greet at one cell, each so many times; with 0 threads a core without a lock.
 //! `bench/cells.py` takes their times.
 //!
-//! `workbench table UNITS` times the calls of a ledger with so many own children, `workbench guests UNITS` of one with so many
-//! guests: a line for each call, how often it was called, and the nanoseconds of all. `bench/table.py` reads them.
-//!
 //! `workbench sites FILE NODES WORKERS SEED FUEL TURNS` lets sites with threads search a file's problem over links in memory, and tells how each
 //! ended and what its book holds. `bench/books.py` reads it.
 //!
@@ -25,7 +22,6 @@ mod deliveries;
 mod fault;
 mod sites;
 mod story;
-mod table;
 mod told;
 
 use crate::cells::{greet_cell, greet_core};
@@ -34,7 +30,6 @@ use crate::deliveries::{act_deliveries, packet_of};
 use crate::fault::BenchFault;
 use crate::sites::run_over_memory;
 use crate::story::{Plan, measure, tell};
-use crate::table::{measure_children, measure_guests};
 use dlx_reader::read_problem;
 use std::alloc::Global;
 use std::env;
@@ -96,27 +91,6 @@ fn greet<R: Threads + Wait + Sync>(
         return greet_core(alloc, &read.problem, times);
     }
     greet_cell(rt, alloc, &read.problem, threads, times)
-}
-
-/// Times the calls of a ledger with so many children, or guests.
-fn time_calls(rt: &HostRuntime, what: &str, units: &str) -> io::Result<Result<(), BenchFault>> {
-    let Ok(units) = units.parse::<u32>() else {
-        return Ok(Err(BenchFault::Unexpected));
-    };
-    let measured = match what {
-        "table" => measure_children(rt, rt.alloc(), units),
-        "guests" => measure_guests(rt, rt.alloc(), units),
-        _ => Err(BenchFault::Unexpected),
-    };
-    match measured {
-        Ok(rows) => {
-            for row in &rows {
-                println!(rt; "{},{},{}", row.name, row.calls, row.time.as_nanos())?;
-            }
-            Ok(Ok(()))
-        }
-        Err(fault) => Ok(Err(fault)),
-    }
 }
 
 /// The plan that the numbers spell: nodes, seed, fuel, restarts, turns.
@@ -224,7 +198,6 @@ const QUIET: u64 = 1_000_000;
 /// How it is called.
 const USAGE: &str = "workbench act|copy KIND TIMES
 workbench greet THREADS TIMES
-workbench table|guests UNITS
 workbench sites FILE NODES WORKERS SEED FUEL TURNS
 workbench tell|measure FILE NODES SEED FUEL RESTARTS TURNS";
 
@@ -237,7 +210,6 @@ fn main(rt: HostRuntime) -> io::Result<ExitCode> {
             threads,
             times,
         ),
-        [what, units] => time_calls(&rt, what, units)?,
         [what, kind, times] => count(rt.alloc(), what, kind, times),
         [what, file, nodes, workers, seed, fuel, turns] if what.as_str() == "sites" => {
             match sites_plan(nodes, workers, seed, fuel, turns) {

@@ -23,8 +23,8 @@ pub returns : goal.returns
 returns c =
     let problem = c.args.problem.now in
     let size = ap length c.in_ok-items.ensures ∙ length-column_list problem in
-    same_table problem (c.items-heads.result + 1) (c.len.result - (c.items-heads.result + 1)) c.in_ok-items.items.items c.in_ok-colours.colours.items c.in_ok-options.options.items c.in_ok-first.first.items c.in_ok-rows.rows.items
+    same_table problem (c.items-heads.result + 1) (c.len.result - (c.items-heads.result + 1)) c.in_ok-items.items.items c.in_ok-options.options.items c.in_ok-first.first.items c.in_ok-rows.rows.items
     (ap (λ n. n + 1) c.items-heads.ensures.count)
     (omega (arith, size, c.in_ok-items.items.ok.0, c.len.ensures, c.items-heads.ensures.count))
-    c.in_ok-items.ensures c.in_ok-colours.ensures c.in_ok-options.ensures c.in_ok-first.ensures
+    c.in_ok-items.ensures c.in_ok-options.ensures c.in_ok-first.ensures
     (c.in_ok-rows.ensures ∙ ap (λ (first : List ℕ). map (row_at first) c.deref.result.now) c.deref-2.ensures.value ∙ ap (map (row_at c.in_ok-first.first.items)) c.deref.ensures.value)
