@@ -5,6 +5,7 @@
 
 It wants no built program. The exit status is 0, or 2 for a fault of the command line or a folder that can't be written.
 """
+import itertools
 import os
 import random
 import sys
@@ -14,6 +15,31 @@ sys.path[:0] = [os.path.join(HERE, "..", folder) for folder in ("examples", "scr
 from built import parser_of, stop  # noqa: E402
 from generate import PENTOMINOES, langford, orientations, rectangle, shape  # noqa: E402
 import generate  # noqa: E402
+
+
+# 479 words of four letters
+WORDS = """
+able acid aged also area army away baby back ball band bank base bath bear beat been beer bell belt best bill bird blow
+blue boat body bomb bond bone book boom born boss both bowl bulk burn bush busy call calm came camp card care case cash
+cast cell chat chip city club coal coat code cold come cook cool cope copy core cost crew crop dark data date dawn days
+dead deal dear debt deep deny desk dial diet dish does done door dose down draw drew drop drug dual duke dust duty each
+earn ease east easy edge else even ever evil exit face fact fail fair fall farm fast fate fear feed feel feet fell felt
+file fill film find fine fire firm fish five flat flow food foot form fort four free from fuel full fund gain game gate
+gave gear gene gift girl give glad goal goes gold golf gone good grew grey grow gulf hair half hall hand hang hard harm
+hate have head hear heat held hell help here hero high hill hire hold hole holy home hope host hour huge hung hunt hurt
+idea inch into iron item join jump jury just keen keep kept kick kill kind king knee knew know lack lady laid lake land
+lane last late lead left less life lift like line link list live load loan lock long look lord lose loss lost love luck
+made mail main make male many mark mass meal mean meat meet menu mere mile milk mill mind mine miss mode mood moon more
+most move much must name navy near neck need news next nice nine none nose note once only onto open oral over pace pack
+page paid pain pair palm park part pass past path peak pick pink pipe plan play plot plug plus poll pool poor port post
+pull pure push race rail rain rank rare rate read real rear rely rent rest rice rich ride ring rise risk road rock role
+roll roof room root rose rule rush safe said sake sale salt same sand save seat seed seek seem seen self sell send sent
+ship shop shot show shut sick side sign site size skin slip slow snow soft soil sold sole some song soon sort soul spot
+star stay step stop such suit sure take tale talk tall tank tape task team tell tend term test text than that them then
+they thin this thus till time tiny told toll tone took tool tour town tree trip true tune turn twin type unit upon used
+user vary vast very vice view vote wage wait wake walk wall want warm wash wave ways weak wear week well went were west
+what when whom wide wife wild will wind wine wing wire wise wish with wood word wore work yard year your zero zone
+"""
 
 
 def write(name, primary, secondary, options):
@@ -65,6 +91,12 @@ def scattered(name, items, size, count, seed):
     write(name, names, [], [sorted(draw.sample(names, size), key=names.index) for _ in range(count)])
 
 
+def three_coloured():
+    """MacMahon's 24 squares: all whose four sides have three colours, where a turned square is the same."""
+    turns = ({sides[k:] + sides[:k] for k in range(4)} for sides in itertools.product("abc", repeat=4))
+    return {"".join(min(turned)): list(min(turned)) for turned in turns}
+
+
 def instances():
     langford("langford-13.dlx", "no pairing", 13)
     shuffled("pentominoes-6x10.dlx", rectangle(6, 10), 7)
@@ -75,6 +107,8 @@ def instances():
     scattered("scattered-19.dlx", 95, 19, 4000, 1)
     for n in (14, 15, 16):
         torus_queens(f"torus-queens-{n}.dlx", n)
+    generate.squares("macmahon-4x6.dlx", "MacMahon's squares, one colour all round", rectangle(4, 6), three_coloured(), "a")
+    generate.word_squares("word-squares-4.dlx", "two squares of sixteen different words", WORDS.split(), ("a", "b"))
     generate.sudoku("sudoku-hard.dlx", "few givens, many visits", [
         "..............3.85..1.2.......5.7.....4...1...9.......5......73..2.1........4...9"[k:k + 9] for k in range(0, 81, 9)])
 

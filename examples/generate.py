@@ -14,10 +14,14 @@
     coloring FILE                  a map's borders, two names a line; --colors red,green,blue
     matching FILE                  a graph's edges, two names a line
     timetable FILE.csv             lesson,teacher,class,rooms,periods; several rooms or periods stand with spaces between
+    squares 3x3 FILE               squares with coloured sides, of which one lies in each cell, turned as one likes, so that sides that
+                                   meet have one colour: in each line a name and four colours, from the top on clockwise;
+                                   --border grey wants this colour all round
+    words FILE                     different words of one length, in a square to be read across and down
 
-The first line of each file is a comment that tells what it is and how it was made. A problem beyond 1,000 items, 20,000 options
-or 200,000 occurrences of items in them is refused, since the program reads no such file. It wants no built program. The exit
-status is 0, or 2 for a fault of the command line, a file that can't be read, or a problem that is refused.
+The first line of each file is a comment that tells what it is and how it was made. A problem beyond 1,000 items, 20,000 options,
+200,000 occurrences of items in them or 10,000 colours is refused, since the program reads no such file. It wants no built
+program. The exit status is 0, or 2 for a fault of the command line, a file that can't be read, or a problem that is refused.
 """
 import argparse
 import csv
@@ -27,7 +31,7 @@ import re
 import sys
 
 HERE = os.path.dirname(os.path.abspath(__file__))
-MOST_ITEMS, MOST_OPTIONS, MOST_OCCURRENCES, LONGEST_NAME = 1_000, 20_000, 200_000, 32
+MOST_ITEMS, MOST_OPTIONS, MOST_OCCURRENCES, MOST_COLOURS, LONGEST_NAME = 1_000, 20_000, 200_000, 10_000, 32
 
 
 def stop(why):
@@ -37,11 +41,13 @@ def stop(why):
 
 def check_range(names, options):
     """Refuses what the program wouldn't read."""
-    for name in names:
+    colours = list(dict.fromkeys(word.partition(":")[2] for option in options for word in option if ":" in word))
+    for name in names + colours:
         if not name or len(name.encode()) > LONGEST_NAME or re.search(r"[\s:|\0]", name):
             stop(f"'{name}' can't be a name: 1 to {LONGEST_NAME} bytes, without white space, ':' and '|'")
     for count, most, what in ((len(names), MOST_ITEMS, "items"), (len(options), MOST_OPTIONS, "options"),
-                              (sum(map(len, options)), MOST_OCCURRENCES, "occurrences of items in options")):
+                              (sum(map(len, options)), MOST_OCCURRENCES, "occurrences of items in options"),
+                              (len(colours), MOST_COLOURS, "colours")):
         if count > most:
             stop(f"this would have {count:,} {what}, and the program reads at most {most:,}")
     twice = [name for name in names if names.count(name) > 1] if len(set(names)) < len(names) else []
@@ -89,6 +95,12 @@ PENTOMINOES = {
     "W": ["x..", "xx.", ".xx"], "X": [".x.", "xxx", ".x."], "Y": ["xxxx", ".x.."], "Z": ["xx.", ".x.", ".xx"],
 }
 TETROMINOES = {"I": ["xxxx"], "L": ["xxx", "x.."], "O": ["xx", "xx"], "S": [".xx", "xx."], "T": ["xxx", ".x."]}
+
+
+# nine squares: A to D have two grey sides and lie in the corners, E to H have one, and I lies in the middle
+SQUARES = ["A grey grey red yellow", "B grey grey blue red", "C grey grey yellow blue", "D grey grey red red", "E grey red blue red",
+           "F grey blue yellow blue", "G grey red red yellow", "H grey yellow yellow red", "I blue yellow red yellow"]
+WORDS = "ace bad den ice net pet rat rid tap tin"
 
 
 def names_of(cells):
@@ -180,6 +192,45 @@ def timetable(name, note, rows):
     write(name, note, [row["lesson"] for row in rows], busy, options)
 
 
+def looks_outwards(cells, cell):
+    """Of each side of a cell, from the top on clockwise, whether no other cell lies behind it."""
+    r, c = cell
+    return tuple(other not in cells for other in ((r - 1, c), (r, c + 1), (r + 1, c), (r, c - 1)))
+
+
+def squares(name, note, cells, pieces, border=None):
+    """Squares with coloured sides, edge to edge; with a border, all sides that look outwards have this colour, and no others where
+    the squares have no more of it."""
+    names, grid = names_of(cells), names_of({(r + a, c + b) for r, c in cells for a in (0, 1) for b in (0, 1)})
+    outwards = {cell: looks_outwards(cells, cell) for cell in cells}
+    no_more = sum(colours.count(border) for colours in pieces.values()) == sum(map(sum, outwards.values()))
+
+    def fits(colour, is_outwards):
+        return border is None or (colour == border if is_outwards else not (no_more and colour == border))
+
+    options = []
+    for piece, colours in pieces.items():
+        for turned in dict.fromkeys(tuple(colours[k:] + colours[:k]) for k in range(4)):
+            for r, c in sorted(cells):
+                sides = ["h" + grid[r, c], "v" + grid[r, c + 1], "h" + grid[r + 1, c], "v" + grid[r, c]]
+                if all(map(fits, turned, outwards[r, c])):
+                    options.append([piece, names[r, c]] + [f"{side}:{colour}" for side, colour in zip(sides, turned)])
+    sides = sorted({word.partition(":")[0] for option in options for word in option[2:]})
+    write(name, note, list(pieces) + list(names.values()), sides, options)
+
+
+def word_squares(name, note, words, marks=("",)):
+    """Squares with a word in each row and in each column, all different; a cell's colour is its letter. Behind each mark go the names
+    of one square."""
+    n, slots = len(words[0]), {}
+    names = names_of(rectangle(n, n))
+    for mark in marks:
+        slots.update((f"{mark}across{r}", [mark + names[r, c] for c in range(n)]) for r in range(n))
+        slots.update((f"{mark}down{c}", [mark + names[r, c] for r in range(n)]) for c in range(n))
+    options = [[slot, word] + [f"{cell}:{letter}" for cell, letter in zip(cells, word)] for slot, cells in slots.items() for word in words]
+    write(name, note, list(slots), [mark + cell for mark in marks for cell in names.values()] + words, options)
+
+
 # ---- what the command line gives
 
 def whole_number(text):
@@ -237,6 +288,29 @@ def read_sudoku(given):
     return rows
 
 
+def read_squares(path):
+    """Squares by their names, each with its four colours."""
+    lines = [(number, line.split()) for number, line in enumerate(read_text(path).splitlines(), 1)]
+    lines = [(number, words) for number, words in lines if words and not words[0].startswith(("|", "#"))]
+    for number, words in lines:
+        if len(words) != 5:
+            stop(f"{path}, line {number}: a name and four colours are expected")
+    names = [words[0] for _, words in lines]
+    for name in names:
+        if names.count(name) > 1 or re.fullmatch(r"\d+", name):
+            stop(f"{path}: '{name}' " + ("would stand for two squares" if names.count(name) > 1 else "would be the name of a cell"))
+    return {words[0]: words[1:] for _, words in lines}
+
+
+def read_words(path):
+    """Different words of one length."""
+    words = list(dict.fromkeys(read_text(path).split())) or stop(f"{path} has no words")
+    for word in words:
+        if len(word) != len(words[0]) or re.search(r"[\d:|\0]", word):
+            stop(f"{path}: words of one length, without digits, ':' and '|' are expected, and '{word}' isn't like '{words[0]}'")
+    return words
+
+
 def read_lessons(path):
     rows = list(csv.DictReader(read_text(path).splitlines()))
     wanted = ["lesson", "teacher", "class", "rooms", "periods"]
@@ -276,6 +350,13 @@ def colored_map(given, note):
     coloring("-", note, list(dict.fromkeys(tuple(sorted(pair)) for pair in borders)), given.colors.split(","))
 
 
+def squares_on_board(given, note):
+    cells, found = board(given), read_squares(given.file)
+    if len(cells) != len(found):
+        stop(f"{len(found)} squares can't fill {len(cells)} cells")
+    squares("-", note("squares with coloured sides: where two meet, their sides have one colour"), cells, found, given.border)
+
+
 def pieces(given, note):
     what, shapes = given.kind, PENTOMINOES if given.kind == "pentominoes" else TETROMINOES
     pieces_on_board(given, shapes, note(f"{what}, each at most once, fill a board"))
@@ -296,6 +377,8 @@ KINDS = {
     "matching": lambda given, note: matching("-", note("a perfect matching: items are vertices, options edges"), read_pairs(given.file)),
     "timetable": lambda given, note: timetable(
         "-", note("each lesson once, and no teacher, class or room twice at a time"), read_lessons(given.file)),
+    "squares": squares_on_board,
+    "words": lambda given, note: word_squares("-", note("different words in a square, across and down"), read_words(given.file)),
 }
 
 
@@ -312,15 +395,17 @@ def parse():
     kinds = parser.add_subparsers(dest="kind", metavar="KIND")
     for kind, what in (("queens", "rows and columns"), ("langford", "the greatest number"), ("triples", "the number of points")):
         kinds.add_parser(kind).add_argument("n", metavar="N", type=whole_number, help=what)
-    for kind in ("pentominoes", "tetrominoes", "dominoes"):
+    for kind in ("pentominoes", "tetrominoes", "dominoes", "squares"):
         tiles = kinds.add_parser(kind)
         tiles.add_argument("size", metavar="ROWSxCOLUMNS", type=size, help="as in 5x12")
         tiles.add_argument("--without", metavar="ROW,COLUMN", type=cell, nargs="+", default=[], help="cells that are left out, from 0,0")
     kinds.add_parser("sudoku").add_argument("given", metavar="FILE-or-81-characters", help="digits, and dots or zeros for empty cells")
     for kind, what in (("coloring", "borders, two names a line"), ("matching", "edges, two names a line"),
-                       ("timetable", "lessons, as CSV")):
+                       ("timetable", "lessons, as CSV"), ("words", "words of one length")):
         kinds.add_parser(kind).add_argument("file", metavar="FILE", help=what)
     kinds.choices["coloring"].add_argument("--colors", default="red,green,blue", help="the colours, with commas (default red,green,blue)")
+    kinds.choices["squares"].add_argument("file", metavar="FILE", help="a name and four colours a line")
+    kinds.choices["squares"].add_argument("--border", metavar="COLOUR", help="the colour of all sides that look outwards")
     return parser.parse_args()
 
 
@@ -338,6 +423,9 @@ def examples():
     coloring("australia.dlx", "three colours for the states of Australia on its mainland",
              [tuple(border.split()) for border in borders], ["red", "green", "blue"])
     triples("fano-plane.dlx", "seven lines of three points, so that any two of seven points lie on one line", 7)
+    squares("squares-3x3.dlx", "nine squares, edge to edge in one colour, and grey all round", rectangle(3, 3),
+            {line[0]: line.split()[1:] for line in SQUARES}, "grey")
+    word_squares("word-square.dlx", "six words across and down, from a list of ten", WORDS.split())
 
 
 def main():

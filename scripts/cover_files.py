@@ -7,16 +7,16 @@ import sys
 from collections import namedtuple
 
 WHITE = b"\t\v\f\r "
-BAR, ILLEGAL = b"|", b"\0:|"
+BAR, COLON, ILLEGAL = b"|", b":", b"\0:|"
 WITHOUT_LINE = {"NoItems", "BadHead", "WrongCount"}
-MAX_NAME, MAX_ITEMS, MAX_OPTIONS, MAX_OCCURRENCES = 32, 1_000, 20_000, 200_000
+MAX_NAME, MAX_ITEMS, MAX_OPTIONS, MAX_OCCURRENCES, MAX_COLOURS = 32, 1_000, 20_000, 200_000, 10_000
 
 # a word with its place, counted from 1, the column in characters
 Word = namedtuple("Word", "line column text")
 # a fault by the program's name for it; `word` is None where the fault is told of a whole line or file
 Fault = namedtuple("Fault", "name line word")
-# an option with the number of its line
-Option = namedtuple("Option", "line names")
+# an option with the number of its line: its words as they stand, and of each the item's name and the colour, None where it has none
+Option = namedtuple("Option", "line words names colours")
 
 
 class Unreadable(Exception):
@@ -78,22 +78,50 @@ def name_part(text):
     return text[1:] if text.startswith(BAR) else text
 
 
+def parts_of(text):
+    """What a word of an option says: an item's name, and behind the first colon a colour's; None where no colon stands."""
+    name, colon, colour = text.partition(COLON)
+    return name, colour if colon else None
+
+
+def option_of(words):
+    """The option of a line with these words."""
+    texts = tuple(word.text for word in words)
+    names, colours = zip(*map(parts_of, texts))
+    return Option(words[0].line, texts, names, colours)
+
+
+def is_illegal(name):
+    return name.translate(None, ILLEGAL) != name
+
+
 def name_faults(name, word):
-    if name.translate(None, ILLEGAL) != name:
+    if is_illegal(name):
         yield Fault("IllegalByte", word.line, word)
     if len(name) > MAX_NAME:
         yield Fault("NameTooLong", word.line, word)
+
+
+def part_faults(name, colour, word):
+    """The faults that an option's word has by itself."""
+    if is_illegal(name) or is_illegal(colour or b""):
+        yield Fault("IllegalByte", word.line, word)
+    if len(name) > MAX_NAME:
+        yield Fault("NameTooLong", word.line, word)
+    if colour is not None and not (name and 1 <= len(colour) <= MAX_NAME):
+        yield Fault("BadColour", word.line, word)
 
 
 class Problem:
     """What a problem file says, with all its faults in reading order.
 
     `items` leads each name to its number, in the order of the item line; the first `primary` are primary. `options` are
-    kept, `ignored` name no primary item, `comments` are texts. After a fault these are what the rest of the file says.
+    kept, `ignored` name no primary item, `comments` are texts. `colours` leads each colour of options that are kept to its
+    number from 1, in the order in which they first stand. After a fault these are what the rest of the file says.
     """
 
     def __init__(self, lines):
-        self.items, self.primary = {}, 0
+        self.items, self.primary, self.colours = {}, 0, {}
         self.options, self.ignored, self.occurrences = [], [], 0
         self.item_line, self.faults, self.places = None, [], {}
         content = [words for words in lines if not is_comment(words)]
@@ -117,6 +145,7 @@ class Problem:
                 if divided:
                     yield Fault("SecondBar", word.line, word)
                 divided = True
+            name, _ = parts_of(name)  # so that a colour on the item line hides no item from the options
             if name and name not in self.items:
                 self.items[name] = len(self.items)
                 self.places[name] = word
@@ -124,25 +153,38 @@ class Problem:
                 if len(self.items) == MAX_ITEMS + 1:
                     yield Fault("TooManyItems", word.line, word)
 
+    def is_primary(self, name):
+        return self.items.get(name, self.primary) < self.primary
+
     def read_option(self, words):
-        seen = set()
-        for word in words:
-            yield from name_faults(word.text, word)
-            if word.text not in self.items:
+        option, seen = option_of(words), set()
+        for word, name, colour in zip(words, option.names, option.colours):
+            yield from part_faults(name, colour, word)
+            if name not in self.items:
                 yield Fault("UnknownItem", word.line, word)
-            if word.text in seen:
+            if name and name in seen:
                 yield Fault("DuplicateInOption", word.line, word)
-            seen.add(word.text)
-        option = Option(words[0].line, tuple(word.text for word in words))
-        if not any(self.items.get(name, self.primary) < self.primary for name in seen):
+            if colour is not None and self.is_primary(name):
+                yield Fault("ColourOnPrimary", word.line, word)
+            seen.add(name)
+        if any(map(self.is_primary, seen)):
+            yield from self.keep(option)
+        else:
             self.ignored.append(option)
-            return
-        before, self.occurrences = self.occurrences, self.occurrences + len(words)
+
+    def keep(self, option):
+        """Takes an option, and counts what is limited; each limit is told once."""
+        before, self.occurrences = self.occurrences, self.occurrences + len(option.words)
+        fewer = len(self.colours)
         self.options.append(option)
+        for colour in filter(None, option.colours):
+            self.colours.setdefault(colour, len(self.colours) + 1)
         if len(self.options) == MAX_OPTIONS + 1:
             yield Fault("TooManyOptions", option.line, None)
         if before <= MAX_OCCURRENCES < self.occurrences:
             yield Fault("TooManyNodes", option.line, None)
+        if fewer <= MAX_COLOURS < len(self.colours):
+            yield Fault("TooManyColours", option.line, None)
 
     def names(self):
         return list(self.items)
@@ -191,7 +233,7 @@ class Answer:
     def read_options(self, problem):
         free = {}
         for place in reversed(range(len(problem.options))):
-            free.setdefault(problem.options[place].names, []).append(place)
+            free.setdefault(problem.options[place].words, []).append(place)
         for words in self.rest:
             places = free.get(tuple(word.text for word in words))
             if places:
@@ -205,12 +247,20 @@ class Answer:
         return [name for name in problem.primary_names() if name not in used]
 
     def covered_twice(self, problem):
-        """Each item that several chosen options name, with these: places in `chosen`."""
+        """Each item that several chosen options name and don't all give one colour, with these: places in `chosen`."""
         users = {}
         for k, (_, place) in enumerate(self.chosen):
-            for name in problem.options[place].names:
-                users.setdefault(name, []).append(k)
-        return [(name, users[name]) for name in problem.items if len(users.get(name, [])) > 1]
+            option = problem.options[place]
+            for name, colour in zip(option.names, option.colours):
+                users.setdefault(name, []).append((k, colour))
+        several = ((name, users.get(name, [])) for name in problem.items)
+        return [(name, [k for k, _ in by]) for name, by in several if len(by) > 1 and not in_one_colour(by)]
+
+
+def in_one_colour(users):
+    """Whether all of these places and colours have one and the same colour."""
+    colours = {colour for _, colour in users}
+    return len(colours) == 1 and None not in colours
 
 
 def read_answer(text, problem):

@@ -6,15 +6,16 @@
 The files' format is told in docs/FORMAT.md. Of a file that would be refused each fault is told with its line, its column
 (in characters, from 1; a tab is one), the word, and what was expected; the first line says what the program tells of it. Of
 a file that is right the counts are told, the options that are ignored, and what may surprise: primary items in no option or
-in one alone, items that always go together, options that name the same items. Of an answer each uncovered item is told, and
-for each item that is covered twice the options that do it.
+in one alone, items that always go together, options that name the same items, items that have a colour in some options and none
+in others, colours that no two options give. Of an answer each uncovered item is told, and for each item that is covered twice the
+options that do it, with the colours that they give it.
 
 It explains and decides nothing: whether an answer is right, and above all `none`, is for the program to say. The exit
 status is 0 where nothing is wrong, 1 where something is, 2 for a fault of the command line, 3 for a file that can't be read.
 """
 import argparse
 
-from cover_files import MAX_ITEMS, MAX_OCCURRENCES, MAX_OPTIONS, Unreadable
+from cover_files import MAX_COLOURS, MAX_ITEMS, MAX_OCCURRENCES, MAX_OPTIONS, Unreadable
 from cover_files import is_comment, lines_of, Problem, read_answer, read_bytes, read_problem, refusal, run, shown
 from fault_words import answer_fault_words, fault_words, grouped, listed, plural, quoted
 
@@ -101,15 +102,16 @@ def explain_refused(problem, meant, remarks):
 
 def near_limits(problem):
     for count, limit, what in ((len(problem.items), MAX_ITEMS, "items"), (len(problem.options), MAX_OPTIONS, "options"),
-                               (problem.occurrences, MAX_OCCURRENCES, "occurrences")):
+                               (problem.occurrences, MAX_OCCURRENCES, "occurrences"), (len(problem.colours), MAX_COLOURS, "colours")):
         if 10 * count >= 9 * limit:
             yield f"near a limit: {count:,} {what}, at most {limit:,} are read"
 
 
 def counts(problem):
     secondary = len(problem.items) - problem.primary
+    colours = f", {plural(len(problem.colours), 'colour')}" if problem.colours else ""
     return (f"{plural(len(problem.items), 'item')} ({problem.primary:,} primary, {secondary:,} secondary), "
-            f"{plural(len(problem.options), 'option')}, {plural(problem.occurrences, 'occurrence')} of items in them")
+            f"{plural(len(problem.options), 'option')}, {plural(problem.occurrences, 'occurrence')} of items in them{colours}")
 
 
 def rare_items(problem, by_item):
@@ -140,23 +142,51 @@ def items_together(by_item):
 
 
 def equal_options(problem):
-    """Lines on options that name the same items, in whatever order."""
+    """Lines on options that name the same items in the same colours, in whatever order."""
     groups = {}
     for option in problem.options:
-        groups.setdefault(frozenset(option.names), []).append(option.line)
+        groups.setdefault(frozenset(option.words), []).append(option.line)
     equal = [lines for lines in groups.values() if len(lines) > 1]
+    same = "the same items and colours" if problem.colours else "the same items"
     for lines in equal[:MANY]:
-        yield f"the same items in {plural(len(lines), 'option')}: lines {listed(lines, MANY)}"
+        yield f"{same} in {plural(len(lines), 'option')}: lines {listed(lines, MANY)}"
     if len(equal) > MANY:
-        yield f"and {len(equal) - MANY:,} more groups of options name the same items"
+        yield f"and {len(equal) - MANY:,} more groups of options name {same}"
+
+
+def lines_by_colour(problem):
+    """For each secondary item the lines of the options that name it, by the colour that they give it."""
+    by_item = {name: {} for name in problem.names()[problem.primary:]}
+    for option in problem.options:
+        for name, colour in zip(option.names, option.colours):
+            if name in by_item:
+                by_item[name].setdefault(colour, []).append(option.line)
+    return by_item
+
+
+def colour_habits(problem):
+    """Lines on colours that can't do what colours are for: to be given by several options."""
+    if not problem.colours:
+        return
+    by_item = lines_by_colour(problem)
+    mixed = [f"{quoted(name)} (line{'s' * (len(by[None]) > 1)} {listed(by[None], 3)})" for name, by in by_item.items()
+             if None in by and len(by) > 1]
+    if mixed:
+        yield ("in some options with a colour and in others without, which agree with none: secondary "
+               f"{plural(len(mixed), 'item', False)} {listed(mixed, MANY)}")
+    several = {colour for by in by_item.values() for colour, lines in by.items() if len(lines) > 1}
+    alone = [quoted(colour) for colour in problem.colours if colour not in several]
+    if alone:
+        yield f"given to no item by two options, and so without effect: {plural(len(alone), 'colour', False)} {listed(alone, MANY)}"
 
 
 def strange_names(problem):
     """Lines on names that are allowed but perhaps not meant."""
-    commas = [quoted(name) for name in problem.items if name[-1:] in (b",", b";")]
+    names = list(problem.items) + list(problem.colours)
+    commas = [quoted(name) for name in names if name[-1:] in (b",", b";")]
     if commas:
         yield f"words are parted by white space, so the comma belongs to the name in {listed(commas, MANY)}"
-    unseen = [quoted(name) for name in problem.items if shown(name) != name.decode("utf-8", "replace")]
+    unseen = [quoted(name) for name in names if shown(name) != name.decode("utf-8", "replace")]
     if unseen:
         yield f"characters that can't be seen stand in the {plural(len(unseen), 'name', False)} {listed(unseen, MANY)}"
 
@@ -171,10 +201,18 @@ def explain_good(problem):
     yield from rare_items(problem, by_item)
     yield from items_together(by_item)
     yield from equal_options(problem)
+    yield from colour_habits(problem)
     yield from strange_names(problem)
 
 
 # ---- an answer
+
+def colour_words(problem, name, places):
+    """What each of the options gives the item, behind its place; nothing where none of them gives it a colour."""
+    options = [problem.options[place] for place in places]
+    colours = [option.colours[option.names.index(name)] for option in options]
+    return [(f" in {quoted(colour)}" if colour else " without a colour") if any(colours) else "" for colour in colours]
+
 
 def explain_cover(problem, answer):
     """Lines on each item that the chosen options leave out or name twice."""
@@ -184,8 +222,10 @@ def explain_cover(problem, answer):
         which = f"options that name it: line{'s' * (len(lines) > 1)} {listed(lines, MANY)} of the file" if lines else "no option names it"
         yield f"uncovered: {quoted(name)} ({which})"
     for name, users in answer.covered_twice(problem):
-        options = [f"line {words[0].line} of the answer (line {problem.options[place].line} of the file)"
-                   for words, place in (answer.chosen[k] for k in users)]
+        chosen = [answer.chosen[k] for k in users]
+        colours = colour_words(problem, name, [place for _, place in chosen])
+        options = [f"line {words[0].line} of the answer (line {problem.options[place].line} of the file){colour}"
+                   for (words, place), colour in zip(chosen, colours)]
         yield f"covered {'twice' if len(users) == 2 else f'{len(users)} times'}: {quoted(name)} by {listed(options, MANY)}"
 
 
@@ -214,7 +254,8 @@ def explain_answer(problem, answer):
         yield from wrong
     elif not answer.faults:
         yield from wrong
-        exact = ", each primary item in exactly one of them, no secondary item in two"
+        colours = " unless in one colour" if problem.colours else ""
+        exact = ", each primary item in exactly one of them, no secondary item in two" + colours
         yield plural(len(answer.chosen), "option") + (": no exact cover" if wrong else exact)
 
 

@@ -1,9 +1,11 @@
 """What each fault of a problem file or of an answer means, in words, with what was expected and the nearest name there is."""
 import difflib
 
-from cover_files import MAX_ITEMS, MAX_NAME, MAX_OCCURRENCES, MAX_OPTIONS, shown
+from cover_files import MAX_COLOURS, MAX_ITEMS, MAX_NAME, MAX_OCCURRENCES, MAX_OPTIONS, option_of, parts_of, shown
 
 FEW = 12
+# faults that aren't told where the same word has an earlier one
+FOLLOWS = ("UnknownItem", "NameTooLong", "BadColour")
 
 
 # ---- plain English
@@ -49,24 +51,46 @@ def instead(names, name):
 
 
 def unknown_words(problem, word):
-    names, bare = problem.names(), word.text.strip(b",;")
-    if word.text.startswith(b"#"):
+    name, colour = parts_of(word.text)
+    names, bare = problem.names(), name.strip(b",;")
+    if name.startswith(b"#"):
         return "no item has this name; a comment begins with '|', not with '#'"
-    if bare != word.text and (not bare or bare in problem.items):
+    if bare != name and (not bare or bare in problem.items):
         return "no item has this name; names are parted by white space, not by commas"
-    return f"no item has this name; {instead(names, word.text)}"
+    which = "no item has this name" if colour is None else f"no item is named {quoted(name)}, as stands before the ':'"
+    return f"{which}; {instead(names, name)}"
 
 
 def illegal_words(problem, word):
     if b"\0" in word.text:
         return "byte 0 stands in it, which no name has; is the file a text in UTF-8?"
-    if b":" in word.text:
-        item = word.text.split(b":")[0]
-        known = "" if item in problem.items or word.line == problem.item_line else f"; {instead(problem.names(), item)}"
-        return f"no name has a ':'; colours aren't known here, an item is just a name{known}"
+    if b":" in word.text and word.line == problem.item_line:
+        return "no name has a ':'; the item line has names alone, and options give colours to secondary items, as in 'x:red'"
     if word.line == problem.item_line:
         return "a '|' stands within the word; the separator begins a word, as in 'a b | x y'"
+    if word.text.count(b":") > 1:
+        return "a second ':' stands in it, and no name of an item or of a colour has one; one ':' parts them, as in 'x:red'"
     return "an option has no '|'; it parts primary from secondary items on the item line, or begins a line that is a comment"
+
+
+def bad_colour_words(word):
+    name, colour = parts_of(word.text)
+    if name.startswith(b"#"):
+        return "a ':' parts an item from its colour; if this is a note, a comment begins with '|', not with '#'"
+    if not name and not colour:
+        return "a ':' stands alone; an item and its colour are one word, as in 'x:red'"
+    if not name:
+        return "no item stands before the ':'; an item and its colour are one word, as in 'x:red'"
+    if not colour:
+        return (f"no colour stands behind the ':'; {quoted(name)} alone names the item without a colour, and an item and its colour are "
+                "one word, as in 'x:red'")
+    return f"a colour has at most {MAX_NAME} bytes, this one has {len(colour)}"
+
+
+def primary_words(problem, word):
+    name, _ = parts_of(word.text)
+    return (f"{quoted(name)} is a primary item, which one option of a cover alone names; only secondary items have colours, those behind "
+            f"the '|' of line {problem.item_line}")
 
 
 # ---- faults of a problem
@@ -87,7 +111,12 @@ def fault_words(problem, fault):
     if name == "UnknownItem":
         return unknown_words(problem, word)
     if name == "NameTooLong":
-        return f"a name has at most {MAX_NAME} bytes, this one has {len(word.text.lstrip(b'|'))}"
+        item = word.text.lstrip(b"|") if word.line == problem.item_line else parts_of(word.text)[0]
+        return f"a name has at most {MAX_NAME} bytes, this one has {len(item)}"
+    if name == "BadColour":
+        return bad_colour_words(word)
+    if name == "ColourOnPrimary":
+        return primary_words(problem, word)
     if name == "DuplicateItem":
         return f"the item line names it already, at column {earlier_column(problem, fault)}"
     return {
@@ -97,6 +126,7 @@ def fault_words(problem, fault):
         "TooManyItems": f"the item line has {len(problem.items):,} names, at most {MAX_ITEMS:,} are read",
         "TooManyOptions": f"{len(problem.options):,} options name a primary item, at most {MAX_OPTIONS:,} are read",
         "TooManyNodes": f"the options have {problem.occurrences:,} items together, at most {MAX_OCCURRENCES:,} are read",
+        "TooManyColours": f"the options have {len(problem.colours):,} different colours, at most {MAX_COLOURS:,} are read",
     }[name]
 
 
@@ -117,7 +147,7 @@ def plain_faults(problem):
             continue
         if fault.name == "UnknownItem" and word.text.startswith(b"#"):
             hashed.add(word.line)
-        if cause.setdefault(word, fault.name) == fault.name or fault.name not in ("UnknownItem", "NameTooLong"):
+        if cause.setdefault(word, fault.name) == fault.name or fault.name not in FOLLOWS:
             yield fault
 
 
@@ -162,35 +192,39 @@ def lines_where(options, is_so):
 
 def option_words(problem, answer, words):
     """Why a line of an answer is no option that is left, and what may be meant."""
-    names = tuple(word.text for word in words)
-    if names[0].startswith((b"|", b"#")):
+    line = option_of(words)
+    if line.words[0].startswith((b"|", b"#")):
         return "an answer has no comments"
-    unknown = [name for name in names if name not in problem.items]
+    unknown = [name for name in line.names if name not in problem.items]
     if unknown:
         return "; ".join(f"no item is named {quoted(name)}; {instead(problem.names(), name)}" for name in dict.fromkeys(unknown))
-    same = lines_where(problem.options, lambda option: option.names == names)
+    same = lines_where(problem.options, lambda option: option.words == line.words)
     if same:
-        earlier = [line[0].line for line, place in answer.chosen if problem.options[place].names == names]
+        earlier = [words[0].line for words, place in answer.chosen if problem.options[place].words == line.words]
         return (f"the file has this option {'once' if len(same) == 1 else f'{len(same)} times'} (line{'s' * (len(same) > 1)} "
                 f"{listed(same, FEW)}), and the answer has it already at line{'s' * (len(earlier) > 1)} {listed(earlier, FEW)}")
-    if lines_where(problem.ignored, lambda option: set(option.names) == set(names)):
+    if lines_where(problem.ignored, lambda option: set(option.words) == set(line.words)):
         return "the file's option with these names is ignored, since it names no primary item; no answer has it"
-    turned = [option for option in problem.options if sorted(option.names) == sorted(names)]
+    turned = [option for option in problem.options if sorted(option.words) == sorted(line.words)]
     if turned:
-        order = " ".join(shown(name) for name in turned[0].names)
-        return f"names stand in the order of the file: write '{order}' (line {turned[0].line})"
-    return near_option_words(problem, names)
+        return f"names stand in the order of the file: write '{told(turned[0])}' (line {turned[0].line})"
+    return near_option_words(problem, line)
 
 
-def near_option_words(problem, names):
-    """The option that has most of these names and fewest others."""
+def told(option):
+    return " ".join(map(shown, option.words))
+
+
+def near_option_words(problem, line):
+    """The option that has most of these words and fewest others, where names count before colours."""
     def distance(option):
-        return len(set(option.names) ^ set(names))
+        return len(set(option.names) ^ set(line.names)), len(set(option.words) ^ set(line.words))
 
     near = min(problem.options, key=distance, default=None)
-    if near is None or distance(near) >= len(names):
+    if near is None or distance(near)[0] >= len(line.names):
         return "no option of the file has these names"
-    return f"no option of the file has these names; nearest: '{' '.join(map(shown, near.names))}' (line {near.line})"
+    what = "these names in these colours" if near.names == line.names else "these names"
+    return f"no option of the file has {what}; nearest: '{told(near)}' (line {near.line})"
 
 
 def answer_fault_words(problem, answer, fault):

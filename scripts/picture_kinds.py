@@ -12,15 +12,31 @@ KNOWN_COLOURS = {"red": "#f0a39a", "green": "#b3d9b1", "blue": "#a5c4ee", "yello
                  "white": "#ffffff", "grey": "#cccccc", "gray": "#cccccc", "brown": "#cfae8e", "pink": "#f3bfd3"}
 
 
+def names_of(option):
+    return tuple(map(shown, option.names))
+
+
+def colours_of(option):
+    """The colour of each name that has one."""
+    return {shown(name): shown(colour) for name, colour in zip(option.names, option.colours) if colour}
+
+
 class Kind:
-    """An answer to a problem of a kind: the chosen options, and whether the answer is `none`."""
+    """An answer to a problem of a kind: the chosen options, and whether the answer is `none`.
+
+    Options are tuples of names; `option_colours` and `chosen_colours` have beside each option the colours that it gives.
+    """
+
+    # whether the kind is one of problems with colours, or else of those without
+    with_colours = False
 
     def __init__(self, problem, chosen, is_none):
         self.items = [shown(name) for name in problem.items]
         self.primary = set(self.items[:problem.primary])
-        self.options = [tuple(shown(name) for name in option.names) for option in problem.options]
+        self.options, self.chosen = ([names_of(option) for option in some] for some in (problem.options, chosen))
+        self.option_colours, self.chosen_colours = ([colours_of(option) for option in some] for some in (problem.options, chosen))
         self.comments = [shown(comment) for comment in problem.comments]
-        self.chosen, self.is_none = chosen, is_none
+        self.is_none = is_none
 
     def is_known(self):
         """Whether the problem is of this kind, by its names."""
@@ -382,15 +398,102 @@ class Plain(Kind):
         return True
 
     def lines(self):
-        return [" ".join(option) for option in self.chosen]
+        return [" ".join(name + (f":{colours[name]}" if name in colours else "") for name in option)
+                for option, colours in zip(self.chosen, self.chosen_colours)]
 
     def draw(self, paper):
         draw_lines(paper, self.text())
 
 
-KINDS = [Sudoku, Queens, Langford, Triples, Tiling, Timetable, Colouring, Matching, Plain]
+# ---- boards with colours
+
+class Squares(Kind):
+    """Squares with coloured sides, edge to edge: of the cell 12 h12 is the side above, v12 the one on its left."""
+
+    with_colours = True
+
+    def is_known(self):
+        are_sides = self.all_match(r"[hv]\d+", self.secondary())
+        return bool(self.options) and are_sides and all(map(self.laid, self.options, self.option_colours))
+
+    @staticmethod
+    def laid(option, colours):
+        """The cell of an option, the square's name, and the colours of its sides from the top on clockwise; None where it has no
+        such form."""
+        cells, names = ([name for name in option if name not in colours and bool(cell_of(name)) == is_cell] for is_cell in (True, False))
+        sides = {(name[0], cell_of(name[1:])): colour for name, colour in colours.items()}
+        if len(cells) != 1 or len(names) > 1 or len(sides) != 4:
+            return None
+        r, c = cell_of(cells[0])
+        around = [sides.get(side) for side in (("h", (r, c)), ("v", (r, c + 1)), ("h", (r + 1, c)), ("v", (r, c)))]
+        return ((r, c), "".join(names), around) if all(around) else None
+
+    def laid_by_cell(self):
+        """For each cell the name of its square and the colours of its sides; nothing where none lies."""
+        cells = {cell_of(item): ("", ["", "", "", ""]) for item in self.items if item in self.primary and cell_of(item)}
+        cells.update((cell, (name, sides)) for cell, name, sides in map(self.laid, self.chosen, self.chosen_colours))
+        return cells
+
+    def marks(self):
+        """A letter for each colour, its first where these differ."""
+        names = sorted({colour for colours in self.option_colours for colour in colours.values()})
+        firsts = [name[0] for name in names]
+        return {"": " ", **dict(zip(names, firsts if len(set(firsts)) == len(firsts) else "abcdefghijklmnopqrstuvwxyz" * len(names)))}
+
+    def lines(self):
+        cells, marks = self.laid_by_cell(), self.marks()
+        rows, columns = ({cell[k] for cell in cells} for k in (0, 1))
+        wide = max(len(name) for name, _ in cells.values())
+        wall, lines = "+" + ("-" * (wide + 4) + "+") * len(columns), []
+        for r in sorted(rows):
+            row = [cells.get((r, c), ("", ["", "", "", ""])) for c in sorted(columns)]
+            lines += [wall, "|" + "|".join(marks[sides[0]].center(wide + 4) for _, sides in row) + "|"]
+            lines += ["|" + "|".join(f"{marks[sides[3]]} {name.center(wide)} {marks[sides[1]]}" for name, sides in row) + "|"]
+            lines += ["|" + "|".join(marks[sides[2]].center(wide + 4) for _, sides in row) + "|"]
+        return lines + [wall]
+
+    def draw(self, paper):
+        names, size = [name for name in self.marks() if name], 1.8 * CELL
+        for (r, c), (name, sides) in sorted(self.laid_by_cell().items()):
+            corners = [(c * size, r * size), ((c + 1) * size, r * size), ((c + 1) * size, (r + 1) * size), (c * size, (r + 1) * size)]
+            middle = ((c + 0.5) * size, (r + 0.5) * size)
+            for k, colour in enumerate(sides):
+                fill = KNOWN_COLOURS.get(colour) or (FILLS[names.index(colour) % len(FILLS)] if colour else BACKGROUND)
+                paper.shape([corners[k], corners[(k + 1) % 4], middle], fill, FAINT, 0.5)
+            paper.shape(corners, "none", INK, 2.2)
+            paper.text(*middle, name, 15)
+        self.caption(paper)
+
+
+class Words(Kind):
+    """Words that cross: each lies over cells, to which it gives its letters as colours."""
+
+    with_colours = True
+
+    def is_known(self):
+        greatest = max((max(cell) for cell in map(cell_of, self.items) if cell), default=LARGEST)
+        return greatest < LARGEST and all(
+            cell_of(name) and len(letter) == 1 for colours in self.option_colours for name, letter in colours.items())
+
+    def board(self):
+        cells = {cell_of(name) for colours in self.option_colours for name in colours}
+        letters = {cell_of(name): letter for colours in self.chosen_colours for name, letter in colours.items()}
+        return Board(letters, {cell: cell for cell in cells})
+
+    def lines(self):
+        board = self.board()
+        rows = (" ".join(board.labels.get((r, c), ".") if (r, c) in board.areas else " " for c in board.columns) for r in board.rows)
+        return [row.rstrip() for row in rows]
+
+    def draw(self, paper):
+        self.board().draw(paper, CELL, lambda cell: "#fffdf8", CELL * 0.5)
+        self.caption(paper)
+
+
+KINDS = [Sudoku, Queens, Langford, Triples, Tiling, Timetable, Colouring, Matching, Squares, Words]
 
 
 def picture_of(problem, chosen, is_none):
-    """The answer as the first kind that knows the problem's names."""
-    return next(kind for kind in (kind(problem, chosen, is_none) for kind in KINDS) if kind.is_known())
+    """The answer with these options as the first kind that knows the problem's names."""
+    kinds = (kind(problem, chosen, is_none) for kind in KINDS if kind.with_colours == bool(problem.colours))
+    return next((kind for kind in kinds if kind.is_known()), None) or Plain(problem, chosen, is_none)

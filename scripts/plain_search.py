@@ -4,8 +4,9 @@
     python3 scripts/plain_search.py FILE
 
 prints the outcome, the visits and the first cover of the empty prefix, by numbers of options from 0. It filters all options
-at each visit, as the definition says, and keeps no links. It reads the same files as the program, but trusts them: no
-refusal is made here. It wants no built program. The exit status is 0, or 2 for a fault of the command line or a file that
+at each visit, as the definition says, and keeps no links. Two options clash where both name an item, and it is primary or they
+give it no equal colour (exact covering with colours, TAOCP 7.2.2.1). It reads the same files as the program, but trusts them:
+no refusal is made here. It wants no built program. The exit status is 0, or 2 for a fault of the command line or a file that
 can't be read.
 """
 import sys
@@ -22,6 +23,12 @@ def words_of(line):
     return [word for word in line.split(b" ") if word]
 
 
+def option_of(names, words):
+    """The items of an option, each with its colour, or with nothing where it has none."""
+    parts = [word.partition(b":") for word in words]
+    return {names.index(name): colour or None for name, _, colour in parts}
+
+
 def read(text):
     lines = [words_of(line) for line in text.split(b"\n")]
     lines = [words for words in lines if words and not words[0].startswith(b"|")]
@@ -33,20 +40,24 @@ def read(text):
         if word:
             names.append(word)
     primary = len(names) if primary is None else primary
-    options = [[names.index(word) for word in words] for words in lines[1:]]
+    options = [option_of(names, words) for words in lines[1:]]
     kept = [option for option in options if any(item < primary for item in option)]
     return names, primary, kept, len(options) - len(kept)
 
 
-def live_options(options, prefix):
-    used = {item for o in prefix for item in options[o]}
-    return [o for o, items in enumerate(options) if used.isdisjoint(items)]
+def clash(primary, one, other):
+    """Whether both name an item that is primary, or to which they give no equal colour."""
+    return any(item < primary or colour is None or other[item] != colour for item, colour in one.items() if item in other)
+
+
+def live_options(primary, options, prefix):
+    return [o for o, option in enumerate(options) if not any(clash(primary, option, options[p]) for p in prefix)]
 
 
 def search(primary, options, prefix):
     """First and visits of a prefix."""
     covered = {item for o in prefix for item in options[o]}
-    live = live_options(options, prefix)
+    live = live_options(primary, options, prefix)
     best = None
     for item in range(primary):
         if item not in covered:

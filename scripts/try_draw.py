@@ -23,7 +23,7 @@ from built import parser_of, SOLVE_CLI, TOP, want_program
 EXAMPLES = os.path.join(TOP, "examples")
 sys.path.insert(0, EXAMPLES)
 import generate  # noqa: E402
-from cover_files import read_problem, shown  # noqa: E402
+from cover_files import read_problem  # noqa: E402
 from picture_kinds import picture_of  # noqa: E402
 from svg_paper import Paper  # noqa: E402
 
@@ -36,12 +36,15 @@ BEGINNINGS = {
     "sudoku": ["8 1 2 | 7 5 3 | 6 4 9", "9 4 3 | 6 8 2 | 1 7 5"], "fano-plane": ["1 2 3", "1 4 5"],
     "australia": ["NSW  red", "NT   red", "Q    green"],
     "timetable": ["period  ann       bob       5a        5b        hall      room"], "letters": ["c e", "a d f", "b g"],
+    "squares-3x3": ["+-----+-----+-----+", "|  g  |  g  |  g  |", "|g D r|r H y|y A g|"], "word-square": ["t a p", "i c e", "n e t"],
     "pentominoes-6x10": ["+---+---+---+---+---+---+---+---+---+---+", "| L   L | X | F   F | T   T   T | W   W |"],
     "mutilated-chessboard": ["none: the answer is that there is no cover", "    +---+---+---+---+---+---+---+",
                              "    |                           |"],
 }
 MIXED = ["00", "01", "10", "11", "3-4", "3-5", "r0", "c0", "a1", "b2", "1", "2", "s1", "s3", "s2", "s4", "ann-1", "bob-2", "A-B=red",
-         "A", "B", "p00", "r01", "c01", "b01", "12", "13", "23", "x", "99999999", "s"]
+         "A", "B", "p00", "r01", "c01", "b01", "12", "13", "23", "x", "99999999", "s", "h00", "v00", "h10", "v01"]
+COLOURS = ["", "", "", ":red", ":b", ":c"]
+FOUR = b"p e a c f\nq e f d a\nr c b e f\ns d e f b\n"
 MAP = "anna berta\nberta clara\nclara dora\ndora anna\nanna clara\nemil frieda\nemil anna\nfrieda dora\n"
 
 
@@ -141,13 +144,30 @@ def join_all(lines, n):
     return len(pairs) == len(set(pairs)) == n * (n - 1) // 2
 
 
+def are_squares(lines, border=None):
+    """Whether the letters of sides that meet are equal, and those all round the border's, of squares with a name of one letter."""
+    rows = [[cell for cell in line.strip("|").split("|")] for line in lines if line.startswith("|")]
+    above, middle, below = ([[cell.strip() for cell in row] for row in rows[k::3]] for k in range(3))
+    left, right = ([[cell.split()[k] for cell in row] for row in middle] for k in (0, 2))
+    meet = below[:-1] == above[1:] and all(one[:-1] == other[1:] for one, other in zip(right, left))
+    around = above[0] + below[-1] + [row[0] for row in left] + [row[-1] for row in right]
+    return meet and (border is None or set(around) == {border})
+
+
+def are_words(lines, words):
+    """Whether different words stand in the rows and in the columns."""
+    rows = [line.split() for line in lines]
+    found = ["".join(row) for row in rows + [list(column) for column in zip(*rows)]]
+    return len(set(found)) == 2 * len(rows) and set(found) <= set(words)
+
+
 # ---- the tests
 
 def examples(trial):
     generate.HERE = trial.folder
     generate.examples()
     written = [name for name in sorted(os.listdir(trial.folder)) if name.endswith(".dlx")]
-    trial.expect("nine examples are written", len(written) == 9)
+    trial.expect("eleven examples are written", len(written) == 11)
     for name in written:
         trial.expect(f"{name} as it stands", content(trial.path(name)) == content(os.path.join(EXAMPLES, name)))
     for name in sorted(os.listdir(os.path.join(EXAMPLES, "pictures"))):
@@ -195,16 +215,27 @@ def tables_and_graphs(trial):
                                              for lesson in ("maths-5a", "maths-5b", "music-5a", "music-5b", "art-5a")))
 
 
+def boards_with_colours(trial):
+    nine = trial.path("nine", "\n".join(generate.SQUARES).encode())
+    trial.expect("squares", are_squares(trial.made("squares", "3x3", nine, "--border", "grey"), "g"))
+    trial.expect("squares without a border", are_squares(trial.made("squares", "2x2", trial.path("four", FOUR))))
+    ten = trial.path("ten", generate.WORDS.encode())
+    trial.expect("words", are_words(trial.made("words", ten), generate.WORDS.split()))
+
+
 def strange_names(trial):
-    """Random problems whose names mix those of all kinds: each is drawn, if only as a list."""
+    """Random problems whose names mix those of all kinds, some of them with colours: each is drawn, if only as a list."""
     draw, drawn = random.Random(1), 0
     for _ in range(5000):
         names = draw.sample(MIXED, draw.randint(1, 6))
         primary = draw.randint(1, len(names))
         lines = [names[:primary] + ["|"] * (primary < len(names)) + names[primary:]]
-        lines += [draw.sample(names, draw.randint(1, len(names))) for _ in range(draw.randint(0, 6))]
+        colours = COLOURS[:draw.choice([1, len(COLOURS)])]
+        for _ in range(draw.randint(0, 6)):
+            some = draw.sample(names, draw.randint(1, len(names)))
+            lines.append([name if name in names[:primary] else name + draw.choice(colours) for name in some])
         problem = read_problem("\n".join(map(" ".join, lines)).encode())
-        chosen = [tuple(map(shown, option.names)) for option in draw.sample(problem.options, min(2, len(problem.options)))]
+        chosen = draw.sample(problem.options, min(2, len(problem.options)))
         paper = Paper("strange names")
         picture = picture_of(problem, chosen, not chosen)
         picture.draw(paper)
@@ -216,6 +247,8 @@ def refusals(trial):
     for words in (["queens", "142"], ["queens", "0"], ["langford", "200"], ["pentominoes", "7x9"], ["pentominoes", "5"],
                   ["sudoku", "8......."], ["sudoku", "11" + "." * 79], ["dominoes", "2x2", "--without", "2,0"],
                   ["timetable", trial.folder], ["coloring", "nothing"],
+                  ["squares", "3x3", trial.path("four", FOUR)], ["squares", "2x2", trial.path("three", b"a b c d\n")],
+                  ["words", trial.path("uneven", b"one two three\n")], ["words", trial.path("empty", b"\n")],
                   ["triples", "60"], ["matching", trial.path("edges", b"a b c\n")], ["coloring", trial.path("borders", b"a-b c\n")]):
         ended = trial.python("examples/generate.py", *words)
         is_plain = ended.stderr and b"Traceback" not in ended.stderr
@@ -236,7 +269,7 @@ def main():
     want_program(given.program)
     with tempfile.TemporaryDirectory(prefix="try-draw-") as folder:
         trial = Trial(given.program, folder)
-        for tests in (examples, beginnings, kinds, tables_and_graphs, strange_names, refusals):
+        for tests in (examples, beginnings, kinds, tables_and_graphs, boards_with_colours, strange_names, refusals):
             tests(trial)
     print(f"{trial.passed} passed, {trial.failed} failed")
     return 1 if trial.failed else 0

@@ -26,8 +26,9 @@ import tempfile
 import explain
 from built import parser_of, SOLVE_CLI, TOP, want_program
 
-FAULTS = ["NoItems", "IllegalByte", "NameTooLong", "DuplicateItem", "SecondBar", "UnknownItem", "DuplicateInOption", "TooManyItems",
-          "TooManyOptions", "TooManyNodes", "BadHead", "WrongCount", "UnknownOption", "Uncovered", "CoveredTwice"]
+FAULTS = ["NoItems", "IllegalByte", "NameTooLong", "BadColour", "DuplicateItem", "SecondBar", "UnknownItem", "DuplicateInOption",
+          "ColourOnPrimary", "TooManyItems", "TooManyOptions", "TooManyNodes", "TooManyColours", "BadHead", "WrongCount",
+          "UnknownOption", "Uncovered", "CoveredTwice"]
 FUEL = "100000"
 
 
@@ -42,14 +43,21 @@ def some_names(draw, count):
     return [draw.choice(letters) + (b"%d" % k if draw.random() < 0.8 else b"." * k) for k in range(count)]
 
 
+def coloured(draw, name, is_primary, colours):
+    """A word of an option; a secondary name has a colour where one is drawn."""
+    colour = b"" if is_primary else draw.choice(colours)
+    return name + b":" + colour if colour else name
+
+
 def random_problem(draw):
-    """A lawful problem's text."""
+    """A lawful problem's text, half the time with colours."""
     names = some_names(draw, draw.randint(1, 9))
-    primary = draw.randint(1, len(names))
+    primary, colours = draw.randint(1, len(names)), draw.choice([[b""], [b"", b"red", b"red", b"2", b"\xc3\xa9" * 16]])
     line = names[:primary] + ([b"|"] + names[primary:] if primary < len(names) or draw.random() < 0.2 else [])
     lines = [joined(draw, line)]
     for _ in range(draw.randint(0, 12)):
-        lines.append(joined(draw, draw.sample(names, draw.randint(1, min(4, len(names))))))
+        some = draw.sample(names, draw.randint(1, min(4, len(names))))
+        lines.append(joined(draw, [coloured(draw, name, name in names[:primary], colours) for name in some]))
     for _ in range(draw.choice([0, 0, 1, 3])):
         lines.insert(draw.randint(0, len(lines)), draw.choice([b"| a comment", b"", b" \t", b"|", b"|x : y"]))
     return draw.choice([b"\n", b"\n", b"\r\n"]).join(lines) + draw.choice([b"\n", b"", b"\n\n"])
@@ -62,8 +70,9 @@ def spoil_word(draw, text):
     begin, end = draw.choice(words)
     word = text[begin:end]
     other = text[slice(*draw.choice(words))]
-    new = draw.choice([word + b" " + word, word + b":red", word * 33, word + b"|", b"|" + word, b"| " + word, word.upper(), b"#" + word,
-                       other, word + b",", word + b"\0", b"", word + b"\n", b"zz", b"\xef\xbb\xbf" + word, b"|" + other + b" |" + word])
+    new = draw.choice([word + b" " + word, word + b":red", word + b":", b":" + word, word + b":red:2", word + b":" + b"k" * 33, word * 33,
+                       word + b"|", b"|" + word, b"| " + word, word.upper(), b"#" + word, other, word + b",", word + b"\0", b"",
+                       word + b"\n", b"zz", b"\xef\xbb\xbf" + word, b"|" + other + b" |" + word])
     return text[:begin] + new + text[end:]
 
 
@@ -114,6 +123,19 @@ def outside_cases():
     yield (names + b"\n") * 201
     yield (names + b"\n") * 201 + b"i7\n"
     yield (names + b"\n") * 202 + b"i7 i8 none\n"
+    yield from many_colours()
+
+
+def many_colours():
+    """Files with as many colours as may be, and with more, in options that are kept and in others."""
+    for count in (10000, 10001):
+        lines = [b"x:c%d\n" % k for k in range(count)]
+        yield b"a | x\n" + b"".join(b"a " + line for line in lines)
+        yield b"a | x\n" + b"".join(lines) + b"a x:new\n"
+    names = [b"i%d" % k for k in range(990)]
+    lines = [b"a " + b" ".join(b"%s:c%d" % (name, 990 * k + n) for n, name in enumerate(names)) + b"\n" for k in range(11)]
+    for options in (lines, lines[:10] * 20 + lines, lines[:10] * 20 + lines[:1] + lines[10:]):
+        yield b"a | " + b" ".join(names) + b"\n" + b"".join(options)
 
 
 # ---- answers
@@ -139,6 +161,8 @@ def some_answer(draw, text, own):
 
 GOOD = b"a b c | x y\na b x\nb a x\na b c\ny\nx\n"
 LETTERS = b"a b c d e f g\nc e\na d g\nb c f\na d f\nb g\nd e g\n"
+COLOURS = b"p q r | x y\np q x y:A\np r x:A y\np x:B\nq x:A\nr y:B\n"
+ONE_WORD = "an item and its colour are one word, as in 'x:red'"
 # a file, an answer or none, and lines that have to be told
 TOLD = [
     (GOOD, None, ["5 items (3 primary, 2 secondary), 3 options, 9 occurrences of items in them",
@@ -172,6 +196,42 @@ TOLD = [
         "line 3: UnknownOption: the file has this option once (line 2), and the answer has it already at line 2"]),
     (LETTERS, b"cover 1\na d f g\n", ["line 2: UnknownOption: no option of the file has these names; nearest: 'a d g' (line 3)"]),
     (LETTERS, b"cover 3\nc e\na d f\nb g\n", ["the program says: right"]),
+    (COLOURS, None, ["5 items (3 primary, 2 secondary), 5 options, 14 occurrences of items in them, 2 colours",
+                     "in some options with a colour and in others without, which agree with none: "
+                     "secondary items 'x' (line 2) and 'y' (line 3)",
+                     "given to no item by two options, and so without effect: colour 'B'"]),
+    (b"a b | x y\na x:1 y\nb y x:1\na y x:1\nb x:2\n", None, [
+        "the same items and colours in 2 options: lines 2 and 4", "given to no item by two options, and so without effect: colour '2'"]),
+    (COLOURS, b"cover 2\np r x:A y\nq x:A\n", [
+        "the program says: right", "2 options, each primary item in exactly one of them, no secondary item in two unless in one colour"]),
+    (COLOURS, b"cover 2\np q x y:A\nr y:B\n", [
+        "the program says: wrong: CoveredTwice y",
+        "covered twice: 'y' by line 2 of the answer (line 2 of the file) in 'A' and line 3 of the answer (line 6 of the file) in 'B'"]),
+    (COLOURS, b"cover 2\nq x:A\np q x y:A\n", [
+        "the program says: wrong: Uncovered r",
+        "covered twice: 'q' by line 2 of the answer (line 5 of the file) and line 3 of the answer (line 2 of the file)",
+        "covered twice: 'x' by line 2 of the answer (line 5 of the file) in 'A' and line 3 of the answer (line 2 of the file) "
+        "without a colour"]),
+    (COLOURS, b"cover 2\nq x:B\nq x\n", [
+        "line 2: UnknownOption: no option of the file has these names in these colours; nearest: 'q x:A' (line 5)",
+        "line 3: UnknownOption: no option of the file has these names in these colours; nearest: 'q x:A' (line 5)"]),
+    (COLOURS, b"cover 1\ny:B r\n", ["line 2: UnknownOption: names stand in the order of the file: write 'r y:B' (line 6)"]),
+    (b"a | x\na:red x\na x:\na :1\na x:1:2\na x:1 x:2\na : x\na y:red\na x:" + b"k" * 33 + b"\n", None, [
+        "the program says: refused: ColourOnPrimary line 2",
+        "line 2, column 1, 'a:red': ColourOnPrimary: 'a' is a primary item, which one option of a cover alone names; "
+        "only secondary items have colours, those behind the '|' of line 1",
+        "line 3, column 3, 'x:': BadColour: no colour stands behind the ':'; 'x' alone names the item without a colour, and " + ONE_WORD,
+        "line 4, column 3, ':1': BadColour: no item stands before the ':'; " + ONE_WORD,
+        "line 5, column 3, 'x:1:2': IllegalByte: a second ':' stands in it, and no name of an item or of a colour has one; "
+        "one ':' parts them, as in 'x:red'",
+        "line 6, column 7, 'x:2': DuplicateInOption: this option names it already; an option names each of its items once",
+        "line 7, column 3, ':': BadColour: a ':' stands alone; " + ONE_WORD,
+        "line 8, column 3, 'y:red': UnknownItem: no item is named 'y', as stands before the ':'; the items are 'a' and 'x'",
+        "line 9, column 3, 'x:" + "k" * 33 + "': BadColour: a colour has at most 32 bytes, this one has 33"]),
+    (b"a | x:red\na x:red\n", None, [
+        "the program says: refused: IllegalByte line 1",
+        "line 1, column 5, 'x:red': IllegalByte: no name has a ':'; the item line has names alone, and options give colours to "
+        "secondary items, as in 'x:red'"]),
 ]
 
 

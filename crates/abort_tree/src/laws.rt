@@ -9,11 +9,13 @@ ghost use Rattle.abort_tree.specs.Below.{MarksBelow};
 /// What is below some units depends on the parents alone: marks stay right where these stay the same.
 pub fn parents_decide()
     ensures { (top : WorkUnit → Bool) (old new : List Entry) (marks : List Bool) →
-        map (λ c. c.parent) old ≡ map (λ c. c.parent) new → MarksBelow top old marks → MarksBelow top new marks }
+        map (λ c. c.parent) old ≡ map (λ c. c.parent) new → MarksBelow top old marks →
+        MarksBelow top new marks }
 {}
 
 /// Two tests that pass the same units reach the same.
 pub fn same_tops_reach_the_same()
     ensures { (first second : WorkUnit → Bool) (old new : List Entry) →
-        ((unit : WorkUnit) → first unit ≡ second unit) → AbortsBelow first old new → AbortsBelow second old new }
+        ((unit : WorkUnit) → first unit ≡ second unit) → AbortsBelow first old new →
+        AbortsBelow second old new }
 {}

@@ -18,12 +18,12 @@ pub struct Finding {
 }
 
 impl Model for Finding {
-    ghost use Rattle.brancher.specs.Finding.{Finding as FindingValue};
+    ghost use Rattle.brancher.specs.Finding.{Finding as FindingValue, finding_by};
     ghost use Rattle.brancher.specs.Visit.{outcome_told};
 
     ghost Value = { FindingValue };
 
-    ghost view = { λ f. record { prefix = f.prefix; fuel = f.fuel; outcome = outcome_told f.outcome f.cover } };
+    ghost view = { λ f. finding_by f.prefix f.fuel (outcome_told f.outcome f.cover) };
 }
 
 impl PartialEq for Finding {

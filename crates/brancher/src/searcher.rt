@@ -2,6 +2,7 @@ ghost use Rattle.std.specs.Prelude.{◌≡◌, ◌<◌, ◌≤◌, ℕ, List, []
 ghost use Rattle.cover_problem.specs.Prefix.{is_prefix, IsBarren, IsCoverOver};
 ghost use Rattle.cover_problem.specs.Problem.{IsProblem};
 ghost use Rattle.cover_problem.specs.Search.{Covers, first, outcome, visits};
+ghost use Rattle.cover_problem.specs.declared.limits.TheConstants.{MOST_ITEMS};
 
 use crate::branching::choose_prefix;
 use crate::finding::Finding;
@@ -49,7 +50,7 @@ impl<'a> Searcher<'a> {
             ≡ outcome self.old.problem prefix.now fuel }
         ensures cover { result ≡ Outcome.Cover →
             IsCoverOver self.old.problem prefix.now self.new.found }
-        ensures short { result ≡ Outcome.Cover → length self.new.found ≤ 1000 }
+        ensures short { result ≡ Outcome.Cover → length self.new.found ≤ MOST_ITEMS }
         ensures barren { result ≡ Outcome.Barren → IsBarren self.old.problem prefix.now }
     {
         match self.visit(prefix, fuel, &Unwatched) {
@@ -142,7 +143,7 @@ impl<'a> Searcher<'a> {
     /// The cover that the last search found. It has at most as many options as there are primary items, so at most 1,000.
     pub fn found(&self) -> &[u16]
         ensures found { result.now ≡ self.now.found }
-        ensures short { length result.now ≤ 1000 }
+        ensures short { length result.now ≤ MOST_ITEMS }
         ensures few { length result.now ≤ self.now.problem.primary }
     {
         self.links.problem();

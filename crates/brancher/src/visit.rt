@@ -28,7 +28,9 @@ pub enum Visit {
 pub fn visit_prefix<W: Watch>(links: &mut Links, depth: usize, fuel: u64, watch: &W) -> Visit
     requires { length (open_items links.old.problem links.old.chosen) ≤ depth }
     ensures problem { links.new.problem ≡ links.old.problem }
-    ensures visit { IsVisit (first_within links.old.problem depth links.old.chosen) (visits_within links.old.problem depth links.old.chosen) fuel links.old.chosen links.new.chosen result }
+    ensures visit { IsVisit (first_within links.old.problem depth links.old.chosen)
+        (visits_within links.old.problem depth links.old.chosen) fuel links.old.chosen
+        links.new.chosen result }
     ensures back { (rest : ℕ) → result ≡ Visit.Barren rest → links.new ≡ links.old }
     ensures stopped { result ≡ Visit.Stopped → W.may_stop ≡ true }
 {

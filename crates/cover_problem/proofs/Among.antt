@@ -1,5 +1,5 @@
 -- Tests of each element of a list of numbers, by whether a number is among them.
-use Rattle.std.proofs.Common.{◌≡◌, ℕ, zero, suc, ◌+◌, ◌<◌, ◌≤◌, List, [], ◌∷◌, length, Bool, true, false, ◌==◌, filter, refl, ◌∙◌, ap, arith, inl, inr, subst}
+use Rattle.std.proofs.Common.{◌≡◌, ℕ, zero, suc, ◌+◌, ◌<◌, ◌≤◌, List, [], ◌∷◌, length, Bool, true, false, ◌==◌, filter, find, Some, None, refl, sym, ◌∙◌, ap, arith, inl, inr, subst}
 use Rattle.std.specs.List.{list_any, list_all, range_with_len}
 use Rattle.std.proofs.lemmas.Bool.{and_parts, and_from, or_cases, or_left, or_right, eqb-true, eq-eqb, cases_Bool, both_ways, cases_eq}
 use Rattle.cover_problem.specs.Numbers.{is_in}
@@ -72,6 +72,47 @@ some_with test (x ∷ xs) h =
     elim (or_cases (test x) (list_any test xs) h) [
       | inl here ↦ (x, or_left (x == x) (is_in xs x) (eq-eqb x x refl), here)
       | inr there ↦ let found = some_with test xs there in (found.0, or_right (x == found.0) (is_in xs found.0) found.1, found.2)
+    ]
+
+-- ---- the first number that passes a test
+
+pub find_none_at : (test : ℕ → Bool) (xs : List ℕ) (x : ℕ) → find test xs ≡ None → is_in xs x ≡ true → test x ≡ false
+find_none_at test [] x none here = absurd (both_ways false refl here)
+find_none_at test (y ∷ ys) x none here =
+    elim (cases_Bool (test y)) [
+      | inl passes ↦ let found : find test (y ∷ ys) ≡ Some y = rw passes refl in absurd (let clash : Some y ≡ None = sym found ∙ none in cc)
+      | inr fails ↦ let later : find test ys ≡ None = rw fails at none in
+          elim (or_cases (y == x) (is_in ys x) here) [
+            | inl same ↦ ap test (sym (eqb-true y x same)) ∙ fails
+            | inr there ↦ find_none_at test ys x later there
+          ]
+    ]
+
+pub find_none_by : (test : ℕ → Bool) (xs : List ℕ) → ((x : ℕ) → is_in xs x ≡ true → test x ≡ false) → find test xs ≡ None
+find_none_by test [] each = refl
+find_none_by test (y ∷ ys) each =
+    let fails : test y ≡ false = each y (or_left (y == y) (is_in ys y) (eq-eqb y y refl)) in
+    rw fails (find_none_by test ys (λ x there. each x (or_right (y == x) (is_in ys x) there)))
+
+pub find_some_in : (test : ℕ → Bool) (xs : List ℕ) (x : ℕ) → find test xs ≡ Some x → is_in xs x ≡ true
+find_some_in test [] x found = absurd (cc)
+find_some_in test (y ∷ ys) x found =
+    elim (cases_Bool (test y)) [
+      | inl passes ↦ let here : Some y ≡ Some x = rw passes at found in
+          let same : y ≡ x = cc in
+          or_left (y == x) (is_in ys x) (eq-eqb y x same)
+      | inr fails ↦ let later : find test ys ≡ Some x = rw fails at found in
+          or_right (y == x) (is_in ys x) (find_some_in test ys x later)
+    ]
+
+pub find_some_test : (test : ℕ → Bool) (xs : List ℕ) (x : ℕ) → find test xs ≡ Some x → test x ≡ true
+find_some_test test [] x found = absurd (cc)
+find_some_test test (y ∷ ys) x found =
+    elim (cases_Bool (test y)) [
+      | inl passes ↦ let here : Some y ≡ Some x = rw passes at found in
+          let same : y ≡ x = cc in
+          ap test (sym same) ∙ passes
+      | inr fails ↦ let later : find test ys ≡ Some x = rw fails at found in find_some_test test ys x later
     ]
 
 -- ---- the numbers of a range

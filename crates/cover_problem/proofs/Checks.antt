@@ -1,17 +1,19 @@
 -- What the verdict on a list of options says of it.
-use Rattle.std.proofs.Common.{◌≡◌, ℕ, ◌<◌, ◌≤◌, ◌↔◌, Bool, true, false, not, cond, ◌&&◌, ◌==◌, nat_lt, nat_le, List, [], ◌∷◌, length, count_by, find, Option, Some, None, refl, sym, ap, ◌∙◌, arith, inl, inr}
+use Rattle.std.proofs.Common.{◌≡◌, ℕ, ◌<◌, ◌≤◌, ◌↔◌, Bool, true, false, not, cond, ◌&&◌, ◌==◌, ◌⊎◌, nat_lt, nat_le, List, [], length, count_by, Option, Some, None, refl, ap, ◌∙◌, arith, inl, inr}
 use Rattle.std.proofs.lemmas.Bool.Decides.{nat_tests}
-use Rattle.std.proofs.lemmas.Bool.{both_ways, cases_Bool, lt-ltb, ltb-true, or_left, or_right, or_cases, eq-eqb, eqb-true}
+use Rattle.std.proofs.lemmas.Bool.{both_ways, cases_Bool, cases_lt, lt-ltb, ltb-true, lt-leb, leb-false, and_left, and_right, and_cases, and_parts, not-false, not_from_true}
 use Rattle.std.proofs.lemmas.List.Sums.{list_all-from_AllPass}
 use Rattle.std.specs.List.{range_with_len}
-use Rattle.cover_problem.specs.ExactCover.{uses, IsExactCover}
+use Rattle.cover_problem.specs.ExactCover.{uses, IsInOneColour, IsExactCover}
 use Rattle.cover_problem.specs.Numbers.{is_in, is_distinct}
 use Rattle.cover_problem.specs.Prefix.{are_options, AreOptions}
 use Rattle.cover_problem.specs.Problem.{Problem, IsProblem, option_numbers, items_of, names_item}
-use Rattle.cover_problem.specs.Verdict.{verdict_of, first_uncovered, first_twice, twice_or_exact, uncovered_or, TellsItemOf}
+use Rattle.cover_problem.specs.Verdict.{verdict_of, first_uncovered, is_in_one_colour, is_covered_twice, first_twice, twice_or_exact, uncovered_or, TellsItemOf}
 use Rattle.cover_problem.specs.declared.verdict.Verdict.TheVariants as verdicts
-use Rattle.cover_problem.proofs.Among.{all_at, all_by, range_in, range_high}
+use Rattle.cover_problem.proofs.Among.{all_at, all_by, find_none_at, find_none_by, find_some_in, range_in, range_high}
 use Rattle.cover_problem.proofs.Counts.{uses_of_list, count_none}
+use Rattle.cover_problem.proofs.Sets.{count_some}
+use Rattle.cover_problem.proofs.Shared.{in_one_colour, one_colour_in}
 
 -- ---- options in range
 
@@ -26,26 +28,6 @@ pub uses_counted : (p : Problem) (options : List ℕ) (item : ℕ) → AreOption
     → uses p (is_in options) item ≡ count_by (λ o. names_item p o item) options
 uses_counted p options item each distinct =
     uses_of_list p options item distinct (λ o here. option_within p options o (are_options_by p options each) here)
-
--- ---- the first number that passes a test
-
-find_none_at : (test : ℕ → Bool) (xs : List ℕ) (x : ℕ) → find test xs ≡ None → is_in xs x ≡ true → test x ≡ false
-find_none_at test [] x none here = absurd (both_ways false refl here)
-find_none_at test (y ∷ ys) x none here =
-    elim (cases_Bool (test y)) [
-      | inl passes ↦ let found : find test (y ∷ ys) ≡ Some y = rw passes refl in absurd (let clash : Some y ≡ None = sym found ∙ none in cc)
-      | inr fails ↦ let later : find test ys ≡ None = rw fails at none in
-          elim (or_cases (y == x) (is_in ys x) here) [
-            | inl same ↦ ap test (sym (eqb-true y x same)) ∙ fails
-            | inr there ↦ find_none_at test ys x later there
-          ]
-    ]
-
-find_none_by : (test : ℕ → Bool) (xs : List ℕ) → ((x : ℕ) → is_in xs x ≡ true → test x ≡ false) → find test xs ≡ None
-find_none_by test [] each = refl
-find_none_by test (y ∷ ys) each =
-    let fails : test y ≡ false = each y (or_left (y == y) (is_in ys y) (eq-eqb y y refl)) in
-    rw fails (find_none_by test ys (λ x there. each x (or_right (y == x) (is_in ys x) there)))
 
 -- ---- items that no option names
 
@@ -99,38 +81,90 @@ some_use n fails = elim (cases_Bool (nat_lt 0 n)) [
 ]
 
 few_uses : (n : ℕ) → nat_le 2 n ≡ false → n ≤ 1
-few_uses n fails = grind (arith, nat_tests)
+few_uses n fails = let few = leb-false 2 n fails in omega (arith, few)
+
+-- an item that is not covered twice
+once_or_shared : (p : Problem) (options : List ℕ) (item : ℕ) → is_covered_twice p options item ≡ false → (uses p (is_in options) item ≤ 1) ⊎ (is_in_one_colour p options item ≡ true)
+unfolding is_covered_twice
+once_or_shared p options item fails = elim (and_cases (nat_le 2 (uses p (is_in options) item)) (not (is_in_one_colour p options item)) fails) [
+  | inl few ↦ inl (few_uses (uses p (is_in options) item) few)
+  | inr shared ↦ inr (not-false (is_in_one_colour p options item) shared)
+]
+
+-- a primary item is in no colour
+pub never_shared : (p : Problem) (options : List ℕ) (item : ℕ) → item < p.primary → is_in_one_colour p options item ≡ false
+unfolding is_in_one_colour
+never_shared p options item low = and_left (nat_le p.primary item) _ (lt-leb p.primary item low)
+
+not_twice : (p : Problem) (options : List ℕ) (item : ℕ) → Passes p options → item < length p.names → is_covered_twice p options item ≡ false
+not_twice p options item passes below =
+    find_none_at (λ i. is_covered_twice p options i) (range_with_len 0 (length p.names)) item passes.once (range_in 0 (length p.names) item (omega arith) (omega arith))
 
 pub exact_of_passes : (p : Problem) (options : List ℕ) → IsProblem p → Passes p options → IsExactCover p (is_in options)
-exact_of_passes p options problem passes = record {
-  in_range = λ o here. option_within p options o passes.within here;
-  primary = λ item within.
-      let below : item < length p.names = let few = problem.primary in omega (arith, few) in
-      let one = some_use (uses p (is_in options) item) (find_none_at (λ i. uses p (is_in options) i == 0) (range_with_len 0 p.primary) item passes.covered (range_in 0 p.primary item (omega arith) (omega arith))) in
-      let most = few_uses (uses p (is_in options) item) (find_none_at (λ i. nat_le 2 (uses p (is_in options) i)) (range_with_len 0 (length p.names)) item passes.once (range_in 0 (length p.names) item (omega arith) (omega arith))) in
-      omega (arith, one, most);
-  others = λ item. elim (cases_Bool (nat_lt item (length p.names))) [
-    | inl named ↦ let below = ltb-true item (length p.names) named in
-        few_uses (uses p (is_in options) item) (find_none_at (λ i. nat_le 2 (uses p (is_in options) i)) (range_with_len 0 (length p.names)) item passes.once (range_in 0 (length p.names) item (omega arith) (omega arith)))
-    | inr other ↦ let beyond : length p.names ≤ item = grind (arith, nat_tests) in
-        let none = uses_unnamed p (is_in options) item problem beyond in omega (arith, none)
-  ];
-}
+exact_of_passes p options problem passes = record { in_range = λ o here. option_within p options o passes.within here; primary = primary; secondary = secondary }
+  where
+    primary : (item : ℕ) → item < p.primary → uses p (is_in options) item ≡ 1
+    primary item low =
+        let few = problem.primary in
+        let one = some_use (uses p (is_in options) item) (find_none_at (λ i. uses p (is_in options) i == 0) (range_with_len 0 p.primary) item passes.covered (range_in 0 p.primary item (omega arith) (omega arith))) in
+        elim (once_or_shared p options item (not_twice p options item passes (omega (arith, low, few)))) [
+          | inl most ↦ omega (arith, one, most)
+          | inr shared ↦ absurd (both_ways (is_in_one_colour p options item) (never_shared p options item low) shared)
+        ]
+
+    secondary : (item : ℕ) → p.primary ≤ item → (uses p (is_in options) item ≤ 1) ⊎ IsInOneColour p (is_in options) item
+    secondary item high = elim (cases_lt item (length p.names)) [
+      | inl named ↦ elim (once_or_shared p options item (not_twice p options item passes named)) [
+        | inl few ↦ inl few
+        | inr shared ↦ inr (in_one_colour p options item shared)
+      ]
+      | inr beyond ↦ let none = uses_unnamed p (is_in options) item problem beyond in inl (omega (arith, none))
+    ]
 
 no_zero : (n : ℕ) → n ≡ 1 → (n == 0) ≡ false
 no_zero n e = grind (arith, nat_tests)
 
 no_two : (n : ℕ) → n ≤ 1 → nat_le 2 n ≡ false
-no_two n l = grind (arith, nat_tests)
+no_two n l = lt-leb 2 n (omega (arith, l))
+
+named_at_most_once : (p : Problem) (options : List ℕ) (item : ℕ) → uses p (is_in options) item ≤ 1 → is_covered_twice p options item ≡ false
+unfolding is_covered_twice
+named_at_most_once p options item few = and_left (nat_le 2 (uses p (is_in options) item)) (not (is_in_one_colour p options item)) (no_two (uses p (is_in options) item) few)
+
+-- an item that is named twice is in the one colour that the cover gives it
+shared_in : (p : Problem) (options : List ℕ) (item : ℕ) → p.primary ≤ item → 1 < uses p (is_in options) item → IsInOneColour p (is_in options) item → is_in_one_colour p options item ≡ true
+shared_in p options item high more shared =
+    let w = count_some (λ o. is_in options o && names_item p o item) (option_numbers p) (omega (arith, more)) in
+    let both = and_parts (is_in options w.0) (names_item p w.0 item) w.2 in
+    one_colour_in p options item w.0 high both.0 both.1 shared
+
+cover_not_twice : (p : Problem) (options : List ℕ) (item : ℕ) → IsExactCover p (is_in options) → is_covered_twice p options item ≡ false
+unfolding is_covered_twice
+cover_not_twice p options item cover =
+    elim (cases_lt 1 (uses p (is_in options) item)) [
+      | inr few ↦ named_at_most_once p options item few
+      | inl more ↦ elim (cases_lt item p.primary) [
+        | inl low ↦ let one = cover.primary item low in named_at_most_once p options item (omega (arith, one))
+        | inr high ↦ elim (cover.secondary item high) [
+          | inl few ↦ named_at_most_once p options item few
+          | inr shared ↦
+              and_right (nat_le 2 (uses p (is_in options) item)) (not (is_in_one_colour p options item))
+              (not_from_true (is_in_one_colour p options item) (shared_in p options item high more shared))
+        ]
+      ]
+    ]
+
+all_within : (p : Problem) (options : List ℕ) → IsExactCover p (is_in options) → are_options p options ≡ true
+all_within p options cover = all_by (λ o. nat_lt o (length p.options)) options (λ o here. lt-ltb o (length p.options) (cover.in_range o here))
 
 pub passes_of_exact : (p : Problem) (options : List ℕ) → is_distinct options ≡ true → IsExactCover p (is_in options) → Passes p options
 passes_of_exact p options distinct cover = record {
-  within = all_by (λ o. nat_lt o (length p.options)) options (λ o here. lt-ltb o (length p.options) (cover.in_range o here));
+  within = all_within p options cover;
   distinct = distinct;
   covered = find_none_by (λ i. uses p (is_in options) i == 0) (range_with_len 0 p.primary)
       (λ item here. let high = range_high 0 p.primary item here in no_zero (uses p (is_in options) item) (cover.primary item (omega (arith, high))));
-  once = find_none_by (λ i. nat_le 2 (uses p (is_in options) i)) (range_with_len 0 (length p.names))
-      (λ item here. no_two (uses p (is_in options) item) (cover.others item));
+  once = find_none_by (λ i. is_covered_twice p options i) (range_with_len 0 (length p.names))
+      (λ item here. cover_not_twice p options item cover);
 }
 
 pub verdict_exact : (p : Problem) (options : List ℕ) → IsProblem p → (verdict_of p options ≡ verdicts.Exact) ↔ ((is_distinct options ≡ true) × IsExactCover p (is_in options))
@@ -140,17 +174,6 @@ verdict_exact p options problem = (
 )
 
 -- ---- the item that is told
-
-find_some_in : (test : ℕ → Bool) (xs : List ℕ) (x : ℕ) → find test xs ≡ Some x → is_in xs x ≡ true
-find_some_in test [] x found = absurd (cc)
-find_some_in test (y ∷ ys) x found =
-    elim (cases_Bool (test y)) [
-      | inl passes ↦ let here : Some y ≡ Some x = rw passes at found in
-          let same : y ≡ x = cc in
-          or_left (y == x) (is_in ys x) (eq-eqb y x same)
-      | inr fails ↦ let later : find test ys ≡ Some x = rw fails at found in
-          or_right (y == x) (is_in ys x) (find_some_in test ys x later)
-    ]
 
 pub told_item : (p : Problem) (options : List ℕ) → IsProblem p → TellsItemOf p (verdict_of p options)
 told_item p options problem = within (are_options p options) (is_distinct options) (first_uncovered p options) (first_twice p options) refl refl
@@ -163,6 +186,6 @@ told_item p options problem = within (are_options p options) (is_distinct option
         let high = range_high 0 p.primary item (find_some_in (λ i. uses p (is_in options) i == 0) (range_with_len 0 p.primary) item ec) in
         let few = problem.primary in omega (arith, high, few)
     within true true None (Some item) ec ed =
-        let high = range_high 0 (length p.names) item (find_some_in (λ i. nat_le 2 (uses p (is_in options) i)) (range_with_len 0 (length p.names)) item ed) in
+        let high = range_high 0 (length p.names) item (find_some_in (λ i. is_covered_twice p options i) (range_with_len 0 (length p.names)) item ed) in
         omega (arith, high)
     within true true None None ec ed = tt

@@ -12,7 +12,7 @@ use Rattle.cover_problem.specs.Branching.{live_options, open_items, fewest_of, b
 use Rattle.cover_problem.specs.Search.{or_else, first_some, first_within, first}
 use Rattle.cover_problem.proofs.Among.{all_at, some_with, range_in}
 use Rattle.cover_problem.proofs.Sets.{count_positive, count_some}
-use Rattle.cover_problem.proofs.Apart.{apart_uses}
+use Rattle.cover_problem.proofs.Apart.{apart_primary, apart_secondary}
 use Rattle.cover_problem.proofs.Prefixes.{open_in, branch_is_open, branch_open, open_fewer, open_few, prefix_more}
 use Rattle.cover_problem.proofs.Extending.{split_options}
 use Rattle.cover_problem.proofs.Steps.{within_none}
@@ -45,20 +45,17 @@ module _ (problem : Problem) where
       go false q = absurd (complete_none_open prefix item e (record { primary = l; uncovered = q }))
 
   pub complete_is_cover : (prefix : List ℕ) → is_prefix problem prefix ≡ true → branch_item problem prefix ≡ None → IsExactCover problem (is_in prefix)
-  complete_is_cover prefix h e = record { in_range = prefix_in_range prefix parts.0; primary = primary; others = others }
+  complete_is_cover prefix h e = record { in_range = prefix_in_range prefix parts.0; primary = primary; secondary = λ item high. apart_secondary problem prefix parts.1 item }
     where
       parts : (are_options problem prefix ≡ true) × (are_apart problem prefix ≡ true)
       parts = and_parts (are_options problem prefix) (are_apart problem prefix) h
-
-      others : (item : ℕ) → uses problem (is_in prefix) item ≤ 1
-      others item = apart_uses problem prefix parts.1 item
 
       primary : (item : ℕ) → item < problem.primary → uses problem (is_in prefix) item ≡ 1
       primary item l =
           let w = some_with (λ o. names_item problem o item) prefix (covered_all prefix e item l) in
           let high = prefix_in_range prefix parts.0 w.0 w.1 in
           let least = count_positive (λ o. is_in prefix o && names_item problem o item) (option_numbers problem) w.0 (range_in 0 (length problem.options) w.0 (omega arith) (omega (arith, high))) (and_from _ _ w.1 w.2) in
-          let most = others item in
+          let most = apart_primary problem prefix parts.1 item l in
           omega (arith, least, most)
 
   -- ---- the search

@@ -5,7 +5,7 @@ use Rattle.cover_problem.specs.Problem.{Problem}
 use Rattle.cover_problem.specs.Prefix.{IsBarren, is_prefix, IsCoverOver}
 use Rattle.cover_problem.specs.Branching.{open_items, live_options, branch_item}
 use Rattle.cover_problem.specs.Search.{first_within, visits_within, first, visits, Covers, Barren, Spent, found_outcome, outcome}
-use Rattle.cover_problem.specs.Examples.{small}
+use Rattle.cover_problem.specs.Examples.{small, coloured}
 use Rattle.cover_problem.proofs.Steps.{within_none}
 use Rattle.cover_problem.proofs.Covering.{none_barren, first_covers}
 
@@ -58,3 +58,17 @@ small_found = refl
 pub small_spent : outcome small [] 5 ≡ Spent
 unfolding first_within visits_within branch_item live_options open_items
 small_spent = refl
+
+-- ---- a small problem with colours, likewise
+
+pub coloured_barren : first coloured (0 ∷ []) ≡ None
+unfolding first_within branch_item live_options open_items
+coloured_barren = refl
+
+pub coloured_first : first coloured [] ≡ Some (3 ∷ 1 ∷ [])
+unfolding first_within branch_item live_options open_items
+coloured_first = refl
+
+pub coloured_visits : visits coloured [] ≡ 4
+unfolding first_within visits_within branch_item live_options open_items
+coloured_visits = refl

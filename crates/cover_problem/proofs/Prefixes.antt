@@ -7,12 +7,12 @@ use Rattle.std.proofs.lemmas.List.Folds.{list_any-append, list_all-append}
 use Rattle.std.proofs.lemmas.List.Sums.{AllPass-from_list_all}
 use Rattle.cover_problem.specs.Problem.{Problem, items_of, names_item, IsProblem}
 use Rattle.cover_problem.specs.Numbers.{is_in}
-use Rattle.cover_problem.specs.Prefix.{clash, is_covered, is_live, are_apart, are_options, is_prefix, AreOptions}
+use Rattle.cover_problem.specs.Prefix.{agree, clash, is_covered, is_live, are_apart, are_options, is_prefix, AreOptions}
 use Rattle.cover_problem.specs.Branching.{is_choice, live_options, open_items, fewest_of, branch_item}
-use Rattle.cover_problem.proofs.Among.{range_high, all_at, filter_fewer_by, in_filter, some_with, range_in}
+use Rattle.cover_problem.proofs.Among.{range_high, all_at, all_by, filter_fewer_by, in_filter, some_with, range_in}
 use Rattle.cover_problem.specs.Branching.{IsOpen}
 use Rattle.cover_problem.proofs.Sets.{in_filtered}
-use Rattle.cover_problem.proofs.Clashes.{clash_primary, clash_both}
+use Rattle.cover_problem.proofs.Clashes.{clash_agree, agree_clash, clash_primary, clash_both}
 
 -- a primary item of a live option is not covered
 pub live_at : (p : Problem) (xs : List ℕ) (o i : ℕ) → i < p.primary → is_live p xs o ≡ true → names_item p o i ≡ true → is_covered p xs i ≡ false
@@ -20,6 +20,16 @@ live_at p xs o i l live named =
     false_from_ne_true (is_covered p xs i) (λ h.
     let w = some_with (λ q. names_item p q i) xs h in
     both_ways (clash p w.0 o) (not-true (clash p w.0 o) (all_at (λ q. not (clash p q o)) xs w.0 live w.1)) (clash_primary p w.0 o i l w.2 named))
+
+-- a live option agrees with those of the prefix on each item that both name
+pub live_agree : (p : Problem) (xs : List ℕ) (o q item : ℕ) → is_live p xs o ≡ true → is_in xs q ≡ true → names_item p q item ≡ true → names_item p o item ≡ true → agree p q o item ≡ true
+live_agree p xs o q item live here on_q on_o =
+    clash_agree p q o item (not-true (clash p q o) (all_at (λ r. not (clash p r o)) xs q live here)) on_q on_o
+
+-- and one that does is live
+pub agree_live : (p : Problem) (xs : List ℕ) (o : ℕ) → ((q item : ℕ) → is_in xs q ≡ true → names_item p q item ≡ true → names_item p o item ≡ true → agree p q o item ≡ true) → is_live p xs o ≡ true
+agree_live p xs o each =
+    all_by (λ q. not (clash p q o)) xs (λ q here. not_from_false (clash p q o) (agree_clash p q o (λ item on_q on_o. each q item here on_q on_o)))
 
 pub covered_more : (p : Problem) (xs : List ℕ) (o i : ℕ) → is_covered p (xs ++ o ∷ []) i ≡ (is_covered p xs i || (names_item p o i || false))
 covered_more p xs o i = list_any-append (λ q. names_item p q i) xs (o ∷ [])

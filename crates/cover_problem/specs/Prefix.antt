@@ -1,14 +1,18 @@
 -- Prefixes: options that go together, and the exact covers that extend them (TAOCP 7.2.2.1).
-use Rattle.std.specs.Prelude.{◌≡◌, ℕ, ◌<◌, List, [], ◌∷◌, length, Bool, true, not, ◌&&◌, nat_lt}
+use Rattle.std.specs.Prelude.{◌≡◌, ℕ, ◌<◌, List, [], ◌∷◌, length, Bool, true, not, ◌==◌, ◌&&◌, nat_lt, nat_le}
 use Rattle.std.specs.List.Sorted.{IsStrictlyIncreasing}
 use Rattle.std.specs.List.{All, list_any, list_all}
 use Rattle.cover_problem.specs.ExactCover.{IsExactCover}
 use Rattle.cover_problem.specs.Numbers.{is_in}
-use Rattle.cover_problem.specs.Problem.{Problem, items_of, names_item}
+use Rattle.cover_problem.specs.Problem.{Problem, items_of, names_item, colour_of}
 
--- whether the two options clash: they have an item in common
+-- whether the two options agree on the item: it is secondary, and both give it one and the same colour
+abbrev pub agree : Problem → ℕ → ℕ → ℕ → Bool
+agree problem o p item = nat_le problem.primary item && nat_le 1 (colour_of problem o item) && colour_of problem o item == colour_of problem p item
+
+-- whether the two options clash: both name an item on which they do not agree
 abbrev pub clash : Problem → ℕ → ℕ → Bool
-clash problem o p = list_any (λ item. names_item problem p item) (items_of problem o)
+clash problem o p = list_any (λ item. names_item problem p item && not (agree problem o p item)) (items_of problem o)
 
 -- whether the option is live: it clashes with none of the prefix
 abbrev pub is_live : Problem → List ℕ → ℕ → Bool

@@ -1,7 +1,7 @@
-ghost use Rattle.std.specs.Prelude.{◌≡◌, ◌<◌, ◌≤◌, ◌+◌, length, ◌↔◌, IfOk, IsTrue};
+ghost use Rattle.std.specs.Prelude.{◌≡◌, ◌<◌, ◌≤◌, ◌+◌, length, not, ◌&&◌, ◌↔◌, IfOk, IsTrue};
 ghost use Rattle.cover_problem.specs.ExactCover.{in_order};
-ghost use Rattle.cover_problem.specs.Problem.{names_item};
-ghost use Rattle.cover_problem.specs.Prefix.{are_options, is_covered, clash, is_live, are_apart, is_prefix, AreOptions, InFileOrder};
+ghost use Rattle.cover_problem.specs.Problem.{names_item, colour_of};
+ghost use Rattle.cover_problem.specs.Prefix.{are_options, is_covered, agree, clash, is_live, are_apart, is_prefix, AreOptions, InFileOrder};
 ghost use Rattle.std.specs.List.Sorted.{IsStrictlyIncreasing};
 
 use crate::laws::in_order_is_in_file_order;
@@ -17,6 +17,21 @@ pub fn option_names(problem: &Problem, option: u16, item: u16) -> bool
     problem.option(option).iter().any(|own| *own == item)
 }
 
+/// The colour that the option gives the item, 0 where it gives none.
+pub(crate) fn colour_of(problem: &Problem, option: u16, item: u16) -> u16
+    requires { option < length problem.now.options }
+    ensures { result ≡ colour_of problem.now option item }
+{
+    let items = problem.option(option);
+    let colours = problem.colours(option);
+    for (place, own) in items.iter().enumerate() {
+        if *own == item {
+            return colours[place];
+        }
+    }
+    0
+}
+
 /// Whether one of the options names the item.
 pub fn is_covered(problem: &Problem, chosen: &[u16], item: u16) -> bool
     requires { AreOptions problem.now chosen.now }
@@ -27,7 +42,31 @@ pub fn is_covered(problem: &Problem, chosen: &[u16], item: u16) -> bool
         .any(|option| option_names(problem, *option, item))
 }
 
-/// Whether the two options have an item in common.
+/// Whether the item is secondary, and both options give it one and the same colour.
+fn agree(problem: &Problem, first: u16, second: u16, item: u16) -> bool
+    requires first { first < length problem.now.options }
+    requires second { second < length problem.now.options }
+    ensures { result ≡ agree problem.now first second item }
+{
+    // (without colours there is nothing to look for)
+    if (item as usize) < problem.primary() || problem.colour_names() == 0 {
+        return false;
+    }
+    let colour = colour_of(problem, first, item);
+    colour != 0 && colour == colour_of(problem, second, item)
+}
+
+/// Whether the second option names this item of the first too, and they don't agree on it.
+fn clash_on(problem: &Problem, first: u16, second: u16, item: u16) -> bool
+    requires first { first < length problem.now.options }
+    requires second { second < length problem.now.options }
+    ensures { result
+        ≡ (names_item problem.now second item && not (agree problem.now first second item)) }
+{
+    option_names(problem, second, item) && !agree(problem, first, second, item)
+}
+
+/// Whether both options name an item on which they don't agree: it is primary, or they give it no equal colour.
 pub fn clash(problem: &Problem, first: u16, second: u16) -> bool
     requires first { first < length problem.now.options }
     requires second { second < length problem.now.options }
@@ -36,7 +75,7 @@ pub fn clash(problem: &Problem, first: u16, second: u16) -> bool
     problem
         .option(first)
         .iter()
-        .any(|item| option_names(problem, second, *item))
+        .any(|item| clash_on(problem, first, second, *item))
 }
 
 /// Whether the option clashes with none of the chosen ones.

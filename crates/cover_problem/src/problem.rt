@@ -1,29 +1,36 @@
-ghost use Rattle.std.specs.Prelude.{◌≡◌, ◌<◌, ◌≤◌, length, slice_index_or, [], All, IfOk};
+ghost use Rattle.std.specs.Prelude.{◌≡◌, ℕ, ◌-◌, ◌<◌, ◌≤◌, length, slice_index, slice_index_or, [], All, IfOk};
 
 use crate::lists::{Name, Numbers};
 use std::alloc::AllocError;
 use std::marker::Model;
 
 /// An exact cover problem: items with names, of which the first are primary and the others secondary, and
-/// options as lists of items. Items and options go by their numbers, counted from 0 in the order of the file.
+/// options as lists of items, to which they may give colours. Items and options go by their numbers, counted from 0 in
+/// the order of the file; colours by theirs, counted from 1, since 0 stands for no colour.
 ///
 /// There are 1 to 1,000 items, one of them at least primary, and at most 20,000 options with 200,000 items in all.
-/// Names are 1 to 32 bytes and different; an option names a primary item at least, and no item twice.
+/// Names are 1 to 32 bytes and different; an option names a primary item at least, and no item twice. Only secondary
+/// items have colours, at most 10,000 of them, with names of 1 to 32 bytes that are different.
 #[derive(Debug, Drop)]
 pub struct Problem {
     names: Vec<Name>,
     primary: usize,
     options: Vec<Numbers>,
+    // beside each option the colours of its items, place by place
+    colours: Vec<Numbers>,
+    colour_names: Vec<Name>,
 }
 
 impl Model for Problem {
-    ghost use Rattle.cover_problem.specs.Problem.{Problem as ProblemValue, IsProblem};
+    ghost use Rattle.cover_problem.specs.Problem.{Problem as ProblemValue, IsProblem, problem_by};
 
     ghost Value = { ProblemValue };
 
-    ghost view = { λ p. record { names = p.names.items; primary = p.primary; options = p.options.items } };
+    ghost view = { λ p.
+        problem_by p.names.items p.primary p.options.items p.colours.items p.colour_names.items };
 
-    ghost invariant = { λ p. IsProblem (record { names = p.names.items; primary = p.primary; options = p.options.items }) };
+    ghost invariant = { λ p. IsProblem
+        (problem_by p.names.items p.primary p.options.items p.colours.items p.colour_names.items) };
 }
 
 impl Clone for Problem {
@@ -34,22 +41,35 @@ impl Clone for Problem {
             names: self.names.clone()?,
             primary: self.primary,
             options: self.options.clone()?,
+            colours: self.colours.clone()?,
+            colour_names: self.colour_names.clone()?,
         })
     }
 }
 
 impl Problem {
-    ghost use Rattle.cover_problem.specs.Problem.{IsProblem, problem_by, items_of};
+    ghost use Rattle.cover_problem.specs.Problem.{IsProblem, problem_by, items_of, colours_of, colour_of};
 
-    /// The problem with these names, of which so many are primary, and these options.
-    pub fn from_parts(names: Vec<Name>, primary: usize, options: Vec<Numbers>) -> Problem
-        requires { IsProblem (problem_by names.items primary options.items) }
-        ensures { result ≡ problem_by names.items primary options.items }
+    /// The problem with these names, of which so many are primary, these options, the colours of their items, place by
+    /// place, and the names of the colours.
+    pub fn from_parts(
+        names: Vec<Name>,
+        primary: usize,
+        options: Vec<Numbers>,
+        colours: Vec<Numbers>,
+        colour_names: Vec<Name>,
+    ) -> Problem
+        requires { IsProblem
+            (problem_by names.items primary options.items colours.items colour_names.items) }
+        ensures { result
+            ≡ problem_by names.items primary options.items colours.items colour_names.items }
     {
         Problem {
             names,
             primary,
             options,
+            colours,
+            colour_names,
         }
     }
 
@@ -92,6 +112,36 @@ impl Problem {
         ensures named { All (λ i. i < length self.now.names) result.now }
     {
         self.options[option as usize].as_slice()
+    }
+
+    /// The colours that an option gives its items, in the order of these: 0 for none, else the number of a colour.
+    pub fn colours(&self, option: u16) -> &[u16]
+        requires { option < length self.now.options }
+        ensures colours { result.now ≡ colours_of self.now option }
+        ensures long { length result.now ≡ length (items_of self.now option) }
+        ensures named { All (λ c. c ≤ length self.now.colour_names) result.now }
+        ensures each { (k : ℕ) → k < length result.now →
+            colour_of self.now option (slice_index (items_of self.now option) k)
+            ≡ slice_index result.now k }
+    {
+        self.colours[option as usize].as_slice()
+    }
+
+    /// How many different colours there are.
+    pub fn colour_names(&self) -> usize
+        ensures count { result ≡ length self.now.colour_names }
+        ensures problem { IsProblem self.now }
+    {
+        self.colour_names.len()
+    }
+
+    /// The name of a colour, by its number from 1.
+    pub fn colour_name(&self, colour: u16) -> &[u8]
+        requires some { 1 ≤ colour }
+        requires named { colour ≤ length self.now.colour_names }
+        ensures { result.now ≡ slice_index_or self.now.colour_names (colour - 1) [] }
+    {
+        self.colour_names[colour as usize - 1].as_slice()
     }
 
     /// An equal problem; the only error is want of memory.

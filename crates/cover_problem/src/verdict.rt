@@ -7,7 +7,7 @@ pub enum Verdict {
     ChosenTwice,
     /// This primary item, the first such, is named by none of the options.
     Uncovered(u16),
-    /// This item, the first such, is named by two of the options or more.
+    /// This item, the first such, is named by two of the options or more, and they don't all give it one colour.
     CoveredTwice(u16),
     /// The options are an exact cover.
     Exact,

@@ -1,5 +1,5 @@
 -- The run in which the root is given out twice.
-use Rattle.std.proofs.Common.{◌≡◌, ℕ, zero, suc, ◌<◌, ◌≤◌, true, false, ◌==◌, List, [], ◌∷◌, Some, unwrap_or, slice_get, refl, sym, ap, inr, arith, true≢false, ⊎_elim}
+use Rattle.std.proofs.Common.{◌≡◌, ℕ, zero, suc, ◌<◌, ◌≤◌, true, false, ◌==◌, List, [], ◌∷◌, Some, unwrap_or, slice_get, refl, sym, ap, inl, inr, arith, true≢false, ⊎_elim}
 use Rattle.std.proofs.lemmas.Bool.{eqb-true, ne_eqb, or_cases}
 use Rattle.cover_problem.specs.Branching.{branch_item, children, live_options, open_items}
 use Rattle.cover_problem.specs.ExactCover.{IsExactCover, uses}
@@ -37,7 +37,7 @@ unfolding first_within visits_within branch_item live_options open_items
 second_found = refl
 
 pub counted : IsExactCover two_ways (is_in (1 ∷ []))
-counted = record { in_range = in_range; primary = primary; others = others }
+counted = record { in_range = in_range; primary = primary; secondary = λ item high. inl (at_most_one item) }
   where
     in_range : (o : ℕ) → is_in (1 ∷ []) o ≡ true → o < 2
     in_range o h =
@@ -47,9 +47,9 @@ counted = record { in_range = in_range; primary = primary; others = others }
     primary zero l = refl
     primary (suc n) l = absurd (omega (arith, l))
 
-    others : (item : ℕ) → uses two_ways (is_in (1 ∷ [])) item ≤ 1
-    others zero = omega arith
-    others (suc n) =
+    at_most_one : (item : ℕ) → uses two_ways (is_in (1 ∷ [])) item ≤ 1
+    at_most_one zero = omega arith
+    at_most_one (suc n) =
         let e0 : (0 == suc n) ≡ false = ne_eqb 0 (suc n) (omega arith) in
         simp e0 (omega arith)
 

@@ -1,5 +1,5 @@
 -- The run in which a child is stolen, and its two ends.
-use Rattle.std.proofs.Common.{◌≡◌, ℕ, zero, suc, ◌<◌, ◌≤◌, Bool, true, false, ◌==◌, List, [], ◌∷◌, Some, unwrap_or, slice_get, slice_set, slice_index, refl, sym, ap, ◌∙◌, inr, ⊎_elim, arith, true≢false}
+use Rattle.std.proofs.Common.{◌≡◌, ℕ, zero, suc, ◌<◌, ◌≤◌, Bool, true, false, ◌==◌, List, [], ◌∷◌, Some, unwrap_or, slice_get, slice_set, slice_index, refl, sym, ap, ◌∙◌, inl, inr, ⊎_elim, arith, true≢false}
 use Rattle.std.proofs.lemmas.Bool.{eqb-true, ne_eqb, or_cases}
 use Rattle.std.proofs.lemmas.Option.{same_Some}
 use Rattle.cover_problem.specs.Examples.{small}
@@ -30,7 +30,7 @@ use Rattle.steal_return.specs.Returns.{Enters, Refuses}
 use Rattle.steal_return.specs.Steals.{is_older}
 
 pub counted : IsExactCover small (is_in cover)
-counted = record { in_range = in_range; primary = primary; others = others }
+counted = record { in_range = in_range; primary = primary; secondary = λ item high. inl (at_most_one item) }
   where
     in_range : (o : ℕ) → is_in cover o ≡ true → o < 6
     in_range o h =
@@ -55,15 +55,15 @@ counted = record { in_range = in_range; primary = primary; others = others }
     primary (suc (suc (suc (suc (suc (suc zero)))))) l = refl
     primary (suc (suc (suc (suc (suc (suc (suc n))))))) l = absurd (omega (arith, l))
 
-    others : (item : ℕ) → uses small (is_in cover) item ≤ 1
-    others zero = omega arith
-    others (suc zero) = omega arith
-    others (suc (suc zero)) = omega arith
-    others (suc (suc (suc zero))) = omega arith
-    others (suc (suc (suc (suc zero)))) = omega arith
-    others (suc (suc (suc (suc (suc zero))))) = omega arith
-    others (suc (suc (suc (suc (suc (suc zero)))))) = omega arith
-    others (suc (suc (suc (suc (suc (suc (suc n))))))) =
+    at_most_one : (item : ℕ) → uses small (is_in cover) item ≤ 1
+    at_most_one zero = omega arith
+    at_most_one (suc zero) = omega arith
+    at_most_one (suc (suc zero)) = omega arith
+    at_most_one (suc (suc (suc zero))) = omega arith
+    at_most_one (suc (suc (suc (suc zero)))) = omega arith
+    at_most_one (suc (suc (suc (suc (suc zero))))) = omega arith
+    at_most_one (suc (suc (suc (suc (suc (suc zero)))))) = omega arith
+    at_most_one (suc (suc (suc (suc (suc (suc (suc n))))))) =
         let e0 : (0 == suc (suc (suc (suc (suc (suc (suc n))))))) ≡ false = ne_eqb 0 (suc (suc (suc (suc (suc (suc (suc n))))))) (omega arith) in
         let e1 : (1 == suc (suc (suc (suc (suc (suc (suc n))))))) ≡ false = ne_eqb 1 (suc (suc (suc (suc (suc (suc (suc n))))))) (omega arith) in
         let e2 : (2 == suc (suc (suc (suc (suc (suc (suc n))))))) ≡ false = ne_eqb 2 (suc (suc (suc (suc (suc (suc (suc n))))))) (omega arith) in

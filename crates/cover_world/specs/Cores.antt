@@ -17,6 +17,7 @@ use Rattle.spawn_frame.specs.Tables.{is_here, prefix_in}
 use Rattle.spawn_frame.specs.Units.{Entry, Table, unit_of}
 use Rattle.spawn_frame.specs.declared.unit.Job.{Job}
 use Rattle.brancher.specs.Finding.{Finding}
+use Rattle.spawn_frame.specs.declared.site.TheConstants.{LAST_NODE}
 
 -- the sites of a world, as its callers see them
 pub record SitesCore : Type 0 where
@@ -42,7 +43,7 @@ pub record AreSites (problem : Problem) (registry : SiteCore) (nodes : List Site
   pub registry_is : registry.problem ≡ problem
   pub nodes_are : AreNodes problem 1 nodes
   pub some : 1 ≤ length nodes
-  pub few : length nodes ≤ 16
+  pub few : length nodes ≤ LAST_NODE
 
 -- the cores of nodes that begin, from this number on, each with a names limit
 abbrev pub opening_cores : Problem → ℕ → ℕ → List ℕ → List SiteCore

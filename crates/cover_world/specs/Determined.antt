@@ -1,5 +1,7 @@
 -- What a step leaves open.
 use Rattle.std.specs.Prelude.{◌≡◌, ℕ, Bool, true, false, List, [], ◌∷◌, Option, Some, None}
+use Rattle.cover_problem.specs.Problem.{Problem}
+use Rattle.node_core.specs.Acting.{StepOf}
 use Rattle.node_core.specs.SiteView.{View}
 use Rattle.node_core.specs.declared.event.Event.{Event}
 use Rattle.node_core.specs.declared.event.Event.TheVariants.{Deliver}
@@ -31,3 +33,15 @@ given_by (p ∷ ps) = given_in p.body
 -- the same reply, packets and view after
 abbrev pub SameStep : Reply → Reply → List Packet → List Packet → View → View → Type 0
 SameStep reply other_reply out other_out new other_new = (reply ≡ other_reply) × (out ≡ other_out) × (new ≡ other_new)
+
+-- Two steps of the same event from the same view are the same, where the event leaves no choice.
+abbrev pub IsDetermined : StepOf → Type 0
+IsDetermined Step = (problem : Problem) (old : View) (event : Event) (reply other_reply : Reply) (out other_out : List Packet) (new other_new : View)
+    → may_choose event ≡ false → Step problem old event reply out new → Step problem old event other_reply other_out other_new
+    → SameStep reply other_reply out other_out new other_new
+
+-- They are the same too where both give the same child, or none.
+abbrev pub IsDeterminedByChoice : StepOf → Type 0
+IsDeterminedByChoice Step = (problem : Problem) (old : View) (event : Event) (reply other_reply : Reply) (out other_out : List Packet) (new other_new : View)
+    → given_by out ≡ given_by other_out → Step problem old event reply out new → Step problem old event other_reply other_out other_new
+    → SameStep reply other_reply out other_out new other_new

@@ -6,6 +6,7 @@ use Rattle.cover_problem.specs.Problem.{Problem}
 use Rattle.cover_problem.specs.Search.{outcome}
 use Rattle.cover_world.specs.Plays.{entry_in}
 use Rattle.cover_world.specs.Worlds.{Acts, Restarts, World, WorldMove, WorldStep}
+use Rattle.cover_world.specs.declared.sites.TheConstants.{NAMES_LIMIT}
 use Rattle.cover_world.specs.declared.world_event.WorldEvent.{WorldEvent}
 use Rattle.cover_world.specs.declared.world_event.WorldEvent.TheVariants as calls
 use Rattle.cover_world.specs.declared.world_fault.WorldFault.{WorldFault}
@@ -27,7 +28,7 @@ use Rattle.spawn_frame.specs.declared.unit.Job.{Job}
 
 -- how many children each node may name
 abbrev pub names_limit : ℕ
-names_limit = 1000000
+names_limit = NAMES_LIMIT
 
 -- the finding of the prefix with so much fuel
 abbrev pub finding_of : Problem → List ℕ → ℕ → Finding

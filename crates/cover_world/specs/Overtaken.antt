@@ -1,6 +1,6 @@
 -- A run in which the root is given out anew, and both thieves settle on the result of the second.
 use Rattle.std.specs.Prelude.{List, [], ◌∷◌}
-use Rattle.cover_problem.specs.Problem.{Problem}
+use Rattle.cover_problem.specs.Problem.{Problem, uncoloured}
 use Rattle.cover_problem.specs.Search.{Covers, Spent}
 use Rattle.cover_world.specs.Plays.{root_guest, site0, site1, site2}
 use Rattle.cover_world.specs.Worlds.{Acts, WorldMove}
@@ -12,7 +12,7 @@ use Rattle.spawn_frame.specs.declared.unit.Unit.TheVariants.{Own}
 
 -- one primary item, and two options that name it alone
 abbrev pub two_ways : Problem
-two_ways = record { names = (97 ∷ []) ∷ []; primary = 1; options = (0 ∷ []) ∷ (0 ∷ []) ∷ [] }
+two_ways = uncoloured ((97 ∷ []) ∷ []) 1 ((0 ∷ []) ∷ (0 ∷ []) ∷ [])
 
 -- the first node asks for work
 abbrev pub first_steal : Packet

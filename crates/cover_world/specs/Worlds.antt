@@ -68,7 +68,7 @@ pub record SiteRestarts (old : World) (node incarnation limit : ℕ) (new : Worl
   pub is : slice_get old.sites node ≡ Some before
   pub not_registry : 0 < node
   pub greater : before.site.incarnation < incarnation
-  pub world : new ≡ record { sites = slice_set old.sites node (opening_node before.nodes node incarnation limit); sent = old.sent }
+  pub world : new ≡ record old { sites = slice_set old.sites node (opening_node before.nodes node incarnation limit) }
 
 -- one step of a world
 abbrev pub WorldStep : Problem → World → WorldMove → World → Type 0

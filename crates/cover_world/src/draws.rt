@@ -121,7 +121,8 @@ impl<'a> World<'a> {
     /// The node begins anew, while restarts and incarnations are left; else any site says all again.
     fn restart_or_again(&self, rng: &mut Pcg32, node: u8, restarts_left: u32) -> WorldEvent
         requires { node < length self.now.world.sites }
-        ensures { (result, rng.new) ≡ restart_or_again (node_count self.now.world) node restarts_left
+        ensures { (result, rng.new) ≡ restart_or_again
+            (node_count self.now.world) node restarts_left
             (present (slice_get self.now.world.sites node)) rng.old }
     {
         match self.incarnation(node).checked_add(1) {

@@ -3,15 +3,15 @@
 ghost use Rattle.std.specs.Prelude.{◌≡◌, ℕ, Bool, true, false, List, None, Some};
 ghost use Rattle.cover_problem.specs.Problem.{IsProblem, Problem};
 ghost use Rattle.cover_world.specs.Coverage.{AllCovered};
-ghost use Rattle.cover_world.specs.Determined.{SameStep, given_by, may_choose};
+ghost use Rattle.cover_world.specs.Determined.{IsDetermined, IsDeterminedByChoice};
 ghost use Rattle.cover_world.specs.Moves.{meaning, world_refusal, IsWorldView, WorldActs};
 ghost use Rattle.cover_world.specs.Safety.{Safe};
 ghost use Rattle.cover_world.specs.Simulation.{Simulated, Simulation};
-ghost use Rattle.cover_world.specs.Thieves.{CallsOff, PutsOut};
+ghost use Rattle.cover_world.specs.Thieves.{CallsOff, PutsOut, call_off};
 ghost use Rattle.cover_world.specs.Worlds.{opening_world, Run, World, WorldMove, WorldStep};
 ghost use Rattle.cover_world.specs.declared.world_event.WorldEvent.{WorldEvent};
 ghost use Rattle.node_core.specs.NodeStep.{NodeStep};
-ghost use Rattle.node_core.specs.SiteView.{View, abort_packet};
+ghost use Rattle.node_core.specs.SiteView.{View};
 ghost use Rattle.node_core.specs.declared.event.Event.{Event};
 ghost use Rattle.node_core.specs.declared.reply.Reply.{Reply};
 ghost use Rattle.packet_wire.specs.declared.packet.Packet.{Packet};
@@ -46,31 +46,18 @@ pub fn below_goes_on()
 /// A step of a site is determined by its view and the event, but for the child that a Steal is
 /// given; and of a Steal too, once it is known which child is given, or that none is.
 pub fn step_is_determined()
-    ensures node { (problem : Problem) (old : View) (event : Event) (reply other_reply : Reply)
-        (out other_out : List Packet) (new other_new : View) → may_choose event ≡ false →
-        NodeStep problem old event reply out new → NodeStep problem old event other_reply other_out other_new →
-        SameStep reply other_reply out other_out new other_new }
-    ensures registry { (problem : Problem) (old : View) (event : Event) (reply other_reply : Reply)
-        (out other_out : List Packet) (new other_new : View) → may_choose event ≡ false →
-        RegistryStep problem old event reply out new → RegistryStep problem old event other_reply other_out other_new →
-        SameStep reply other_reply out other_out new other_new }
-    ensures node_choice { (problem : Problem) (old : View) (event : Event)
-        (reply other_reply : Reply) (out other_out : List Packet) (new other_new : View) →
-        given_by out ≡ given_by other_out → NodeStep problem old event reply out new →
-        NodeStep problem old event other_reply other_out other_new →
-        SameStep reply other_reply out other_out new other_new }
-    ensures registry_choice { (problem : Problem) (old : View) (event : Event)
-        (reply other_reply : Reply) (out other_out : List Packet) (new other_new : View) →
-        given_by out ≡ given_by other_out → RegistryStep problem old event reply out new →
-        RegistryStep problem old event other_reply other_out other_new →
-        SameStep reply other_reply out other_out new other_new }
+    ensures node { IsDetermined NodeStep }
+    ensures registry { IsDetermined RegistryStep }
+    ensures node_choice { IsDeterminedByChoice NodeStep }
+    ensures registry_choice { IsDeterminedByChoice RegistryStep }
 {}
 
 /// Where an own child that is out is aborted, its thief is told so in the same step, whatever the event is.
 pub fn thieves_are_told()
-    ensures { (problem : Problem) (old new : View) (event : Event) (reply : Reply) (out : List Packet) (serial : ℕ)
-        (entry : Entry) (thief : Site) → CallsOff old new serial entry thief → NodeStep problem old event reply out new →
-        PutsOut out (abort_packet old.site (record { serial = serial; attempt = entry.attempt; thief = thief })) }
+    ensures { (problem : Problem) (old new : View) (event : Event) (reply : Reply)
+        (out : List Packet) (serial : ℕ) (entry : Entry) (thief : Site) →
+        CallsOff old new serial entry thief → NodeStep problem old event reply out new →
+        PutsOut out (call_off old.site serial entry thief) }
 {}
 
 /// A world that a simulation comes to is reached by a run, so all that holds of every run holds of it.
@@ -82,7 +69,8 @@ pub fn a_simulation_is_a_run()
 /// An event of a world has a step exactly where nothing refuses it: none where there is a fault, and
 /// some where there is none.
 pub fn the_world_acts_unless_it_refuses()
-    ensures unrefused { (problem : Problem) (old new : World) (event : WorldEvent) (move : WorldMove) →
+    ensures unrefused { (problem : Problem) (old new : World) (event : WorldEvent)
+        (move : WorldMove) →
         meaning problem old event ≡ Some move → WorldStep problem old move new →
         world_refusal problem old event ≡ None }
     ensures acts { (problem : Problem) (old : World) (event : WorldEvent) →

@@ -33,7 +33,8 @@ fn here_child(table: &Table) -> Option<Job>
 /// The own child of least serial that a worker has.
 fn first_here(table: &Table) -> Option<u32>
     ensures least { result ≡ first_here table.now.own }
-    ensures here { IfSome result (λ serial. has_status is_here (slice_get table.now.own serial) ≡ true) }
+    ensures here { IfSome result (λ serial. has_status is_here (slice_get table.now.own serial)
+        ≡ true) }
 {
     table.next_here(0)
 }

@@ -1,7 +1,7 @@
 //! Events that a site refuses have no step: each function is a law, and does nothing.
 
 ghost use Rattle.std.specs.Prelude.{◌≡◌, ◌≢◌, ℕ, ◌<◌, ◌≤◌, true, false, List, [], ◌∷◌, ◌++◌, length, map, Some, None, slice_get};
-ghost use Rattle.brancher.specs.Finding.{Finding};
+ghost use Rattle.brancher.specs.Finding.{Finding, finding_by};
 ghost use Rattle.cover_problem.specs.Branching.{children};
 ghost use Rattle.cover_problem.specs.Prefix.{is_prefix};
 ghost use Rattle.cover_problem.specs.Problem.{Problem};
@@ -53,7 +53,8 @@ pub fn node_that_is_over()
 
 /// A result is taken only for a job that the site waits for, with its prefix.
 pub fn stale_job()
-    ensures { (problem : Problem) (view : View) (job : Job) (finding : Finding) → (IsAwaited view job finding → ⊥) →
+    ensures { (problem : Problem) (view : View) (job : Job) (finding : Finding) →
+        (IsAwaited view job finding → ⊥) →
         NodeRefuses problem view (Post job finding) }
 {}
 
@@ -67,15 +68,17 @@ pub fn finding_without_fuel()
 pub fn names_spent()
     ensures { (problem : Problem) (view : View) (job : Job) (prefix : List ℕ) (fuel : ℕ) →
         view.limit < length (split_up problem view job.unit prefix).own →
-        NodeRefuses problem view (Post job (record { prefix = prefix; fuel = fuel; outcome = Spent })) }
+        NodeRefuses problem view (Post job (finding_by prefix fuel Spent)) }
 {}
 
 /// Only a unit that is split is finished, and only once its frame is settled.
 pub fn unsettled_frame()
-    ensures unsettled { (problem : Problem) (view : View) (unit : WorkUnit) → frame_result (frame unit view.own) ≡ None →
+    ensures unsettled { (problem : Problem) (view : View) (unit : WorkUnit) →
+        frame_result (frame unit view.own) ≡ None →
         NodeRefuses problem view (Finish unit) }
     ensures unopened { (problem : Problem) (view : View) (unit : WorkUnit) →
-        ((entry : Entry) → unit_in view unit ≡ Some entry → entry.status ≢ Split) → NodeRefuses problem view (Finish unit) }
+        ((entry : Entry) → unit_in view unit ≡ Some entry → entry.status ≢ Split) →
+        NodeRefuses problem view (Finish unit) }
 {}
 
 /// Nobody asks itself for work, nor a node that there isn't.
@@ -91,7 +94,8 @@ pub fn redo_of_no_use()
     ensures not_out { (problem : Problem) (view : View) (serial : ℕ) → (IsOut view serial → ⊥) →
         NodeRefuses problem view (Redo serial) }
     ensures last { (problem : Problem) (view : View) (serial : ℕ) (entry : Entry) →
-        slice_get view.own serial ≡ Some entry → entry.attempt ≡ last_attempt → NodeRefuses problem view (Redo serial) }
+        slice_get view.own serial ≡ Some entry → entry.attempt ≡ last_attempt →
+        NodeRefuses problem view (Redo serial) }
 {}
 
 /// Nor does the registry redo a child that isn't out, or one after its last attempt; where it has
@@ -122,31 +126,45 @@ pub fn lost_at_the_last_attempt()
 
 /// A list that is no prefix makes no guest: unless the packet is ignored, it has no step.
 pub fn no_prefix_given()
-    ensures { (problem : Problem) (view : View) (from to : Site) (serial attempt : ℕ) (prefix : List ℕ) →
-        is_older view.known from ≡ false → guest_in view.guests (record { site = from; serial = serial }) attempt ≡ None →
+    ensures { (problem : Problem) (view : View) (from to : Site) (serial attempt : ℕ)
+        (prefix : List ℕ) →
+        is_older view.known from ≡ false → guest_in view.guests
+        (record { site = from; serial = serial }) attempt ≡ None →
         is_prefix problem prefix ≡ false →
-        NodeRefuses problem view (Deliver (record { from = from; to = to; body = Give serial attempt prefix })) }
+        NodeRefuses problem view (Deliver (record {
+          from = from;
+          to = to;
+          body = Give serial
+              attempt prefix;
+        })) }
 {}
 
 /// A result at an attempt that the owner has superseded enters nothing, nor does one of a site that isn't the thief: it is
 /// refused, and nothing changes.
 pub fn superseded_return()
-    ensures earlier { (problem : Problem) (old new : View) (packet : Packet) (serial attempt : ℕ) (returned : ChildResult)
+    ensures earlier { (problem : Problem) (old new : View) (packet : Packet) (serial attempt : ℕ)
+        (returned : ChildResult)
         (entry : Entry) (reply : Reply) (out : List Packet) →
-        packet.body ≡ Return serial attempt returned → slice_get old.own serial ≡ Some entry → attempt < entry.attempt →
+        packet.body ≡ Return serial attempt returned → slice_get old.own serial ≡ Some entry →
+        attempt < entry.attempt →
         is_open entry.status ≡ true → NodeStep problem old (Deliver packet) reply out new →
         Refused old packet.from serial attempt causes.Superseded reply out new }
-    ensures stranger { (problem : Problem) (old new : View) (packet : Packet) (serial attempt : ℕ) (returned : ChildResult)
+    ensures stranger { (problem : Problem) (old new : View) (packet : Packet) (serial attempt : ℕ)
+        (returned : ChildResult)
         (entry : Entry) (thief : Site) (reply : Reply) (out : List Packet) →
-        packet.body ≡ Return serial attempt returned → slice_get old.own serial ≡ Some entry → attempt ≤ entry.attempt →
-        entry.status ≡ Out thief → thief ≢ packet.from → NodeStep problem old (Deliver packet) reply out new →
+        packet.body ≡ Return serial attempt returned → slice_get old.own serial ≡ Some entry →
+        attempt ≤ entry.attempt →
+        entry.status ≡ Out thief → thief ≢ packet.from →
+        NodeStep problem old (Deliver packet) reply out new →
         Refused old packet.from serial attempt causes.Superseded reply out new }
 {}
 
 /// A cover that doesn't count right never enters at the registry.
 pub fn wrong_cover()
-    ensures { (problem : Problem) (view : View) (packet : Packet) (serial attempt : ℕ) (returned : ChildResult) →
-        packet.body ≡ Return serial attempt returned → judged (slice_get view.own serial) packet.from attempt ≡ Enters →
+    ensures { (problem : Problem) (view : View) (packet : Packet) (serial attempt : ℕ)
+        (returned : ChildResult) →
+        packet.body ≡ Return serial attempt returned →
+        judged (slice_get view.own serial) packet.from attempt ≡ Enters →
         (IsAcceptable problem returned → ⊥) → RegistryRefuses problem view (Deliver packet) }
 {}
 

@@ -21,7 +21,8 @@ ghost use Rattle.spawn_frame.specs.declared.unit.Unit.TheVariants.{Own};
 /// time none is published; the second time the registry sends an equal packet of acceptance and changes nothing.
 pub fn repeated_result()
     ensures run { Plays bare (opening_world 2 limits) repeated.events repeated.packets (λ end.
-        (published bare end ≡ Some answers.NoCover) × (status_in end 1 (root_guest 1) ≡ Some (Settled Empty))) }
+        (published bare end ≡ Some answers.NoCover) × (status_in end 1 (root_guest 1)
+        ≡ Some (Settled Empty))) }
 {}
 
 /// One item with two options. The root is given out twice, the thieves find different covers, and the second thief's
@@ -37,7 +38,8 @@ pub fn overtaken_result()
 /// Seven items with one exact cover. A frame finishes with it while another child is out; that child's late result is
 /// refused, the child stays aborted, and the thief drops its guest.
 pub fn late_result()
-    ensures run { Plays small (opening_world 2 limits) stolen.late_events stolen.late_packets (λ end.
+    ensures run { Plays small (opening_world 2 limits) stolen.late_events stolen.late_packets
+        (λ end.
         (published small end ≡ Some (answers.Cover (0 ∷ 3 ∷ 4 ∷ [])))
         × (status_in end 1 (Own 0) ≡ Some Aborted)
         × (status_in end 2 stolen.stolen ≡ Some Dropped)) }
@@ -46,8 +48,15 @@ pub fn late_result()
 /// The thief of a child begins anew. Its owner learns of that and redoes the child; the result of the thief's earlier run
 /// is refused then, and the packets to that run find nobody.
 pub fn thief_begins_anew()
-    ensures run { Plays small (opening_world 2 limits) stolen.anew_events stolen.anew_packets (λ end.
-        (entry_in end 1 (Own 0) ≡ Some (record { parent = Some (root_guest 1); prefix = 1 ∷ []; attempt = 2; status = Ready }))
+    ensures run { Plays small (opening_world 2 limits) stolen.anew_events stolen.anew_packets
+        (λ end.
+        (entry_in end 1 (Own 0) ≡ Some (record {
+          parent = Some
+              (root_guest 1);
+          prefix = 1 ∷ [];
+          attempt = 2;
+          status = Ready;
+        }))
         × IsRefused small end (Acts 2 (Deliver stolen.child_give))
         × IsRefused small end (Acts 2 (Deliver stolen.anew_refuse))) }
 {}
@@ -63,5 +72,11 @@ pub fn said_again()
 /// run and asks that run for work. Then the thief begins anew, and the root is ready again at the next attempt.
 pub fn later_runs()
     ensures run { Plays bare (opening_world 2 limits) later_runs.events later_runs.packets (λ end.
-        entry_in end 0 (Own 0) ≡ Some (record { parent = None; prefix = []; attempt = 2; status = Ready })) }
+        entry_in end 0 (Own 0) ≡ Some (record {
+          parent = None;
+          prefix = [];
+          attempt = 2;
+          status =
+              Ready;
+        })) }
 {}

@@ -6,6 +6,7 @@ ghost use Rattle.cover_world.specs.Moves.{acting_refusal, names_limit, restart_r
 ghost use Rattle.cover_world.specs.Safety.{published_at};
 ghost use Rattle.node_core.specs.Formed.{IsFormed};
 ghost use Rattle.node_core.specs.Refusal.{IsFit};
+ghost use Rattle.spawn_frame.specs.declared.site.TheConstants.{LAST_NODE};
 
 use crate::world_fault::WorldFault;
 use cover_problem::{Answer, Problem};
@@ -17,7 +18,7 @@ use std::alloc::{AllocError, Global};
 use std::marker::Model;
 
 /// How many children each node may name.
-const NAMES_LIMIT: u32 = 1_000_000;
+pub const NAMES_LIMIT: u32 = 1_000_000;
 
 /// The cores of the sites of a world: the registry's, and one for each node in its present run.
 #[derive(Drop)]
@@ -33,7 +34,10 @@ impl<'a> Model for Sites<'a> {
 
     ghost Value = { SitesCore };
 
-    ghost view = { λ s. record { problem = s.problem.now; sites = views_of s.registry s.nodes.items } };
+    ghost view = { λ s. record {
+      problem = s.problem.now;
+      sites = views_of s.registry s.nodes.items;
+    } };
 
     ghost invariant = { λ s. AreSites s.problem.now s.registry s.nodes.items };
 }
@@ -42,7 +46,7 @@ impl<'a> Sites<'a> {
     /// The registry and so many nodes, all of which begin.
     pub fn start(alloc: Global, problem: &'a Problem, nodes: u8) -> Result<Sites<'a>, AllocError>
         requires some { 1 ≤ nodes }
-        requires most { nodes ≤ 16 }
+        requires most { nodes ≤ LAST_NODE }
         ensures { IfOk result (λ sites.
             sites ≡ opening_sites problem.now nodes (replicate nodes names_limit)) }
     {
@@ -59,7 +63,7 @@ impl<'a> Sites<'a> {
     pub fn nodes(&self) -> u8
         ensures count { suc result ≡ length self.now.sites }
         ensures some { 1 ≤ result }
-        ensures most { result ≤ 16 }
+        ensures most { result ≤ LAST_NODE }
     {
         self.nodes.len() as u8
     }
@@ -176,7 +180,7 @@ fn first_nodes<'a>(
     nodes: u8,
 ) -> Result<Vec<NodeCore<'a>>, AllocError>
     requires some { 1 ≤ nodes }
-    requires most { nodes ≤ 16 }
+    requires most { nodes ≤ LAST_NODE }
     ensures { IfOk result (λ cores.
         cores.items ≡ opening_cores problem.now nodes 1 (replicate nodes names_limit)) }
 {

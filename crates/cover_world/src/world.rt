@@ -8,6 +8,7 @@ ghost use Rattle.cover_world.specs.Worlds.{Acts, Restarts, WasSent};
 ghost use Rattle.node_core.specs.Refusal.{IsFit};
 ghost use Rattle.spawn_frame.specs.Picks.{ripe_unit};
 ghost use Rattle.spawn_frame.specs.Tables.{IsSeen};
+ghost use Rattle.spawn_frame.specs.declared.site.TheConstants.{LAST_NODE};
 
 use crate::laws::{safe_over_every_run, the_world_acts_unless_it_refuses};
 use crate::lookups::{first_out, here_job};
@@ -41,7 +42,13 @@ impl<'a> Model for World<'a> {
 
     ghost Value = { WorldCore };
 
-    ghost view = { λ w. record { problem = w.sites.problem; world = record { sites = w.sites.sites; sent = w.sent.items } } };
+    ghost view = { λ w. record {
+      problem = w.sites.problem;
+      world = record {
+        sites = w.sites.sites;
+        sent = w.sent.items;
+      };
+    } };
 
     ghost invariant = { λ w. IsWorld w.sites.problem w.searcher.problem w.sent.items };
 }
@@ -50,7 +57,7 @@ impl<'a> World<'a> {
     /// The registry and 1 to 16 nodes, all in their first run, and nothing sent. The only error is want of memory.
     pub fn start(alloc: Global, problem: &'a Problem, nodes: u8) -> Result<World<'a>, AllocError>
         requires some { 1 ≤ nodes }
-        requires most { nodes ≤ 16 }
+        requires most { nodes ≤ LAST_NODE }
         ensures { IfOk result (λ world. world ≡ opening_core problem.now nodes) }
     {
         let sites = Sites::start(alloc, problem, nodes)?;
@@ -155,7 +162,7 @@ impl<'a> World<'a> {
     pub fn nodes(&self) -> u8
         ensures count { suc result ≡ length self.now.world.sites }
         ensures some { 1 ≤ result }
-        ensures most { result ≤ 16 }
+        ensures most { result ≤ LAST_NODE }
     {
         self.sites.nodes()
     }

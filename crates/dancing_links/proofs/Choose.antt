@@ -1,145 +1,244 @@
--- Items covered one after the other, and uncovered in the reverse order.
-use Rattle.std.proofs.Common.{◌≡◌, ℕ, ◌+◌, List, [], ◌∷◌, ◌++◌, refl, sym, ap, ◌∙◌, subst, append_assoc, append-nil}
+-- Items that nodes cover one after the other, and uncover in the reverse order.
+use Rattle.std.proofs.Common.{◌≡◌, ℕ, ◌+◌, ◌<◌, get_or, List, [], ◌∷◌, ◌++◌, refl, sym, ap, ◌∙◌, subst}
 use Rattle.dancing_links.specs.declared.link.Link.{Link}
-use Rattle.dancing_links.specs.Columns.{Columns, IsSpelled, IsTable}
+use Rattle.dancing_links.specs.Columns.{Columns, column_of, colour_at, IsSpelled, IsTable}
+use Rattle.dancing_links.specs.Committing.{IsCommits, IsFirst, Recovers, commit, uncommit, committed, covering}
 use Rattle.dancing_links.specs.Counting.{IsCounted, CountsCovered, CountsUncovered, CountsCoveredAll, CountsUncoveredAll}
-use Rattle.dancing_links.specs.Covering.{outs, hidden_from, covered, IsOpen, Covers, Uncovers, CoversAll, UncoversAll, outs_all, links_all, AreOpen}
+use Rattle.dancing_links.specs.Covering.{outs, hidden_from, covered, covered_by, IsOpen, Covers, Uncovers, CoversAll, UncoversAll, outs_all, links_all, AreOpen}
 use Rattle.dancing_links.specs.Linking.{unlinked, unlinks}
 use Rattle.dancing_links.proofs.Walk.{spelled_unlinks, whole_item, item_out}
 use Rattle.dancing_links.proofs.Chain.{going_all}
+use Rattle.dancing_links.proofs.Commits.{commit_plain, uncommit_plain, repeated_plain, commit_uncommit, uncommit_commit, uncommit_kept, repeated_none, covering_new, covering_one}
 
 -- once an item is covered, the links are spelled without what that took out
-pub spelled_cover : (c : Columns) (out : List ℕ) (m : List Link) (i : ℕ) → IsTable c → IsSpelled c out m → IsOpen c out i → IsSpelled c (outs (covered c out i) out) (unlinks m (covered c out i))
+pub spelled_cover : (c : Columns) (out : List ℕ) (m : List Link) (i a : ℕ) → IsTable c → IsSpelled c out m → IsOpen c out i → IsSpelled c (outs (covered c out i a) out) (unlinks m (covered c out i a))
 unfolding covered
-spelled_cover c out m i t s can =
+spelled_cover c out m i a t s can =
     let s1 = item_out c out i m t can s in
-    let are = going_all c ((c.heads + i) ∷ out) i (unlinked m (c.heads + i)) t can.item s1 (whole_item c out i t can) in
-    spelled_unlinks c ((c.heads + i) ∷ out) (unlinked m (c.heads + i)) (hidden_from c ((c.heads + i) ∷ out) i c.heads) s1 are
+    let are = going_all c ((c.heads + i) ∷ out) i a (unlinked m (c.heads + i)) t can.item s1 (whole_item c out i t can) in
+    spelled_unlinks c ((c.heads + i) ∷ out) (unlinked m (c.heads + i)) (hidden_from c ((c.heads + i) ∷ out) i a c.heads) s1 are
 
--- What is known after some items: the links and the counts that are known there, and the items that are left, lead to those of all items.
-pub record IsOn (c : Columns) (out : List ℕ) (old now : List Link) (all left was is : List ℕ) : Type 0 where
-  pub gone : List ℕ
-  pub spelled : IsSpelled c gone now
-  pub can : AreOpen c gone left
-  pub links : links_all c gone now left ≡ links_all c out old all
-  pub outs : outs_all c gone left ≡ outs_all c out all
-  pub counts : IsCounted c out was → IsCounted c gone is
+-- the same for a node that covers its item
+pub spelled_by : (c : Columns) (out : List ℕ) (m : List Link) (k : ℕ) → IsTable c → IsSpelled c out m → IsOpen c out (column_of c k) → IsSpelled c (outs (covered_by c out k) out) (unlinks m (covered_by c out k))
+spelled_by c out m k t s can = spelled_cover c out m (column_of c k) (colour_at c k) t s can
 
-abbrev pub On : Columns → List Link → List ℕ → List Link → List ℕ → List ℕ → List ℕ → Type 0
-On c old all now left was is = (out : List ℕ) → IsSpelled c out old → AreOpen c out all → IsOn c out old now all left was is
+-- and for nodes that do so one after the other
+pub spelled_all : (c : Columns) (out : List ℕ) (m : List Link) (ks : List ℕ) → IsTable c → IsSpelled c out m → AreOpen c out ks → IsSpelled c (outs_all c out ks) (links_all c out m ks)
+spelled_all c out m [] t s are = s
+spelled_all c out m (k ∷ ks) t s are = spelled_all c (outs (covered_by c out k) out) (unlinks m (covered_by c out k)) ks t (spelled_by c out m k t s are.0) are.1
 
-pub on_start : (c : Columns) (old : List Link) (all was : List ℕ) → On c old all old all was was
-on_start c old all was = λ out s are. record { gone = out; spelled = s; can = are; links = refl; outs = refl; counts = λ counted. counted }
+pub links_append : (c : Columns) (out : List ℕ) (m : List Link) (xs ys : List ℕ) → links_all c out m (xs ++ ys) ≡ links_all c (outs_all c out xs) (links_all c out m xs) ys
+links_append c out m [] ys = refl
+links_append c out m (x ∷ xs) ys = links_append c (outs (covered_by c out x) out) (unlinks m (covered_by c out x)) xs ys
 
-pub on_step : (c : Columns) (old now new : List Link) (all left was is less : List ℕ) (i : ℕ) → IsTable c → Covers c now i new → CountsCovered c now i is less → On c old all now (i ∷ left) was is → On c old all new left was less
-on_step c old now new all left was is less i t covers counts on = λ out s are.
-    let at = on out s are in
-    let e : new ≡ unlinks now (covered c at.gone i) = covers at.gone at.spelled at.can.0 in
+pub out_append : (c : Columns) (out xs ys : List ℕ) → outs_all c out (xs ++ ys) ≡ outs_all c (outs_all c out xs) ys
+out_append c out [] ys = refl
+out_append c out (x ∷ xs) ys = out_append c (outs (covered_by c out x) out) xs ys
+
+pub open_parts : (c : Columns) (out xs ys : List ℕ) → AreOpen c out (xs ++ ys) → AreOpen c out xs × AreOpen c (outs_all c out xs) ys
+open_parts c out [] ys are = (tt, are)
+open_parts c out (x ∷ xs) ys are = let rest = open_parts c (outs (covered_by c out x) out) xs ys are.1 in ((are.0, rest.0), rest.1)
+
+-- ---- one node alone
+
+pub one_covers : (c : Columns) (old new : List Link) (k : ℕ) → Covers c old (column_of c k) (colour_at c k) new → CoversAll c old (k ∷ []) new
+one_covers c old new k covers = λ out s are. covers out s are.0
+
+pub one_counts : (c : Columns) (old : List Link) (k : ℕ) (was now : List ℕ) → CountsCovered c old (column_of c k) (colour_at c k) was now → CountsCoveredAll c old (k ∷ []) was now
+one_counts c old k was now counts = λ out s are. counts out s are.0
+
+pub one_uncovers : (c : Columns) (old new : List Link) (k : ℕ) → Uncovers c old (column_of c k) (colour_at c k) new → UncoversAll c old (k ∷ []) new
+one_uncovers c old new k uncovers = λ out before s are e. uncovers out before s are.0 e
+
+pub one_uncounts : (c : Columns) (old : List Link) (k : ℕ) (was now : List ℕ) → CountsUncovered c old (column_of c k) (colour_at c k) was now → CountsUncoveredAll c old (k ∷ []) was now
+one_uncounts c old k was now counts = λ out before s are e counted. counts out before s are.0 e counted
+
+-- ---- some nodes, and then more
+
+pub covers_both : (c : Columns) (old mid new : List Link) (xs ys : List ℕ) → IsTable c → CoversAll c old xs mid → CoversAll c mid ys new → CoversAll c old (xs ++ ys) new
+covers_both c old mid new xs ys t first second = λ out s are.
+    let parts = open_parts c out xs ys are in
+    let e : mid ≡ links_all c out old xs = first out s parts.0 in
+    let P : List Link → Type 0 = λ m. IsSpelled c (outs_all c out xs) m in
+    second (outs_all c out xs) (subst P (sym e) (spelled_all c out old xs t s parts.0)) parts.1
+    ∙ ap (λ (m : List Link). links_all c (outs_all c out xs) m ys) e ∙ sym (links_append c out old xs ys)
+
+pub counts_both : (c : Columns) (old mid : List Link) (xs ys was half now : List ℕ) → IsTable c → CoversAll c old xs mid → CountsCoveredAll c old xs was half → CountsCoveredAll c mid ys half now → CountsCoveredAll c old (xs ++ ys) was now
+counts_both c old mid xs ys was half now t covers first second = λ out s are counted.
+    let parts = open_parts c out xs ys are in
+    let e : mid ≡ links_all c out old xs = covers out s parts.0 in
+    let P : List Link → Type 0 = λ m. IsSpelled c (outs_all c out xs) m in
+    let Q : List ℕ → Type 0 = λ gone. IsCounted c gone now in
+    subst Q (sym (out_append c out xs ys)) (second (outs_all c out xs) (subst P (sym e) (spelled_all c out old xs t s parts.0)) parts.1 (first out s parts.0 counted))
+
+pub uncovers_both : (c : Columns) (old mid new : List Link) (xs ys : List ℕ) → IsTable c → UncoversAll c old ys mid → UncoversAll c mid xs new → UncoversAll c old (xs ++ ys) new
+uncovers_both c old mid new xs ys t second first = λ out before s are e.
+    let parts = open_parts c out xs ys are in
+    first out before s parts.0 (second (outs_all c out xs) (links_all c out before xs) (spelled_all c out before xs t s parts.0) parts.1 (e ∙ links_append c out before xs ys))
+
+pub uncounts_both : (c : Columns) (old mid : List Link) (xs ys was half now : List ℕ) → IsTable c → UncoversAll c old ys mid → CountsUncoveredAll c old ys was half → CountsUncoveredAll c mid xs half now → CountsUncoveredAll c old (xs ++ ys) was now
+uncounts_both c old mid xs ys was half now t uncovers second first = λ out before s are e counted.
+    let parts = open_parts c out xs ys are in
+    let m : List Link = links_all c out before xs in
+    let spelled = spelled_all c out before xs t s parts.0 in
+    let links = e ∙ links_append c out before xs ys in
+    let P : List ℕ → Type 0 = λ gone. IsCounted c gone was in
+    first out before s parts.0 (uncovers (outs_all c out xs) m spelled parts.1 links) (second (outs_all c out xs) m spelled parts.1 links (subst P (out_append c out xs ys) counted))
+
+-- none
+pub none_covers : (c : Columns) (m : List Link) → CoversAll c m [] m
+none_covers c m = λ out s are. refl
+
+pub none_counts : (c : Columns) (m : List Link) (was : List ℕ) → CountsCoveredAll c m [] was was
+none_counts c m was = λ out s are counted. counted
+
+pub none_uncovers : (c : Columns) (m : List Link) → UncoversAll c m [] m
+none_uncovers c m = λ out before s are e. e
+
+pub none_uncounts : (c : Columns) (m : List Link) (was : List ℕ) → CountsUncoveredAll c m [] was was
+none_uncounts c m was = λ out before s are e counted. counted
+
+-- ---- going over the nodes of a row
+
+-- what is left of some nodes leads from here to where all of them lead from the beginning
+pub record IsLeft (c : Columns) (old now : List Link) (all left was is held holds : List ℕ) : Type 0 where
+  pub links : (new : List Link) → CoversAll c now (covering c holds left) new → CoversAll c old (covering c held all) new
+  pub counts : (last : List ℕ) → CountsCoveredAll c now (covering c holds left) is last → CountsCoveredAll c old (covering c held all) was last
+  pub commits : committed c holds left ≡ committed c held all
+
+pub left_start : (c : Columns) (old : List Link) (all was held : List ℕ) → IsLeft c old old all all was was held held
+left_start c old all was held = record { links = λ new covers. covers; counts = λ last counts. counts; commits = refl }
+
+pub left_step : (c : Columns) (old now new : List Link) (all left was is less held holds : List ℕ) (k : ℕ) → IsTable c → CoversAll c now (covering c holds (k ∷ [])) new → CountsCoveredAll c now (covering c holds (k ∷ [])) is less → IsLeft c old now all (k ∷ left) was is held holds → IsLeft c old new all left was less held (commit c holds k)
+left_step c old now new all left was is less held holds k t covers counts at =
+    let one = covering_one c holds k left in
     record {
-      gone = outs (covered c at.gone i) at.gone;
-      spelled = rw e (spelled_cover c at.gone now i t at.spelled at.can.0);
-      can = at.can.1;
-      links = rw e at.links;
-      outs = at.outs;
-      counts = λ counted. counts at.gone at.spelled at.can.0 (at.counts counted);
+      links = λ last rest.
+          let P : List ℕ → Type 0 = λ ks. CoversAll c now ks last in
+          at.links last (subst P (sym one) (covers_both c now new last (covering c holds (k ∷ [])) (covering c (commit c holds k) left) t covers rest));
+      counts = λ last rest.
+          let P : List ℕ → Type 0 = λ ks. CountsCoveredAll c now ks is last in
+          at.counts last (subst P (sym one) (counts_both c now new (covering c holds (k ∷ [])) (covering c (commit c holds k) left) is less last t covers counts rest));
+      commits = at.commits;
     }
 
-pub on_end : (c : Columns) (old now : List Link) (all left was is : List ℕ) → left ≡ [] → On c old all now left was is → CoversAll c old all now
-on_end c old now all left was is e on = λ out s are. let at = on out s are in let same = rw e at at.links in same
+pub left_links : (c : Columns) (old now : List Link) (all left was is held holds : List ℕ) → left ≡ [] → IsLeft c old now all left was is held holds → CoversAll c old (covering c held all) now
+left_links c old now all left was is held holds e at =
+    let P : List ℕ → Type 0 = λ ks. CoversAll c now (covering c holds ks) now in
+    at.links now (subst P (sym e) (none_covers c now))
 
-pub on_counts : (c : Columns) (old now : List Link) (all left was is : List ℕ) → left ≡ [] → On c old all now left was is → CountsCoveredAll c old all was is
-on_counts c old now all left was is e on = λ out s are counted.
-    let at = on out s are in
-    let same : at.gone ≡ outs_all c out all = ap (outs_all c at.gone) (sym e) ∙ at.outs in
-    let P : List ℕ → Type 0 = λ gone. IsCounted c gone is in
-    subst P same (at.counts counted)
+pub left_counts : (c : Columns) (old now : List Link) (all left was is held holds : List ℕ) → left ≡ [] → IsLeft c old now all left was is held holds → CountsCoveredAll c old (covering c held all) was is
+left_counts c old now all left was is held holds e at =
+    let P : List ℕ → Type 0 = λ ks. CountsCoveredAll c now (covering c holds ks) is is in
+    at.counts is (subst P (sym e) (none_counts c now is))
 
--- on the way back: the items that are left are still covered
-pub record IsOff (c : Columns) (out : List ℕ) (before now : List Link) (all left was is : List ℕ) : Type 0 where
-  pub links : now ≡ links_all c out before left
-  pub can : AreOpen c out left
-  pub counts : IsCounted c (outs_all c out all) was → IsCounted c (outs_all c out left) is
+pub left_commits : (c : Columns) (old now : List Link) (all left was is held holds : List ℕ) → left ≡ [] → IsLeft c old now all left was is held holds → holds ≡ committed c held all
+left_commits c old now all left was is held holds e at = ap (committed c holds) (sym e) ∙ at.commits
 
-abbrev pub Off : Columns → List Link → List ℕ → List Link → List ℕ → List ℕ → List ℕ → Type 0
-Off c old all now left was is = (out : List ℕ) (before : List Link) → IsSpelled c out before → AreOpen c out all → old ≡ links_all c out before all → IsOff c out before now all left was is
+-- ---- and back
 
-off_last : (c : Columns) (out : List ℕ) (before now new : List Link) (left : List ℕ) (i : ℕ) → IsTable c → IsSpelled c out before → AreOpen c out (left ++ i ∷ []) → now ≡ links_all c out before (left ++ i ∷ []) → Uncovers c now i new → (new ≡ links_all c out before left) × AreOpen c out left
-off_last c out before now new [] i t s are e uncovers = (uncovers out before s are.0 e, tt)
-off_last c out before now new (j ∷ left) i t s are e uncovers =
-    let rest = off_last c (outs (covered c out j) out) (unlinks before (covered c out j)) now new left i t (spelled_cover c out before j t s are.0) are.1 e uncovers in
-    (rest.0, (are.0, rest.1))
+-- the last of some nodes are taken back
+pub record IsBackTo (c : Columns) (old now : List Link) (done was is held holds : List ℕ) : Type 0 where
+  pub kept : IsCommits c holds
+  pub links : UncoversAll c old (covering c holds done) now
+  pub counts : CountsUncoveredAll c old (covering c holds done) was is
+  pub commits : committed c holds done ≡ held
 
-off_counts : (c : Columns) (out : List ℕ) (before now : List Link) (left is grown : List ℕ) (i : ℕ) → IsTable c → IsSpelled c out before → AreOpen c out (left ++ i ∷ []) → now ≡ links_all c out before (left ++ i ∷ []) → CountsUncovered c now i is grown → IsCounted c (outs_all c out (left ++ i ∷ [])) is → IsCounted c (outs_all c out left) grown
-off_counts c out before now [] is grown i t s are e uncovers counted = uncovers out before s are.0 e counted
-off_counts c out before now (j ∷ left) is grown i t s are e uncovers counted = off_counts c (outs (covered c out j) out) (unlinks before (covered c out j)) now left is grown i t (spelled_cover c out before j t s are.0) are.1 e uncovers counted
+pub back_start : (c : Columns) (old : List Link) (was held : List ℕ) → IsCommits c held → IsBackTo c old old [] was was held held
+back_start c old was held kept = record { kept = kept; links = none_uncovers c old; counts = none_uncounts c old was; commits = refl }
 
-pub off_start : (c : Columns) (old : List Link) (all was : List ℕ) → Off c old all old all was was
-off_start c old all was = λ out before s are e. record { links = e; can = are; counts = λ counted. counted }
-
-pub off_step : (c : Columns) (old now new : List Link) (all left more was is grown : List ℕ) (i : ℕ) → IsTable c → more ≡ left ++ i ∷ [] → Uncovers c now i new → CountsUncovered c now i is grown → Off c old all now more was is → Off c old all new left was grown
-off_step c old now new all left more was is grown i t e uncovers counts off = λ out before s are same.
-    let at = off out before s are same in
-    let P : List ℕ → Type 0 = λ items. AreOpen c out items in
-    let Q : List ℕ → Type 0 = λ items. IsCounted c (outs_all c out items) is in
-    let can = subst P e at.can in
-    let links = at.links ∙ ap (links_all c out before) e in
-    let last = off_last c out before now new left i t s can links uncovers in
+pub back_step : (c : Columns) (old now new : List Link) (done was is grown held holds : List ℕ) (k : ℕ) → IsTable c → column_of c k + 1 < c.heads → UncoversAll c now (covering c (uncommit c holds k) (k ∷ [])) new → CountsUncoveredAll c now (covering c (uncommit c holds k) (k ∷ [])) is grown → IsBackTo c old now done was is held holds → IsBackTo c old new (k ∷ done) was grown held (uncommit c holds k)
+back_step c old now new done was is grown held holds k t item uncovers counts at =
+    let less : List ℕ = uncommit c holds k in
+    let same : commit c (uncommit c holds k) k ≡ holds = commit_uncommit c holds k item at.kept in
+    let one : covering c (uncommit c holds k) (k ∷ done) ≡ covering c (uncommit c holds k) (k ∷ []) ++ covering c holds done =
+    covering_one c less k done ∙ ap (λ (commits : List ℕ). covering c less (k ∷ []) ++ covering c commits done) same in
+    let P : List ℕ → Type 0 = λ ks. UncoversAll c old ks new in
+    let Q : List ℕ → Type 0 = λ ks. CountsUncoveredAll c old ks was grown in
     record {
-      links = last.0;
-      can = last.1;
-      counts = λ counted. off_counts c out before now left is grown i t s can links counts (subst Q e (at.counts counted));
+      kept = uncommit_kept c holds k at.kept;
+      links = subst P (sym one) (uncovers_both c old now new (covering c less (k ∷ [])) (covering c holds done) t at.links uncovers);
+      counts = subst Q (sym one) (uncounts_both c old now (covering c less (k ∷ [])) (covering c holds done) was is grown t at.links at.counts counts);
+      commits = ap (λ (commits : List ℕ). committed c commits done) same ∙ at.commits;
     }
 
-pub off_end : (c : Columns) (old now : List Link) (all left was is : List ℕ) → left ≡ [] → Off c old all now left was is → UncoversAll c old all now
-off_end c old now all left was is e off = λ out before s are same. let at = off out before s are same in at.links ∙ ap (links_all c out before) e
+-- ---- the same, where nodes have no colours
 
-pub off_counted : (c : Columns) (old now : List Link) (all left was is : List ℕ) → left ≡ [] → Off c old all now left was is → CountsUncoveredAll c old all was is
-off_counted c old now all left was is e off = λ out before s are same counted.
-    let at = off out before s are same in
-    let Q : List ℕ → Type 0 = λ items. IsCounted c (outs_all c out items) is in
-    subst Q e (at.counts counted)
+plain_covers : (c : Columns) (old new : List Link) (i k : ℕ) (held : List ℕ) → colour_at c k ≡ 0 → i ≡ column_of c k → Covers c old i 0 new → CoversAll c old (covering c held (k ∷ [])) new
+plain_covers c old new i k held plain e covers =
+    let P : ℕ → Type 0 = λ a. Covers c old (column_of c k) a new in
+    let Q : ℕ → Type 0 = λ j. Covers c old j 0 new in
+    let R : List ℕ → Type 0 = λ ks. CoversAll c old ks new in
+    subst R (sym (covering_new c held k [] (repeated_plain c held k plain))) (one_covers c old new k (subst P (sym plain) (subst Q e covers)))
 
--- ---- on the way back over the items of a row: those that are uncovered
+plain_counts : (c : Columns) (old : List Link) (i k : ℕ) (was now held : List ℕ) → colour_at c k ≡ 0 → i ≡ column_of c k → CountsCovered c old i 0 was now → CountsCoveredAll c old (covering c held (k ∷ [])) was now
+plain_counts c old i k was now held plain e counts =
+    let P : ℕ → Type 0 = λ a. CountsCovered c old (column_of c k) a was now in
+    let Q : ℕ → Type 0 = λ j. CountsCovered c old j 0 was now in
+    let R : List ℕ → Type 0 = λ ks. CountsCoveredAll c old ks was now in
+    subst R (sym (covering_new c held k [] (repeated_plain c held k plain))) (one_counts c old k was now (subst P (sym plain) (subst Q e counts)))
 
--- whatever is left before them is still covered
-abbrev pub OffAfter : Columns → List Link → List ℕ → List Link → List ℕ → List ℕ → List ℕ → Type 0
-OffAfter c old all now done was is = (left : List ℕ) → all ≡ left ++ done → Off c old all now left was is
+plain_uncovers : (c : Columns) (old new : List Link) (i k : ℕ) (held : List ℕ) → colour_at c k ≡ 0 → i ≡ column_of c k → Uncovers c old i 0 new → UncoversAll c old (covering c held (k ∷ [])) new
+plain_uncovers c old new i k held plain e uncovers =
+    let P : ℕ → Type 0 = λ a. Uncovers c old (column_of c k) a new in
+    let Q : ℕ → Type 0 = λ j. Uncovers c old j 0 new in
+    let R : List ℕ → Type 0 = λ ks. UncoversAll c old ks new in
+    subst R (sym (covering_new c held k [] (repeated_plain c held k plain))) (one_uncovers c old new k (subst P (sym plain) (subst Q e uncovers)))
 
-pub after_start : (c : Columns) (old : List Link) (all was : List ℕ) → OffAfter c old all old [] was was
-after_start c old all was = λ left e.
-    let P : List ℕ → Type 0 = λ items. Off c old all old items was was in
-    subst P (e ∙ append-nil left) (off_start c old all was)
+plain_uncounts : (c : Columns) (old : List Link) (i k : ℕ) (was now held : List ℕ) → colour_at c k ≡ 0 → i ≡ column_of c k → CountsUncovered c old i 0 was now → CountsUncoveredAll c old (covering c held (k ∷ [])) was now
+plain_uncounts c old i k was now held plain e counts =
+    let P : ℕ → Type 0 = λ a. CountsUncovered c old (column_of c k) a was now in
+    let Q : ℕ → Type 0 = λ j. CountsUncovered c old j 0 was now in
+    let R : List ℕ → Type 0 = λ ks. CountsUncoveredAll c old ks was now in
+    subst R (sym (covering_new c held k [] (repeated_plain c held k plain))) (one_uncounts c old k was now (subst P (sym plain) (subst Q e counts)))
 
-pub after_step : (c : Columns) (old now new : List Link) (all done was is grown : List ℕ) (i : ℕ) → IsTable c → Uncovers c now i new → CountsUncovered c now i is grown → OffAfter c old all now done was is → OffAfter c old all new (i ∷ done) was grown
-after_step c old now new all done was is grown i t uncovers counts after = λ left e.
-    off_step c old now new all left (left ++ i ∷ []) was is grown i t refl uncovers counts (after (left ++ i ∷ []) (e ∙ sym (append_assoc left (i ∷ []) done)))
+pub left_plain : (c : Columns) (old now new : List Link) (all left was is less held : List ℕ) (i k : ℕ) → IsTable c → colour_at c k ≡ 0 → i ≡ column_of c k → Covers c now i 0 new → CountsCovered c now i 0 is less → IsLeft c old now all (k ∷ left) was is held held → IsLeft c old new all left was less held held
+left_plain c old now new all left was is less held i k t plain e covers counts at =
+    let P : List ℕ → Type 0 = λ commits. IsLeft c old new all left was less held commits in
+    subst P (commit_plain c held k plain) (left_step c old now new all left was is less held held k t (plain_covers c now new i k held plain e covers) (plain_counts c now i k is less held plain e counts) at)
 
-pub after_end : (c : Columns) (old now : List Link) (all done was is : List ℕ) → done ≡ all → OffAfter c old all now done was is → UncoversAll c old all now
-after_end c old now all done was is e after = off_end c old now all [] was is refl (after [] (sym e))
+pub back_plain : (c : Columns) (old now new : List Link) (done was is grown held : List ℕ) (i k : ℕ) → IsTable c → column_of c k + 1 < c.heads → colour_at c k ≡ 0 → i ≡ column_of c k → Uncovers c now i 0 new → CountsUncovered c now i 0 is grown → IsBackTo c old now done was is held held → IsBackTo c old new (k ∷ done) was grown held held
+back_plain c old now new done was is grown held i k t item plain e uncovers counts at =
+    let P : List ℕ → Type 0 = λ commits. IsBackTo c old new (k ∷ done) was grown held commits in
+    subst P (uncommit_plain c held k plain) (back_step c old now new done was is grown held held k t item (plain_uncovers c now new i k (uncommit c held k) plain e uncovers) (plain_uncounts c now i k is grown (uncommit c held k) plain e counts) at)
 
-pub after_counted : (c : Columns) (old now : List Link) (all done was is : List ℕ) → done ≡ all → OffAfter c old all now done was is → CountsUncoveredAll c old all was is
-after_counted c old now all done was is e after = off_counted c old now all [] was is refl (after [] (sym e))
+pub committed_plain : (c : Columns) (commits ks : List ℕ) → ((k : ℕ) → colour_at c k ≡ 0) → committed c commits ks ≡ commits
+committed_plain c commits [] plain = refl
+committed_plain c commits (k ∷ ks) plain = ap (λ (held : List ℕ). committed c held ks) (commit_plain c commits k (plain k)) ∙ committed_plain c commits ks plain
 
--- ---- one item, and then more
+-- ---- one node in place of another one
 
-pub cover_first : (c : Columns) (old mid new : List Link) (i : ℕ) (is : List ℕ) → IsTable c → Covers c old i mid → CoversAll c mid is new → CoversAll c old (i ∷ is) new
-cover_first c old mid new i is t one all = λ out s are.
-    let e : mid ≡ unlinks old (covered c out i) = one out s are.0 in
-    let spelled : IsSpelled c (outs (covered c out i) out) mid = rw e (spelled_cover c out old i t s are.0) in
-    all (outs (covered c out i) out) spelled are.1 ∙ ap (λ (m : List Link). links_all c (outs (covered c out i) out) m is) e
+pub recovers_by : (c : Columns) (front held mid_held new_held : List ℕ) (old mid new : List Link) (was half now : List ℕ) (k next : ℕ) → column_of c k + 1 < c.heads → column_of c next ≡ column_of c k → IsFirst c front held k → mid_held ≡ uncommit c held k → new_held ≡ commit c mid_held next → UncoversAll c old (covering c mid_held (k ∷ [])) mid → CountsUncoveredAll c old (covering c mid_held (k ∷ [])) was half → CoversAll c mid (covering c mid_held (next ∷ [])) new → CountsCoveredAll c mid (covering c mid_held (next ∷ [])) half now → Recovers c front old was k next new now new_held
+recovers_by c front held mid_held new_held old mid new was half now k next item column first e f uncovers uncounts covers counts =
+    let back : mid_held ≡ front = e ∙ ap (λ (commits : List ℕ). uncommit c commits k) first.commits ∙ uncommit_commit c front k item first.kept in
+    let one : covering c mid_held (k ∷ []) ≡ k ∷ [] = ap (λ (commits : List ℕ). covering c commits (k ∷ [])) back ∙ covering_new c front k [] (repeated_none c front k first.none) in
+    let two : covering c mid_held (next ∷ []) ≡ next ∷ [] = ap (λ (commits : List ℕ). covering c commits (next ∷ [])) back ∙ covering_new c front next [] (repeated_none c front next (ap (λ i. get_or front i 0) column ∙ first.none)) in
+    let P : List ℕ → Type 0 = λ ks. UncoversAll c old ks mid in
+    let Q : List ℕ → Type 0 = λ ks. CountsUncoveredAll c old ks was half in
+    let R : List ℕ → Type 0 = λ ks. CoversAll c mid ks new in
+    let S : List ℕ → Type 0 = λ ks. CountsCoveredAll c mid ks half now in
+    let off = subst P one uncovers in
+    let off_counts = subst Q one uncounts in
+    let on = subst R two covers in
+    let on_counts = subst S two counts in
+    let open_next : (out : List ℕ) → IsOpen c out (column_of c k) → IsOpen c out (column_of c next) = (λ out can. let T : ℕ → Type 0 = λ i. IsOpen c out i in subst T (sym column) can) in
+    let spelled : (out : List ℕ) (before : List Link) → mid ≡ before → IsSpelled c out before → IsSpelled c out mid = (λ out before same s. let T : List Link → Type 0 = λ m. IsSpelled c out m in subst T (sym same) s) in
+    record {
+      links = λ out before s can g.
+          let same = off out before s (can, tt) g in
+          on out (spelled out before same s) (open_next out can, tt) ∙ ap (λ (m : List Link). unlinks m (covered_by c out next)) same;
+      counts = λ out before s can g counted.
+          let same = off out before s (can, tt) g in
+          on_counts out (spelled out before same s) (open_next out can, tt) (off_counts out before s (can, tt) g counted);
+      commits = f ∙ ap (λ (commits : List ℕ). commit c commits next) back;
+    }
 
-pub cover_first_counts : (c : Columns) (old mid : List Link) (i : ℕ) (is was half now : List ℕ) → IsTable c → Covers c old i mid → CountsCovered c old i was half → CountsCoveredAll c mid is half now → CountsCoveredAll c old (i ∷ is) was now
-cover_first_counts c old mid i is was half now t one counts all = λ out s are counted.
-    let e : mid ≡ unlinks old (covered c out i) = one out s are.0 in
-    let spelled : IsSpelled c (outs (covered c out i) out) mid = rw e (spelled_cover c out old i t s are.0) in
-    all (outs (covered c out i) out) spelled are.1 (counts out s are.0 counted)
-
-pub uncover_first : (c : Columns) (old mid new : List Link) (i : ℕ) (is : List ℕ) → IsTable c → UncoversAll c old is mid → Uncovers c mid i new → UncoversAll c old (i ∷ is) new
-uncover_first c old mid new i is t all one = λ out before s are e.
-    one out before s are.0 (all (outs (covered c out i) out) (unlinks before (covered c out i)) (spelled_cover c out before i t s are.0) are.1 e)
-
-pub uncover_first_counts : (c : Columns) (old mid : List Link) (i : ℕ) (is was half now : List ℕ) → IsTable c → UncoversAll c old is mid → CountsUncoveredAll c old is was half → CountsUncovered c mid i half now → CountsUncoveredAll c old (i ∷ is) was now
-uncover_first_counts c old mid i is was half now t all counts one = λ out before s are e counted.
-    let m : List Link = unlinks before (covered c out i) in
-    let spelled = spelled_cover c out before i t s are.0 in
-    one out before s are.0 (all (outs (covered c out i) out) m spelled are.1 e) (counts (outs (covered c out i) out) m spelled are.1 e counted)
+-- two nodes of one column that have no colour take out the same
+pub recovers_plain : (c : Columns) (front held : List ℕ) (old : List Link) (was : List ℕ) (k next : ℕ) → column_of c next ≡ column_of c k → colour_at c k ≡ 0 → colour_at c next ≡ 0 → IsFirst c front held k → Recovers c front old was k next old was held
+recovers_plain c front held old was k next column plain plain_next first =
+    let same : (out : List ℕ) → covered_by c out k ≡ covered_by c out next = (λ out. ap (λ i. covered c out i (colour_at c k)) (sym column) ∙ ap (covered c out (column_of c next)) (plain ∙ sym plain_next)) in
+    record {
+      links = λ out before s can g. g ∙ ap (unlinks before) (same out);
+      counts = λ out before s can g counted. let P : List ℕ → Type 0 = λ gone. IsCounted c (outs gone out) was in subst P (same out) counted;
+      commits = first.commits ∙ commit_plain c front k plain ∙ sym (commit_plain c front next plain_next);
+    }

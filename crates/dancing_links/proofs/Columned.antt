@@ -1,58 +1,27 @@
 -- The column of an uncovered item holds a node of each live option that names it, in file order.
-use Rattle.std.proofs.Common.{◌≡◌, ℕ, zero, suc, get_or, drop, sym, ◌+◌, ◌-◌, ◌<◌, ◌≤◌, List, [], ◌∷◌, length, Bool, false, not, ◌==◌, ◌&&◌, ◌||◌, filter, map, refl, arith, ap, ◌∙◌, inl, inr}
-use Rattle.std.specs.List.{range_with_len, sum_by, list_any, list_all}
-use Rattle.std.proofs.lemmas.Bool.{cases_Bool}
+use Rattle.std.proofs.Common.{◌≡◌, ℕ, zero, suc, get_or, drop, sym, ◌+◌, ◌-◌, ◌<◌, ◌≤◌, List, [], ◌∷◌, length, false, not, ◌==◌, ◌&&◌, filter, map, refl, arith, ap, ◌∙◌}
+use Rattle.std.specs.List.{range_with_len, sum_by}
 use Rattle.std.proofs.lemmas.List.{get_or-drop, length-drop}
 use Rattle.cover_problem.specs.Branching.{live_options}
 use Rattle.cover_problem.specs.Numbers.{is_in, is_distinct}
 use Rattle.cover_problem.specs.Onward.{live_options_from}
 use Rattle.cover_problem.specs.Prefix.{is_covered, is_live}
-use Rattle.cover_problem.specs.Problem.{Problem, IsProblem, items_of, names_item}
-use Rattle.dancing_links.specs.Columns.{Columns, among, option_of, column_of, begin_of, end_of, column_from}
-use Rattle.dancing_links.specs.Covering.{items_from}
+use Rattle.cover_problem.specs.Problem.{Problem, items_of, names_item}
+use Rattle.dancing_links.specs.Columns.{Columns, among, option_of, column_of, column_from}
 use Rattle.dancing_links.specs.Table.{starts, heads_of, base_of, tails_of, table}
 use Rattle.dancing_links.proofs.Walk.{column_skip_to}
 use Rattle.dancing_links.proofs.Nodes.{column_item, starts_first, starts_end}
 use Rattle.dancing_links.proofs.Parts.{options_part}
-use Rattle.dancing_links.proofs.Present.{IsOut, is_dead, same_flags}
+use Rattle.dancing_links.proofs.Present.{IsOut, covers, is_dead, same_flags}
 use Rattle.dancing_links.proofs.Tables.{start_of, IsNodeAt, node_by, option_distinct}
-use Rattle.dancing_links.proofs.Prefixed.{live_by_items}
-use Rattle.dancing_links.proofs.Ranges.{range_at}
+use Rattle.dancing_links.proofs.Cast.{IsCast, cast_names, node_live}
 
 -- ---- the column of an item
 
-none_any : (test : ℕ → Bool) (xs : List ℕ) → not (list_any test xs) ≡ list_all (λ x. not (test x)) xs
-none_any test [] = refl
-none_any test (x ∷ xs) = elim (cases_Bool (test x)) [
-  | inl t ↦ rw t refl
-  | inr f ↦ rw f (none_any test xs)
-]
-
-any_of : (g : ℕ → ℕ) (t : ℕ → Bool) (xs : List ℕ) → list_any (λ x. t (g x)) xs ≡ list_any t (map g xs)
-any_of g t [] = refl
-any_of g t (x ∷ xs) = ap (λ (b : Bool). t (g x) || b) (any_of g t xs)
-
-any_same : (s t : ℕ → Bool) (xs : List ℕ) → ((x : ℕ) → s x ≡ t x) → list_any s xs ≡ list_any t xs
-any_same s t [] same = refl
-any_same s t (x ∷ xs) same = ap (λ (b : Bool). b || list_any s xs) (same x) ∙ ap (λ (b : Bool). t x || b) (any_same s t xs same)
-
--- a node's option is dead where it is not live
-pub node_live : (p : Problem) (os is : List ℕ) (k o j : ℕ) → ((i : ℕ) → among is i ≡ is_covered p os i) → IsNodeAt p k o j → not (is_dead (table p) is k) ≡ is_live p os o
-unfolding items_from
-node_live p os is k o j names at =
-    let range = range_at p o (begin_of (table p) k) (end_of (table p) k) at.option_in at.begin at.end in
-    ap not (
-    any_of (column_of (table p)) (among is) (range_with_len (begin_of (table p) k) (end_of (table p) k - begin_of (table p) k))
-    ∙ ap (list_any (among is)) range.items
-    ∙ any_same (among is) (is_covered p os) (items_of p o) names
-    )
-    ∙ none_any (is_covered p os) (items_of p o)
-    ∙ live_by_items p os o
-
 -- the options of the nodes of an uncovered item's column are the live ones that name it
-pub column_options : (p : Problem) (os is out : List ℕ) (i : ℕ) → IsProblem p → ((i : ℕ) → among is i ≡ is_covered p os i) → IsOut (table p) is out → i < length p.names → is_covered p os i ≡ false → map (option_of (table p)) (column_from (table p) out i (heads_of p)) ≡ live_options p os i
+pub column_options : (p : Problem) (os seen nodes commits out : List ℕ) (i : ℕ) → IsCast p (table p) os seen nodes commits → IsOut (table p) nodes out → i < length p.names → is_covered p os i ≡ false → map (option_of (table p)) (column_from (table p) out i (heads_of p)) ≡ live_options p os i
 unfolding column_from live_options
-column_options p os is out i lawful names gone h free =
+column_options p os seen nodes commits out i cast gone h free =
     let c : Columns = table p in
     let skip : column_from c out i (heads_of p) ≡ column_from c out i (base_of p) =
     column_skip_to c out i (length p.names) (heads_of p) (base_of p) refl (λ y low high own. absurd (omega (arith, column_item p y low high, own, h))) in
@@ -66,12 +35,12 @@ column_options p os is out i lawful names gone h free =
     let at = node_by p k o j ho hj refl in
     let low : c.heads + c.heads ≤ k + 1 = omega (arith, at.low) in
     let high : k < c.tails = omega (arith, at.high, hj) in
-    let new : among is (column_of c k) ≡ false = ap (among is) own ∙ names i ∙ free in
+    let new : covers c nodes (column_of c k) ≡ false = ap (covers c nodes) own ∙ cast_names p os seen nodes commits i cast ∙ free in
     let e : o ≡ 0 + o = omega arith in
-    ap not (same_flags (among out k) (is_dead c is k) (gone.out_dead k low high new) (gone.dead_out k low high new))
-    ∙ node_live p os is k o j names at ∙ ap (is_live p os) e)
+    ap not (same_flags (among out k) (is_dead c nodes k) (gone.out_dead k low high) (gone.dead_out k low high new))
+    ∙ node_live p os seen nodes commits k o j cast at ∙ ap (is_live p os) e)
     (λ o ho. let e : 0 + o ≡ o = omega arith in ap (λ n. names_item p n i) e)
-    (λ o ho. option_distinct p o lawful ho)
+    (λ o ho. option_distinct p o cast.is_problem ho)
 
 -- ---- the column of an item from an option on
 
@@ -85,9 +54,9 @@ starts_drop s (x ∷ xs) (suc start) o h =
     starts_drop (s + length x) xs start o (omega (arith, h)) ∙ ap (λ k. get_or (starts s (x ∷ xs)) k 0) e
 
 -- the options of the nodes of an uncovered item's column, from where an option begins, are the live ones from that one on
-pub column_options_from : (p : Problem) (os is out : List ℕ) (i start : ℕ) → IsProblem p → ((i : ℕ) → among is i ≡ is_covered p os i) → IsOut (table p) is out → i < length p.names → is_covered p os i ≡ false → start ≤ length p.options → map (option_of (table p)) (column_from (table p) out i (start_of p start)) ≡ live_options_from p os i start
+pub column_options_from : (p : Problem) (os seen nodes commits out : List ℕ) (i start : ℕ) → IsCast p (table p) os seen nodes commits → IsOut (table p) nodes out → i < length p.names → is_covered p os i ≡ false → start ≤ length p.options → map (option_of (table p)) (column_from (table p) out i (start_of p start)) ≡ live_options_from p os i start
 unfolding column_from live_options_from
-column_options_from p os is out i start lawful names gone h free within =
+column_options_from p os seen nodes commits out i start cast gone h free within =
     let c : Columns = table p in
     let options : List (List ℕ) = drop start p.options in
     let size : length options ≡ length p.options - start = length-drop start p.options in
@@ -108,8 +77,8 @@ column_options_from p os is out i start lawful names gone h free within =
     let at = node o j lt in_j in
     let low : c.heads + c.heads ≤ k + 1 = omega (arith, at.low, at.node) in
     let high : k < c.tails = omega (arith, at.high, at.place_in, at.node) in
-    let new : among is (column_of c k) ≡ false = ap (among is) own ∙ names i ∙ free in
-    ap not (same_flags (among out k) (is_dead c is k) (gone.out_dead k low high new) (gone.dead_out k low high new)) ∙ node_live p os is k (start + o) j names at)
+    let new : covers c nodes (column_of c k) ≡ false = ap (covers c nodes) own ∙ cast_names p os seen nodes commits i cast ∙ free in
+    ap not (same_flags (among out k) (is_dead c nodes k) (gone.out_dead k low high) (gone.dead_out k low high new)) ∙ node_live p os seen nodes commits k (start + o) j cast at)
     (λ o lt. ap (λ (xs : List ℕ). is_in xs i) (sym (items o)))
-    (λ o lt. ap is_distinct (items o) ∙ option_distinct p (start + o) lawful (inside o lt))
+    (λ o lt. ap is_distinct (items o) ∙ option_distinct p (start + o) cast.is_problem (inside o lt))
     ∙ ap (λ n. filter (λ o. is_live p os o && names_item p o i) (range_with_len start n)) size

@@ -6,11 +6,11 @@ use Rattle.std.proofs.lemmas.List.{length-set, get_or-set_same, get_or-set_other
 use Rattle.cover_problem.proofs.Among.{filter_fewer}
 use Rattle.dancing_links.specs.declared.link.Link.{Link}
 use Rattle.dancing_links.specs.Columns.{Columns, among, column_of, column_from, IsTable}
-use Rattle.dancing_links.specs.Counting.{with_less, with_more, fewer, more, IsCounted, IsCounting, CountsCovered, CountsUncovered}
+use Rattle.dancing_links.specs.Counting.{with_less, with_more, fewer, IsCounted, IsCounting, CountsCovered, CountsUncovered}
 use Rattle.dancing_links.specs.Covering.{outs, hidden_from, covered}
 use Rattle.dancing_links.specs.Linking.{unlinked}
 use Rattle.dancing_links.proofs.Present.{same_filter}
-use Rattle.dancing_links.proofs.Walk.{AreIn, Going, going_done, item_out, whole_item, column_skip_to, column_from_take, column_from_skip, column_from_end}
+use Rattle.dancing_links.proofs.Walk.{AreIn, Going, more, going_done, item_out, whole_item, column_skip_to, column_from_take, column_from_skip, column_from_end}
 use Rattle.dancing_links.proofs.Chain.{Back, back_all, going_all}
 
 filter_one_less : (p q : ℕ → Bool) (x n s : ℕ) → ((k : ℕ) → (k ≡ x → ⊥) → p k ≡ q k) → p x ≡ true → q x ≡ false → s ≤ x → x < s + n → length (filter p (range_with_len s n)) ≡ suc (length (filter q (range_with_len s n)))
@@ -117,25 +117,25 @@ item_counted c out counts i t item is = record {
   count = λ j h. is.count j h ∙ ap length (column_kept c out (c.heads + i) j (λ e. omega (arith, t.item_columns i item, e, h)));
 }
 
-pub cover_counts : (c : Columns) (old now : List Link) (was is : List ℕ) (i node : ℕ) → IsTable c → c.tails ≤ node → Going c old i now was is node → CountsCovered c old i was is
+pub cover_counts : (c : Columns) (old now : List Link) (was is : List ℕ) (i a node : ℕ) → IsTable c → c.tails ≤ node → Going c old i a now was is node → CountsCovered c old i a was is
 unfolding covered
-cover_counts c old now was is i node t past going = λ out s can counted.
+cover_counts c old now was is i a node t past going = λ out s can counted.
     let w = going out s can in
     let s1 = item_out c out i old t can s in
-    let all = going_done c ((c.heads + i) ∷ out) i (unlinked old (c.heads + i)) now node w.done past w.going in
-    let are = going_all c ((c.heads + i) ∷ out) i (unlinked old (c.heads + i)) t can.item s1 (whole_item c out i t can) in
-    let P : List ℕ → Type 0 = λ k. IsCounted c (outs (hidden_from c ((c.heads + i) ∷ out) i c.heads) ((c.heads + i) ∷ out)) k in
-    subst P (sym (w.counts ∙ ap (fewer c was) all)) (counted_fewer c ((c.heads + i) ∷ out) was (hidden_from c ((c.heads + i) ∷ out) i c.heads) t are (item_not_counted c out was i t can.item counted))
+    let all = going_done c ((c.heads + i) ∷ out) i a (unlinked old (c.heads + i)) now node w.done past w.going in
+    let are = going_all c ((c.heads + i) ∷ out) i a (unlinked old (c.heads + i)) t can.item s1 (whole_item c out i t can) in
+    let P : List ℕ → Type 0 = λ k. IsCounted c (outs (hidden_from c ((c.heads + i) ∷ out) i a c.heads) ((c.heads + i) ∷ out)) k in
+    subst P (sym (w.counts ∙ ap (fewer c was) all)) (counted_fewer c ((c.heads + i) ∷ out) was (hidden_from c ((c.heads + i) ∷ out) i a c.heads) t are (item_not_counted c out was i t can.item counted))
 
-pub uncover_counts : (c : Columns) (old now : List Link) (was is : List ℕ) (i node : ℕ) → IsTable c → node < c.heads → Back c old i now was is node → CountsUncovered c old i was is
+pub uncover_counts : (c : Columns) (old now : List Link) (was is : List ℕ) (i a node : ℕ) → IsTable c → node < c.heads → Back c old i a now was is node → CountsUncovered c old i a was is
 unfolding covered
-uncover_counts c old now was is i node t low back = λ out before s can covers counted.
+uncover_counts c old now was is i a node t low back = λ out before s can covers counted.
     let b = back out before s can covers in
     let out' : List ℕ = (c.heads + i) ∷ out in
     let m : List Link = unlinked before (c.heads + i) in
-    let are = going_all c out' i m t can.item (item_out c out i before t can s) (whole_item c out i t can) in
+    let are = going_all c out' i a m t can.item (item_out c out i before t can s) (whole_item c out i t can) in
     let P : List ℕ → Type 0 = λ k. IsCounted c out' k in
-    item_counted c out is i t can.item (subst P (sym (back_all c out' m i now was is node low b)) (counted_back c out' was (hidden_from c out' i c.heads) t are counted))
+    item_counted c out is i t can.item (subst P (sym (back_all c out' m i a now was is node low b)) (counted_back c out' was (hidden_from c out' i a c.heads) t are counted))
 
 -- ---- counting
 

@@ -1,10 +1,9 @@
 -- Lists that a loop lays down, element by element or option by option.
-use Rattle.std.proofs.Common.{◌≡◌, ℕ, zero, suc, ◌+◌, ◌-◌, ◌<◌, ◌≤◌, List, [], ◌∷◌, ◌++◌, length, get_or, map, take, drop, replicate, arith, sym, ap, ◌∙◌, add-one, append_assoc, append-nil, drop-cons}
+use Rattle.std.proofs.Common.{◌≡◌, ℕ, zero, suc, ◌+◌, ◌-◌, ◌<◌, ◌≤◌, List, [], ◌∷◌, ◌++◌, length, get_or, take, drop, replicate, arith, sym, ap, ◌∙◌, add-one, append_assoc, append-nil, drop-cons}
 use Rattle.std.specs.List.{range_with_len, concat, sum_by}
-use Rattle.std.proofs.lemmas.List.{replicate_more, drop_all, take_all, take_more, map-append}
+use Rattle.std.proofs.lemmas.List.{replicate_more, drop_all, take_all}
 use Rattle.std.proofs.lemmas.List.Sums.{sum_by-cons}
-use Rattle.dancing_links.specs.declared.row.Row.{Row}
-use Rattle.dancing_links.specs.Table.{starts, numbered, row_at}
+use Rattle.dancing_links.specs.Table.{starts, numbered}
 
 range_more : (start n : ℕ) → range_with_len start n ++ (start + n) ∷ [] ≡ range_with_len start (suc n)
 range_more start zero = ap (λ k. k ∷ []) (omega arith)
@@ -47,9 +46,6 @@ left_next options o h = ap (sum_by length) (next_option options o h) ∙ sum_by-
 
 pub left_none : (options : List (List ℕ)) (o : ℕ) → length options ≤ o → sum_by length (drop o options) ≡ 0
 left_none options o h = ap (sum_by length) (nothing_past options o h)
-
-pub rows_push : (first options : List ℕ) (rows : List Row) (k : ℕ) → k < length options → rows ≡ map (row_at first) (take k options) → rows ++ row_at first (get_or options k 0) ∷ [] ≡ map (row_at first) (take (k + 1) options)
-rows_push first options rows k h e = rw (e, take_more options k 0 h) (sym (map-append (row_at first) (take k options) (get_or options k 0 ∷ [])))
 
 pub range_next : (n : ℕ) → range_with_len 0 n ++ n ∷ [] ≡ range_with_len 0 (n + 1)
 range_next n =

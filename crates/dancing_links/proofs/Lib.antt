@@ -2,10 +2,13 @@ pub mod Law
 pub mod Others
 pub mod Round
 pub mod Walk
+pub mod Apart
 pub mod Chain
 pub mod Counts
+pub mod Commits
 pub mod Choose
 pub mod Present
+pub mod Agreeing
 pub mod Unique
 pub mod Undone
 pub mod Nodes
@@ -16,8 +19,10 @@ pub mod Building
 pub mod Prefixed
 pub mod Ranges
 pub mod Entries
+pub mod Cast
 pub mod Chosen
 pub mod State
+pub mod Primary
 pub mod Views
 pub mod Columned
 pub mod Next

@@ -1,39 +1,41 @@
 -- The node below the one of the last choice, once the other items of its option are uncovered.
-use Rattle.std.proofs.Common.{◌≡◌, ℕ, ◌+◌, ◌-◌, ◌<◌, ◌≤◌, List, [], ◌∷◌, ◌++◌, length, true, false, ◌||◌, Bool, get_or, map, refl, arith, sym, ap, ◌∙◌, subst, slice_get, Some, None, inl, inr}
-use Rattle.std.proofs.lemmas.Bool.{cases_Bool, both_ways, ne_eqb}
+use Rattle.std.proofs.Common.{◌≡◌, ℕ, ◌+◌, ◌-◌, ◌<◌, ◌≤◌, List, [], ◌∷◌, ◌++◌, length, true, false, ◌||◌, Bool, get_or, map, refl, arith, sym, ap, ◌∙◌, subst, slice_get, Some, None}
+use Rattle.std.proofs.lemmas.Bool.{ne_eqb}
 use Rattle.std.proofs.lemmas.Grind.{get_or_default_zero}
 use Rattle.std.proofs.lemmas.List.{get_or_default}
 use Rattle.cover_problem.specs.Onward.{live_options_from}
 use Rattle.cover_problem.specs.Prefix.{is_covered, is_live}
-use Rattle.cover_problem.specs.Problem.{Problem, IsProblem}
+use Rattle.cover_problem.specs.Problem.{Problem}
 use Rattle.cover_problem.proofs.Remaining.{live_options_start}
 use Rattle.dancing_links.specs.declared.link.Link.{Link}
-use Rattle.dancing_links.specs.Choices.{IsChild, IsHistory, IsLinks, covered_items, out_of}
-use Rattle.dancing_links.specs.Columns.{Columns, among, column_of, column_from, option_of, IsTable, IsSpelled, IsOptionNode}
-use Rattle.dancing_links.specs.Covering.{outs, outs_all, covered, hidden_from, other_items, IsOpen}
+use Rattle.dancing_links.specs.Choices.{IsChild, IsHistory, IsLinks, chosen_nodes, covering_nodes, commits_of, out_of}
+use Rattle.dancing_links.specs.Columns.{Columns, among, column_of, colour_at, column_from, option_of, IsTable, IsSpelled, IsOptionNode}
+use Rattle.dancing_links.specs.Committing.{commit, covering}
+use Rattle.dancing_links.specs.Covering.{outs, outs_all, covered, covered_by, hidden_from, others, IsOpen}
 use Rattle.dancing_links.specs.Linking.{down_of}
 use Rattle.dancing_links.specs.Table.{table, heads_of}
 use Rattle.dancing_links.proofs.Walk.{outs_same, option_node, column_skip_to, column_from_take, column_from_end}
 use Rattle.dancing_links.proofs.Round.{others_at}
-use Rattle.dancing_links.proofs.Undone.{spelled_all, open_parts, out_append}
-use Rattle.dancing_links.proofs.Present.{IsOut, with_all, out_start, out_all, hidden_at, never_true}
+use Rattle.dancing_links.proofs.Choose.{spelled_all, open_parts, out_append}
+use Rattle.dancing_links.proofs.Present.{IsOut, with_all, out_start, out_all, open_by, hidden_by, never_true}
 use Rattle.dancing_links.proofs.Prefixed.{last_live}
 use Rattle.dancing_links.proofs.Tables.{IsNodeAt}
 use Rattle.dancing_links.proofs.Entries.{some_node}
-use Rattle.dancing_links.proofs.Chosen.{IsFrame, frame_table, frame_new, frame_front, push_open}
-use Rattle.dancing_links.proofs.State.{among_covered, state_of}
+use Rattle.dancing_links.proofs.Cast.{IsCast}
+use Rattle.dancing_links.proofs.Chosen.{IsFrame, frame_cast, frame_table, frame_new, frame_front, last_free, push_open}
+use Rattle.dancing_links.proofs.State.{frame_names, state_of}
 use Rattle.dancing_links.proofs.Views.{column_is, head_child, node_in, rest_at}
 
 -- covering an item takes no node out of its own column
-own_kept : (c : Columns) (out : List ℕ) (i y : ℕ) → IsTable c → IsOpen c out i → column_of c y ≡ i → among (outs (covered c out i) out) y ≡ among out y
+own_kept : (c : Columns) (out : List ℕ) (i a y : ℕ) → IsTable c → IsOpen c out i → column_of c y ≡ i → among (outs (covered c out i a) out) y ≡ among out y
 unfolding covered
-own_kept c out i y t can own =
+own_kept c out i a y t can own =
     let x : ℕ = c.heads + i in
-    let hidden : List ℕ = hidden_from c (x ∷ out) i c.heads in
+    let hidden : List ℕ = hidden_from c (x ∷ out) i a c.heads in
     let item = t.item_columns i can.item in
     let other : x ≡ y → ⊥ = (λ e. omega (arith, item, ap (column_of c) e, own, can.item)) in
     let never : among hidden y ≡ false = never_true (among hidden y) (λ hid.
-    let at = hidden_at c (x ∷ out) i y t hid in
+    let at = hidden_by c (x ∷ out) i a y t hid in
     let option = option_node c i at.node t can.item at.low at.own in
     let w = t.within at.node option at.high in
     let in_option = others_at c at.node y w.0 w.1 at.other in
@@ -97,14 +99,14 @@ pub record IsLast (p : Problem) (c : Columns) (os es : List ℕ) (i o k : ℕ) :
   pub here : among (out_of c es) k ≡ false
   pub rest : map (option_of c) (column_from c (out_of c es) i (k + 1)) ≡ live_options_from p os i (o + 1)
 
-rest_of : (p : Problem) (c : Columns) (os is out : List ℕ) (i k o : ℕ) → c ≡ table p → IsProblem p → ((n : ℕ) → among is n ≡ is_covered p os n) → IsOut c is out → i < length p.names → is_covered p os i ≡ false → is_live p os o ≡ true → IsOptionNode c k → option_of c k ≡ o → column_of c k ≡ i → (among out k ≡ false) × (map (option_of c) (column_from c out i (k + 1)) ≡ live_options_from p os i (o + 1))
-rest_of p c os is out i k o same lawful names =
-    let P : Columns → Type 0 = λ t. IsOut t is out → i < length p.names → is_covered p os i ≡ false → is_live p os o ≡ true → IsOptionNode t k → option_of t k ≡ o → column_of t k ≡ i → (among out k ≡ false) × (map (option_of t) (column_from t out i (k + 1)) ≡ live_options_from p os i (o + 1)) in
-    subst P (sym same) (λ gone named free live node option own.
+rest_of : (p : Problem) (c : Columns) (os seen nodes commits out : List ℕ) (i k o : ℕ) → c ≡ table p → IsCast p c os seen nodes commits → IsOut c nodes out → i < length p.names → is_covered p os i ≡ false → is_live p os o ≡ true → IsOptionNode c k → option_of c k ≡ o → column_of c k ≡ i → (among out k ≡ false) × (map (option_of c) (column_from c out i (k + 1)) ≡ live_options_from p os i (o + 1))
+rest_of p c os seen nodes commits out i k o same =
+    let P : Columns → Type 0 = λ t. IsCast p t os seen nodes commits → IsOut t nodes out → i < length p.names → is_covered p os i ≡ false → is_live p os o ≡ true → IsOptionNode t k → option_of t k ≡ o → column_of t k ≡ i → (among out k ≡ false) × (map (option_of t) (column_from t out i (k + 1)) ≡ live_options_from p os i (o + 1)) in
+    subst P (sym same) (λ cast gone named free live node option own.
     let some = some_node p k node in
     let N : ℕ → Type 0 = λ q. IsNodeAt p k q some.0 in
     let at = subst N option some.1 in
-    (node_in p os is out i k o some.0 names gone at own free live, rest_at p os is out i k o some.0 lawful names gone named free at own))
+    (node_in p os seen nodes commits out k o some.0 cast gone at live, rest_at p os seen nodes commits out i k o some.0 cast gone named free at own))
 
 pub last_of : (p : Problem) (c : Columns) (os es : List ℕ) (room o k : ℕ) → IsFrame p c (os ++ o ∷ []) (es ++ k ∷ []) room → IsLast p c os es (column_of c k) o k
 last_of p c os es room o k f =
@@ -114,32 +116,29 @@ last_of p c os es room o k f =
     let heads : c.heads ≡ heads_of p = ap (λ (t : Columns). t.heads) f.layout in
     let item : column_of c k + 1 < c.heads = t.option_columns k front.1.0 front.1.1 in
     let named : column_of c k < length p.names = omega (arith, item, heads) in
-    let first = (open_parts c [] (covered_items c es ++ i ∷ []) (other_items c k) (push_open p c os es room o k f)).0 in
-    let can = (open_parts c [] (covered_items c es) (i ∷ []) first).1.0 in
-    let is : List ℕ = with_all [] (covered_items c es) in
-    let names : (n : ℕ) → among (with_all [] (covered_items c es)) n ≡ is_covered p os n = (λ n. among_covered p c os es room n front.0) in
-    let gone : IsOut c is (out_of c es) = out_all c [] [] (covered_items c es) t (out_start c) (frame_new p c os es room front.0) in
-    let free : is_covered p os (column_of c k) ≡ false = elim (cases_Bool (is_covered p os (column_of c k))) [
-      | inr f ↦ f
-      | inl hit ↦ absurd (both_ways (among (out_of c es) (c.heads + column_of c k)) can.here (gone.items_in (column_of c k) item (names (column_of c k) ∙ hit)))
-    ] in
+    let cast = (frame_cast p c os es room front.0).cast in
+    let seen : List ℕ = with_all [] (chosen_nodes c es) in
+    let nodes : List ℕ = with_all [] (covering_nodes c es) in
+    let gone : IsOut c (with_all [] (covering_nodes c es)) (out_of c es) = out_all c [] [] (covering_nodes c es) t (out_start c) (frame_new p c os es room front.0) in
+    let free = last_free p c os es room o k f in
+    let can = open_by c nodes (out_of c es) i t gone item (frame_names p c os es room i front.0 ∙ free) in
     let live = last_live p os o f.prefix in
-    let rest = rest_of p c os is (out_of c es) i k o f.layout f.is_problem names gone named free live front.1 front.2 refl in
+    let rest = rest_of p c os seen nodes (commits_of c es) (out_of c es) i k o f.layout cast gone named free live front.1 front.2 refl in
     record { item = item; named = named; free = free; live = live; can = can; here = rest.0; rest = rest.1 }
 
-pub below_last : (p : Problem) (c : Columns) (os es : List ℕ) (mid : List Link) (half : List ℕ) (room o k : ℕ) → IsFrame p c (os ++ o ∷ []) (es ++ k ∷ []) room → IsHistory c (covered_items c es ++ column_of c k ∷ []) mid half → IsBelow p c os (column_of c k) (o + 1) (down_of mid k)
+pub below_last : (p : Problem) (c : Columns) (os es : List ℕ) (mid : List Link) (half : List ℕ) (room o k : ℕ) → IsFrame p c (os ++ o ∷ []) (es ++ k ∷ []) room → IsHistory c (covering_nodes c es ++ k ∷ []) mid half → IsBelow p c os (column_of c k) (o + 1) (down_of mid k)
 below_last p c os es mid half room o k f h =
     let t = frame_table p c (os ++ o ∷ []) (es ++ k ∷ []) room f in
     let front = frame_front p c os es room o k f in
     let i : ℕ = column_of c k in
     let out : List ℕ = out_of c es in
     let last = last_of p c os es room o k f in
-    let first = (open_parts c [] (covered_items c es ++ i ∷ []) (other_items c k) (push_open p c os es room o k f)).0 in
-    let both : outs_all c [] (covered_items c es ++ column_of c k ∷ []) ≡ outs (covered c (out_of c es) (column_of c k)) (out_of c es) = out_append c [] (covered_items c es) (i ∷ []) in
-    let P : List Link → Type 0 = λ links. IsSpelled c (outs_all c [] (covered_items c es ++ column_of c k ∷ [])) links in
+    let first = (open_parts c [] (covering_nodes c es ++ k ∷ []) (covering c (commit c (commits_of c es) k) (others c k)) (push_open p c os es room o k f)).0 in
+    let both : outs_all c [] (covering_nodes c es ++ k ∷ []) ≡ outs (covered_by c (out_of c es) k) (out_of c es) = out_append c [] (covering_nodes c es) (k ∷ []) in
+    let P : List Link → Type 0 = λ links. IsSpelled c (outs_all c [] (covering_nodes c es ++ k ∷ [])) links in
     let Q : List ℕ → Type 0 = λ gone. IsSpelled c gone mid in
-    let spelled = subst Q both (subst P (sym h.links_are) (spelled_all c [] h.before (covered_items c es ++ i ∷ []) t h.built.spelled first)) in
-    let own : (y : ℕ) → column_of c y ≡ column_of c k → among (outs (covered c (out_of c es) (column_of c k)) (out_of c es)) y ≡ among (out_of c es) y = (λ y same. own_kept c out i y t last.can same) in
+    let spelled = subst Q both (subst P (sym h.links_are) (spelled_all c [] h.before (covering_nodes c es ++ k ∷ []) t h.built.spelled first)) in
+    let own : (y : ℕ) → column_of c y ≡ column_of c k → among (outs (covered_by c (out_of c es) k) (out_of c es)) y ≡ among (out_of c es) y = (λ y same. own_kept c out i (colour_at c k) y t last.can same) in
     let next = spelled.down k front.1.1 (own k refl ∙ last.here) in
     let d : ℕ = down_of mid k in
     let skip = column_skip_to c out i (d - (k + 1)) (k + 1) d (omega (arith, next.below)) (λ y above below same. sym (own y same) ∙ next.nearest y (omega (arith, above)) below same) in
@@ -147,7 +146,7 @@ below_last p c os es mid half room o k f h =
     below_by p c os out i (o + 1) d t last.item next.low next.column (sym (own d next.column) ∙ next.in_down) rest
 
 -- the same, as the code reads it
-pub below_read : (p : Problem) (c : Columns) (os es : List ℕ) (mid read : List Link) (half : List ℕ) (room o k : ℕ) (link : Link) → IsFrame p c (os ++ o ∷ []) (es ++ k ∷ []) room → IsHistory c (covered_items c es ++ column_of c k ∷ []) mid half → length mid ≡ length c.column → read ≡ mid → link ≡ get_or read k link → IsBelow p c os (column_of c k) (o + 1) link.down
+pub below_read : (p : Problem) (c : Columns) (os es : List ℕ) (mid read : List Link) (half : List ℕ) (room o k : ℕ) (link : Link) → IsFrame p c (os ++ o ∷ []) (es ++ k ∷ []) room → IsHistory c (covering_nodes c es ++ k ∷ []) mid half → length mid ≡ length c.column → read ≡ mid → link ≡ get_or read k link → IsBelow p c os (column_of c k) (o + 1) link.down
 below_read p c os es mid read half room o k link f h count same e =
     let t = frame_table p c (os ++ o ∷ []) (es ++ k ∷ []) room f in
     let node = (frame_front p c os es room o k f).1 in

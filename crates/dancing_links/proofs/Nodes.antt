@@ -1,12 +1,12 @@
 -- The nodes of a problem: which option each belongs to, and at which place of it.
-use Rattle.std.proofs.Common.{◌≡◌, ℕ, zero, suc, ◌+◌, ◌-◌, ◌<◌, ◌≤◌, List, [], ◌∷◌, ◌++◌, length, get_or, replicate, refl, arith, ap, ◌∙◌, inl, inr, add-one}
+use Rattle.std.proofs.Common.{◌≡◌, ℕ, zero, suc, ◌+◌, ◌-◌, ◌<◌, ◌≤◌, List, [], ◌∷◌, ◌++◌, length, get_or, map, replicate, refl, arith, ap, sym, ◌∙◌, inl, inr, add-one}
 use Rattle.std.specs.List.{range_with_len, concat, sum_by}
 use Rattle.std.proofs.lemmas.Bool.{cases_lt}
-use Rattle.std.proofs.lemmas.List.{get_or-append_right, get_or_append_left, length-replicate, get_or-replicate, length-append}
+use Rattle.std.proofs.lemmas.List.{get_or-append_right, get_or_append_left, length-replicate, get_or-replicate, length-append, length-map}
 use Rattle.std.proofs.lemmas.List.Sums.{sum_by-cons}
 use Rattle.std.proofs.lemmas.List.FromFn.{length-range_with_len, get_or-range_with_len}
-use Rattle.cover_problem.specs.Problem.{Problem}
-use Rattle.dancing_links.specs.Table.{starts, numbered, heads_of, base_of, tails_of, column_list, option_list, first_list}
+use Rattle.cover_problem.specs.Problem.{Problem, IsProblem}
+use Rattle.dancing_links.specs.Table.{starts, numbered, heads_of, base_of, tails_of, column_list, colour_list, option_list, first_list}
 
 pub length-starts : (start : ℕ) (options : List (List ℕ)) → length (starts start options) ≡ length options + 1
 length-starts start [] = refl
@@ -90,6 +90,20 @@ option_at_place option start (x ∷ xs) (suc o) j ho hj =
     let e : at + j - start - length x ≡ at + j - (start + length x) = omega (arith, low) in
     get_or-append_right (replicate (length x) option) (numbered (option + 1) xs) (length x) (at + j - start) 0 (length-replicate (length x) option) (omega (arith, low))
     ∙ ap (λ k. get_or (numbered (option + 1) xs) k 0) e ∙ option_at_place (option + 1) (start + length x) xs o j (omega (arith, ho)) hj ∙ omega arith
+
+-- the places of nodes are those of lists that are as long
+starts_same : (start : ℕ) (xs ys : List (List ℕ)) → map length xs ≡ map length ys → starts start xs ≡ starts start ys
+starts_same start [] [] e = refl
+starts_same start [] (y ∷ ys) e = absurd (omega (arith, ap length e))
+starts_same start (x ∷ xs) [] e = absurd (omega (arith, ap length e))
+starts_same start (x ∷ xs) (y ∷ ys) e =
+    let first : length x ≡ length y = cc in
+    let rest : map length xs ≡ map length ys = cc in
+    ap (λ n. start ∷ starts (start + n) xs) first ∙ ap (λ ks. start ∷ ks) (starts_same (start + length y) xs ys rest)
+
+pub colour_at_place : (start : ℕ) (options colours : List (List ℕ)) (o j : ℕ) → map length colours ≡ map length options → o < length colours → j < length (get_or colours o []) → get_or (concat colours) (get_or (starts start options) o 0 + j - start) 0 ≡ get_or (get_or colours o []) j 0
+colour_at_place start options colours o j e ho hj =
+    ap (λ (ks : List ℕ). get_or (concat colours) (get_or ks o 0 + j - start) 0) (sym (starts_same start colours options e)) ∙ item_at_place start colours o j ho hj
 
 -- ---- the lists of a problem's table
 
@@ -197,3 +211,33 @@ option_after_list p k low high =
     option_rest p k (omega (arith, low))
     ∙ get_or-append_right (numbered 0 p.options) (replicate (heads_of p) (length p.options)) (sum_by length p.options) (k - base_of p) 0 (length-numbered 0 p.options) (omega (arith, low))
     ∙ get_or-replicate (heads_of p) (k - base_of p - sum_by length p.options) (length p.options) 0 (omega (arith, low, high))
+
+-- ---- colours
+
+-- lists that are as long, list by list, have as many elements
+same_size : (xs ys : List (List ℕ)) → map length xs ≡ map length ys → sum_by length xs ≡ sum_by length ys
+same_size xs ys e =
+    let same = ap (λ (ks : List ℕ). get_or ks (length xs) 0) (starts_same 0 xs ys e) ∙ ap (λ n. get_or (starts 0 ys) n 0) (sym (length-map xs length) ∙ ap length e ∙ length-map ys length) in
+    omega (arith, starts_end 0 xs, same, starts_end 0 ys)
+
+colours_size : (p : Problem) → IsProblem p → length (concat p.colours) ≡ sum_by length p.options
+colours_size p is = length-concat p.colours ∙ same_size p.colours p.options is.each_coloured
+
+pub length-colour_list : (p : Problem) → IsProblem p → length (colour_list p) ≡ tails_of p + heads_of p
+unfolding colour_list
+length-colour_list p is =
+    omega (
+      arith,
+      length-append (replicate (base_of p) 0) (concat p.colours ++ replicate (heads_of p) 0),
+      length-append (concat p.colours) (replicate (heads_of p) 0),
+      length-replicate {A = ℕ} (base_of p) 0,
+      length-replicate {A = ℕ} (heads_of p) 0,
+      colours_size p is,
+    )
+
+-- the colour of a node of an option
+pub colour_node : (p : Problem) (k : ℕ) → IsProblem p → base_of p ≤ k → k < tails_of p → get_or (colour_list p) k 0 ≡ get_or (concat p.colours) (k - base_of p) 0
+unfolding colour_list
+colour_node p k is low high =
+    get_or-append_right (replicate (base_of p) 0) (concat p.colours ++ replicate (heads_of p) 0) (base_of p) k 0 (length-replicate (base_of p) 0) low
+    ∙ get_or_append_left (concat p.colours) (replicate (heads_of p) 0) 0 (k - base_of p) (omega (arith, low, high, colours_size p is))

@@ -1,25 +1,23 @@
 -- What the options of a prefix cover.
-use Rattle.std.proofs.Common.{◌≡◌, ℕ, ◌<◌, List, [], ◌∷◌, ◌++◌, length, Bool, true, false, not, ◌==◌, refl, sym, ◌∙◌}
+use Rattle.std.proofs.Common.{◌≡◌, ℕ, ◌<◌, List, [], ◌∷◌, ◌++◌, length, true, false, not, ◌==◌, refl, sym, ◌∙◌}
 use Rattle.std.specs.Prelude.{nat_lt}
-use Rattle.std.specs.List.{list_all}
 use Rattle.std.proofs.lemmas.Bool.{both_ways, and_parts, and_from, or_left, or_right, not-true, not_from_false, false_from_ne_true, eq-eqb, ltb-true}
 use Rattle.std.proofs.lemmas.List.Elements.{All-get_or}
 use Rattle.std.proofs.lemmas.List.Folds.{list_all-append}
 use Rattle.cover_problem.specs.Numbers.{is_in, is_distinct, some_below, are_below}
 use Rattle.cover_problem.specs.Prefix.{clash, is_live, are_apart, are_options, is_prefix, is_covered}
 use Rattle.cover_problem.specs.Problem.{Problem, IsProblem, items_of, names_item}
-use Rattle.cover_problem.proofs.Among.{all_at, all_by, any_at, some_with}
-use Rattle.cover_problem.proofs.Clashes.{clash_by, clash_both, clash_item}
+use Rattle.cover_problem.proofs.Among.{all_at, some_with}
+use Rattle.cover_problem.proofs.Clashes.{clash_primary, clash_both}
 use Rattle.cover_problem.proofs.Prefixes.{prefix_more}
-use Rattle.dancing_links.proofs.Present.{same_flags}
 use Rattle.dancing_links.proofs.Round.{among-append}
 
--- an item of a live option is not covered
-pub live_uncovered : (p : Problem) (os : List ℕ) (o i : ℕ) → is_live p os o ≡ true → names_item p o i ≡ true → is_covered p os i ≡ false
-live_uncovered p os o i live named = false_from_ne_true (is_covered p os i) (λ covers.
+-- a primary item of a live option is not covered
+pub primary_uncovered : (p : Problem) (os : List ℕ) (o i : ℕ) → i < p.primary → is_live p os o ≡ true → names_item p o i ≡ true → is_covered p os i ≡ false
+primary_uncovered p os o i primary live named = false_from_ne_true (is_covered p os i) (λ covers.
     let by = some_with (λ q. names_item p q i) os covers in
     let apart = all_at (λ q. not (clash p q o)) os by.0 live by.1 in
-    both_ways (clash p by.0 o) (not-true (clash p by.0 o) apart) (clash_by p by.0 o i by.2 named))
+    both_ways (clash p by.0 o) (not-true (clash p by.0 o) apart) (clash_primary p by.0 o i primary by.2 named))
 
 pub distinct-append : (xs ys : List ℕ) → is_distinct xs ≡ true → is_distinct ys ≡ true → ((i : ℕ) → is_in xs i ≡ true → is_in ys i ≡ false) → is_distinct (xs ++ ys) ≡ true
 distinct-append [] ys dx dy apart = dy
@@ -75,14 +73,3 @@ pub covered_below : (p : Problem) (os : List ℕ) (i : ℕ) → IsProblem p → 
 covered_below p os i is options covers =
     let by = some_with (λ q. names_item p q i) os covers in
     named_below p by.0 i is (ltb-true by.0 (length p.options) (all_at (λ q. nat_lt q (length p.options)) os by.0 options by.1)) by.2
-
--- an option is live where none of its items is covered
-pub live_by_items : (p : Problem) (os : List ℕ) (o : ℕ) → list_all (λ i. not (is_covered p os i)) (items_of p o) ≡ is_live p os o
-live_by_items p os o =
-    let free : Bool = list_all (λ i. not (is_covered p os i)) (items_of p o) in
-    same_flags free (is_live p os o)
-    (λ none. all_by (λ q. not (clash p q o)) os (λ q chosen. not_from_false (clash p q o) (false_from_ne_true (clash p q o) (λ meets.
-    let item = clash_item p q o meets in
-    let uncovered = not-true (is_covered p os item.item) (all_at (λ i. not (is_covered p os i)) (items_of p o) item.item none item.second) in
-    both_ways (is_covered p os item.item) uncovered (any_at (λ r. names_item p r item.item) os q chosen item.first)))))
-    (λ live. all_by (λ i. not (is_covered p os i)) (items_of p o) (λ i named. not_from_false (is_covered p os i) (live_uncovered p os o i live named)))

@@ -1,33 +1,25 @@
 -- The columns of a problem are a table.
-use Rattle.std.proofs.Common.{◌≡◌, ℕ, zero, suc, ◌+◌, ◌-◌, ◌<◌, ◌≤◌, List, [], ◌∷◌, length, Bool, true, not, ◌==◌, ◌&&◌, get_or, map, filter, refl, arith, sym, ap, ◌∙◌, inl, inr}
+use Rattle.std.proofs.Common.{◌≡◌, ℕ, zero, suc, ◌+◌, ◌-◌, ◌<◌, ◌≤◌, List, [], ◌∷◌, length, Bool, true, false, not, ◌==◌, ◌&&◌, get_or, map, filter, refl, arith, sym, ap, ◌∙◌, inl, inr}
 use Rattle.std.specs.Prelude.{nat_lt}
 use Rattle.std.specs.List.{sum_by, list_all, concat, range_with_len, All}
-use Rattle.std.proofs.lemmas.Bool.{cases_lt, both_ways, eq-eqb, and_parts, or_left, or_right, not-true, ltb-true}
-use Rattle.std.proofs.lemmas.List.{length-map, get_or-map}
-use Rattle.std.proofs.lemmas.List.FromFn.{length-range_with_len}
+use Rattle.std.proofs.lemmas.Bool.{cases_lt, both_ways, or_cases, eqb-true, eq-eqb, and_parts, or_left, or_right, not-true, ltb-true, ne_eqb}
+use Rattle.std.proofs.lemmas.List.{length-map}
+use Rattle.std.proofs.lemmas.List.FromFn.{length-range_with_len, length-map-range_with_len, get_or-map-range_with_len}
 use Rattle.std.proofs.lemmas.List.Sums.{length-filter, count_by-le-length}
 use Rattle.std.proofs.lemmas.List.Elements.{All-get_or, All-from_get_or}
 use Rattle.cover_problem.specs.Numbers.{is_distinct, is_in, are_below}
-use Rattle.cover_problem.specs.Problem.{Problem, IsProblem, items_of, names_item}
-use Rattle.dancing_links.specs.declared.row.Row.{Row}
-use Rattle.dancing_links.specs.Columns.{Columns, among, option_of, column_of, column_from, begin_of, end_of, IsTable}
-use Rattle.dancing_links.specs.Table.{starts, numbered, heads_of, base_of, tails_of, column_list, option_list, first_list, row_at, row_list, table}
+use Rattle.cover_problem.specs.Problem.{Problem, IsProblem, items_of, names_item, colours_of, colour_of}
+use Rattle.cover_problem.proofs.Colours.{colour_at as colour_at_option, colours_long, colours_many}
+use Rattle.dancing_links.specs.declared.place.Place.{Place}
+use Rattle.dancing_links.specs.Columns.{Columns, among, option_of, column_of, colour_at, column_from, begin_of, end_of, place_at, IsTable}
+use Rattle.dancing_links.specs.Table.{starts, numbered, heads_of, base_of, tails_of, column_list, colour_list, option_list, first_list, right_in, place_by, place_list, table}
 use Rattle.dancing_links.proofs.Walk.{column_skip_to}
 use Rattle.dancing_links.proofs.Parts.{options_part}
-use Rattle.dancing_links.proofs.Nodes.{starts_next, starts_low, starts_high, starts_end, find_node, item_at_place, option_at_place, length-column_list, length-option_list, length-first_list, first_at, first_past, column_head, column_item, column_node, column_tail, option_before, option_node_list, option_after_list}
+use Rattle.dancing_links.proofs.Nodes.{starts_next, starts_low, starts_high, starts_end, find_node, item_at_place, option_at_place, colour_at_place, colour_node, length-column_list, length-colour_list, length-option_list, length-first_list, first_at, first_past, column_head, column_item, column_node, column_tail, option_before, option_node_list, option_after_list}
 
 -- where an option begins
 abbrev pub start_of : Problem → ℕ → ℕ
 start_of p o = get_or (starts (base_of p) p.options) o 0
-
--- no row
-abbrev pub empty_row : Row
-empty_row = record { begin = 0; end = 0 }
-
--- the row of a node, by its option
-row_by : (p : Problem) (k o : ℕ) → k < tails_of p + heads_of p → get_or (option_list p) k 0 ≡ o → get_or (row_list p) k empty_row ≡ row_at (first_list p) o
-unfolding row_list
-row_by p k o h own = get_or-map (row_at (first_list p)) (option_list p) k 0 empty_row (omega (arith, h, length-option_list p)) ∙ ap (row_at (first_list p)) own
 
 -- a node of an option of a problem
 pub record IsNodeAt (p : Problem) (k o j : ℕ) : Type 0 where
@@ -52,14 +44,13 @@ node_by p k o j ho hj e =
     option_node_list p k k_low k_high
     ∙ ap (λ n. get_or (numbered 0 p.options) (n - base_of p) 0) e
     ∙ option_at_place 0 (base_of p) p.options o j ho hj ∙ omega arith in
-    let row = row_by p k o (omega (arith, k_high)) own in
     record {
       option_in = ho;
       place_in = hj;
       node = e;
       own = own;
-      begin = ap (λ (r : Row). r.begin) row ∙ first_at p o (omega (arith, ho));
-      end = ap (λ (r : Row). r.end) row ∙ first_at p (o + 1) (omega (arith, ho)) ∙ next;
+      begin = ap (λ n. get_or (first_list p) n 0) own ∙ first_at p o (omega (arith, ho));
+      end = ap (λ n. get_or (first_list p) (n + 1) 0) own ∙ first_at p (o + 1) (omega (arith, ho)) ∙ next;
       low = low;
       high = omega (arith, next, last);
       item = column_node p k k_low k_high ∙ ap (λ n. get_or (concat p.options) (n - base_of p) 0) e ∙ item_at_place (base_of p) p.options o j ho hj;
@@ -109,6 +100,14 @@ option_distinct p o is ho =
     let P : List ℕ → Type 0 = λ items. is_distinct items ≡ true in
     All-get_or P p.options o [] ho is.each_distinct
 
+-- where a number stands in a list
+pub place_of : (xs : List ℕ) (x : ℕ) → is_in xs x ≡ true → (j : ℕ) × (j < length xs) × (get_or xs j 0 ≡ x)
+place_of [] x h = absurd (both_ways false refl h)
+place_of (y ∷ ys) x h = elim (or_cases (y == x) (is_in ys x) h) [
+  | inl e ↦ (0, omega arith, eqb-true y x e)
+  | inr r ↦ let rest = place_of ys x r in (suc rest.0, omega (arith, rest.1), rest.2)
+]
+
 -- ---- the table
 
 column_below : (p : Problem) (k : ℕ) → IsProblem p → k < tails_of p + heads_of p → get_or (column_list p) k 0 < heads_of p
@@ -134,21 +133,11 @@ option_below p k h = elim (cases_lt k (base_of p)) [
   ]
 ]
 
-first_within : (p : Problem) (o : ℕ) → o < length p.options + 2 → (base_of p ≤ get_or (first_list p) o 0) × (get_or (first_list p) o 0 ≤ tails_of p)
-first_within p o h = elim (cases_lt (length p.options) o) [
-  | inr le ↦ (omega (arith, first_at p o le, starts_low (base_of p) p.options o le), omega (arith, first_at p o le, starts_high (base_of p) p.options o le))
-  | inl past ↦
-      let e : o ≡ length p.options + 1 = omega (arith, past, h) in
-      let at = ap (λ n. get_or (first_list p) n 0) e ∙ first_past p in
-      (omega (arith, at), omega (arith, at))
-]
-
 -- a node of no option belongs to an empty range
-no_option : (p : Problem) (k : ℕ) → k < tails_of p + heads_of p → get_or (option_list p) k 0 ≡ length p.options → begin_of (table p) k ≡ end_of (table p) k
-no_option p k h own =
-    let row = row_by p k (length p.options) h own in
-    let begin = ap (λ (r : Row). r.begin) row ∙ first_at p (length p.options) (omega arith) ∙ starts_end (base_of p) p.options in
-    let end = ap (λ (r : Row). r.end) row ∙ first_past p in
+no_option : (p : Problem) (k : ℕ) → get_or (option_list p) k 0 ≡ length p.options → begin_of (table p) k ≡ end_of (table p) k
+no_option p k own =
+    let begin = ap (λ n. get_or (first_list p) n 0) own ∙ first_at p (length p.options) (omega arith) ∙ starts_end (base_of p) p.options in
+    let end = ap (λ n. get_or (first_list p) (n + 1) 0) own ∙ first_past p in
     omega (arith, begin, end)
 
 -- no column has more nodes than there are options
@@ -170,22 +159,21 @@ few_nodes p i is h =
     let length_all : length (map (option_of c) (column_from c [] i (heads_of p))) ≡ length (filter (λ o. true && names_item p o i) (range_with_len 0 (length p.options))) = ap length all in
     omega (arith, length_all, length-map (column_from c [] i (heads_of p)) (option_of c), length-filter (λ o. true && names_item p o i) (range_with_len 0 (length p.options)), count_by-le-length (λ o. true && names_item p o i) (range_with_len 0 (length p.options)), length-range_with_len 0 (length p.options), is.options)
 
-length-row_list : (p : Problem) → length (row_list p) ≡ tails_of p + heads_of p
-unfolding row_list
-length-row_list p = length-map (option_list p) (row_at (first_list p)) ∙ length-option_list p
-
 -- the options of the nodes have a row
 pub options_in : (p : Problem) → All (λ o. o + 1 < length (first_list p)) (option_list p)
 options_in p = All-from_get_or (λ o. o + 1 < length (first_list p)) (option_list p) 0 (λ k h. omega (arith, length-first_list p, option_below p k (omega (arith, h, length-option_list p))))
 
-row_within : (p : Problem) (k : ℕ) → k < tails_of p + heads_of p → (heads_of p + heads_of p ≤ (get_or (row_list p) k empty_row).begin + 1) × ((get_or (row_list p) k empty_row).end ≤ tails_of p)
-row_within p k h =
-    let o : ℕ = get_or (option_list p) k 0 in
-    let below = option_below p k h in
-    let row = row_by p k o h refl in
-    let begin = first_within p o (omega (arith, below)) in
-    let end = first_within p (o + 1) (omega (arith, below)) in
-    (omega (arith, ap (λ (r : Row). r.begin) row, begin.0), omega (arith, ap (λ (r : Row). r.end) row, end.1))
+-- what stands at a node of a problem
+place_here : (p : Problem) (k : ℕ) → k < length (column_list p) → place_at (table p) k ≡ place_by (column_list p) (colour_list p) (option_list p) (first_list p) k
+unfolding place_list
+place_here p k h = get_or-map-range_with_len (place_by (column_list p) (colour_list p) (option_list p) (first_list p)) 0 (length (column_list p)) k k (record { right = 0; item = 0; colour = 0 }) h (omega arith)
+
+right_here : (p : Problem) (k : ℕ) → k < length (column_list p) → (place_at (table p) k).right ≡ right_in (begin_of (table p) k) (end_of (table p) k) k
+right_here p k h = ap (λ (place : Place). place.right) (place_here p k h)
+
+length_places : (p : Problem) → length (place_list p) ≡ length (column_list p)
+unfolding place_list
+length_places p = length-map-range_with_len (place_by (column_list p) (colour_list p) (option_list p) (first_list p)) 0 (length (column_list p))
 
 pub table_is : (p : Problem) → IsProblem p → IsTable (table p)
 table_is p is =
@@ -197,13 +185,19 @@ table_is p is =
       order = omega (arith, is.some_primary, is.primary);
       option = length-option_list p ∙ sym size;
       each_column = All-from_get_or (λ i. i < heads_of p) (column_list p) 0 (λ k h. column_below p k is (omega (arith, h, size)));
-      row = length-row_list p ∙ sym size;
-      each_row = All-from_get_or (λ (r : Row). (heads_of p + heads_of p ≤ r.begin + 1) × (r.end ≤ tails_of p)) (row_list p) empty_row (λ k h. row_within p k (omega (arith, h, length-row_list p)));
-      ordered = λ k low high. elim (cases_lt k (base_of p)) [
-        | inl before ↦ omega (arith, no_option p k (omega (arith, high)) (option_before p k before))
-        | inr more ↦ let at = node_at p k more high in omega (arith, at.at.begin, at.at.end)
-      ];
-      no_row = λ k low high. no_option p k (omega (arith, high)) (option_before p k (omega (arith, high)));
+      place = length_places p;
+      item = λ k h. ap (λ (place : Place). place.item) (place_here p k h);
+      colour = λ k h. ap (λ (place : Place). place.colour) (place_here p k h);
+      right = λ k low high.
+          let at = (node_at p k (omega (arith, low)) high).at in
+          right_here p k (omega (arith, high, size)) ∙ rw (ne_eqb (begin_of (table p) k) (end_of (table p) k) (λ e. omega (arith, e, at.begin, at.end, at.place_in))) refl;
+      alone = λ k low high.
+          let none = no_option p k (option_before p k (omega (arith, high))) in
+          right_here p k (omega (arith, high, size)) ∙ rw (eq-eqb (begin_of (table p) k) (end_of (table p) k) none) refl;
+      no_row = λ k low high. no_option p k (option_before p k (omega (arith, high)));
+      numbered = λ k low high.
+          let at = (node_at p k (omega (arith, low)) high) in
+          omega (arith, at.at.own, at.at.option_in, length-first_list p);
       tail_columns = λ k low high. omega (arith, column_tail p k low (omega (arith, high, size)), low);
       option_columns = λ k low high.
           let at = node_at p k (omega (arith, low)) high in
@@ -227,15 +221,50 @@ table_is p is =
           omega (arith, by.node, at.at.node, e, at.at.begin);
     }
 
-abbrev columns_by : ℕ → ℕ → List ℕ → List ℕ → List ℕ → List Row → Columns
-columns_by heads tails column option first rows = record { heads = heads; tails = tails; column = column; option = option; first = first; rows = rows }
+-- a node has the colour that its option gives its item
+pub node_colour : (p : Problem) (k o j : ℕ) → IsProblem p → IsNodeAt p k o j → colour_at (table p) k ≡ colour_of p o (column_of (table p) k)
+node_colour p k o j is at =
+    let long = colours_long p o is in
+    let place : j < length (colours_of p o) = omega (arith, long, at.place_in) in
+    let inside : o < length p.colours = omega (arith, colours_many p is, at.option_in) in
+    colour_node p k is (omega (arith, at.low, at.node)) (omega (arith, at.high, at.node, at.place_in))
+    ∙ ap (λ n. get_or (concat p.colours) (n - base_of p) 0) at.node
+    ∙ colour_at_place (base_of p) p.options p.colours o j is.each_coloured inside place
+    ∙ sym (colour_at_option p o j is at.option_in place)
+    ∙ ap (colour_of p o) (sym at.item)
 
-pub same_table : (p : Problem) (heads tails : ℕ) (column option first : List ℕ) (rows : List Row) → heads ≡ heads_of p → tails ≡ tails_of p → column ≡ column_list p → option ≡ option_list p → first ≡ first_list p → rows ≡ map (row_at first) option → columns_by heads tails column option first rows ≡ table p
-unfolding row_list
-same_table p heads tails column option first rows a b c d e f =
-    ap (λ h. columns_by h tails column option first rows) a
-    ∙ ap (λ t. columns_by (heads_of p) t column option first rows) b
-    ∙ ap (λ xs. columns_by (heads_of p) (tails_of p) xs option first rows) c
-    ∙ ap (columns_by (heads_of p) (tails_of p) (column_list p) option first) f
-    ∙ ap (λ xs. columns_by (heads_of p) (tails_of p) (column_list p) xs first (map (row_at first) xs)) d
-    ∙ ap (λ xs. columns_by (heads_of p) (tails_of p) (column_list p) (option_list p) xs (map (row_at xs) (option_list p))) e
+-- ---- the columns of a layout
+
+-- a part of what stands at each node is the list that it was made from
+listed : (f : Place → ℕ) (g : ℕ → Place) (xs : List ℕ) (start : ℕ) → ((k : ℕ) → f (g (start + k)) ≡ get_or xs k 0) → map f (map g (range_with_len start (length xs))) ≡ xs
+listed f g [] start here = refl
+listed f g (x ∷ xs) start here =
+    let first : f (g start) ≡ x = ap (λ k. f (g k)) (omega arith) ∙ here 0 in
+    rw first (ap (λ ys. x ∷ ys) (listed f g xs (start + 1) (λ k. ap (λ n. f (g n)) (omega arith) ∙ here (suc k))))
+
+-- columns by what stands at each node
+abbrev pub columns_by : ℕ → ℕ → List ℕ → List ℕ → List Place → Columns
+columns_by heads tails option first places = record { heads = heads; tails = tails; column = map (λ p. p.item) places; colour = map (λ p. p.colour) places; option = option; first = first; places = places }
+
+pub same_table : (p : Problem) (heads tails : ℕ) (items colours option first : List ℕ) (places : List Place) → IsProblem p → heads ≡ heads_of p → tails ≡ tails_of p → items ≡ column_list p → colours ≡ colour_list p → option ≡ option_list p → first ≡ first_list p → places ≡ map (place_by items colours option first) (range_with_len 0 (length items)) → columns_by heads tails option first places ≡ table p
+unfolding place_list
+same_table p heads tails items colours option first places is a b c d e f g =
+    let by : ℕ → Place = place_by (column_list p) (colour_list p) (option_list p) (first_list p) in
+    let all : places ≡ place_list p =
+    g ∙ ap (λ xs. map (place_by xs colours option first) (range_with_len 0 (length xs))) c
+    ∙ ap (λ xs. map (place_by (column_list p) xs option first) (range_with_len 0 (length (column_list p)))) d
+    ∙ ap (λ xs. map (place_by (column_list p) (colour_list p) xs first) (range_with_len 0 (length (column_list p)))) e
+    ∙ ap (λ xs. map (place_by (column_list p) (colour_list p) (option_list p) xs) (range_with_len 0 (length (column_list p)))) f in
+    let size : length (column_list p) ≡ length (colour_list p) = length-column_list p ∙ sym (length-colour_list p is) in
+    let item : map (λ (place : Place). place.item) (place_list p) ≡ column_list p = listed (λ (place : Place). place.item) by (column_list p) 0 (λ k. ap (λ n. get_or (column_list p) n 0) (omega arith)) in
+    let colour : map (λ (place : Place). place.colour) (place_list p) ≡ colour_list p =
+    ap (λ n. map (λ (place : Place). place.colour) (map by (range_with_len 0 n))) size
+    ∙ listed (λ (place : Place). place.colour) by (colour_list p) 0 (λ k. ap (λ n. get_or (colour_list p) n 0) (omega arith)) in
+    let C : List ℕ → List ℕ → Columns = λ column colour. record { heads = heads_of p; tails = tails_of p; column = column; colour = colour; option = option_list p; first = first_list p; places = place_list p } in
+    ap (λ n. columns_by n tails option first places) a
+    ∙ ap (λ n. columns_by (heads_of p) n option first places) b
+    ∙ ap (λ xs. columns_by (heads_of p) (tails_of p) xs first places) e
+    ∙ ap (λ xs. columns_by (heads_of p) (tails_of p) (option_list p) xs places) f
+    ∙ ap (columns_by (heads_of p) (tails_of p) (option_list p) (first_list p)) all
+    ∙ ap (λ xs. C xs (map (λ (place : Place). place.colour) (place_list p))) item
+    ∙ ap (C (column_list p)) colour

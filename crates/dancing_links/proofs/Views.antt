@@ -1,26 +1,28 @@
 -- What the views of the links answer.
-use Rattle.std.proofs.Common.{◌≡◌, ℕ, zero, suc, ◌+◌, ◌-◌, ◌<◌, ◌≤◌, List, [], ◌∷◌, length, ◌==◌, true, false, get_or, map, refl, arith, sym, ap, ◌∙◌, inl, inr, subst, slice_get, Some, None, Option, MatchOption, IfSome}
-use Rattle.std.proofs.lemmas.Bool.{cases_lt, lt-ltb, le-ltb, or_cases, eqb-true, not-true, both_ways, and_parts, cases_Bool}
+use Rattle.std.proofs.Common.{◌≡◌, ℕ, zero, suc, ◌+◌, ◌-◌, ◌<◌, ◌≤◌, List, [], ◌∷◌, length, not, ◌==◌, true, false, get_or, map, refl, arith, sym, ap, ◌∙◌, inl, inr, subst, slice_get, Some, None, Option, MatchOption, IfSome}
+use Rattle.std.proofs.lemmas.Bool.{cases_lt, lt-ltb, le-ltb, not-true, both_ways, and_parts, cases_Bool}
 use Rattle.std.proofs.lemmas.List.{length-map, get_or_default}
 use Rattle.std.proofs.lemmas.Grind.{get_or_default_zero}
 use Rattle.cover_problem.specs.Branching.{live_options, is_choice, IsOpen}
-use Rattle.cover_problem.specs.Numbers.{is_in}
 use Rattle.cover_problem.specs.Onward.{open_items_from, live_options_from}
 use Rattle.cover_problem.specs.Prefix.{is_covered, is_live}
 use Rattle.cover_problem.specs.Problem.{Problem, IsProblem, items_of, names_item}
 use Rattle.cover_problem.proofs.Remaining.{open_items_from_take, open_items_from_skip, open_items_from_end, live_options_from_take, live_options_from_skip, live_options_from_end}
 use Rattle.dancing_links.specs.declared.link.Link.{Link}
-use Rattle.dancing_links.specs.Choices.{IsLinks, IsChild, out_of, covered_items}
+use Rattle.dancing_links.specs.Choices.{IsLinks, IsChild, IsPrimary, out_of, chosen_nodes, covering_nodes, commits_of}
 use Rattle.dancing_links.specs.Columns.{Columns, among, column_of, column_from, option_of, IsTable, IsLinked, IsSpelled}
-use Rattle.dancing_links.specs.Linking.{down_of}
+use Rattle.dancing_links.specs.Linking.{up_of, down_of}
 use Rattle.dancing_links.specs.Walking.{walk, options_left, IsNaming}
 use Rattle.dancing_links.specs.Table.{table, heads_of, base_of, first_list}
 use Rattle.dancing_links.proofs.Walk.{column_skip_to, column_from_take, column_from_end}
 use Rattle.dancing_links.proofs.Nodes.{starts_next, first_at}
-use Rattle.dancing_links.proofs.Tables.{IsNodeAt, start_of, node_by, table_is}
-use Rattle.dancing_links.proofs.Present.{IsOut, is_dead, with_all, never_true}
-use Rattle.dancing_links.proofs.State.{IsState, state_of, item_gone}
-use Rattle.dancing_links.proofs.Columned.{column_options, column_options_from, node_live}
+use Rattle.dancing_links.proofs.Tables.{IsNodeAt, start_of, node_by, table_is, place_of}
+use Rattle.dancing_links.proofs.Present.{IsOut, covers, is_dead, with_all, never_true, same_flags}
+use Rattle.dancing_links.proofs.State.{IsState, state_of, item_gone, known_test}
+use Rattle.dancing_links.proofs.Cast.{IsCast, cast_names, node_live}
+use Rattle.dancing_links.proofs.Entries.{some_node}
+use Rattle.dancing_links.proofs.Prefixed.{primary_uncovered}
+use Rattle.dancing_links.proofs.Columned.{column_options, column_options_from}
 
 -- an item's column, by options
 pub column_is : (p : Problem) (c : Columns) (os es : List ℕ) (m : List Link) (counts : List ℕ) (room i : ℕ) → IsLinks p c os es m counts room → i < length p.names → is_covered p os i ≡ false → map (option_of c) (column_from c (out_of c es) i c.heads) ≡ live_options p os i
@@ -28,7 +30,7 @@ column_is p c os es m counts room i is h free =
     let P : Columns → Type 0 = λ t. IsLinks p t os es m counts room in
     let s = state_of p (table p) os es m counts room (subst P is.layout is) in
     let Q : Columns → Type 0 = λ t. map (option_of t) (column_from t (out_of t es) i t.heads) ≡ live_options p os i in
-    subst Q (sym is.layout) (column_options p os (with_all [] (covered_items (table p) es)) (out_of (table p) es) i is.is_problem s.names s.out h free)
+    subst Q (sym is.layout) (column_options p os (with_all [] (chosen_nodes (table p) es)) (with_all [] (covering_nodes (table p) es)) (commits_of (table p) es) (out_of (table p) es) i s.cast s.out h free)
 
 -- the count of an item is that of the live options that name it
 pub count_is : (p : Problem) (c : Columns) (os es : List ℕ) (m : List Link) (counts : List ℕ) (room i : ℕ) → IsLinks p c os es m counts room → i < length p.names → is_covered p os i ≡ false → get_or counts i 0 ≡ length (live_options p os i)
@@ -175,41 +177,59 @@ left_read p c os es m counts room i head is h free e =
 
 -- ---- the next option of an item
 
--- where a number stands in a list
-place_of : (xs : List ℕ) (x : ℕ) → is_in xs x ≡ true → (j : ℕ) × (j < length xs) × (get_or xs j 0 ≡ x)
-place_of [] x h = absurd (both_ways false refl h)
-place_of (y ∷ ys) x h = elim (or_cases (y == x) (is_in ys x) h) [
-  | inl e ↦ (0, omega arith, eqb-true y x e)
-  | inr r ↦ let rest = place_of ys x r in (suc rest.0, omega (arith, rest.1), rest.2)
-]
-
 -- the node of a live option is in
-pub node_in : (p : Problem) (os is out : List ℕ) (i node o j : ℕ) → ((k : ℕ) → among is k ≡ is_covered p os k) → IsOut (table p) is out → IsNodeAt p node o j → column_of (table p) node ≡ i → is_covered p os i ≡ false → is_live p os o ≡ true → among out node ≡ false
-node_in p os is out i node o j names gone at own free live =
+pub node_in : (p : Problem) (os seen nodes commits out : List ℕ) (node o j : ℕ) → IsCast p (table p) os seen nodes commits → IsOut (table p) nodes out → IsNodeAt p node o j → is_live p os o ≡ true → among out node ≡ false
+node_in p os seen nodes commits out node o j cast gone at live =
     let c : Columns = table p in
     let low : c.heads + c.heads ≤ node + 1 = omega (arith, at.low, at.node) in
     let high : node < c.tails = omega (arith, at.high, at.place_in, at.node) in
-    let new : among is (column_of c node) ≡ false = ap (among is) own ∙ names i ∙ free in
-    let alive : is_dead c is node ≡ false = not-true (is_dead c is node) (node_live p os is node o j names at ∙ live) in
-    never_true (among out node) (λ t. both_ways (is_dead c is node) alive (gone.out_dead node low high new t))
+    let alive : is_dead c nodes node ≡ false = not-true (is_dead c nodes node) (node_live p os seen nodes commits node o j cast at ∙ live) in
+    never_true (among out node) (λ t. both_ways (is_dead c nodes node) alive (gone.out_dead node low high t))
+
+-- and where its item is uncovered, it is in only there
+pub live_test : (p : Problem) (os seen nodes commits out : List ℕ) (node o j : ℕ) → IsCast p (table p) os seen nodes commits → IsOut (table p) nodes out → IsNodeAt p node o j → is_covered p os (column_of (table p) node) ≡ false → not (among out node) ≡ is_live p os o
+live_test p os seen nodes commits out node o j cast gone at free =
+    let c : Columns = table p in
+    let low : c.heads + c.heads ≤ node + 1 = omega (arith, at.low, at.node) in
+    let high : node < c.tails = omega (arith, at.high, at.place_in, at.node) in
+    let new : covers c nodes (column_of c node) ≡ false = cast_names p os seen nodes commits (column_of c node) cast ∙ free in
+    ap not (same_flags (among out node) (is_dead c nodes node) (gone.out_dead node low high) (gone.dead_out node low high new))
+    ∙ node_live p os seen nodes commits node o j cast at
+
+-- an option is live where its first primary item is uncovered, and its node there is known from above
+pub live_known : (p : Problem) (c : Columns) (os es : List ℕ) (m : List Link) (counts : List ℕ) (room o k : ℕ) → IsLinks p c os es m counts room → IsPrimary p c o k → is_covered p os (column_of c k) ≡ false → (down_of m (up_of m k) == k) ≡ is_live p os o
+live_known p c os es m counts room o k is at free =
+    let s = state_of p c os es m counts room is in
+    let P : Columns → Type 0 = λ t. IsCast p t os (with_all [] (chosen_nodes t es)) (with_all [] (covering_nodes t es)) (commits_of t es) → IsOut t (with_all [] (covering_nodes t es)) (out_of t es) → IsPrimary p t o k → is_covered p os (column_of t k) ≡ false → not (among (out_of t es) k) ≡ is_live p os o in
+    known_test p c os es m k s (omega (arith, at.in_option.0, s.table_is.some)) at.in_option.1
+    ∙ subst P (sym is.layout) (λ cast gone at free.
+    let some = some_node p k at.in_option in
+    let N : ℕ → Type 0 = λ q. IsNodeAt p k q some.0 in
+    live_test p os (with_all [] (chosen_nodes (table p) es)) (with_all [] (covering_nodes (table p) es)) (commits_of (table p) es) (out_of (table p) es) k o some.0 cast gone (subst N at.own some.1) free) s.cast s.out at free
+
+-- and not where that item is covered
+pub live_covered : (p : Problem) (c : Columns) (os : List ℕ) (o k : ℕ) → IsPrimary p c o k → is_covered p os (column_of c k) ≡ true → is_live p os o ≡ false
+live_covered p c os o k at hit = never_true (is_live p os o) (λ live. both_ways (is_covered p os (column_of c k)) (primary_uncovered p os o (column_of c k) at.primary live at.named) hit)
 
 -- after the node of an option its column holds nodes of the live options after it
-pub rest_at : (p : Problem) (os is out : List ℕ) (i node o j : ℕ) → IsProblem p → ((k : ℕ) → among is k ≡ is_covered p os k) → IsOut (table p) is out → i < length p.names → is_covered p os i ≡ false → IsNodeAt p node o j → column_of (table p) node ≡ i → map (option_of (table p)) (column_from (table p) out i (node + 1)) ≡ live_options_from p os i (o + 1)
-rest_at p os is out i node o j lawful names gone h free at own =
+pub rest_at : (p : Problem) (os seen nodes commits out : List ℕ) (i node o j : ℕ) → IsCast p (table p) os seen nodes commits → IsOut (table p) nodes out → i < length p.names → is_covered p os i ≡ false → IsNodeAt p node o j → column_of (table p) node ≡ i → map (option_of (table p)) (column_from (table p) out i (node + 1)) ≡ live_options_from p os i (o + 1)
+rest_at p os seen nodes commits out i node o j cast gone h free at own =
     let c : Columns = table p in
-    let t = table_is p lawful in
+    let t = table_is p cast.is_problem in
     let low : c.heads + c.heads ≤ node + 1 = omega (arith, at.low, at.node) in
     let high : node < c.tails = omega (arith, at.high, at.place_in, at.node) in
     let follow = starts_next (base_of p) p.options o at.option_in in
     let skip = column_skip_to c out i (start_of p (o + 1) - (node + 1)) (node + 1) (start_of p (o + 1)) (omega (arith, follow, at.node, at.place_in)) (λ y above below same.
     absurd (omega (arith, above, t.apart node y low high (omega (arith, at.begin, at.node, above)) (omega (arith, at.end, follow, below)) (same ∙ sym own)))) in
-    ap (map (option_of c)) skip ∙ column_options_from p os is out i (o + 1) lawful names gone h free (omega (arith, at.option_in))
+    ap (map (option_of c)) skip ∙ column_options_from p os seen nodes commits out i (o + 1) cast gone h free (omega (arith, at.option_in))
 
 next_at : (p : Problem) (os es : List ℕ) (m : List Link) (i o node : ℕ) → IsState p (table p) os es m → i < length p.names → is_covered p os i ≡ false → o < length p.options → is_live p os o ≡ true → names_item p o i ≡ true → IsNaming (table p) i (start_of p o) (start_of p o + length (items_of p o)) node → options_left (table p) m (down_of m node) ≡ live_options_from p os i (o + 1)
 next_at p os es m i o node s h free inside live named at =
     let c : Columns = table p in
     let out : List ℕ = out_of c es in
-    let is : List ℕ = with_all [] (covered_items c es) in
+    let seen : List ℕ = with_all [] (chosen_nodes c es) in
+    let nodes : List ℕ = with_all [] (covering_nodes c es) in
+    let commits : List ℕ = commits_of c es in
     let end : ℕ = start_of p o + length (items_of p o) in
     let there = place_of (items_of p o) i named in
     let before : node < end = elim (cases_lt node end) [
@@ -222,12 +242,12 @@ next_at p os es m i o node s h free inside live named at =
     let j : ℕ = node - start_of p o in
     let by = node_by p node o j inside (omega (arith, at.low, before)) (omega (arith, at.low)) in
     let high : node < c.tails = omega (arith, by.high, before) in
-    let next = s.spelled.down node high (node_in p os is out i node o j s.names s.out by own free live) in
+    let next = s.spelled.down node high (node_in p os seen nodes commits out node o j s.cast s.out by live) in
     let d : ℕ = down_of m node in
     let skip = column_skip_to c out i (d - (node + 1)) (node + 1) d (omega (arith, next.below)) (λ y above below same. next.nearest y (omega (arith, above)) below (same ∙ sym own)) in
     walk_column c out m i (c.tails - d) d s.spelled next.low (next.column ∙ own) next.in_down (omega arith)
     ∙ ap (map (option_of c)) (sym skip)
-    ∙ rest_at p os is out i node o j s.is_problem s.names s.out h free by own
+    ∙ rest_at p os seen nodes commits out i node o j s.cast s.out h free by own
 
 -- the options after an option in the column of an uncovered item
 pub left_after : (p : Problem) (c : Columns) (os es : List ℕ) (m : List Link) (counts : List ℕ) (room i o node : ℕ) → IsLinks p c os es m counts room → i < length p.names → is_covered p os i ≡ false → o < length p.options → is_live p os o ≡ true → names_item p o i ≡ true → IsNaming c i (get_or c.first o 0) (get_or c.first (o + 1) 0) node → options_left c m (down_of m node) ≡ live_options_from p os i (o + 1)

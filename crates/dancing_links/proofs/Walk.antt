@@ -1,13 +1,13 @@
 -- Nodes taken out in a row, and the walk down a column.
 use Rattle.std.proofs.Common.{◌≡◌, ℕ, zero, suc, ◌+◌, ◌-◌, ◌<◌, ◌≤◌, List, [], ◌∷◌, ◌++◌, Bool, true, false, ◌||◌, refl, arith, sym, ap, ◌∙◌, subst, inl, inr, append_assoc, append-nil}
 use Rattle.std.specs.List.{range_with_len, flat_map}
-use Rattle.std.proofs.lemmas.Bool.{eq-eqb, ne_eqb, cases_Bool, cases_eq, cases_lt}
+use Rattle.std.proofs.lemmas.Bool.{eq-eqb, ne_eqb, cases_Bool, cases_eq, cases_lt, both_ways}
 use Rattle.dancing_links.specs.declared.link.Link.{Link}
 use Rattle.dancing_links.specs.Columns.{among, Columns, column_of, begin_of, end_of, IsSpelled, column_from, IsTable}
-use Rattle.dancing_links.specs.Counting.{fewer, more, with_less, with_more}
-use Rattle.dancing_links.specs.Covering.{outs, others, hidden_from, covered, AreWhole, IsOpen, Covers}
-use Rattle.dancing_links.specs.Linking.{down_of, unlinked, unlinks, relinks}
-use Rattle.dancing_links.proofs.Law.{between, spelled_unlink, relink_unlink, in_other, out_other}
+use Rattle.dancing_links.specs.Counting.{fewer, with_less, with_more}
+use Rattle.dancing_links.specs.Covering.{outs, others, has_colour, hidden_at, hidden_from, covered, AreWhole, IsOpen, Covers}
+use Rattle.dancing_links.specs.Linking.{down_of, unlinked, unlinks}
+use Rattle.dancing_links.proofs.Law.{spelled_unlink, in_other, out_other}
 use Rattle.dancing_links.proofs.Others.{range_step}
 use Rattle.dancing_links.proofs.Round.{range_at, others_at, others_ranges}
 
@@ -23,20 +23,9 @@ pub spelled_unlinks : (c : Columns) (out : List ℕ) (m : List Link) (xs : List 
 spelled_unlinks c out m [] s are = s
 spelled_unlinks c out m (x ∷ xs) s are = spelled_unlinks c (x ∷ out) (unlinked m x) xs (spelled_unlink c out m x s are.0.0 are.0.1 are.0.2) are.1
 
--- nodes that are put back in the reverse order leave all links as they were
-pub relinks_unlinks : (c : Columns) (out : List ℕ) (m : List Link) (xs : List ℕ) → IsSpelled c out m → AreIn c out xs → relinks (unlinks m xs) xs ≡ m
-relinks_unlinks c out m [] s are = refl
-relinks_unlinks c out m (x ∷ xs) s are =
-    let rest = relinks_unlinks c (x ∷ out) (unlinked m x) xs (spelled_unlink c out m x s are.0.0 are.0.1 are.0.2) are.1 in
-    rw rest (relink_unlink m x (between c out m x s are.0.0 are.0.1 are.0.2))
-
 pub unlinks-append : (m : List Link) (xs ys : List ℕ) → unlinks m (xs ++ ys) ≡ unlinks (unlinks m xs) ys
 unlinks-append m [] ys = refl
 unlinks-append m (x ∷ xs) ys = unlinks-append (unlinked m x) xs ys
-
-pub relinks-append : (m : List Link) (xs ys : List ℕ) → relinks m (xs ++ ys) ≡ relinks (relinks m ys) xs
-relinks-append m [] ys = refl
-relinks-append m (x ∷ xs) ys = rw (relinks-append m xs ys) refl
 
 pub outs-append : (xs ys out : List ℕ) → outs (xs ++ ys) out ≡ outs ys (outs xs out)
 outs-append [] ys out = refl
@@ -97,11 +86,43 @@ column_skip_to c out i (suc n) k d e gone =
       | inr h ↦ column_from_end c out i k h ∙ sym (column_from_end c out i d (omega (arith, h, e)))
     ]
 
+-- ---- what is hidden at a node
+
+hidden_none : (c : Columns) (a node : ℕ) → has_colour c a node ≡ true → hidden_at c a node ≡ []
+unfolding hidden_at
+hidden_none c a node h = rw h refl
+
+pub hidden_others : (c : Columns) (a node : ℕ) → has_colour c a node ≡ false → hidden_at c a node ≡ others c node
+unfolding hidden_at
+hidden_others c a node h = rw h refl
+
+-- an item that gets no colour hides all options that name it
+pub hidden_plain : (c : Columns) (node : ℕ) → hidden_at c 0 node ≡ others c node
+unfolding hidden_at
+hidden_plain c node = refl
+
+pub hidden_other : (c : Columns) (a node k : ℕ) → among (hidden_at c a node) k ≡ true → (has_colour c a node ≡ false) × (among (others c node) k ≡ true)
+hidden_other c a node k h = elim (cases_Bool (has_colour c a node)) [
+  | inl t ↦ absurd (both_ways (among (hidden_at c a node) k) (ap (λ (ks : List ℕ). among ks k) (hidden_none c a node t)) h)
+  | inr f ↦ (f, sym (ap (λ (ks : List ℕ). among ks k) (hidden_others c a node f)) ∙ h)
+]
+
+pub hidden_row : (c : Columns) (a node k : ℕ) → begin_of c node ≤ node → node < end_of c node → among (hidden_at c a node) k ≡ true → (begin_of c node ≤ k) × (k < end_of c node) × (k ≡ node → ⊥)
+hidden_row c a node k low high h = others_at c node k low high (hidden_other c a node k h).1
+
+pub hidden_are_in : (c : Columns) (out : List ℕ) (a node : ℕ) → IsTable c → c.heads + c.heads ≤ node + 1 → node < c.tails → ((j : ℕ) → begin_of c node ≤ j → j < end_of c node → among out j ≡ false) → AreIn c out (hidden_at c a node)
+hidden_are_in c out a node t low high here =
+    let P : List ℕ → Type 0 = λ ks. AreIn c out ks in
+    elim (cases_Bool (has_colour c a node)) [
+      | inl h ↦ subst P (sym (hidden_none c a node h)) tt
+      | inr f ↦ subst P (sym (hidden_others c a node f)) (others_are_in c out node t low high here)
+    ]
+
 -- on the way down the column of an item: what was done, and what is left
-pub record IsGoing (c : Columns) (out : List ℕ) (i : ℕ) (old now : List Link) (node : ℕ) (done : List ℕ) : Type 0 where
+pub record IsGoing (c : Columns) (out : List ℕ) (i a : ℕ) (old now : List Link) (node : ℕ) (done : List ℕ) : Type 0 where
   pub links : now ≡ unlinks old done
   pub are_in : AreIn c out done
-  pub left : done ++ hidden_from c out i node ≡ hidden_from c out i c.heads
+  pub left : done ++ hidden_from c out i a node ≡ hidden_from c out i a c.heads
   pub column : column_of c node ≡ i
   pub here : among (outs done out) node ≡ false
   pub own : (k : ℕ) → column_of c k ≡ i → among (outs done out) k ≡ among out k
@@ -140,62 +161,62 @@ option_after c a b t low less high own =
       ]
     ]
 
-pub going_start : (c : Columns) (out : List ℕ) (i : ℕ) (m : List Link) → IsTable c → i + 1 < c.heads → IsSpelled c out m → IsGoing c out i m m (down_of m i) []
+pub going_start : (c : Columns) (out : List ℕ) (i a : ℕ) (m : List Link) → IsTable c → i + 1 < c.heads → IsSpelled c out m → IsGoing c out i a m m (down_of m i) []
 unfolding hidden_from
-going_start c out i m t item s =
+going_start c out i a m t item s =
     let next = s.down i (omega (arith, item, s.order)) (s.heads_in i (omega (arith, item))) in
     let own : column_of c i ≡ i = t.head_columns i (omega (arith, item)) in
     record {
       links = refl;
       are_in = tt;
-      left = ap (flat_map (others c)) (sym (column_skip_to c out i (down_of m i - c.heads) c.heads (down_of m i) (omega (arith, next.low)) (λ y above below same. next.nearest y (omega (arith, above, item)) below (same ∙ sym own))));
+      left = ap (flat_map (hidden_at c a)) (sym (column_skip_to c out i (down_of m i - c.heads) c.heads (down_of m i) (omega (arith, next.low)) (λ y above below same. next.nearest y (omega (arith, above, item)) below (same ∙ sym own))));
       column = next.column ∙ own;
       here = next.in_down;
       own = λ k same. refl;
       later = λ k high after. refl;
     }
 
-pub going_step : (c : Columns) (out : List ℕ) (i : ℕ) (old now : List Link) (node : ℕ) (done : List ℕ) → IsTable c → i + 1 < c.heads → IsSpelled c out old → AreWhole c out i → c.heads ≤ node → node < c.tails → IsGoing c out i old now node done → IsGoing c out i old (unlinks now (others c node)) (down_of (unlinks now (others c node)) node) (done ++ others c node)
+pub going_step : (c : Columns) (out : List ℕ) (i a : ℕ) (old now : List Link) (node : ℕ) (done : List ℕ) → IsTable c → i + 1 < c.heads → IsSpelled c out old → AreWhole c out i → c.heads ≤ node → node < c.tails → IsGoing c out i a old now node done → IsGoing c out i a old (unlinks now (hidden_at c a node)) (down_of (unlinks now (hidden_at c a node)) node) (done ++ hidden_at c a node)
 unfolding hidden_from
-going_step c out i old now node done t item s whole low high g =
+going_step c out i a old now node done t item s whole low high g =
     let option = option_node c i node t item low g.column in
     let w = t.within node option high in
     let order : begin_of c node ≤ end_of c node = omega (arith, w.0, w.1) in
     let here : among out node ≡ false = sym (g.own node g.column) ∙ g.here in
-    let all_in = others_are_in c (outs done out) node t option high (λ j above below. g.later j high above ∙ whole node j option high g.column here above below) in
-    let both = are_in-append c out done (others c node) g.are_in all_in in
-    let links : unlinks now (others c node) ≡ unlinks old (done ++ others c node) = rw (unlinks-append old done (others c node), g.links) refl in
-    let spelled : IsSpelled c (outs (done ++ others c node) out) (unlinks now (others c node)) = rw links (spelled_unlinks c out old (done ++ others c node) s both) in
-    let keep : (k : ℕ) → (among (others c node) k ≡ true → ⊥) → among (outs (done ++ others c node) out) k ≡ among (outs done out) k =
-    (λ k never. rw (outs-append done (others c node) out) (outs_same (others c node) (outs done out) k (not_true (among (others c node) k) never))) in
-    let own : (k : ℕ) → column_of c k ≡ i → among (outs (done ++ others c node) out) k ≡ among out k =
-    (λ k same. keep k (λ yes. let at = others_at c node k w.0 w.1 yes in at.2 (t.apart node k option high at.0 at.1 (same ∙ sym g.column))) ∙ g.own k same) in
-    let node_in : among (outs (done ++ others c node) out) node ≡ false = own node g.column ∙ here in
+    let all_in = hidden_are_in c (outs done out) a node t option high (λ j above below. g.later j high above ∙ whole node j option high g.column here above below) in
+    let both = are_in-append c out done (hidden_at c a node) g.are_in all_in in
+    let links : unlinks now (hidden_at c a node) ≡ unlinks old (done ++ hidden_at c a node) = rw (unlinks-append old done (hidden_at c a node), g.links) refl in
+    let spelled : IsSpelled c (outs (done ++ hidden_at c a node) out) (unlinks now (hidden_at c a node)) = rw links (spelled_unlinks c out old (done ++ hidden_at c a node) s both) in
+    let keep : (k : ℕ) → (among (hidden_at c a node) k ≡ true → ⊥) → among (outs (done ++ hidden_at c a node) out) k ≡ among (outs done out) k =
+    (λ k never. rw (outs-append done (hidden_at c a node) out) (outs_same (hidden_at c a node) (outs done out) k (not_true (among (hidden_at c a node) k) never))) in
+    let own : (k : ℕ) → column_of c k ≡ i → among (outs (done ++ hidden_at c a node) out) k ≡ among out k =
+    (λ k same. keep k (λ yes. let at = hidden_row c a node k w.0 w.1 yes in at.2 (t.apart node k option high at.0 at.1 (same ∙ sym g.column))) ∙ g.own k same) in
+    let node_in : among (outs (done ++ hidden_at c a node) out) node ≡ false = own node g.column ∙ here in
     let next = spelled.down node high node_in in
-    let d : ℕ = down_of (unlinks now (others c node)) node in
+    let d : ℕ = down_of (unlinks now (hidden_at c a node)) node in
     let take = column_from_take c out i node high g.column here in
     let skip = column_skip_to c out i (d - (node + 1)) (node + 1) d (omega (arith, next.below)) (λ y above below same. sym (own y same) ∙ next.nearest y (omega (arith, above)) below (same ∙ sym g.column)) in
     let column : column_from c out i node ≡ node ∷ column_from c out i d = take ∙ ap (λ ks. node ∷ ks) skip in
     record {
       links = links;
       are_in = both;
-      left = append_assoc done (others c node) (flat_map (others c) (column_from c out i d)) ∙ ap (λ ks. done ++ flat_map (others c) ks) (sym column) ∙ g.left;
+      left = append_assoc done (hidden_at c a node) (flat_map (hidden_at c a) (column_from c out i d)) ∙ ap (λ ks. done ++ flat_map (hidden_at c a) ks) (sym column) ∙ g.left;
       column = next.column ∙ g.column;
       here = next.in_down;
       own = own;
       later = λ k inside after.
           let follow = option_after c node d t option next.below inside next.column in
-          keep k (λ yes. let at = others_at c node k w.0 w.1 yes in omega (arith, at.1, follow, after))
+          keep k (λ yes. let at = hidden_row c a node k w.0 w.1 yes in omega (arith, at.1, follow, after))
           ∙ g.later k high (omega (arith, follow, after, order));
     }
 
-pub going_done : (c : Columns) (out : List ℕ) (i : ℕ) (old now : List Link) (node : ℕ) (done : List ℕ) → c.tails ≤ node → IsGoing c out i old now node done → done ≡ hidden_from c out i c.heads
+pub going_done : (c : Columns) (out : List ℕ) (i a : ℕ) (old now : List Link) (node : ℕ) (done : List ℕ) → c.tails ≤ node → IsGoing c out i a old now node done → done ≡ hidden_from c out i a c.heads
 unfolding hidden_from
-going_done c out i old now node done past g = sym (append-nil done) ∙ ap (λ ks. done ++ flat_map (others c) ks) (sym (column_from_end c out i node past)) ∙ g.left
+going_done c out i a old now node done past g = sym (append-nil done) ∙ ap (λ ks. done ++ flat_map (hidden_at c a) ks) (sym (column_from_end c out i node past)) ∙ g.left
 
-pub going_end : (c : Columns) (out : List ℕ) (i : ℕ) (old now : List Link) (node : ℕ) (done : List ℕ) → c.tails ≤ node → IsGoing c out i old now node done → now ≡ unlinks old (hidden_from c out i c.heads)
+pub going_end : (c : Columns) (out : List ℕ) (i a : ℕ) (old now : List Link) (node : ℕ) (done : List ℕ) → c.tails ≤ node → IsGoing c out i a old now node done → now ≡ unlinks old (hidden_from c out i a c.heads)
 unfolding hidden_from
-going_end c out i old now node done past g = g.links ∙ ap (unlinks old) (going_done c out i old now node done past g)
+going_end c out i a old now node done past g = g.links ∙ ap (unlinks old) (going_done c out i a old now node done past g)
 
 -- an item that can be covered, once its node in the column of items is out
 pub whole_item : (c : Columns) (out : List ℕ) (i : ℕ) → IsTable c → IsOpen c out i → AreWhole c ((c.heads + i) ∷ out) i
@@ -208,13 +229,18 @@ pub item_out : (c : Columns) (out : List ℕ) (i : ℕ) (m : List Link) → IsTa
 item_out c out i m t can s = spelled_unlink c out m (c.heads + i) s (omega arith) (omega (arith, can.item, t.order)) can.here
 
 -- on the way down: what was done, to the links and to the counts
-pub record IsWalk (c : Columns) (out : List ℕ) (i : ℕ) (old now : List Link) (was is : List ℕ) (node : ℕ) : Type 0 where
+pub record IsWalk (c : Columns) (out : List ℕ) (i a : ℕ) (old now : List Link) (was is : List ℕ) (node : ℕ) : Type 0 where
   pub done : List ℕ
-  pub going : IsGoing c out i old now node done
+  pub going : IsGoing c out i a old now node done
   pub counts : is ≡ fewer c was done
 
-abbrev pub Going : Columns → List Link → ℕ → List Link → List ℕ → List ℕ → ℕ → Type 0
-Going c old i now was is node = (out : List ℕ) → IsSpelled c out old → IsOpen c out i → IsWalk c ((c.heads + i) ∷ out) i (unlinked old (c.heads + i)) now was is node
+abbrev pub Going : Columns → List Link → ℕ → ℕ → List Link → List ℕ → List ℕ → ℕ → Type 0
+Going c old i a now was is node = (out : List ℕ) → IsSpelled c out old → IsOpen c out i → IsWalk c ((c.heads + i) ∷ out) i a (unlinked old (c.heads + i)) now was is node
+
+-- the counts once nodes came back, the last one first
+abbrev pub more : Columns → List ℕ → List ℕ → List ℕ
+more c counts [] = counts
+more c counts (x ∷ xs) = with_more c (more c counts xs) x
 
 pub fewer-append : (c : Columns) (counts xs ys : List ℕ) → fewer c counts (xs ++ ys) ≡ fewer c (fewer c counts xs) ys
 fewer-append c counts [] ys = refl
@@ -224,22 +250,22 @@ pub more-append : (c : Columns) (counts xs ys : List ℕ) → more c counts (xs 
 more-append c counts [] ys = refl
 more-append c counts (x ∷ xs) ys = ap (λ (k : List ℕ). with_more c k x) (more-append c counts xs ys)
 
-pub cover_start : (c : Columns) (old now : List Link) (was : List ℕ) (i : ℕ) → IsTable c → now ≡ unlinked old (c.heads + i) → Going c old i now was was (down_of now i)
-cover_start c old now was i t e = λ out s can. record {
+pub cover_start : (c : Columns) (old now : List Link) (was : List ℕ) (i a : ℕ) → IsTable c → now ≡ unlinked old (c.heads + i) → Going c old i a now was was (down_of now i)
+cover_start c old now was i a t e = λ out s can. record {
   done = [];
-  going = rw e (going_start c ((c.heads + i) ∷ out) i (unlinked old (c.heads + i)) t can.item (item_out c out i old t can s));
+  going = rw e (going_start c ((c.heads + i) ∷ out) i a (unlinked old (c.heads + i)) t can.item (item_out c out i old t can s));
   counts = refl;
 }
 
-pub cover_step : (c : Columns) (old now new : List Link) (was is less : List ℕ) (i node : ℕ) → IsTable c → c.heads ≤ node → node < c.tails → new ≡ unlinks now (others c node) → less ≡ fewer c is (others c node) → Going c old i now was is node → Going c old i new was less (down_of new node)
-cover_step c old now new was is less i node t low high e f going = λ out s can.
+pub cover_step : (c : Columns) (old now new : List Link) (was is less : List ℕ) (i a node : ℕ) → IsTable c → c.heads ≤ node → node < c.tails → new ≡ unlinks now (hidden_at c a node) → less ≡ fewer c is (hidden_at c a node) → Going c old i a now was is node → Going c old i a new was less (down_of new node)
+cover_step c old now new was is less i a node t low high e f going = λ out s can.
     let w = going out s can in
     record {
-      done = w.done ++ others c node;
-      going = rw e (going_step c ((c.heads + i) ∷ out) i (unlinked old (c.heads + i)) now node w.done t can.item (item_out c out i old t can s) (whole_item c out i t can) low high w.going);
-      counts = f ∙ ap (λ (k : List ℕ). fewer c k (others c node)) w.counts ∙ sym (fewer-append c was w.done (others c node));
+      done = w.done ++ hidden_at c a node;
+      going = rw e (going_step c ((c.heads + i) ∷ out) i a (unlinked old (c.heads + i)) now node w.done t can.item (item_out c out i old t can s) (whole_item c out i t can) low high w.going);
+      counts = f ∙ ap (λ (k : List ℕ). fewer c k (hidden_at c a node)) w.counts ∙ sym (fewer-append c was w.done (hidden_at c a node));
     }
 
-pub cover_end : (c : Columns) (old now : List Link) (was is : List ℕ) (i node : ℕ) → c.tails ≤ node → Going c old i now was is node → Covers c old i now
+pub cover_end : (c : Columns) (old now : List Link) (was is : List ℕ) (i a node : ℕ) → c.tails ≤ node → Going c old i a now was is node → Covers c old i a now
 unfolding covered
-cover_end c old now was is i node past going = λ out s can. let w = going out s can in going_end c ((c.heads + i) ∷ out) i (unlinked old (c.heads + i)) now node w.done past w.going
+cover_end c old now was is i a node past going = λ out s can. let w = going out s can in going_end c ((c.heads + i) ∷ out) i a (unlinked old (c.heads + i)) now node w.done past w.going

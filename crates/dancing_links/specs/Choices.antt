@@ -1,14 +1,15 @@
 -- What links are seen as, and what is true of them.
-use Rattle.std.specs.Prelude.{◌≡◌, ℕ, ◌<◌, ◌≤◌, ◌+◌, List, [], ◌∷◌, ◌++◌, length, true, map, Option, Some, None, IfSome, slice_get, slice_index_or}
+use Rattle.std.specs.Prelude.{◌≡◌, ℕ, ◌<◌, ◌≤◌, ◌+◌, ◌-◌, List, [], ◌∷◌, ◌++◌, length, true, false, nat_lt, filter, replicate, map, Option, Some, None, IfSome, slice_get, slice_index_or}
 use Rattle.std.specs.List.{flat_map, All}
 use Rattle.cover_problem.specs.Onward.{live_options_from}
-use Rattle.cover_problem.specs.Prefix.{is_live, is_prefix}
+use Rattle.cover_problem.specs.Prefix.{is_covered, is_live, is_prefix}
 use Rattle.cover_problem.specs.Problem.{Problem, IsProblem, items_of, names_item}
 use Rattle.dancing_links.specs.declared.link.Link.{Link}
 use Rattle.dancing_links.specs.Building.{IsBuilt}
-use Rattle.dancing_links.specs.Columns.{Columns, option_of, IsLinked, IsOptionNode}
+use Rattle.dancing_links.specs.Columns.{Columns, column_of, option_of, IsLinked, IsOptionNode}
+use Rattle.dancing_links.specs.Committing.{committed, covering}
 use Rattle.dancing_links.specs.Counting.{IsCounted}
-use Rattle.dancing_links.specs.Covering.{links_all, outs_all, items_by}
+use Rattle.dancing_links.specs.Covering.{links_all, outs_all, nodes_by}
 use Rattle.dancing_links.specs.Table.{table}
 
 -- a problem, the options chosen in it, in the order of the choices, and the item by which each was chosen: one of its own, which is covered first
@@ -19,33 +20,62 @@ pub record Choices : Type 0 where
 
 -- with one more option chosen, by an item
 abbrev pub with_child : Choices → ℕ → ℕ → Choices
-with_child choices item option = record { problem = choices.problem; chosen = choices.chosen ++ option ∷ []; branches = choices.branches ++ item ∷ [] }
+with_child choices item option = record choices { chosen = choices.chosen ++ option ∷ []; branches = choices.branches ++ item ∷ [] }
 
--- with one more option chosen, by its first item
+-- the first primary item of an option
+abbrev pub first_primary : Problem → ℕ → ℕ
+first_primary problem option = slice_index_or (filter (λ item. nat_lt item problem.primary) (items_of problem option)) 0 0
+
+-- the node of the first primary item of an option
+pub record IsPrimary (problem : Problem) (c : Columns) (option node : ℕ) : Type 0 where
+  pub in_option : IsOptionNode c node
+  pub own : option_of c node ≡ option
+  pub primary : column_of c node < problem.primary
+  pub named : names_item problem option (column_of c node) ≡ true
+  pub first : column_of c node ≡ first_primary problem option
+
+-- with one more option chosen, by its first primary item
 abbrev pub with_choice : Choices → ℕ → Choices
-with_choice choices option = with_child choices (slice_index_or (items_of choices.problem option) 0 0) option
+with_choice choices option = with_child choices (first_primary choices.problem option) option
 
 -- with one more option chosen by an item, if there is one
 abbrev pub with_child_if : Choices → ℕ → Option ℕ → Choices
 with_child_if choices item None = choices
 with_child_if choices item (Some option) = with_child choices item option
 
--- the items that choices cover, one after the other
-abbrev pub covered_items : Columns → List ℕ → List ℕ
-covered_items c entries = flat_map (items_by c) entries
+-- the nodes of chosen options in turn, those of each from the node on by which it was chosen
+abbrev pub chosen_nodes : Columns → List ℕ → List ℕ
+chosen_nodes c entries = flat_map (nodes_by c) entries
 
--- the nodes that are out once those items are covered
+-- no item got a colour yet
+abbrev pub no_commits : Columns → List ℕ
+no_commits c = replicate (c.heads - 1) 0
+
+-- how many of those nodes gave each item a colour
+abbrev pub commits_of : Columns → List ℕ → List ℕ
+commits_of c entries = committed c (no_commits c) (chosen_nodes c entries)
+
+-- those of them that cover their items
+abbrev pub covering_nodes : Columns → List ℕ → List ℕ
+covering_nodes c entries = covering c (no_commits c) (chosen_nodes c entries)
+
+-- the nodes that are out once they do
 abbrev pub out_of : Columns → List ℕ → List ℕ
-out_of c entries = outs_all c [] (covered_items c entries)
+out_of c entries = outs_all c [] (covering_nodes c entries)
 
--- links and counts are as built once items are covered one after the other
-pub record IsHistory (c : Columns) (items : List ℕ) (links : List Link) (counts : List ℕ) : Type 0 where
+-- links and counts are as built once nodes cover their items one after the other
+pub record IsHistory (c : Columns) (nodes : List ℕ) (links : List Link) (counts : List ℕ) : Type 0 where
   pub before : List Link
   pub built : IsBuilt c before
-  pub links_are : links ≡ links_all c [] before items
-  pub counted : IsCounted c (outs_all c [] items) counts
+  pub links_are : links ≡ links_all c [] before nodes
+  pub counted : IsCounted c (outs_all c [] nodes) counts
 
--- The links are those of the problem's columns once the items of the chosen options are covered, from the node on by which each was chosen (TAOCP 7.2.2.1).
+-- each choice was by an item that no option chosen before it names
+abbrev pub AreFresh : Problem → Columns → List ℕ → List ℕ → Type 0
+AreFresh problem c chosen [] = Unit {0}
+AreFresh problem c chosen (k ∷ entries) = (is_covered problem chosen (column_of c k) ≡ false) × AreFresh problem c (chosen ++ option_of c k ∷ []) entries
+
+-- The links are those of the problem's columns once the nodes of the chosen options cover their items, from the node on by which each was chosen (TAOCP 7.2.2.1).
 pub record IsLinks (problem : Problem) (c : Columns) (chosen entries : List ℕ) (links : List Link) (counts : List ℕ) (room : ℕ) : Type 0 where
   pub is_problem : IsProblem problem
   pub layout : c ≡ table problem
@@ -54,7 +84,8 @@ pub record IsLinks (problem : Problem) (c : Columns) (chosen entries : List ℕ)
   pub linked : IsLinked c links
   pub each_node : All (IsOptionNode c) entries
   pub options : map (option_of c) entries ≡ chosen
-  pub history : IsHistory c (covered_items c entries) links counts
+  pub fresh : AreFresh problem c [] entries
+  pub history : IsHistory c (covering_nodes c entries) links counts
 
 -- a live option that names the item
 pub record IsChild (problem : Problem) (chosen : List ℕ) (item option : ℕ) : Type 0 where

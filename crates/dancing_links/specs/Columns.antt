@@ -1,32 +1,46 @@
 -- Columns of linked nodes: what the links are once some nodes are out, and what is true of a table of columns (TAOCP 7.2.2.1).
-use Rattle.std.specs.Prelude.{◌≡◌, ℕ, ◌<◌, ◌≤◌, ◌+◌, ◌-◌, List, [], length, slice_index_or, Bool, true, false, not, ◌==◌, ◌&&◌, filter}
+use Rattle.std.specs.Prelude.{◌≡◌, ℕ, ◌<◌, ◌≤◌, ◌+◌, ◌-◌, List, [], length, map, slice_index_or, Bool, true, false, not, ◌==◌, ◌&&◌, filter, if◌then◌else◌}
 use Rattle.std.specs.List.{list_any, range_with_len, All}
 use Rattle.dancing_links.specs.declared.link.Link.{Link}
 use Rattle.dancing_links.specs.declared.layout.Layout.{Layout}
-use Rattle.dancing_links.specs.declared.row.Row.{Row}
+use Rattle.dancing_links.specs.declared.place.Place.{Place}
 use Rattle.dancing_links.specs.Linking.{up_of, down_of}
 
 -- whether a number is among those of a list
 abbrev pub among : List ℕ → ℕ → Bool
 among xs x = list_any (λ y. y == x) xs
 
--- How many heads there are, the first tail, the column and the option of each node, the first node of each option, and each node's row. The heads come first and
--- the tails last: a column holds its head, then nodes by rising numbers, then its tail. The last column is that of the items, with a node for each.
+-- How many heads there are, the first tail, the column, the colour (0 for none) and the option of each node, the first node of each option, and what stands at each
+-- node. The heads come first and the tails last: a column holds its head, then nodes by rising numbers, then its tail. The last column is that of the items, with a
+-- node for each.
 pub record Columns : Type 0 where
   pub heads : ℕ
   pub tails : ℕ
   pub column : List ℕ
+  pub colour : List ℕ
   pub option : List ℕ
   pub first : List ℕ
-  pub rows : List Row
+  pub places : List Place
 
 -- the columns that a layout lays out
 abbrev pub columns_of : Layout → Columns
-columns_of l = record { heads = l.heads; tails = l.tails; column = l.items.items; option = l.options.items; first = l.first.items; rows = l.rows.items }
+columns_of l = record {
+  heads = l.heads;
+  tails = l.tails;
+  column = map (λ p. p.item) l.places.items;
+  colour = map (λ p. p.colour) l.places.items;
+  option = l.options.items;
+  first = l.first.items;
+  places = l.places.items;
+}
 
 -- the column of a node
 abbrev pub column_of : Columns → ℕ → ℕ
 column_of c k = slice_index_or c.column k 0
+
+-- the colour of a node, 0 for none
+abbrev pub colour_at : Columns → ℕ → ℕ
+colour_at c k = slice_index_or c.colour k 0
 
 -- Two nodes of one column that are in, with none between them that is in.
 pub record IsNext (c : Columns) (out : List ℕ) (x d : ℕ) : Type 0 where
@@ -49,13 +63,25 @@ pub record IsSpelled (c : Columns) (out : List ℕ) (m : List Link) : Type 0 whe
   pub down : (x : ℕ) → x < c.tails → among out x ≡ false → IsNext c out x (down_of m x)
   pub up : (x : ℕ) → c.heads ≤ x → x < length c.column → among out x ≡ false → IsNext c out (up_of m x) x
 
--- where the option of a node begins, and where it ends
+-- the option of a node
+abbrev pub option_of : Columns → ℕ → ℕ
+option_of c k = slice_index_or c.option k 0
+
+-- where the option of a node begins
 abbrev pub begin_of : Columns → ℕ → ℕ
-begin_of c k = (slice_index_or c.rows k (record { begin = 0; end = 0 })).begin
+begin_of c k = slice_index_or c.first (option_of c k) 0
 
 -- the number after its last node
 abbrev pub end_of : Columns → ℕ → ℕ
-end_of c k = (slice_index_or c.rows k (record { begin = 0; end = 0 })).end
+end_of c k = slice_index_or c.first (option_of c k + 1) 0
+
+-- the node after one in a row; behind the last comes the first
+abbrev pub node_after : ℕ → ℕ → ℕ → ℕ
+node_after begin end node = if node + 1 == end then begin else node + 1
+
+-- what stands at a node
+abbrev pub place_at : Columns → ℕ → Place
+place_at c k = slice_index_or c.places k (record { right = 0; item = 0; colour = 0 })
 
 -- the nodes of a column that are in, from one on
 unfoldable pub column_from : Columns → List ℕ → ℕ → ℕ → List ℕ
@@ -80,10 +106,13 @@ pub record IsTable (c : Columns) : Type 0 where
   pub order : c.heads + c.heads ≤ c.tails + 1
   pub option : length c.option ≡ length c.column
   pub each_column : All (λ i. i < c.heads) c.column
-  pub row : length c.rows ≡ length c.column
-  pub each_row : All (λ r. (c.heads + c.heads ≤ r.begin + 1) × (r.end ≤ c.tails)) c.rows
-  pub ordered : (k : ℕ) → c.heads ≤ k → k < c.tails → begin_of c k ≤ end_of c k
+  pub place : length c.places ≡ length c.column
+  pub item : (k : ℕ) → k < length c.column → (place_at c k).item ≡ column_of c k
+  pub colour : (k : ℕ) → k < length c.column → (place_at c k).colour ≡ colour_at c k
+  pub right : (k : ℕ) → c.heads + c.heads ≤ k + 1 → k < c.tails → (place_at c k).right ≡ node_after (begin_of c k) (end_of c k) k
+  pub alone : (k : ℕ) → c.heads ≤ k → k + 1 < c.heads + c.heads → (place_at c k).right ≡ k
   pub no_row : (k : ℕ) → c.heads ≤ k → k + 1 < c.heads + c.heads → begin_of c k ≡ end_of c k
+  pub numbered : (k : ℕ) → c.heads + c.heads ≤ k + 1 → k < c.tails → option_of c k + 1 < length c.first
   pub tail_columns : (k : ℕ) → c.tails ≤ k → k < length c.column → column_of c k + c.tails ≡ k
   pub option_columns : (k : ℕ) → c.heads + c.heads ≤ k + 1 → k < c.tails → column_of c k + 1 < c.heads
   pub head_columns : (k : ℕ) → k < c.heads → column_of c k ≡ k
@@ -92,10 +121,6 @@ pub record IsTable (c : Columns) : Type 0 where
   pub same : (k j : ℕ) → c.heads + c.heads ≤ k + 1 → k < c.tails → begin_of c k ≤ j → j < end_of c k → (begin_of c j ≡ begin_of c k) × (end_of c j ≡ end_of c k)
   pub each_few : (i : ℕ) → i + 1 < c.heads → length (column_from c [] i c.heads) < 65536
   pub apart : (k j : ℕ) → c.heads + c.heads ≤ k + 1 → k < c.tails → begin_of c k ≤ j → j < end_of c k → column_of c j ≡ column_of c k → j ≡ k
-
--- the option of a node
-abbrev pub option_of : Columns → ℕ → ℕ
-option_of c k = slice_index_or c.option k 0
 
 -- a node of an option
 abbrev pub IsOptionNode : Columns → ℕ → Type 0

@@ -18,10 +18,10 @@ abbrev pub fewer : Columns → List ℕ → List ℕ → List ℕ
 fewer c counts [] = counts
 fewer c counts (x ∷ xs) = fewer c (with_less c counts x) xs
 
--- nodes that come back, the last one first
-abbrev pub more : Columns → List ℕ → List ℕ → List ℕ
-more c counts [] = counts
-more c counts (x ∷ xs) = with_more c (more c counts xs) x
+-- nodes that come back, the first one first
+abbrev pub more_in_order : Columns → List ℕ → List ℕ → List ℕ
+more_in_order c counts [] = counts
+more_in_order c counts (x ∷ xs) = more_in_order c (with_more c counts x) xs
 
 -- the count of each item is that of the nodes of its column that are in
 pub record IsCounted (c : Columns) (out counts : List ℕ) : Type 0 where
@@ -29,22 +29,22 @@ pub record IsCounted (c : Columns) (out counts : List ℕ) : Type 0 where
   pub count : (i : ℕ) → i + 1 < c.heads → slice_index_or counts i 0 ≡ length (column_from c out i c.heads)
 
 -- covering keeps the counts true, whatever was out
-abbrev pub CountsCovered : Columns → List Link → ℕ → List ℕ → List ℕ → Type 0
-CountsCovered c links i old new = (out : List ℕ) → IsSpelled c out links → IsOpen c out i → IsCounted c out old → IsCounted c (outs (covered c out i) out) new
+abbrev pub CountsCovered : Columns → List Link → ℕ → ℕ → List ℕ → List ℕ → Type 0
+CountsCovered c links i colour old new = (out : List ℕ) → IsSpelled c out links → IsOpen c out i → IsCounted c out old → IsCounted c (outs (covered c out i colour) out) new
 
 -- and so does uncovering
-abbrev pub CountsUncovered : Columns → List Link → ℕ → List ℕ → List ℕ → Type 0
-CountsUncovered c links i old new = (out : List ℕ) (before : List Link) → IsSpelled c out before → IsOpen c out i → links ≡ unlinks before (covered c out i)
-    → IsCounted c (outs (covered c out i) out) old → IsCounted c out new
+abbrev pub CountsUncovered : Columns → List Link → ℕ → ℕ → List ℕ → List ℕ → Type 0
+CountsUncovered c links i colour old new = (out : List ℕ) (before : List Link) → IsSpelled c out before → IsOpen c out i → links ≡ unlinks before (covered c out i colour)
+    → IsCounted c (outs (covered c out i colour) out) old → IsCounted c out new
 
--- the same for items that are covered one after the other, and uncovered in the reverse order
+-- the same for nodes that cover their items one after the other
 abbrev pub CountsCoveredAll : Columns → List Link → List ℕ → List ℕ → List ℕ → Type 0
-CountsCoveredAll c links is old new = (out : List ℕ) → IsSpelled c out links → AreOpen c out is → IsCounted c out old → IsCounted c (outs_all c out is) new
+CountsCoveredAll c links ks old new = (out : List ℕ) → IsSpelled c out links → AreOpen c out ks → IsCounted c out old → IsCounted c (outs_all c out ks) new
 
 -- the same of items that are uncovered, the last first
 abbrev pub CountsUncoveredAll : Columns → List Link → List ℕ → List ℕ → List ℕ → Type 0
-CountsUncoveredAll c links is old new = (out : List ℕ) (before : List Link) → IsSpelled c out before → AreOpen c out is → links ≡ links_all c out before is
-    → IsCounted c (outs_all c out is) old → IsCounted c out new
+CountsUncoveredAll c links ks old new = (out : List ℕ) (before : List Link) → IsSpelled c out before → AreOpen c out ks → links ≡ links_all c out before ks
+    → IsCounted c (outs_all c out ks) old → IsCounted c out new
 
 -- the counts while they are made: the nodes from one on are not counted yet
 pub record IsCounting (c : Columns) (node : ℕ) (counts : List ℕ) : Type 0 where

@@ -1,13 +1,9 @@
--- Covering and uncovering of items: which nodes leave their columns, and in which order (TAOCP 7.2.2.1).
-use Rattle.std.specs.Prelude.{map, ◌≡◌, ℕ, zero, suc, ◌<◌, ◌≤◌, ◌+◌, ◌-◌, List, [], ◌∷◌, false, ◌==◌, if◌then◌else◌}
+-- Covering and uncovering of items: which nodes leave their columns, and in which order (TAOCP 7.2.2.1, also where items get colours).
+use Rattle.std.specs.Prelude.{map, ◌≡◌, ℕ, zero, suc, ◌<◌, ◌≤◌, ◌+◌, ◌-◌, List, [], ◌∷◌, Bool, false, not, ◌==◌, ◌&&◌, if◌then◌else◌}
 use Rattle.std.specs.List.{range_with_len, flat_map}
 use Rattle.dancing_links.specs.declared.link.Link.{Link}
 use Rattle.dancing_links.specs.Linking.{unlinks}
-use Rattle.dancing_links.specs.Columns.{among, Columns, column_of, begin_of, end_of, column_from, IsSpelled}
-
--- the node after one in a row; behind the last comes the first
-abbrev pub node_after : ℕ → ℕ → ℕ → ℕ
-node_after begin end node = if node + 1 == end then begin else node + 1
+use Rattle.dancing_links.specs.Columns.{among, Columns, column_of, colour_at, begin_of, end_of, node_after, column_from, IsSpelled}
 
 -- so many nodes of a row in turn, from one on
 abbrev pub in_turn : ℕ → ℕ → ℕ → ℕ → List ℕ
@@ -18,13 +14,25 @@ in_turn begin end node (suc count) = node ∷ in_turn begin end (node_after begi
 unfoldable pub others : Columns → ℕ → List ℕ
 others c node = in_turn (begin_of c node) (end_of c node) (node_after (begin_of c node) (end_of c node) node) (end_of c node - (begin_of c node + 1))
 
--- what is taken out with those nodes, from one on: the other nodes of their options
-unfoldable pub hidden_from : Columns → List ℕ → ℕ → ℕ → List ℕ
-hidden_from c out i start = flat_map (others c) (column_from c out i start)
+-- whether a node has the colour that its item gets; to get none is the colour 0, which no node agrees with
+abbrev pub has_colour : Columns → ℕ → ℕ → Bool
+has_colour c colour node = not (colour == 0) && (colour_at c node == colour)
 
--- what covering an item takes out: its node in the column of items, and all that is hidden
-unfoldable pub covered : Columns → List ℕ → ℕ → List ℕ
-covered c out i = (c.heads + i) ∷ hidden_from c ((c.heads + i) ∷ out) i c.heads
+-- what is hidden at a node whose item gets a colour: the other nodes of its option, unless it has that colour
+unfoldable pub hidden_at : Columns → ℕ → ℕ → List ℕ
+hidden_at c colour node = if has_colour c colour node then [] else others c node
+
+-- what is hidden in a column whose item gets a colour, from a node on
+unfoldable pub hidden_from : Columns → List ℕ → ℕ → ℕ → ℕ → List ℕ
+hidden_from c out i colour start = flat_map (hidden_at c colour) (column_from c out i start)
+
+-- what covering an item in a colour takes out: its node in the column of items, and all that is hidden
+unfoldable pub covered : Columns → List ℕ → ℕ → ℕ → List ℕ
+covered c out i colour = (c.heads + i) ∷ hidden_from c ((c.heads + i) ∷ out) i colour c.heads
+
+-- what a node takes out that covers its item: the item gets the node's colour
+abbrev pub covered_by : Columns → List ℕ → ℕ → List ℕ
+covered_by c out node = covered c out (column_of c node) (colour_at c node)
 
 -- what is out once the nodes of a list are taken out as well
 abbrev pub outs : List ℕ → List ℕ → List ℕ
@@ -41,49 +49,45 @@ pub record IsOpen (c : Columns) (out : List ℕ) (i : ℕ) : Type 0 where
   pub here : among out (c.heads + i) ≡ false
   pub whole : AreWhole c out i
 
--- covering takes out just what covered says, whatever was out
-abbrev pub Covers : Columns → List Link → ℕ → List Link → Type 0
-Covers c old i new = (out : List ℕ) → IsSpelled c out old → IsOpen c out i → new ≡ unlinks old (covered c out i)
+-- covering an item in a colour takes out just what covered says, whatever was out
+abbrev pub Covers : Columns → List Link → ℕ → ℕ → List Link → Type 0
+Covers c old i colour new = (out : List ℕ) → IsSpelled c out old → IsOpen c out i → new ≡ unlinks old (covered c out i colour)
 
 -- uncovering is the inverse of covering
-abbrev pub Uncovers : Columns → List Link → ℕ → List Link → Type 0
-Uncovers c old i new = (out : List ℕ) (before : List Link) → IsSpelled c out before → IsOpen c out i → old ≡ unlinks before (covered c out i) → new ≡ before
+abbrev pub Uncovers : Columns → List Link → ℕ → ℕ → List Link → Type 0
+Uncovers c old i colour new = (out : List ℕ) (before : List Link) → IsSpelled c out before → IsOpen c out i → old ≡ unlinks before (covered c out i colour) → new ≡ before
 
 -- the items of a range of nodes
 unfoldable pub items_from : Columns → ℕ → ℕ → List ℕ
 items_from c begin end = map (column_of c) (range_with_len begin (end - begin))
 
--- the items of the other nodes of a row, from the one after a node on
-abbrev pub items_in_turn : Columns → ℕ → ℕ → ℕ → List ℕ
-items_in_turn c begin end node = map (column_of c) (in_turn begin end (node_after begin end node) (end - (begin + 1)))
+-- the other nodes of a row, from the one after a node on
+abbrev pub nodes_in_turn : ℕ → ℕ → ℕ → List ℕ
+nodes_in_turn begin end node = in_turn begin end (node_after begin end node) (end - (begin + 1))
 
--- the items of the other nodes of a node's option, from the next one on
-abbrev pub other_items : Columns → ℕ → List ℕ
-other_items c node = map (column_of c) (others c node)
+-- the nodes of a node's option in turn, from that node on
+abbrev pub nodes_by : Columns → ℕ → List ℕ
+nodes_by c node = node ∷ others c node
 
--- the items of a node's option in turn, its own first
-abbrev pub items_by : Columns → ℕ → List ℕ
-items_by c node = column_of c node ∷ other_items c node
-
--- what is out, once items are covered one after the other
+-- what is out, once nodes cover their items one after the other
 abbrev pub outs_all : Columns → List ℕ → List ℕ → List ℕ
 outs_all c out [] = out
-outs_all c out (i ∷ is) = outs_all c (outs (covered c out i) out) is
+outs_all c out (k ∷ ks) = outs_all c (outs (covered_by c out k) out) ks
 
--- the links, once items are covered one after the other
+-- the links, once nodes cover their items one after the other
 abbrev pub links_all : Columns → List ℕ → List Link → List ℕ → List Link
 links_all c out m [] = m
-links_all c out m (i ∷ is) = links_all c (outs (covered c out i) out) (unlinks m (covered c out i)) is
+links_all c out m (k ∷ ks) = links_all c (outs (covered_by c out k) out) (unlinks m (covered_by c out k)) ks
 
--- items that can be covered one after the other
+-- nodes that can cover their items one after the other
 abbrev pub AreOpen : Columns → List ℕ → List ℕ → Type 0
 AreOpen c out [] = Unit {0}
-AreOpen c out (i ∷ is) = IsOpen c out i × AreOpen c (outs (covered c out i) out) is
+AreOpen c out (k ∷ ks) = IsOpen c out (column_of c k) × AreOpen c (outs (covered_by c out k) out) ks
 
--- covering items one after the other takes out just what the history says, whatever was out
+-- to cover items by nodes one after the other takes out just what the history says, whatever was out
 abbrev pub CoversAll : Columns → List Link → List ℕ → List Link → Type 0
-CoversAll c old is new = (out : List ℕ) → IsSpelled c out old → AreOpen c out is → new ≡ links_all c out old is
+CoversAll c old ks new = (out : List ℕ) → IsSpelled c out old → AreOpen c out ks → new ≡ links_all c out old ks
 
 -- uncovering them in the reverse order is the inverse
 abbrev pub UncoversAll : Columns → List Link → List ℕ → List Link → Type 0
-UncoversAll c old is new = (out : List ℕ) (before : List Link) → IsSpelled c out before → AreOpen c out is → old ≡ links_all c out before is → new ≡ before
+UncoversAll c old ks new = (out : List ℕ) (before : List Link) → IsSpelled c out before → AreOpen c out ks → old ≡ links_all c out before ks → new ≡ before

@@ -1,6 +1,7 @@
 pub mod Building
 pub mod Choices
 pub mod Columns
+pub mod Committing
 pub mod Counting
 pub mod Covering
 pub mod Linking

@@ -35,7 +35,7 @@ abbrev pub unlinks : List Link → List ℕ → List Link
 unlinks m [] = m
 unlinks m (x ∷ xs) = unlinks (unlinked m x) xs
 
--- those nodes put back, the last first
-abbrev pub relinks : List Link → List ℕ → List Link
-relinks m [] = m
-relinks m (x ∷ xs) = relinked (relinks m xs) x
+-- those nodes put back in that order
+abbrev pub relinks_in_order : List Link → List ℕ → List Link
+relinks_in_order m [] = m
+relinks_in_order m (x ∷ xs) = relinks_in_order (relinked m x) xs

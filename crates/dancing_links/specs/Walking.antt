@@ -19,3 +19,10 @@ pub record IsNaming (c : Columns) (i begin end node : ℕ) : Type 0 where
   pub high : node ≤ end
   pub found : node < end → column_of c node ≡ i
   pub absent : node ≡ end → (k : ℕ) → begin ≤ k → k < end → column_of c k ≡ i → ⊥
+
+-- the first node of a range whose item is below a bound, or the end of the range where none is
+pub record IsBelowIn (c : Columns) (bound begin end node : ℕ) : Type 0 where
+  pub low : begin ≤ node
+  pub high : node ≤ end
+  pub found : node < end → column_of c node < bound
+  pub before : (k : ℕ) → begin ≤ k → k < node → bound ≤ column_of c k

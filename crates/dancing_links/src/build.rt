@@ -15,7 +15,7 @@ pub fn build_links(alloc: Global, layout: &Layout) -> Result<Vec<Link>, AllocErr
     requires { IsTable (columns_of layout.now) }
     ensures { IfOk result (λ links. IsBuilt (columns_of layout.now) links.items) }
 {
-    let count = layout.items.len();
+    let count = layout.places.len();
     let mut links = Vec::new(alloc);
     links.resize(count, Link { up: 0, down: 0 })?;
     let mut lasts = all_heads(alloc, layout.heads)?;
@@ -40,12 +40,12 @@ fn all_heads(alloc: Global, heads: usize) -> Result<Vec<u32>, AllocError>
 
 /// Links a node to the last one of its column so far, after which it is the last.
 fn append(layout: &Layout, links: &mut [Link], lasts: &mut [u32], node: usize)
-    requires node { (layout.now.heads ≤ node) × (node < length layout.now.items.items) }
+    requires node { (layout.now.heads ≤ node) × (node < length layout.now.places.items) }
     requires table { IsTable (columns_of layout.now) }
     requires before { IsBuilding (columns_of layout.now) node lasts.old links.old }
     ensures after { IsBuilding (columns_of layout.now) (node + 1) lasts.new links.new }
 {
-    let column = layout.items[node] as usize;
+    let column = layout.places[node].item as usize;
     let above = lasts[column];
     links[above as usize].down = node as u32;
     links[node].up = above;

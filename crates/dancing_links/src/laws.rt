@@ -9,7 +9,9 @@ ghost use Rattle.dancing_links.specs.Columns.{Columns, column_of};
 /// Links of one problem in which the same options are chosen in the same order, each by the same item, are equal in every
 /// link: so undoing a choice restores every link.
 pub fn links_by_choices()
-    ensures { (problem : ProblemValue) (columns others : Columns) (chosen entries nodes : List ℕ) (links more : List LinkValue) (counts tallies : List ℕ) (room space : ℕ) →
-        IsLinks problem columns chosen entries links counts room → IsLinks problem others chosen nodes more tallies space →
+    ensures { (problem : ProblemValue) (columns others : Columns) (chosen entries nodes : List ℕ)
+        (links more : List LinkValue) (counts tallies : List ℕ) (room space : ℕ) →
+        IsLinks problem columns chosen entries links counts room →
+        IsLinks problem others chosen nodes more tallies space →
         map (column_of columns) entries ≡ map (column_of others) nodes → links ≡ more }
 {}

@@ -1,29 +1,27 @@
-//! Which column and which option each node belongs to.
+//! Which column and which option each node belongs to, and which colour it has.
 
 ghost use Rattle.std.specs.Prelude.{◌≡◌, ◌<◌, ◌≤◌, ◌+◌, ◌++◌, length, map, replicate, slice_index, IfOk};
 ghost use Rattle.std.specs.List.{range_with_len, concat, All};
-ghost use Rattle.dancing_links.specs.Columns.{columns_of, column_of, begin_of, end_of, IsTable};
-ghost use Rattle.dancing_links.specs.Walking.{IsNaming};
-ghost use Rattle.dancing_links.specs.Table.{table, column_list, option_list, first_list, row_at, numbered};
+ghost use Rattle.dancing_links.specs.Columns.{columns_of, column_of, colour_at, begin_of, end_of, place_at, IsTable};
+ghost use Rattle.dancing_links.specs.Walking.{IsNaming, IsBelowIn};
+ghost use Rattle.dancing_links.specs.Table.{table, column_list, colour_list, option_list, first_list, place_by, right_in, numbered};
 
-use crate::row::Row;
+use crate::place::Place;
 use cover_problem::Problem;
 use std::alloc::{AllocError, Global};
 
-/// What never changes: the column and the option of each node, and where each option begins.
+/// What never changes: the column, the colour and the option of each node, and where each option begins.
 ///
 /// The heads of the columns come first: one for each item, and one for the column of items. Then come the nodes of the
 /// items, the nodes of the options in file order, and the tails of the columns.
 #[derive(Drop)]
 pub struct Layout {
-    /// The column of each node: for a node of an option, the item that it stands for.
-    pub items: Vec<u16>,
+    /// What stands at each node: its right neighbour, its item and its colour.
+    pub places: Vec<Place>,
     /// The option of each node; the number of options for a node that belongs to none.
     pub options: Vec<u16>,
     /// The first node of each option; then, twice, the first tail.
     pub first: Vec<u32>,
-    /// The row of each node's option; an empty one for a node that belongs to none.
-    pub rows: Vec<Row>,
     /// How many heads there are.
     pub heads: usize,
     /// The first tail.
@@ -34,17 +32,17 @@ pub struct Layout {
 pub fn layout_of(alloc: Global, problem: &Problem) -> Result<Layout, AllocError>
     ensures { IfOk result (λ layout. columns_of layout ≡ table problem.now) }
 {
+    let heads = problem.items() + 1;
     let items = node_items(alloc, problem)?;
+    let colours = node_colours(alloc, problem)?;
     let options = node_options(alloc, problem)?;
     let first = first_nodes(alloc, problem)?;
-    let rows = node_rows(alloc, &options, &first)?;
-    let heads = problem.items() + 1;
+    let places = node_places(alloc, &items, &colours, &options, &first)?;
     let tails = items.len() - heads;
     Ok(Layout {
-        items,
+        places,
         options,
         first,
-        rows,
         heads,
         tails,
     })
@@ -61,6 +59,19 @@ fn node_items(alloc: Global, problem: &Problem) -> Result<Vec<u16>, AllocError>
     push_copies(&mut list, items, items as usize)?;
     push_items(&mut list, problem)?;
     push_range(&mut list, items + 1)?;
+    Ok(list)
+}
+
+/// The colour of each node.
+#[tactic(auto, unfolding(crate::specs::Table::colour_list))]
+fn node_colours(alloc: Global, problem: &Problem) -> Result<Vec<u16>, AllocError>
+    ensures { IfOk result (λ list. list.items ≡ colour_list problem.now) }
+{
+    let items = problem.items();
+    let mut list = Vec::new(alloc);
+    push_copies(&mut list, 0, items + 1 + items)?;
+    push_colours(&mut list, problem)?;
+    push_copies(&mut list, 0, items + 1)?;
     Ok(list)
 }
 
@@ -111,6 +122,17 @@ fn push_items(list: &mut Vec<u16>, problem: &Problem) -> Result<(), AllocError>
     Ok(())
 }
 
+/// Appends the colours of each option's items.
+#[tactic(auto, using(crate::proofs::Laid::items_push, crate::proofs::Laid::items_all_pushed))]
+fn push_colours(list: &mut Vec<u16>, problem: &Problem) -> Result<(), AllocError>
+    ensures { IfOk result (λ _. list.new.items ≡ list.old.items ++ concat problem.now.colours) }
+{
+    for option in 0..problem.options() as u16 {
+        list.extend_from_slice(problem.colours(option))?;
+    }
+    Ok(())
+}
+
 /// Appends, for each item of each option, the number of the option.
 #[tactic(auto, using(crate::proofs::Laid::options_push, crate::proofs::Laid::options_all_pushed))]
 fn push_options(list: &mut Vec<u16>, problem: &Problem) -> Result<(), AllocError>
@@ -138,18 +160,49 @@ fn first_nodes(alloc: Global, problem: &Problem) -> Result<Vec<u32>, AllocError>
     Ok(list)
 }
 
-/// The row of each node's option, by the options of the nodes and the first node of each option.
-fn node_rows(alloc: Global, options: &[u16], first: &[u32]) -> Result<Vec<Row>, AllocError>
-    requires { All (λ o. o + 1 < length first.now) options.now }
-    ensures { IfOk result (λ rows. rows.items ≡ map (row_at first.now) options.now) }
+/// The node to the right in a row, behind the last the first; in a row without a node a node stands alone.
+fn right_in(begin: u32, end: u32, node: u32) -> u32
+    requires { node + 1 < 4294967296 }
+    ensures { result ≡ right_in begin end node }
 {
-    let mut rows = Vec::new(alloc);
-    for option in options {
-        let begin = first[*option as usize];
-        let end = first[*option as usize + 1];
-        rows.push(Row { begin, end })?;
+    if begin == end {
+        node
+    } else if node + 1 == end {
+        begin
+    } else {
+        node + 1
     }
-    Ok(rows)
+}
+
+/// What stands at each node, by the items, the colours and the options of the nodes and the first node of each option.
+fn node_places(
+    alloc: Global,
+    items: &[u16],
+    colours: &[u16],
+    options: &[u16],
+    first: &[u32],
+) -> Result<Vec<Place>, AllocError>
+    requires small { length items.now < 4294967296 }
+    requires colours { length colours.now ≡ length items.now }
+    requires options { length options.now ≡ length items.now }
+    requires first { All (λ o. o + 1 < length first.now) options.now }
+    ensures { IfOk result (λ places. places.items
+        ≡ map (place_by items.now colours.now options.now first.now)
+        (range_with_len 0 (length items.now))) }
+{
+    let mut places = Vec::new(alloc);
+    for node in 0..items.len() {
+        let option = options[node] as usize;
+        let right = right_in(first[option], first[option + 1], node as u32);
+        let item = items[node];
+        let colour = colours[node];
+        places.push(Place {
+            right,
+            item,
+            colour,
+        })?;
+    }
+    Ok(places)
 }
 
 /// The item of a node of an option.
@@ -158,21 +211,49 @@ pub fn item_at(layout: &Layout, node: usize) -> usize
     requires table { IsTable (columns_of layout.now) }
     ensures item { result ≡ column_of (columns_of layout.now) node }
 {
-    layout.items[node] as usize
+    layout.places[node].item as usize
+}
+
+/// The item of a node of an option, from the layout's places.
+pub fn item_among(layout: &Layout, places: &[Place], node: usize) -> usize
+    requires places { places.now ≡ layout.now.places.items }
+    requires node { (layout.now.heads + layout.now.heads ≤ node + 1) × (node < layout.now.tails) }
+    requires table { IsTable (columns_of layout.now) }
+    ensures item { result ≡ column_of (columns_of layout.now) node }
+{
+    places[node].item as usize
+}
+
+/// The node to the right of a node in its row, from the layout's places.
+pub fn right_among(layout: &Layout, places: &[Place], node: usize) -> usize
+    requires places { places.now ≡ layout.now.places.items }
+    requires node { (layout.now.heads ≤ node) × (node < layout.now.tails) }
+    requires table { IsTable (columns_of layout.now) }
+    ensures { result ≡ (place_at (columns_of layout.now) node).right }
+{
+    places[node].right as usize
+}
+
+/// The colour of a node of an option, 0 for none.
+pub fn colour_at(layout: &Layout, node: usize) -> u16
+    requires node { (layout.now.heads + layout.now.heads ≤ node + 1) × (node < layout.now.tails) }
+    requires table { IsTable (columns_of layout.now) }
+    ensures { result ≡ colour_at (columns_of layout.now) node }
+{
+    layout.places[node].colour
 }
 
 /// The row of a node's option: its first node, and the number after the last.
 pub fn row_of(layout: &Layout, node: usize) -> (usize, usize)
-    requires node { (layout.now.heads ≤ node) × (node < layout.now.tails) }
+    requires node { (layout.now.heads + layout.now.heads ≤ node + 1) × (node < layout.now.tails) }
     requires table { IsTable (columns_of layout.now) }
     ensures begin { result.0 ≡ begin_of (columns_of layout.now) node }
     ensures end { result.1 ≡ end_of (columns_of layout.now) node }
-    ensures range { (layout.now.heads + layout.now.heads ≤ result.0 + 1) × (result.0 ≤ result.1)
+    ensures range { (layout.now.heads + layout.now.heads ≤ result.0 + 1)
         × (result.1 ≤ layout.now.tails) }
-    ensures within { result.0 < result.1 → (result.0 ≤ node) × (node < result.1) }
+    ensures within { (result.0 ≤ node) × (node < result.1) }
 {
-    let row = layout.rows[node];
-    (row.begin as usize, row.end as usize)
+    node_range(layout, layout.options[node])
 }
 
 /// The nodes of an option: the first, and the one after the last.
@@ -197,6 +278,21 @@ pub fn node_of(layout: &Layout, item: u16, begin: usize, end: usize) -> usize
 {
     for node in begin..end {
         if item_at(layout, node) == item as usize {
+            return node;
+        }
+    }
+    end
+}
+
+/// The first node of a range that stands for an item below a bound, or the end of the range.
+pub fn node_below(layout: &Layout, bound: usize, begin: usize, end: usize) -> usize
+    requires range { (layout.now.heads + layout.now.heads ≤ begin + 1) × (begin ≤ end)
+        × (end ≤ layout.now.tails) }
+    requires table { IsTable (columns_of layout.now) }
+    ensures { IsBelowIn (columns_of layout.now) bound begin end result }
+{
+    for node in begin..end {
+        if item_at(layout, node) < bound {
             return node;
         }
     }

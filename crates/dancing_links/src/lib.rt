@@ -2,18 +2,20 @@
 //!
 //! Each item has a column with a node for each option that names it, between a head and a tail; the items themselves
 //! stand in one more column. To choose an option is to cover its items: their nodes leave the column of items, and the
-//! options that name them leave the columns of their other items. A node that left still knows its neighbours, so
-//! choices are taken back link by link, in the reverse order, and all links are as before.
+//! options that name them leave the columns of their other items, but for options that give an item the same colour: these
+//! stay. A node that left still knows its neighbours, so choices are taken back link by link, in the reverse order, and all
+//! links are as before.
 #![tactic(auto)]
 
 mod build;
+mod commit;
 mod cover;
 mod laws;
 mod layout;
 mod link;
 mod links;
 mod options;
-mod row;
+mod place;
 
 pub use laws::links_by_choices;
 pub use links::Links;

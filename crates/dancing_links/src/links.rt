@@ -1,19 +1,19 @@
 //! The links of a problem in which options are chosen.
 
-ghost use Rattle.std.specs.Prelude.{◌≡◌, ℕ, ◌+◌, ◌-◌, ◌<◌, ◌≤◌, [], length, IfOk, IfSome, MatchOption, true, false, not, slice_get};
-ghost use Rattle.std.specs.List.{All, list_all};
+ghost use Rattle.std.specs.Prelude.{◌≡◌, ℕ, ◌+◌, ◌-◌, ◌<◌, ◌≤◌, ◌==◌, [], length, IfOk, IfSome, MatchOption, true, false, slice_get};
 ghost use Rattle.cover_problem.specs.Branching.{live_options, IsOpen};
 ghost use Rattle.cover_problem.specs.Onward.{open_items_from, live_options_from};
 ghost use Rattle.cover_problem.specs.Problem.{IsProblem};
-ghost use Rattle.dancing_links.specs.Choices.{Choices, with_child, with_child_if, with_choice, IsChild, IsNextChoice};
+ghost use Rattle.dancing_links.specs.Choices.{Choices, with_child, with_child_if, with_choice, IsChild, IsNextChoice, IsPrimary};
 ghost use Rattle.dancing_links.specs.Columns.{columns_of, IsTable, IsLinked};
-ghost use Rattle.dancing_links.specs.Linking.{down_of};
+ghost use Rattle.dancing_links.specs.Linking.{down_of, up_of};
+ghost use Rattle.dancing_links.specs.Table.{table};
 ghost use Rattle.dancing_links.specs.Walking.{options_left};
 ghost use Rattle.cover_problem.specs.Prefix.{is_covered, is_live, is_prefix};
 
 use crate::build::{build_counts, build_links};
-use crate::cover::{cover_from, cover_others, uncover, uncover_from, uncover_others};
-use crate::layout::{Layout, item_at, layout_of, node_of, node_range};
+use crate::commit::{cover_from, cover_others, recommit, uncommit, uncover_from, uncover_others};
+use crate::layout::{Layout, item_at, layout_of, node_below, node_of, node_range};
 use crate::link::Link;
 use crate::options::OptionsOf;
 use cover_problem::Problem;
@@ -29,6 +29,8 @@ pub struct Links<'a> {
     layout: Layout,
     links: Vec<Link>,
     counts: Vec<u16>,
+    /// How many chosen options give each item a colour.
+    commits: Vec<u32>,
     /// The chosen options, in the order of the choices.
     chosen: Vec<u16>,
     /// The node by which each was chosen: the items of its option were covered from its own on.
@@ -36,16 +38,24 @@ pub struct Links<'a> {
 }
 
 impl<'a> Model for Links<'a> {
-    ghost use Rattle.std.specs.Prelude.{vec_capacity, map, ◌≤◌};
+    ghost use Rattle.std.specs.Prelude.{vec_capacity, map, ◌≡◌, ◌≤◌};
     ghost use Rattle.dancing_links.specs.Columns.{columns_of, column_of};
-    ghost use Rattle.dancing_links.specs.Choices.{Choices, IsLinks};
+    ghost use Rattle.dancing_links.specs.Choices.{Choices, IsLinks, commits_of};
 
     ghost Value = { Choices };
 
-    ghost view = { λ s. record { problem = s.problem.now; chosen = s.chosen.items; branches = map (column_of (columns_of s.layout)) s.entries.items } };
+    ghost view = { λ s. record {
+      problem = s.problem.now;
+      chosen = s.chosen.items;
+      branches = map
+          (column_of (columns_of s.layout)) s.entries.items;
+    } };
 
-    ghost invariant = { λ s. IsLinks s.problem.now (columns_of s.layout) s.chosen.items s.entries.items s.links.items s.counts.items (vec_capacity s.chosen)
-        × (s.problem.now.primary ≤ vec_capacity s.entries) };
+    ghost invariant = { λ s. IsLinks s.problem.now
+        (columns_of s.layout) s.chosen.items s.entries.items s.links.items s.counts.items
+        (vec_capacity s.chosen)
+        × (s.problem.now.primary ≤ vec_capacity s.entries) × (s.commits.items
+        ≡ commits_of (columns_of s.layout) s.entries.items) };
 }
 
 impl<'a> Links<'a> {
@@ -59,11 +69,14 @@ impl<'a> Links<'a> {
         let layout = layout_of(alloc, problem)?;
         let links = build_links(alloc, &layout)?;
         let counts = build_counts(alloc, &layout)?;
+        let mut commits = Vec::new(alloc);
+        commits.resize(problem.items(), 0)?;
         Ok(Links {
             problem,
             layout,
             links,
             counts,
+            commits,
             chosen,
             entries,
         })
@@ -85,15 +98,21 @@ impl<'a> Links<'a> {
         &self.chosen
     }
 
-    /// Chooses a live option: covers its items, in the option's order.
+    /// Chooses a live option, by its first primary item.
     pub fn choose(&mut self, option: u16)
         requires option { option < length self.old.problem.options }
         requires live { is_live self.old.problem self.old.chosen option ≡ true }
         ensures { self.new ≡ with_choice self.old option }
     {
-        let (first, _) = node_range(&self.layout, option);
-        cover_from(&self.layout, &mut self.links, &mut self.counts, first);
-        self.entries.push_reserved(first as u32);
+        let node = primary_node(&self.layout, self.problem, option);
+        cover_from(
+            &self.layout,
+            &mut self.links,
+            &mut self.counts,
+            &mut self.commits,
+            node,
+        );
+        self.entries.push_reserved(node as u32);
         self.chosen.push_reserved(option);
     }
 
@@ -112,14 +131,20 @@ impl<'a> Links<'a> {
             return None;
         }
         let option = self.layout.options[node];
-        cover_from(&self.layout, &mut self.links, &mut self.counts, node);
+        cover_from(
+            &self.layout,
+            &mut self.links,
+            &mut self.counts,
+            &mut self.commits,
+            node,
+        );
         self.entries.push_reserved(node as u32);
         self.chosen.push_reserved(option);
         Some(option)
     }
 
     /// Chooses, in place of the option that was chosen last, the next one that was live and names the item by which that one was
-    /// chosen. The item stays covered. Answers the option; where none follows, the choice is taken back.
+    /// chosen. The item stays covered, in the colour that the option gives it. Answers the option; where none follows, the choice is taken back.
     #[inline(always)]
     pub fn choose_next(&mut self) -> Option<u16>
         requires { 0 < length self.old.chosen }
@@ -127,21 +152,42 @@ impl<'a> Links<'a> {
             IsNextChoice before item option result self.new }
     {
         let node = self.entries[self.entries.len() - 1] as usize;
-        uncover_others(&self.layout, &mut self.links, &mut self.counts, node);
+        uncover_others(
+            &self.layout,
+            &mut self.links,
+            &mut self.counts,
+            &mut self.commits,
+            node,
+        );
         self.entries.pop();
         self.chosen.pop();
         let next = self.links[node].down as usize;
         if next >= self.layout.tails {
-            uncover(
+            uncommit(
                 &self.layout,
                 &mut self.links,
                 &mut self.counts,
-                item_at(&self.layout, node),
+                &mut self.commits,
+                node,
             );
             return None;
         }
         let option = self.layout.options[next];
-        cover_others(&self.layout, &mut self.links, &mut self.counts, next);
+        recommit(
+            &self.layout,
+            &mut self.links,
+            &mut self.counts,
+            &mut self.commits,
+            node,
+            next,
+        );
+        cover_others(
+            &self.layout,
+            &mut self.links,
+            &mut self.counts,
+            &mut self.commits,
+            next,
+        );
         self.entries.push_reserved(next as u32);
         self.chosen.push_reserved(option);
         Some(option)
@@ -154,7 +200,13 @@ impl<'a> Links<'a> {
     {
         let option = self.chosen[self.chosen.len() - 1];
         let node = self.entries[self.entries.len() - 1] as usize;
-        uncover_from(&self.layout, &mut self.links, &mut self.counts, node);
+        uncover_from(
+            &self.layout,
+            &mut self.links,
+            &mut self.counts,
+            &mut self.commits,
+            node,
+        );
         self.entries.pop();
         self.chosen.pop();
         option
@@ -165,18 +217,17 @@ impl<'a> Links<'a> {
         requires { item < length self.now.problem.names }
         ensures { result ≡ is_covered self.now.problem self.now.chosen item }
     {
-        let node = self.layout.heads + item as usize;
-        let above = self.links[node].up as usize;
-        self.links[above].down as usize != node
+        !is_known(&self.layout, &self.links, self.layout.heads + item as usize)
     }
 
-    /// Whether an option has no item in common with a chosen one.
+    /// Whether an option clashes with no chosen one: its first primary item is uncovered, and its node there is in.
     pub fn is_live(&self, option: u16) -> bool
         requires { option < length self.now.problem.options }
         ensures { result ≡ is_live self.now.problem self.now.chosen option }
     {
-        let problem = self.problem;
-        self.are_uncovered(problem.option(option))
+        let node = primary_node(&self.layout, self.problem, option);
+        let item = item_at(&self.layout, node) as u16;
+        !self.is_covered(item) && is_known(&self.layout, &self.links, node)
     }
 
     /// How many live options name an uncovered item.
@@ -255,15 +306,27 @@ impl<'a> Links<'a> {
         let node = node_of(&self.layout, item, begin, end);
         option_below(&self.layout, &self.links, node)
     }
+}
 
-    /// Whether none of these items is covered.
-    fn are_uncovered(&self, items: &[u16]) -> bool
-        requires { All (λ item. item < length self.now.problem.names) items.now }
-        ensures { result ≡ list_all
-            (λ item. not (is_covered self.now.problem self.now.chosen item)) items.now }
-    {
-        items.iter().all(|item| !self.is_covered(*item))
-    }
+/// Whether the node above a node leads to it: so where it is in.
+fn is_known(layout: &Layout, links: &[Link], node: usize) -> bool
+    requires node { (layout.now.heads ≤ node) × (node < layout.now.tails) }
+    requires table { IsTable (columns_of layout.now) }
+    requires linked { IsLinked (columns_of layout.now) links.now }
+    ensures { result ≡ (down_of links.now (up_of links.now node) == node) }
+{
+    let above = links[node].up as usize;
+    links[above].down as usize == node
+}
+
+/// The node of an option's first primary item.
+fn primary_node(layout: &Layout, problem: &Problem, option: u16) -> usize
+    requires layout { columns_of layout.now ≡ table problem.now }
+    requires option { option < length problem.now.options }
+    ensures { IsPrimary problem.now (columns_of layout.now) option result }
+{
+    let (begin, end) = node_range(layout, option);
+    node_below(layout, problem.primary(), begin, end)
 }
 
 /// The item whose node is below a node in the column of items, if it is primary.

@@ -25,7 +25,8 @@ impl<'a> Model for OptionsOf<'a> {
 
     ghost view = { λ s. options_left (columns_of s.layout.now) s.links.now s.node };
 
-    ghost invariant = { λ s. IsTable (columns_of s.layout.now) × IsLinked (columns_of s.layout.now) s.links.now };
+    ghost invariant = { λ s. IsTable (columns_of s.layout.now)
+        × IsLinked (columns_of s.layout.now) s.links.now };
 }
 
 impl<'a> Iterator for OptionsOf<'a> {

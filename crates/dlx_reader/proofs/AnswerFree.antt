@@ -6,7 +6,7 @@ use Rattle.std.specs.Str.{bytes_eq}
 use Rattle.std.specs.Cmp.Lexicographic.{pointwise}
 use Rattle.cover_problem.specs.Problem.{Problem}
 use Rattle.cover_problem.specs.Numbers.{is_in}
-use Rattle.dlx_reader.specs.Writing.{item_names}
+use Rattle.dlx_reader.specs.Writing.{option_words}
 use Rattle.dlx_reader.specs.Answers.{IsFree, IsLowestFree}
 
 -- ---- the lowest number that passes a test
@@ -54,16 +54,16 @@ least_of test bound hit = least_from test bound 0 bound (omega arith) (λ k belo
 
 -- whether an option is free, but for its range
 abbrev pub is_free : Problem → List ℕ → List (List ℕ) → ℕ → Bool
-is_free p used words o = not (is_in used o) && pointwise bytes_eq (item_names p o) words
+is_free p used words o = not (is_in used o) && pointwise bytes_eq (option_words p o) words
 
 pub free_from_test : (p : Problem) (used : List ℕ) (words : List (List ℕ)) (o : ℕ) → o < length p.options → is_free p used words o ≡ true → IsFree p used words o
 free_from_test p used words o inside passes =
-    let parts = and_parts (not (is_in used o)) (pointwise bytes_eq (item_names p o) words) passes in
-    record { in_range = inside; unused = not-true (is_in used o) parts.0; named = (slice_eq-Decides bytes_eq-Decides (item_names p o) words _ refl).0 parts.1 }
+    let parts = and_parts (not (is_in used o)) (pointwise bytes_eq (option_words p o) words) passes in
+    record { in_range = inside; unused = not-true (is_in used o) parts.0; named = (slice_eq-Decides bytes_eq-Decides (option_words p o) words _ refl).0 parts.1 }
 
 pub test_from_free : (p : Problem) (used : List ℕ) (words : List (List ℕ)) (o : ℕ) → IsFree p used words o → is_free p used words o ≡ true
 test_from_free p used words o free =
-    and_from (not (is_in used o)) (pointwise bytes_eq (item_names p o) words) (not_from_false (is_in used o) free.unused) ((slice_eq-Decides bytes_eq-Decides (item_names p o) words _ refl).1 free.named)
+    and_from (not (is_in used o)) (pointwise bytes_eq (option_words p o) words) (not_from_false (is_in used o) free.unused) ((slice_eq-Decides bytes_eq-Decides (option_words p o) words _ refl).1 free.named)
 
 -- where an option is free, one is the lowest
 pub lowest_of : (p : Problem) (used : List ℕ) (words : List (List ℕ)) (o : ℕ) → IsFree p used words o → (k : ℕ) × (k ≤ o) × IsLowestFree p used words k

@@ -8,33 +8,33 @@ use Rattle.std.proofs.lemmas.List.Kept.{AllPairs-from_increasing}
 use Rattle.std.proofs.lemmas.List.Elements.{All-from_get_or}
 use Rattle.std.specs.List.{enumerate_from}
 use Rattle.std.specs.List.Sorted.{IsStrictlyIncreasing}
-use Rattle.cover_problem.specs.Problem.{Problem, IsProblem, items_of}
+use Rattle.cover_problem.specs.Problem.{Problem, IsProblem}
 use Rattle.cover_problem.specs.Numbers.{is_in}
 use Rattle.cover_problem.specs.Prefix.{InFileOrder}
-use Rattle.dlx_reader.specs.Writing.{item_names}
+use Rattle.dlx_reader.specs.Writing.{occurrences_of, option_words}
 use Rattle.dlx_reader.specs.Answers.{AreOptionsOf}
 use Rattle.dlx_reader.proofs.AnswerOptions.{AreOptionsOf-none, AreOptionsOf-more}
 use Rattle.dlx_reader.proofs.AnswerFree.{lowest_of}
-use Rattle.dlx_reader.proofs.NameBytes.{same_items}
+use Rattle.dlx_reader.proofs.MeantNames.{same_occurrences}
 
 -- ---- the options of the lines
 
--- the lines of options, each with its names
+-- the lines of options, each with its words
 abbrev pub lines_named : Problem → List ℕ → List (ℕ × List (List ℕ))
-lines_named p os = enumerate_from 2 (map (item_names p) os)
+lines_named p os = enumerate_from 2 (map (option_words p) os)
 
 length-lines_named : (p : Problem) (os : List ℕ) → length (lines_named p os) ≡ length os
-length-lines_named p os = length-enumerate_from 2 (map (item_names p) os) ∙ length-map os (item_names p)
+length-lines_named p os = length-enumerate_from 2 (map (option_words p) os) ∙ length-map os (option_words p)
 
-line_named : (p : Problem) (os : List ℕ) (i : ℕ) → i < length os → get_or (lines_named p os) i (0, []) ≡ (2 + i, item_names p (get_or os i 0))
+line_named : (p : Problem) (os : List ℕ) (i : ℕ) → i < length os → get_or (lines_named p os) i (0, []) ≡ (2 + i, option_words p (get_or os i 0))
 line_named p os i inside =
-    let mapped : i < length (map (item_names p) os) = omega (arith, length-map os (item_names p)) in
-    get_or-enumerate_from 2 (map (item_names p) os) i (0, []) mapped ∙ ap (λ names. (2 + i, names)) (get_or-map (item_names p) os i 0 [] inside)
+    let mapped : i < length (map (option_words p) os) = omega (arith, length-map os (option_words p)) in
+    get_or-enumerate_from 2 (map (option_words p) os) i (0, []) mapped ∙ ap (λ names. (2 + i, names)) (get_or-map (option_words p) os i 0 [] inside)
 
--- an option that stands for another: it is no higher, and has the same items
+-- an option that stands for another: it is no higher, and has the same items and colours
 record StandsFor (p : Problem) (found option : ℕ) : Type 0 where
   lower : found ≤ option
-  same : items_of p found ≡ items_of p option
+  same : occurrences_of p found ≡ occurrences_of p option
 
 -- the options that were found for the first lines
 record Matched (p : Problem) (os : List ℕ) (n : ℕ) : Type 0 where
@@ -57,13 +57,13 @@ matched_more : (p : Problem) (os : List ℕ) (n : ℕ) → IsProblem p → InFil
 matched_more p os n is ordered inside m =
     let option = get_or os n 0 in
     let in_range : get_or os n 0 < length p.options = ordered.0 n 0 inside in
-    let lowest = lowest_of p m.found (item_names p option) option (record { in_range = in_range; unused = next_is_unused p os n ordered.1 inside m; named = refl }) in
-    let stands : StandsFor p lowest.0 option = record { lower = lowest.1; same = same_items p lowest.0 option is lowest.2.free.in_range in_range lowest.2.free.named } in
+    let lowest = lowest_of p m.found (option_words p option) option (record { in_range = in_range; unused = next_is_unused p os n ordered.1 inside m; named = refl }) in
+    let stands : StandsFor p lowest.0 option = record { lower = lowest.1; same = same_occurrences p lowest.0 option is lowest.2.free.in_range in_range lowest.2.free.named } in
     let line : n < length (lines_named p os) = omega (arith, length-lines_named p os) in
     let more = m.found ++ lowest.0 ∷ [] in
     record {
       found = more;
-      options = AreOptionsOf-more p (lines_named p os) n (2 + n, item_names p option) m.found more lowest.0 line (line_named p os n inside) refl m.options lowest.2;
+      options = AreOptionsOf-more p (lines_named p os) n (2 + n, option_words p option) m.found more lowest.0 line (line_named p os n inside) refl m.options lowest.2;
       long = omega (arith, m.long, length-append m.found (lowest.0 ∷ []));
       each = λ k h.
           elim (cases_lt k n) [
@@ -86,20 +86,20 @@ matched p os is ordered (suc n) h =
     let P : ℕ → Type 0 = λ j. Matched p os j in
     subst P next (matched_more p os n is ordered (omega arith) (matched p os is ordered n (omega arith)))
 
--- the lines of options in file order have options with the same items
-pub lines_have_options : (p : Problem) (os : List ℕ) → IsProblem p → InFileOrder p os → (found : List ℕ) × AreOptionsOf p (lines_named p os) found × (map (items_of p) found ≡ map (items_of p) os)
+-- the lines of options in file order have options with the same items and colours
+pub lines_have_options : (p : Problem) (os : List ℕ) → IsProblem p → InFileOrder p os → (found : List ℕ) × AreOptionsOf p (lines_named p os) found × (map (occurrences_of p) found ≡ map (occurrences_of p) os)
 lines_have_options p os is ordered =
     let m = matched p os is ordered (length os) (omega arith) in
     let whole : take (length os) (lines_named p os) ≡ lines_named p os = take_all (length os) (lines_named p os) (omega (arith, length-lines_named p os)) in
     let P : List (ℕ × List (List ℕ)) → Type 0 = λ lines. AreOptionsOf p lines m.found in
-    let long : length (map (items_of p) m.found) ≡ length (map (items_of p) os) = length-map m.found (items_of p) ∙ m.long ∙ sym (length-map os (items_of p)) in (
+    let long : length (map (occurrences_of p) m.found) ≡ length (map (occurrences_of p) os) = length-map m.found (occurrences_of p) ∙ m.long ∙ sym (length-map os (occurrences_of p)) in (
       m.found,
       subst P whole m.options,
-      ext_get_or [] (map (items_of p) m.found) (map (items_of p) os) long
+      ext_get_or [] (map (occurrences_of p) m.found) (map (occurrences_of p) os) long
           (λ i inside.
-          let in_os : i < length os = omega (arith, long, length-map os (items_of p)) in
+          let in_os : i < length os = omega (arith, long, length-map os (occurrences_of p)) in
           let in_found : i < length m.found = omega (arith, m.long) in
-          get_or-map (items_of p) m.found i 0 [] in_found ∙ (m.each i in_os).same ∙ sym (get_or-map (items_of p) os i 0 [] in_os)),
+          get_or-map (occurrences_of p) m.found i 0 [] in_found ∙ (m.each i in_os).same ∙ sym (get_or-map (occurrences_of p) os i 0 [] in_os)),
     )
 
 -- ---- how many options stand in file order

@@ -4,11 +4,11 @@ use Rattle.dlx_reader.specs.Devices.{AppendsFront}
 use Rattle.dlx_reader.specs.Passing.{Passes}
 use Rattle.dlx_reader.proofs.Passed.{Passing, passing_on, passing_fault}
 use Rattle.std.proofs.Math.Seq.{take-length}
-use Rattle.std.specs.List.{flat_map}
+use Rattle.std.specs.List.{flat_map, zip}
 use Rattle.std.proofs.lemmas.List.Elements.{All-drop, All-take}
 use Rattle.cover_problem.specs.Prefix.{AreOptions}
 use Rattle.cover_problem.specs.Problem.{Problem}
-use Rattle.dlx_reader.specs.Writing.{name_text, items_text, names_after, option_text}
+use Rattle.dlx_reader.specs.Writing.{word_text, words_text, words_after, option_text}
 
 -- the first option, and the others, as a slice's pattern gives them
 pub options_split : (p : Problem) (os : List ℕ) → 1 ≤ length os → flat_map (option_text p) os ≡ option_text p (get_or os 0 0) ++ flat_map (option_text p) (take (length os - 1) (drop 1 os))
@@ -30,18 +30,31 @@ option_on p w x y a b c os whole passing some piece = passing_on w x y a b c (op
 pub option_fault : (p : Problem) (w x : List ℕ) (a b c : Option (List ℕ)) (os whole : List ℕ) → Passing w x a b (flat_map (option_text p) os) whole → 1 ≤ length os → AppendsFront b c (x ++ option_text p (get_or os 0 0)) → AppendsFront a c (w ++ whole)
 option_fault p w x a b c os whole passing some piece = passing_fault w x a b c (option_text p (get_or os 0 0)) (flat_map (option_text p) (take (length os - 1) (drop 1 os))) whole (rw (options_split p os some) at passing) piece
 
-pub names_step : (p : Problem) (is : List ℕ) (k : ℕ) → k < length is → names_after p (drop k is) ≡ (32 ∷ name_text p (get_or is k 0)) ++ names_after p (drop (k + 1) is)
-names_step p is k h = rw (add-one, drop-cons is k 0) refl
+-- the first word, and each other after a space
+words_cons : (p : Problem) (first : ℕ × ℕ) (others : List (ℕ × ℕ)) → words_text p (first ∷ others) ≡ word_text p first ++ words_after p others
+words_cons p first [] = sym (append-nil (word_text p first))
+words_cons p first (next ∷ others) = ap (λ t. word_text p first ++ (32 ∷ t)) (words_cons p next others)
 
--- the first name, and each other after a space
-pub items_cons : (p : Problem) (i : ℕ) (is : List ℕ) → items_text p (i ∷ is) ≡ name_text p i ++ names_after p is
-items_cons p i [] = sym (append-nil (name_text p i))
-items_cons p i (j ∷ is) = ap (λ t. name_text p i ++ (32 ∷ t)) (items_cons p j is)
+-- what a slice's pattern leaves behind the first
+rest_is : (x : ℕ) (xs : List ℕ) → take (length (x ∷ xs) - 1) (drop 1 (x ∷ xs)) ≡ xs
+rest_is x xs = let n : suc (length xs) - 1 ≡ length xs = omega arith in rw n (take-length xs)
 
--- the first item, and the others, as a slice's pattern gives them
-pub items_split : (p : Problem) (is : List ℕ) → 1 ≤ length is → items_text p is ≡ name_text p (get_or is 0 0) ++ names_after p (take (length is - 1) (drop 1 is))
-items_split p [] h = absurd (omega arith)
-items_split p (i ∷ is) h =
-    let n : suc (length is) - 1 ≡ length is = omega arith in
-    let e : take (suc (length is) - 1) is ≡ is = rw n (take-length is) in
-    items_cons p i is ∙ ap (λ t. name_text p i ++ names_after p t) (sym e)
+-- the first item with its colour, and the others, as two slices' patterns give them
+abbrev pub others_of : List ℕ → List ℕ → List (ℕ × ℕ)
+others_of items colours = zip (take (length items - 1) (drop 1 items)) (take (length colours - 1) (drop 1 colours))
+
+pub pairs_split : (items colours : List ℕ) → 1 ≤ length items → 1 ≤ length colours → zip items colours ≡ (get_or items 0 0, get_or colours 0 0) ∷ others_of items colours
+pairs_split [] colours some h = absurd (omega arith)
+pairs_split (i ∷ is) [] some h = absurd (omega arith)
+pairs_split (i ∷ is) (c ∷ cs) some h = rw (rest_is i is, rest_is c cs) refl
+
+pub words_split : (p : Problem) (items colours : List ℕ) → 1 ≤ length items → 1 ≤ length colours → words_text p (zip items colours) ≡ word_text p (get_or items 0 0, get_or colours 0 0) ++ words_after p (others_of items colours)
+words_split p items colours some h = ap (words_text p) (pairs_split items colours some h) ∙ words_cons p (get_or items 0 0, get_or colours 0 0) (others_of items colours)
+
+-- the word at a place, and those behind it
+pub words_step : (p : Problem) (items colours : List ℕ) (k : ℕ) → k < length items → length colours ≡ length items → words_after p (zip (drop k items) (drop k colours)) ≡ (32 ∷ word_text p (get_or items k 0, get_or colours k 0)) ++ words_after p (zip (drop (k + 1) items) (drop (k + 1) colours))
+words_step p items colours k inside long =
+    let within : k < length colours = omega arith in
+    let next : zip (drop k items) (drop k colours) ≡ (get_or items k 0, get_or colours k 0) ∷ zip (drop (suc k) items) (drop (suc k) colours) = rw (drop-cons items k 0, drop-cons colours k 0) refl in
+    let after : suc k ≡ k + 1 = sym (add-one k) in
+    ap (words_after p) next ∙ ap (λ n. (32 ∷ word_text p (get_or items k 0, get_or colours k 0)) ++ words_after p (zip (drop n items) (drop n colours))) after

@@ -6,9 +6,9 @@ use Rattle.std.proofs.lemmas.Bool.{ne_eqb, not-true}
 use Rattle.std.proofs.lemmas.List.Elements.{All-nil, All-cons, All-head, All-tail, All-weaker, All-append, All-from_get_or}
 use Rattle.std.proofs.lemmas.List.Splits.{slice_split_none, slice_split_at}
 use Rattle.std.specs.List.{slice_split, join_with_byte, flat_map, enumerate_from}
-use Rattle.cover_problem.specs.Problem.{Problem, items_of}
+use Rattle.cover_problem.specs.Problem.{Problem}
 use Rattle.dlx_reader.specs.Lines.{is_white, lines_of, words_of}
-use Rattle.dlx_reader.specs.Writing.{item_names, items_text, option_text, cover_text}
+use Rattle.dlx_reader.specs.Writing.{occurrences_of, option_words, words_text, option_text, cover_text}
 use Rattle.dlx_reader.specs.Answers.{worded_lines}
 use Rattle.dlx_reader.proofs.NameBytes.{IsPlain, IsWord, All-from_test, plain_digit, word_from_name}
 use Rattle.dlx_reader.proofs.AnswerCounts.{numerals, digit_in_range}
@@ -48,18 +48,18 @@ no_end-join (w ∷ x ∷ ws) all =
 
 -- the line of an option, without its end
 abbrev pub line_text : Problem → ℕ → List ℕ
-line_text p o = items_text p (items_of p o)
+line_text p o = words_text p (occurrences_of p o)
 
 pub lines_of-more : (line rest : List ℕ) → All (λ b. (b == 10) ≡ false) line → lines_of (line ++ 10 ∷ rest) ≡ line ∷ lines_of rest
 lines_of-more line rest all = slice_split_at (λ b. b == 10) line 10 rest all refl
 
-pub lines_of-options : (p : Problem) (os : List ℕ) → All (λ o. All IsWord (item_names p o)) os → lines_of (flat_map (option_text p) os) ≡ map (line_text p) os ++ [] ∷ []
+pub lines_of-options : (p : Problem) (os : List ℕ) → All (λ o. All IsWord (option_words p o)) os → lines_of (flat_map (option_text p) os) ≡ map (line_text p) os ++ [] ∷ []
 lines_of-options p [] all = refl
 lines_of-options p (o ∷ os) all =
-    let words = All-head (λ o. All IsWord (item_names p o)) o os all in
+    let words = All-head (λ o. All IsWord (option_words p o)) o os all in
     let rest = flat_map (option_text p) os in
-    ap lines_of (append_assoc (line_text p o) (10 ∷ []) rest) ∙ lines_of-more (line_text p o) rest (no_end-join (item_names p o) words)
-    ∙ ap (λ lines. line_text p o ∷ lines) (lines_of-options p os (All-tail (λ o. All IsWord (item_names p o)) o os all))
+    ap lines_of (append_assoc (line_text p o) (10 ∷ []) rest) ∙ lines_of-more (line_text p o) rest (no_end-join (option_words p o) words)
+    ∙ ap (λ lines. line_text p o ∷ lines) (lines_of-options p os (All-tail (λ o. All IsWord (option_words p o)) o os all))
 
 -- ---- the lines that aren't blank
 
@@ -73,13 +73,13 @@ worded_lines-blank : (n : ℕ) → worded_lines n ([] ∷ []) ≡ []
 unfolding worded_lines
 worded_lines-blank n = refl
 
-pub worded_lines-options : (p : Problem) (n : ℕ) (os : List ℕ) → All (λ o. All IsWord (item_names p o)) os → All (λ o. 0 < length (item_names p o)) os
-    → worded_lines n (map (line_text p) os ++ [] ∷ []) ≡ enumerate_from n (map (item_names p) os)
+pub worded_lines-options : (p : Problem) (n : ℕ) (os : List ℕ) → All (λ o. All IsWord (option_words p o)) os → All (λ o. 0 < length (option_words p o)) os
+    → worded_lines n (map (line_text p) os ++ [] ∷ []) ≡ enumerate_from n (map (option_words p) os)
 worded_lines-options p n [] words some = worded_lines-blank n
 worded_lines-options p n (o ∷ os) words some =
-    let here = words_of-join (item_names p o) (All-head (λ o. All IsWord (item_names p o)) o os words) in
-    worded_lines-more n (line_text p o) (map (line_text p) os ++ [] ∷ []) (item_names p o) here (All-head (λ o. 0 < length (item_names p o)) o os some)
-    ∙ ap (λ lines. (n, item_names p o) ∷ lines) (worded_lines-options p (n + 1) os (All-tail (λ o. All IsWord (item_names p o)) o os words) (All-tail (λ o. 0 < length (item_names p o)) o os some))
+    let here = words_of-join (option_words p o) (All-head (λ o. All IsWord (option_words p o)) o os words) in
+    worded_lines-more n (line_text p o) (map (line_text p) os ++ [] ∷ []) (option_words p o) here (All-head (λ o. 0 < length (option_words p o)) o os some)
+    ∙ ap (λ lines. (n, option_words p o) ∷ lines) (worded_lines-options p (n + 1) os (All-tail (λ o. All IsWord (option_words p o)) o os words) (All-tail (λ o. 0 < length (option_words p o)) o os some))
 
 -- ---- the text of a cover
 
@@ -95,8 +95,8 @@ no_end_in_cover : All (λ b. (b == 10) ≡ false) (codes "cover ")
 no_end_in_cover = All-weaker (λ b. not (b == 10) ≡ true) (λ b. (b == 10) ≡ false) (λ b h. not-true (b == 10) h) (codes "cover ") (All-from_test (λ b. not (b == 10)) (codes "cover ") refl)
 
 -- the lines of the text of a cover, each with its words
-pub worded_lines-cover : (p : Problem) (os : List ℕ) → length os < 2 ^ 64 → All (λ o. All IsWord (item_names p o)) os → All (λ o. 0 < length (item_names p o)) os
-    → worded_lines 1 (lines_of (cover_text p os)) ≡ (1, codes "cover" ∷ decimal (length os) ∷ []) ∷ enumerate_from 2 (map (item_names p) os)
+pub worded_lines-cover : (p : Problem) (os : List ℕ) → length os < 2 ^ 64 → All (λ o. All IsWord (option_words p o)) os → All (λ o. 0 < length (option_words p o)) os
+    → worded_lines 1 (lines_of (cover_text p os)) ≡ (1, codes "cover" ∷ decimal (length os) ∷ []) ∷ enumerate_from 2 (map (option_words p) os)
 worded_lines-cover p os small words some =
     let digits = digits_word (length os) small in
     let line = codes "cover " ++ decimal (length os) in

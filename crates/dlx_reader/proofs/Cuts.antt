@@ -33,14 +33,14 @@ words_from (byte ∷ line) (suc start) inside white = words_behind byte line (wh
 
 -- ---- the first place at which a test holds
 
-place_some : {X : Type 0} (p : X → Bool) (xs : List X) (i : ℕ) → position p xs ≡ Some i → (position_or_len p xs ≡ i) × (i < length xs)
+pub place_some : {X : Type 0} (p : X → Bool) (xs : List X) (i : ℕ) → position p xs ≡ Some i → (position_or_len p xs ≡ i) × (i < length xs)
 place_some p xs i e =
     (elim (nat_lt (position_or_len p xs) (length xs)) as (λ b. nat_lt (position_or_len p xs) (length xs) ≡ b → cond b (Some (position_or_len p xs)) None ≡ Some i → (position_or_len p xs ≡ i) × (i < length xs)) [
       | true ↦ λ test some. let same : position_or_len p xs ≡ i = cc in (same, omega (arith, same, ltb-true (position_or_len p xs) (length xs) test))
       | false ↦ λ test some. let clash : None ≡ Some i = some in cc
     ]) refl e
 
-place_none : {X : Type 0} (p : X → Bool) (xs : List X) → position p xs ≡ None → length xs ≤ position_or_len p xs
+pub place_none : {X : Type 0} (p : X → Bool) (xs : List X) → position p xs ≡ None → length xs ≤ position_or_len p xs
 place_none p xs e =
     (elim (nat_lt (position_or_len p xs) (length xs)) as (λ b. nat_lt (position_or_len p xs) (length xs) ≡ b → cond b (Some (position_or_len p xs)) None ≡ None → length xs ≤ position_or_len p xs) [
       | true ↦ λ test some. let clash : Some (position_or_len p xs) ≡ None = some in cc

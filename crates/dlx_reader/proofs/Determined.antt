@@ -1,6 +1,6 @@
 -- A text has one problem, or a first fault.
 use Rattle.std.proofs.Common.{◌≡◌, ℕ, List, Some, None, Result, Ok, Err, IfOk, IfErr, sym, ap, ◌∙◌, refl}
-use Rattle.cover_problem.specs.Problem.{Problem, problem_by}
+use Rattle.cover_problem.specs.Problem.{Problem}
 use Rattle.dlx_reader.specs.Content.{content_of}
 use Rattle.dlx_reader.specs.Faults.{first_fault}
 use Rattle.dlx_reader.specs.ProblemOf.{IsProblemOf, HasNoProblem}
@@ -10,13 +10,13 @@ use Rattle.dlx_reader.specs.declared.fault.ReadFault.TheVariants.{Memory}
 use Rattle.dlx_reader.specs.declared.reading.Read.{Read}
 use Rattle.dlx_reader.proofs.FirstFaults.{text_fault}
 use Rattle.dlx_reader.proofs.Placed.{fault_of}
-use Rattle.dlx_reader.proofs.Relation.{text_related}
+use Rattle.dlx_reader.proofs.Relation.{problem_read, text_related}
 use Rattle.dlx_reader.proofs.Whole.{text_whole}
 
 -- ---- laws
 
 same_read : (p q : Problem) (n m : ℕ) → read_by p n ≡ read_by q m → (p ≡ q) × (n ≡ m)
-same_read p q n m e = (ap (λ (r : Reading). problem_by r.names r.primary r.options) e, ap (λ (r : Reading). r.ignored) e)
+same_read p q n m e = (ap (λ (r : Reading). problem_read r.names r.primary r.kept) e, ap (λ (r : Reading). r.kept.ignored) e)
 
 -- a text has at most one problem
 pub one_problem : (text : List ℕ) (p q : Problem) (n m : ℕ) → IsProblemOf text p n → IsProblemOf text q m → (p ≡ q) × (n ≡ m)
@@ -34,7 +34,7 @@ no_fault text problem ignored h = sym (text_fault text) ∙ ap fault_of (text_wh
 pub some_problem : (text : List ℕ) → first_fault text ≡ None → (problem : Problem) × ((ignored : ℕ) × IsProblemOf text problem ignored)
 some_problem text h =
     (elim (reading_of (content_of text)) as (λ r. reading_of (content_of text) ≡ r → fault_of r ≡ None → (problem : Problem) × ((ignored : ℕ) × IsProblemOf text problem ignored)) [
-      | Ok read ↦ λ e none. (problem_by read.names read.primary read.options, (read.ignored, text_related text (problem_by read.names read.primary read.options) read.ignored e))
+      | Ok read ↦ λ e none. (problem_read read.names read.primary read.kept, (read.kept.ignored, text_related text (problem_read read.names read.primary read.kept) read.kept.ignored e))
       | Err fault ↦ λ e none. absurd (cc)
     ]) refl (text_fault text ∙ h)
 

@@ -1,5 +1,5 @@
 -- The fault of the reading word by word is the first fault of the text.
-use Rattle.std.proofs.Common.{◌≡◌, ℕ, ◌+◌, ◌≤◌, List, [], ◌∷◌, ◌++◌, length, Option, Some, None, Result, Ok, Err, Bool, true, false, cond, refl, sym, ap, ◌∙◌, arith, append-nil, length-append, map, take, not, ◌==◌, ◌||◌, nat_lt, is_some, suc}
+use Rattle.std.proofs.Common.{◌≡◌, ℕ, ◌+◌, ◌≤◌, List, [], ◌∷◌, ◌++◌, length, Option, Some, None, Result, Ok, Err, Bool, true, false, refl, sym, ap, ◌∙◌, arith, append-nil, length-append, map, take, not, ◌==◌, ◌&&◌, ◌||◌, nat_lt, is_some, suc, get_or}
 use Rattle.std.specs.List.{flat_map, list_any, sum_by}
 use Rattle.std.proofs.lemmas.Bool.{le-ltb}
 use Rattle.std.proofs.lemmas.List.{map-append}
@@ -9,17 +9,21 @@ use Rattle.std.proofs.lemmas.List.Sums.{sum_by-cons, sum_by-append}
 use Rattle.cover_problem.specs.Numbers.{is_in, are_below, some_below}
 use Rattle.cover_problem.specs.Problem.{names_differ}
 use Rattle.dlx_reader.specs.Content.{begins_with_bar, content_of}
-use Rattle.dlx_reader.specs.Faults.{first_of, placed, name_tests, item_tests, option_tests, item_line_tests, limit_tests, tests_of, first_fault}
+use Rattle.dlx_reader.specs.Faults.{first_of, placed, part_tests, item_tests, option_tests, item_line_tests, limit_tests, tests_of, first_fault}
 use Rattle.dlx_reader.specs.Items.{name_part, names_in, primary_in, primary_names}
+use Rattle.dlx_reader.specs.Kept.{KeptOptions}
 use Rattle.dlx_reader.specs.Names.{is_among, item_named}
-use Rattle.dlx_reader.specs.OptionLines.{names_of, names_primary, kept_lines}
-use Rattle.dlx_reader.specs.Reading.{◌>>=◌, after, add_name, item_at, items_from, known_item, option_item_at, option_from, keep_at, option_at, options_from, reading_of, reading_by}
+use Rattle.dlx_reader.specs.Occurrences.{has_colon, item_part, colour_part}
+use Rattle.dlx_reader.specs.OptionLines.{names_of, names_primary, kept_lines, colours_in}
+use Rattle.dlx_reader.specs.Reading.{◌>>=◌, Reading, after, add_name, item_at, items_from, known_item, option_item_at, option_from, colours_from, room_tests, more_kept, keep_at, option_at, options_from, none_kept, reading_of}
 use Rattle.dlx_reader.specs.declared.fault.ReadFault.{ReadFault}
 use Rattle.dlx_reader.specs.declared.fault.ReadFault.TheVariants as faults
+use Rattle.dlx_reader.proofs.Colours.{different, colours_fault}
 use Rattle.dlx_reader.proofs.ItemLines.{items_read, add_names}
 use Rattle.dlx_reader.proofs.Naming.{named_at, is_some-named}
-use Rattle.dlx_reader.proofs.OptionLines.{keep_read, words_in}
-use Rattle.dlx_reader.proofs.OptionWords.{word_read, option_read, same_item, same_primary, are_below-push, names_of-push}
+use Rattle.dlx_reader.proofs.OptionLines.{Stands, none_stands, line_stands, primary_by_items, kept_lines-push, kept_lines-other, colours_of_lines, words_in}
+use Rattle.dlx_reader.proofs.OptionWords.{ReadsOption, item_last, word_read, option_read, same_item, are_below-push, names_of-push}
+use Rattle.dlx_reader.proofs.Differing.{among_first}
 use Rattle.dlx_reader.proofs.Placed.{or_first, first_of-append, fault_of, fault_of-after, fault_of-then, placed_from, placed_from-start, first_of-placed}
 
 -- ---- the item line
@@ -53,140 +57,159 @@ item_line_fault line = items_fault line.0 [] false [] line.1 refl refl ∙ ap (�
 
 -- ---- an option's line
 
-known_fault : (line : ℕ) (names : List (List ℕ)) (items : List ℕ) (word : List ℕ) (found : Option ℕ) → is_some found ≡ is_among names word → ((item : ℕ) → found ≡ Some item → is_in items item ≡ is_among (names_of names items) word) → fault_of (known_item line found >>= (λ item. after ((is_in items item, faults.DuplicateInOption line) ∷ []) (items ++ item ∷ []))) ≡ first_of ((not (is_among names word), faults.UnknownItem line) ∷ (is_among (names_of names items) word, faults.DuplicateInOption line) ∷ [])
-known_fault line names items word None among same = rw (← among) refl
-known_fault line names items word (Some item) among same = rw (← among, fault_of-after ((is_in items item, faults.DuplicateInOption line) ∷ []) (items ++ item ∷ []), same item refl) refl
+-- the tests behind the parts of a word
+abbrev last_tests : ℕ → List (List ℕ) → List (List ℕ) → List (List ℕ) → Bool → List ℕ → List (Bool × ReadFault)
+last_tests line names primary before colon name =
+    (not (is_among names name), faults.UnknownItem line) ∷ (is_among before name, faults.DuplicateInOption line) ∷ (colon && is_among primary name, faults.ColourOnPrimary line) ∷ []
 
-word_fault : (line : ℕ) (names : List (List ℕ)) (items : List ℕ) (word : List ℕ) → names_differ names ≡ true → are_below (length names) items ≡ true → fault_of (option_item_at line names items word) ≡ first_of (option_tests line names (names_of names items) word)
+known_fault : (line : ℕ) (names : List (List ℕ)) (primary : ℕ) (items : List ℕ) (colon : Bool) (name : List ℕ) (found : Option ℕ) → is_some found ≡ is_among names name → ((item : ℕ) → found ≡ Some item → (is_in items item ≡ is_among (names_of names items) name) × (nat_lt item primary ≡ is_among (take primary names) name)) → fault_of (known_item line found >>= (λ item. after (item_last line colon primary items item) (items ++ item ∷ []))) ≡ first_of (last_tests line names (take primary names) (names_of names items) colon name)
+known_fault line names primary items colon name None among same = rw (← among) refl
+known_fault line names primary items colon name (Some item) among same =
+    let both = same item refl in
+    rw (← among, fault_of-after (item_last line colon primary items item) (items ++ item ∷ []), both.0, both.1) refl
+
+word_fault : (line : ℕ) (names : List (List ℕ)) (primary : ℕ) (items : List ℕ) (before : List (List ℕ)) (word : List ℕ) → names_differ names ≡ true → are_below (length names) items ≡ true → names_of names items ≡ map item_part before → fault_of (option_item_at line names primary items word) ≡ first_of (option_tests line names (take primary names) before word)
 unfolding option_item_at
-word_fault line names items word differ below =
-    fault_of-then (name_tests line word) word (λ name. known_item line (item_named names name) >>= (λ item. after ((is_in items item, faults.DuplicateInOption line) ∷ []) (items ++ item ∷ [])))
-    ∙ ap (or_first (first_of (name_tests line word))) (known_fault line names items word (item_named names word) (is_some-named names word) (λ item named.
-    let at = named_at names word item named in
-    sym (same_item names items item differ below at.0) ∙ ap (is_among (names_of names items)) at.1))
-    ∙ sym (first_of-append (name_tests line word) ((not (is_among names word), faults.UnknownItem line) ∷ (is_among (names_of names items) word, faults.DuplicateInOption line) ∷ []))
+word_fault line names primary items before word differ below same =
+    let tests = part_tests line (has_colon word) (item_part word) (colour_part word) in
+    fault_of-then tests (item_part word) (λ name. known_item line (item_named names name) >>= (λ item. after (item_last line (has_colon word) primary items item) (items ++ item ∷ [])))
+    ∙ ap (or_first (first_of tests)) (known_fault line names primary items (has_colon word) (item_part word) (item_named names (item_part word)) (is_some-named names (item_part word)) (λ item named.
+    let at = named_at names (item_part word) item named in (
+      sym (same_item names items item differ below at.0) ∙ ap (is_among (names_of names items)) at.1,
+      sym (among_first names primary item differ at.0) ∙ ap (is_among (take primary names)) at.1,
+    )))
+    ∙ ap (λ own. or_first (first_of tests) (first_of (last_tests line names (take primary names) own (has_colon word) (item_part word)))) same
+    ∙ sym (first_of-append tests (last_tests line names (take primary names) (map item_part before) (has_colon word) (item_part word)))
 
-option_fault : (line : ℕ) (names : List (List ℕ)) (items : List ℕ) (words : List (List ℕ)) → names_differ names ≡ true → are_below (length names) items ≡ true → fault_of (option_from line names items words) ≡ first_of (flat_map (λ place. option_tests line names place.0 place.1) (placed_from (names_of names items) words))
+-- the tests of a word of an option, after those before it
+abbrev pub word_tests : ℕ → List (List ℕ) → List (List ℕ) → List (List ℕ) × List ℕ → List (Bool × ReadFault)
+word_tests line names primary place = option_tests line names primary place.0 place.1
+
+option_fault : (line : ℕ) (names : List (List ℕ)) (primary : ℕ) (items : List ℕ) (before words : List (List ℕ)) → names_differ names ≡ true → are_below (length names) items ≡ true → names_of names items ≡ map item_part before → fault_of (option_from line names primary items words) ≡ first_of (flat_map (word_tests line names (take primary names)) (placed_from before words))
 unfolding option_from
-option_fault line names items [] differ below = refl
-option_fault line names items (word ∷ words) differ below =
-    (elim (option_item_at line names items word) as (λ r. option_item_at line names items word ≡ r → fault_of (r >>= (λ more. option_from line names more words)) ≡ or_first (fault_of r) (first_of (flat_map (λ place. option_tests line names place.0 place.1) (placed_from (names_of names items ++ word ∷ []) words)))) [
+option_fault line names primary items before [] differ below same = refl
+option_fault line names primary items before (word ∷ words) differ below same =
+    (elim (option_item_at line names primary items word) as (λ r. option_item_at line names primary items word ≡ r → fault_of (r >>= (λ more. option_from line names primary more words)) ≡ or_first (fault_of r) (first_of (flat_map (word_tests line names (take primary names)) (placed_from (before ++ word ∷ []) words)))) [
       | Ok more ↦ λ e.
-          let one = word_read line names items word more e in
-          let at = named_at names word one.item one.named in
-          let further : names_of names more ≡ names_of names items ++ word ∷ [] = names_of-push names items more one.item word one.whole at.1 in
-          option_fault line names more words differ (rw one.whole (are_below-push (length names) items one.item below at.0)) ∙ ap (λ before. first_of (flat_map (λ place. option_tests line names place.0 place.1) (placed_from before words))) further
+          let one = word_read line names primary items word more e in
+          let at = named_at names (item_part word) one.item one.named in
+          let further : names_of names more ≡ map item_part (before ++ word ∷ []) =
+          names_of-push names items more one.item (item_part word) one.whole at.1 ∙ ap (λ front. front ++ item_part word ∷ []) same ∙ sym (map-append item_part before (word ∷ [])) in
+          option_fault line names primary more (before ++ word ∷ []) words differ (rw one.whole (are_below-push (length names) items one.item below at.0)) further
       | Err fault ↦ λ e. refl
     ]) refl
-    ∙ ap (λ found. or_first found (first_of (flat_map (λ place. option_tests line names place.0 place.1) (placed_from (names_of names items ++ word ∷ []) words)))) (word_fault line names items word differ below)
-    ∙ sym (first_of-placed (λ place. option_tests line names place.0 place.1) (names_of names items) word words)
+    ∙ ap (λ found. or_first found (first_of (flat_map (word_tests line names (take primary names)) (placed_from (before ++ word ∷ []) words)))) (word_fault line names primary items before word differ below same)
+    ∙ sym (first_of-placed (word_tests line names (take primary names)) before word words)
 
-pub option_words_fault : (line : ℕ) (names words : List (List ℕ)) → names_differ names ≡ true → fault_of (option_from line names [] words) ≡ first_of (flat_map (λ place. option_tests line names place.0 place.1) (placed words))
-option_words_fault line names words differ = option_fault line names [] words differ refl ∙ ap (λ places. first_of (flat_map (λ place. option_tests line names place.0 place.1) places)) (placed_from-start words)
+pub option_words_fault : (line : ℕ) (names : List (List ℕ)) (primary : ℕ) (words : List (List ℕ)) → names_differ names ≡ true → fault_of (option_from line names primary [] words) ≡ first_of (flat_map (word_tests line names (take primary names)) (placed words))
+option_words_fault line names primary words differ =
+    option_fault line names primary [] [] words differ refl refl ∙ ap (λ places. first_of (flat_map (word_tests line names (take primary names)) places)) (placed_from-start words)
 
 -- ---- the limits
 
-length-names_of : (names : List (List ℕ)) (items : List ℕ) → length (names_of names items) ≡ length items
-length-names_of names [] = refl
-length-names_of names (item ∷ items) = ap suc (length-names_of names items)
+length-map_each : {X Y : Type 0} (f : X → Y) (xs : List X) → length (map f xs) ≡ length xs
+length-map_each f [] = refl
+length-map_each f (x ∷ xs) = ap suc (length-map_each f xs)
 
-sum-names_of : (names options : List (List ℕ)) → sum_by length (map (names_of names) options) ≡ sum_by length options
-sum-names_of names [] = refl
-sum-names_of names (items ∷ options) =
-    sum_by-cons length (names_of names items) (map (names_of names) options) ∙ rw (length-names_of names items, sum-names_of names options) (sym (sum_by-cons length items options))
+sum-map_each : {X Y : Type 0} (f : X → Y) (lists : List (List X)) → sum_by length (map (map f) lists) ≡ sum_by length lists
+sum-map_each f [] = refl
+sum-map_each f (xs ∷ lists) =
+    sum_by-cons length (map f xs) (map (map f) lists) ∙ rw (length-map_each f xs, sum-map_each f lists) (sym (sum_by-cons length xs lists))
 
-length-map_names : (names options : List (List ℕ)) → length (map (names_of names) options) ≡ length options
-length-map_names names [] = refl
-length-map_names names (items ∷ options) = ap suc (length-map_names names options)
+-- as many options are kept as lines, with as many items as these have words
+pub record KeepsCounts (options : List (List ℕ)) (lines : List (List (List ℕ))) : Type 0 where
+  pub count : length lines ≡ length options
+  pub occurrences : sum_by length lines ≡ sum_by length options
 
-kept_lines-push : (names : List (List ℕ)) (lines : List (List (List ℕ))) (words : List (List ℕ)) → kept_lines names (lines ++ words ∷ []) ≡ kept_lines names lines ++ cond (names_primary names words) (words ∷ []) []
-kept_lines-push names lines words = filter-append (names_primary names) lines (words ∷ [])
+pub keeps_counts : (names options : List (List ℕ)) (lines : List (List (List ℕ))) → map (names_of names) options ≡ map (map item_part) lines → KeepsCounts options lines
+keeps_counts names options lines same = record {
+  count = sym (length-map_each (map item_part) lines) ∙ ap length (sym same) ∙ length-map_each (names_of names) options;
+  occurrences = sym (sum-map_each item_part lines) ∙ ap (sum_by length) (sym same) ∙ sum-map_each (λ item. get_or names item []) options;
+}
 
--- where the options before a line are those that it leaves
-keep_fault : (line primary : ℕ) (names options : List (List ℕ)) (ignored : ℕ) (items : List ℕ) → length options ≤ 20000 → sum_by length options ≤ 200000 → fault_of (keep_at line primary options ignored items) ≡ first_of (limit_tests line (map (names_of names) options ++ cond (some_below primary items) (names_of names items ∷ []) []))
+-- the limits, by three numbers
+abbrev limits_by : ℕ → ℕ → ℕ → ℕ → List (Bool × ReadFault)
+limits_by line options nodes colours = (nat_lt 20000 options, faults.TooManyOptions line) ∷ (nat_lt 200000 nodes, faults.TooManyNodes line) ∷ (nat_lt 10000 colours, faults.TooManyColours line) ∷ []
+
+same_limits : (line a b c d e f : ℕ) → a ≡ b → c ≡ d → e ≡ f → first_of (limits_by line a c e) ≡ first_of (limits_by line b d f)
+same_limits line a b c d e f p q r = rw (p, q, r) refl
+
+within_limits : (line a b c : ℕ) → a ≤ 20000 → b ≤ 200000 → c ≤ 10000 → None ≡ first_of (limits_by line a b c)
+within_limits line a b c p q r = rw (le-ltb 20000 a p, le-ltb 200000 b q, le-ltb 10000 c r) refl
+
+last_fault : {A B : Type 0} (r : Result A ReadFault) (f : A → B) → fault_of (r >>= (λ x. Ok (f x))) ≡ fault_of r
+last_fault (Ok x) f = refl
+last_fault (Err fault) f = refl
+
+kept_fault : (line primary : ℕ) (names : List (List ℕ)) (lines : List (List (List ℕ))) (kept : KeptOptions) (items : List ℕ) (words : List (List ℕ)) → Stands names primary lines kept → ReadsOption names primary [] words items → some_below primary items ≡ true → names_primary (take primary names) words ≡ true → fault_of (keep_at line primary kept items words) ≡ first_of (limit_tests line (kept_lines (take primary names) (lines ++ words ∷ [])))
 unfolding keep_at
-keep_fault line primary names options ignored items count occurrences =
-    elim (some_below primary items) as (λ b. fault_of {A = List (List ℕ) × ℕ} (cond b (after ((nat_lt 20000 (length options + 1), faults.TooManyOptions line) ∷ (nat_lt 200000 (sum_by length options + length items), faults.TooManyNodes line) ∷ []) (options ++ items ∷ [], ignored)) (Ok (options, ignored + 1))) ≡ first_of (limit_tests line (map (names_of names) options ++ cond b (names_of names items ∷ []) []))) [
-      | true ↦
-          fault_of-after ((nat_lt 20000 (length options + 1), faults.TooManyOptions line) ∷ (nat_lt 200000 (sum_by length options + length items), faults.TooManyNodes line) ∷ []) (options ++ items ∷ [], ignored)
-          ∙ same_tests (length options + 1) (length (map (names_of names) options ++ names_of names items ∷ [])) (sum_by length options + length items) (sum_by length (map (names_of names) options ++ names_of names items ∷ []))
-          (omega (arith, length-append (map (names_of names) options) (names_of names items ∷ []), length-map_names names options))
-          (omega (arith, sum_by-append length (map (names_of names) options) (names_of names items ∷ []), sum_by-cons length (names_of names items) [], length-names_of names items, sum-names_of names options))
-      | false ↦
-          same_none (length (map (names_of names) options ++ [])) (sum_by length (map (names_of names) options ++ []))
-          (omega (arith, ap length (append-nil (map (names_of names) options)), length-map_names names options))
-          (omega (arith, ap (sum_by length) (append-nil (map (names_of names) options)), sum-names_of names options))
-    ]
-  where
-    same_tests : (a b c d : ℕ) → a ≡ b → c ≡ d → first_of ((nat_lt 20000 a, faults.TooManyOptions line) ∷ (nat_lt 200000 c, faults.TooManyNodes line) ∷ []) ≡ first_of ((nat_lt 20000 b, faults.TooManyOptions line) ∷ (nat_lt 200000 d, faults.TooManyNodes line) ∷ [])
-    same_tests a b c d e f = rw (e, f) refl
+kept_fault line primary names lines kept items words stands read some is =
+    let whole = kept_lines (take primary names) lines in
+    let tests = room_tests line kept.options items in
+    let before = flat_map (map colour_part) whole in
+    let colours : List (Bool × ReadFault) = (nat_lt 10000 (length (different (before ++ map colour_part words))), faults.TooManyColours line) ∷ [] in
+    let further : kept_lines (take primary names) (lines ++ words ∷ []) ≡ whole ++ words ∷ [] = kept_lines-push (take primary names) lines words true is in
+    let counts = keeps_counts names kept.options whole stands.options in
+    let long : length words ≡ length items = sym (length-map_each item_part words) ∙ ap length (sym read.whole) ∙ length-map_each (λ item. get_or names item []) items in
+    rw some
+    (fault_of-then tests items (λ own. colours_from line kept.colour_names [] (map colour_part words) >>= (λ state. Ok (more_kept kept own state)))
+    ∙ ap (or_first (first_of tests)) (last_fault (colours_from line kept.colour_names [] (map colour_part words)) (λ state. more_kept kept items state) ∙ colours_fault line kept.colour_names [] before (map colour_part words) stands.colour_names stands.room)
+    ∙ sym (first_of-append tests colours)
+    ∙ same_limits line (length kept.options + 1) (length (whole ++ words ∷ [])) (sum_by length kept.options + length items) (sum_by length (whole ++ words ∷ [])) (length (different (before ++ map colour_part words))) (length (colours_in (whole ++ words ∷ [])))
+    (omega (arith, counts.count, length-append whole (words ∷ [])))
+    (omega (arith, counts.occurrences, long, sum_by-append length whole (words ∷ []), sum_by-cons length words []))
+    (ap (λ cs. length (different cs)) (sym (colours_of_lines whole words)))
+    ∙ ap (λ all. first_of (limit_tests line all)) (sym further))
 
-    same_none : (a b : ℕ) → a ≤ 20000 → b ≤ 200000 → None ≡ first_of ((nat_lt 20000 a, faults.TooManyOptions line) ∷ (nat_lt 200000 b, faults.TooManyNodes line) ∷ [])
-    same_none a b p q = rw (le-ltb 20000 a p, le-ltb 200000 b q) refl
+ignored_fault : (line primary : ℕ) (names : List (List ℕ)) (lines : List (List (List ℕ))) (kept : KeptOptions) (items : List ℕ) (words : List (List ℕ)) → Stands names primary lines kept → some_below primary items ≡ false → names_primary (take primary names) words ≡ false → fault_of (keep_at line primary kept items words) ≡ first_of (limit_tests line (kept_lines (take primary names) (lines ++ words ∷ [])))
+unfolding keep_at
+ignored_fault line primary names lines kept items words stands none is =
+    let whole = kept_lines (take primary names) lines in
+    let counts = keeps_counts names kept.options whole stands.options in
+    rw none
+    (within_limits line (length whole) (sum_by length whole) (length (colours_in whole)) (omega (arith, counts.count, stands.count)) (omega (arith, counts.occurrences, stands.occurrences)) (omega (arith, ap length stands.colour_names, stands.room))
+    ∙ ap (λ all. first_of (limit_tests line all)) (sym (kept_lines-other (take primary names) lines words is)))
+
+keep_fault : (line primary : ℕ) (names : List (List ℕ)) (lines : List (List (List ℕ))) (kept : KeptOptions) (items : List ℕ) (words : List (List ℕ)) → names_differ names ≡ true → Stands names primary lines kept → ReadsOption names primary [] words items → fault_of (keep_at line primary kept items words) ≡ first_of (limit_tests line (kept_lines (take primary names) (lines ++ words ∷ [])))
+keep_fault line primary names lines kept items words differ stands read =
+    let is = primary_by_items names primary words items differ read in
+    (elim (some_below primary items) as (λ b. some_below primary items ≡ b → fault_of (keep_at line primary kept items words) ≡ first_of (limit_tests line (kept_lines (take primary names) (lines ++ words ∷ [])))) [
+      | true ↦ λ some. kept_fault line primary names lines kept items words stands read some (is ∙ some)
+      | false ↦ λ none. ignored_fault line primary names lines kept items words stands none (is ∙ none)
+    ]) refl
 
 -- ---- the lines of options
 
 -- the tests of an option's line, after those before it
-abbrev line_tests : List (List ℕ) → List (List ℕ) → List (ℕ × List (List ℕ)) × (ℕ × List (List ℕ)) → List (Bool × ReadFault)
-line_tests names primary place = flat_map (λ p. option_tests place.1.0 names p.0 p.1) (placed place.1.1) ++ limit_tests place.1.0 (kept_lines primary (map (λ l. l.1) (place.0 ++ place.1 ∷ [])))
+abbrev pub line_tests : List (List ℕ) → List (List ℕ) → List (ℕ × List (List ℕ)) × (ℕ × List (List ℕ)) → List (Bool × ReadFault)
+line_tests names primary place = flat_map (word_tests place.1.0 names primary) (placed place.1.1) ++ limit_tests place.1.0 (kept_lines primary (map (λ l. l.1) (place.0 ++ place.1 ∷ [])))
 
--- the options after a line with these words, by name
-kept_more : (names options : List (List ℕ)) (primary : ℕ) (items : List ℕ) (before : List (ℕ × List (List ℕ))) (line : ℕ × List (List ℕ)) → names_differ names ≡ true → are_below (length names) items ≡ true → names_of names items ≡ line.1 → map (names_of names) options ≡ kept_lines (take primary names) (words_in before) → map (names_of names) options ++ cond (some_below primary items) (names_of names items ∷ []) [] ≡ kept_lines (take primary names) (words_in (before ++ line ∷ []))
-kept_more names options primary items before line differ below words same =
-    ap (λ b. map (names_of names) options ++ cond b (names_of names items ∷ []) []) (sym (same_primary names primary items differ below))
-    ∙ rw (words, same, map-append (λ (l : ℕ × List (List ℕ)). l.1) before (line ∷ [])) (sym (kept_lines-push (take primary names) (words_in before) line.1))
+pub words_in-push : (before : List (ℕ × List (List ℕ))) (line : ℕ × List (List ℕ)) → words_in (before ++ line ∷ []) ≡ words_in before ++ line.1 ∷ []
+words_in-push before line = map-append (λ (l : ℕ × List (List ℕ)). l.1) before (line ∷ [])
 
--- what is kept, by name
-kept_named : (names options : List (List ℕ)) (primary ignored : ℕ) (items : List ℕ) (read : List (List ℕ) × ℕ) → read.0 ≡ cond (some_below primary items) (options ++ items ∷ []) options → map (names_of names) read.0 ≡ map (names_of names) options ++ cond (some_below primary items) (names_of names items ∷ []) []
-kept_named names options primary ignored items read kept = rw kept (both (some_below primary items))
-  where
-    both : (b : Bool) → map (names_of names) (cond b (options ++ items ∷ []) options) ≡ map (names_of names) options ++ cond b (names_of names items ∷ []) []
-    both true = map-append (names_of names) options (items ∷ [])
-    both false = sym (append-nil (map (names_of names) options))
-
-line_fault : (names : List (List ℕ)) (primary : ℕ) (options : List (List ℕ)) (ignored : ℕ) (before : List (ℕ × List (List ℕ))) (line : ℕ × List (List ℕ)) → names_differ names ≡ true → length options ≤ 20000 → sum_by length options ≤ 200000 → map (names_of names) options ≡ kept_lines (take primary names) (words_in before) → fault_of (option_at names primary options ignored line) ≡ first_of (line_tests names (take primary names) (before, line))
+line_fault : (names : List (List ℕ)) (primary : ℕ) (kept : KeptOptions) (before : List (ℕ × List (List ℕ))) (line : ℕ × List (List ℕ)) → names_differ names ≡ true → Stands names primary (words_in before) kept → fault_of (option_at names primary kept line) ≡ first_of (line_tests names (take primary names) (before, line))
 unfolding option_at
-line_fault names primary options ignored before line differ count occurrences same =
-    (elim (option_from line.0 names [] line.1) as (λ r. option_from line.0 names [] line.1 ≡ r → fault_of (r >>= (λ items. keep_at line.0 primary options ignored items)) ≡ or_first (fault_of r) (first_of (limit_tests line.0 (kept_lines (take primary names) (words_in (before ++ line ∷ [])))))) [
+line_fault names primary kept before line differ stands =
+    let limits = limit_tests line.0 (kept_lines (take primary names) (words_in (before ++ line ∷ []))) in
+    (elim (option_from line.0 names primary [] line.1) as (λ r. option_from line.0 names primary [] line.1 ≡ r → fault_of (r >>= (λ items. keep_at line.0 primary kept items line.1)) ≡ or_first (fault_of r) (first_of limits)) [
       | Ok items ↦ λ e.
-          let read = option_read line.0 names [] line.1 items e in
-          keep_fault line.0 primary names options ignored items count occurrences
-          ∙ ap (λ kept. first_of (limit_tests line.0 kept)) (kept_more names options primary items before line differ (read.below refl) read.whole same)
+          keep_fault line.0 primary names (words_in before) kept items line.1 differ stands (option_read line.0 names primary [] line.1 items e)
+          ∙ ap (λ lines. first_of (limit_tests line.0 (kept_lines (take primary names) lines))) (sym (words_in-push before line))
       | Err fault ↦ λ e. refl
     ]) refl
-    ∙ ap (λ found. or_first found (first_of (limit_tests line.0 (kept_lines (take primary names) (words_in (before ++ line ∷ [])))))) (option_words_fault line.0 names line.1 differ)
-    ∙ sym (first_of-append (flat_map (λ p. option_tests line.0 names p.0 p.1) (placed line.1)) (limit_tests line.0 (kept_lines (take primary names) (words_in (before ++ line ∷ [])))))
+    ∙ ap (λ found. or_first found (first_of limits)) (option_words_fault line.0 names primary line.1 differ)
+    ∙ sym (first_of-append (flat_map (word_tests line.0 names (take primary names)) (placed line.1)) limits)
 
--- what a line leaves, where it is read
-record LeavesLine (names : List (List ℕ)) (primary : ℕ) (lines : List (ℕ × List (List ℕ))) (options : List (List ℕ)) : Type 0 where
-  count : length options ≤ 20000
-  occurrences : sum_by length options ≤ 200000
-  named : map (names_of names) options ≡ kept_lines (take primary names) (words_in lines)
-
-line_left : (names : List (List ℕ)) (primary : ℕ) (options : List (List ℕ)) (ignored : ℕ) (before : List (ℕ × List (List ℕ))) (line : ℕ × List (List ℕ)) (more : List (List ℕ) × ℕ) → names_differ names ≡ true → LeavesLine names primary before options → option_at names primary options ignored line ≡ Ok more → LeavesLine names primary (before ++ line ∷ []) more.0
-unfolding option_at
-line_left names primary options ignored before line more differ left h =
-    (elim (option_from line.0 names [] line.1) as (λ r. option_from line.0 names [] line.1 ≡ r → (r >>= (λ items. keep_at line.0 primary options ignored items)) ≡ Ok more → LeavesLine names primary (before ++ line ∷ []) more.0) [
-      | Ok items ↦ λ e g.
-          let read = option_read line.0 names [] line.1 items e in
-          let kept = keep_read line.0 primary options ignored items more g in
-          record {
-            count = kept.count left.count;
-            occurrences = kept.occurrences left.occurrences;
-            named = kept_named names options primary ignored items more kept.kept ∙ kept_more names options primary items before line differ (read.below refl) read.whole left.named;
-          }
-      | Err fault ↦ λ e g. absurd (cc)
-    ]) refl h
-
-options_fault : (names : List (List ℕ)) (primary : ℕ) (options : List (List ℕ)) (ignored : ℕ) (before lines : List (ℕ × List (List ℕ))) → names_differ names ≡ true → LeavesLine names primary before options → fault_of (options_from names primary options ignored lines) ≡ first_of (flat_map (line_tests names (take primary names)) (placed_from before lines))
+pub options_fault : (names : List (List ℕ)) (primary : ℕ) (kept : KeptOptions) (before lines : List (ℕ × List (List ℕ))) → names_differ names ≡ true → Stands names primary (words_in before) kept → fault_of (options_from names primary kept lines) ≡ first_of (flat_map (line_tests names (take primary names)) (placed_from before lines))
 unfolding options_from
-options_fault names primary options ignored before [] differ left = refl
-options_fault names primary options ignored before (line ∷ lines) differ left =
-    (elim (option_at names primary options ignored line) as (λ r. option_at names primary options ignored line ≡ r → fault_of (r >>= (λ state. options_from names primary state.0 state.1 lines)) ≡ or_first (fault_of r) (first_of (flat_map (line_tests names (take primary names)) (placed_from (before ++ line ∷ []) lines)))) [
-      | Ok more ↦ λ e. options_fault names primary more.0 more.1 (before ++ line ∷ []) lines differ (line_left names primary options ignored before line more differ left e)
+options_fault names primary kept before [] differ stands = refl
+options_fault names primary kept before (line ∷ lines) differ stands =
+    (elim (option_at names primary kept line) as (λ r. option_at names primary kept line ≡ r → fault_of (r >>= (λ more. options_from names primary more lines)) ≡ or_first (fault_of r) (first_of (flat_map (line_tests names (take primary names)) (placed_from (before ++ line ∷ []) lines)))) [
+      | Ok more ↦ λ e.
+          options_fault names primary more (before ++ line ∷ []) lines differ (rw (words_in-push before line) (line_stands names primary (words_in before) line kept more differ stands e))
       | Err fault ↦ λ e. refl
     ]) refl
-    ∙ ap (λ found. or_first found (first_of (flat_map (line_tests names (take primary names)) (placed_from (before ++ line ∷ []) lines)))) (line_fault names primary options ignored before line differ left.count left.occurrences left.named)
+    ∙ ap (λ found. or_first found (first_of (flat_map (line_tests names (take primary names)) (placed_from (before ++ line ∷ []) lines)))) (line_fault names primary kept before line differ stands)
     ∙ sym (first_of-placed (line_tests names (take primary names)) before line lines)
 
 -- ---- the text
@@ -195,23 +218,20 @@ content_fault : (lines : List (ℕ × List (List ℕ))) → fault_of (reading_of
 unfolding reading_of
 content_fault [] = refl
 content_fault (first ∷ others) =
-    (elim (items_from first.0 [] false first.1) as (λ r. items_from first.0 [] false first.1 ≡ r → fault_of (r >>= (λ names. options_from names (primary_in first.1) [] 0 others >>= (λ kept. Ok (reading_by names (primary_in first.1) kept)))) ≡ or_first (fault_of r) (first_of (flat_map (line_tests (names_in first.1) (primary_names first.1)) (placed others)))) [
+    let primary = primary_in first.1 in
+    let made : List (List ℕ) → KeptOptions → Reading = λ names kept. record { names = names; primary = primary; kept = kept } in
+    (elim (items_from first.0 [] false first.1) as (λ r. items_from first.0 [] false first.1 ≡ r → fault_of (r >>= (λ names. options_from names primary none_kept others >>= (λ kept. Ok (made names kept)))) ≡ or_first (fault_of r) (first_of (flat_map (line_tests (names_in first.1) (primary_names first.1)) (placed others)))) [
       | Ok names ↦ λ e.
           let read = items_read first.0 [] false first.1 names e in
-          let none : LeavesLine names (primary_in first.1) [] [] = record { count = omega arith; occurrences = omega arith; named = refl } in
-          last (options_from names (primary_in first.1) [] 0 others) (λ kept. reading_by names (primary_in first.1) kept)
-          ∙ options_fault names (primary_in first.1) [] 0 [] others (read.differ refl) none
-          ∙ ap (λ places. first_of (flat_map (line_tests names (take (primary_in first.1) names)) places)) (placed_from-start others)
+          last_fault (options_from names primary none_kept others) (made names)
+          ∙ options_fault names primary none_kept [] others (read.differ refl) (none_stands names primary)
+          ∙ ap (λ places. first_of (flat_map (line_tests names (take primary names)) places)) (placed_from-start others)
           ∙ named names read.whole
       | Err fault ↦ λ e. refl
     ]) refl
     ∙ ap (λ found. or_first found (first_of (flat_map (line_tests (names_in first.1) (primary_names first.1)) (placed others)))) (item_line_fault first)
     ∙ sym (first_of-append (item_line_tests first) (flat_map (line_tests (names_in first.1) (primary_names first.1)) (placed others)))
   where
-    last : {A B : Type 0} (r : Result A ReadFault) (f : A → B) → fault_of (r >>= (λ kept. Ok (f kept))) ≡ fault_of r
-    last (Ok x) f = refl
-    last (Err fault) f = refl
-
     named : (names : List (List ℕ)) → names ≡ names_in first.1 → first_of (flat_map (line_tests names (take (primary_in first.1) names)) (placed others)) ≡ first_of (flat_map (line_tests (names_in first.1) (primary_names first.1)) (placed others))
     named names e = rw e refl
 

@@ -8,6 +8,7 @@ pub mod AnswerReads
 pub mod AnswerTexts
 pub mod AnswerWords
 pub mod AnswersAgain
+pub mod Colours
 pub mod Cuts
 pub mod Determined
 pub mod Differing
@@ -15,6 +16,7 @@ pub mod FirstFaults
 pub mod Firsts
 pub mod Further
 pub mod ItemLines
+pub mod Keys
 pub mod Lawful
 pub mod NameBytes
 pub mod Meanings
@@ -22,6 +24,7 @@ pub mod MeantNames
 pub mod Naming
 pub mod OptionLines
 pub mod OptionWords
+pub mod Parts
 pub mod Passed
 pub mod Placed
 pub mod Problems

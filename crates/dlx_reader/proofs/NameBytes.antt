@@ -1,16 +1,16 @@
 -- The names of a problem are words, and no two of them are equal.
-use Rattle.std.proofs.Common.{◌≡◌, ℕ, zero, suc, ◌<◌, List, [], ◌∷◌, length, get_or, map, Bool, true, false, not, ◌==◌, ◌∙◌, sym, ap, refl, arith, All, nat_le, nat_lt, nat_eq, ◌&&◌}
-use Rattle.std.proofs.lemmas.Bool.{both_ways, not-true, and_parts, ne_eqb, leb-true, ltb-true}
-use Rattle.std.proofs.lemmas.List.Elements.{All-nil, All-cons, All-weaker, All-map}
-use Rattle.std.proofs.lemmas.List.Folds.{list_any_at}
-use Rattle.std.proofs.lemmas.Slice.Eq.{bytes_eq-Decides}
-use Rattle.std.specs.List.{list_all, list_any}
+use Rattle.std.proofs.Common.{◌≡◌, ◌+◌, ℕ, zero, suc, ◌<◌, List, [], ◌∷◌, length, get_or, map, Bool, true, false, not, ◌==◌, ◌∙◌, sym, ap, refl, arith, All, nat_le, nat_lt, ◌&&◌, ◌≤◌, length-append}
+use Rattle.std.proofs.lemmas.Bool.{both_ways, not-true, and_parts, or_from, ne_eqb, leb-true, ltb-true}
+use Rattle.std.proofs.lemmas.List.Elements.{All-nil, All-cons, All-head, All-tail, All-weaker, All-map, All-append}
+use Rattle.std.specs.List.{list_all, zip}
+use Rattle.std.proofs.Math.Dec.{eqb-suc-zero}
 use Rattle.std.specs.Int.{IsInRange}
-use Rattle.std.specs.Cmp.Lexicographic.{pointwise}
-use Rattle.cover_problem.specs.Problem.{Problem, IsProblem, items_of, forbidden, is_name, names_differ}
+use Rattle.cover_problem.specs.Problem.{Problem, IsProblem, items_of, colours_of, forbidden, is_name}
+use Rattle.cover_problem.proofs.Colours.{colours_long, colours_below}
 use Rattle.cover_problem.specs.Numbers.{is_in, some_below}
 use Rattle.dlx_reader.specs.Lines.{is_white}
-use Rattle.dlx_reader.specs.Writing.{name_text, item_names}
+use Rattle.dlx_reader.specs.Occurrences.{has_colon}
+use Rattle.dlx_reader.specs.Writing.{name_text, colour_behind, word_text, occurrences_of, option_words}
 
 -- a byte that is neither white space nor the end of a line
 pub record IsPlain (byte : ℕ) : Type 0 where
@@ -58,52 +58,70 @@ pub items_named : (p : Problem) (o : ℕ) → IsProblem p → o < length p.optio
 items_named p o is inside =
     All-weaker (λ i. nat_lt i (length p.names) ≡ true) (λ i. i < length p.names) (λ i. ltb-true i (length p.names)) (items_of p o) (All-from_test (λ i. nat_lt i (length p.names)) (items_of p o) (is.each_named o [] inside))
 
--- the names of an option are words
-pub names_words : (p : Problem) (o : ℕ) → IsProblem p → o < length p.options → All IsWord (item_names p o)
-names_words p o is inside =
-    All-map IsWord (name_text p) (items_of p o)
-    (All-weaker (λ i. i < length p.names) (λ i. IsWord (name_text p i)) (λ i below. word_from_name (name_text p i) (is.each_name i [] below)) (items_of p o) (items_named p o is inside))
+-- the colours of an option are colours of the problem, or none
+pub option_coloured : (p : Problem) (o : ℕ) → IsProblem p → o < length p.options → All (λ c. c ≤ length p.colour_names) (colours_of p o)
+option_coloured p o is inside =
+    All-weaker (λ c. nat_lt c (length p.colour_names + 1) ≡ true) (λ c. c ≤ length p.colour_names)
+    (λ c below.
+    let under = ltb-true c (length p.colour_names + 1) below in
+    omega (arith, under))
+    (colours_of p o) (All-from_test (λ c. nat_lt c (length p.colour_names + 1)) (colours_of p o) (colours_below p o is inside))
+
+-- no name has a colon
+pub name_no_colon : (name : List ℕ) → is_name name ≡ true → has_colon name ≡ false
+name_no_colon name is =
+    let parts = and_parts (nat_le 1 (length name) && nat_le (length name) 32) (list_all (λ byte. not (is_in forbidden byte)) name) is in
+    no_colon_in name parts.1
+  where
+    no_colon_in : (bytes : List ℕ) → list_all (λ byte. not (is_in forbidden byte)) bytes ≡ true → has_colon bytes ≡ false
+    no_colon_in [] h = refl
+    no_colon_in (byte ∷ bytes) h =
+        let parts = and_parts (not (is_in forbidden byte)) (list_all (λ b. not (is_in forbidden b)) bytes) h in
+        or_from (byte == 58) (has_colon bytes) (ne_eqb byte 58 (lawful_other byte 58 parts.0 refl)) (no_colon_in bytes parts.1)
+
+-- what stands behind a name is plain
+behind_plain : (p : Problem) (colour : ℕ) → IsProblem p → colour ≤ length p.colour_names → All IsPlain (colour_behind p colour)
+behind_plain p zero is named = All-nil IsPlain
+behind_plain p (suc colour) is named =
+    let name = word_from_name (get_or p.colour_names colour []) (is.each_colour_name colour [] (omega arith)) in
+    rw (eqb-suc-zero colour) (All-cons IsPlain 58 (get_or p.colour_names colour []) (plain_by 58 (λ e. omega arith) (λ e. omega arith) (λ e. omega arith) (λ e. omega arith) (λ e. omega arith) (λ e. omega arith)) name.plain)
+
+-- an item and a colour that the problem has
+pub record IsOccurrence (p : Problem) (occurrence : ℕ × ℕ) : Type 0 where
+  pub item : occurrence.0 < length p.names
+  pub colour : occurrence.1 ≤ length p.colour_names
+
+occurrence_word : (p : Problem) (occurrence : ℕ × ℕ) → IsProblem p → IsOccurrence p occurrence → IsWord (word_text p occurrence)
+occurrence_word p occurrence is here =
+    let name = word_from_name (name_text p occurrence.0) (is.each_name occurrence.0 [] here.item) in
+    record {
+      some = omega (arith, name.some, length-append (name_text p occurrence.0) (colour_behind p occurrence.1));
+      plain = All-append IsPlain (name_text p occurrence.0) (colour_behind p occurrence.1) name.plain (behind_plain p occurrence.1 is here.colour);
+    }
+
+both_occur : (p : Problem) (items colours : List ℕ) → All (λ i. i < length p.names) items → All (λ c. c ≤ length p.colour_names) colours → All (IsOccurrence p) (zip items colours)
+both_occur p [] colours all_items all_colours = All-nil (IsOccurrence p)
+both_occur p (i ∷ is) [] all_items all_colours = All-nil (IsOccurrence p)
+both_occur p (i ∷ is) (c ∷ cs) all_items all_colours =
+    All-cons (IsOccurrence p) (i, c) (zip is cs)
+    (record { item = All-head (λ x. x < length p.names) i is all_items; colour = All-head (λ x. x ≤ length p.colour_names) c cs all_colours })
+    (both_occur p is cs (All-tail (λ x. x < length p.names) i is all_items) (All-tail (λ x. x ≤ length p.colour_names) c cs all_colours))
+
+-- the words of an option are words
+pub words_words : (p : Problem) (o : ℕ) → IsProblem p → o < length p.options → All IsWord (option_words p o)
+words_words p o is inside =
+    All-map IsWord (word_text p) (occurrences_of p o)
+    (All-weaker (IsOccurrence p) (λ occurrence. IsWord (word_text p occurrence)) (λ occurrence here. occurrence_word p occurrence is here) (occurrences_of p o) (both_occur p (items_of p o) (colours_of p o) (items_named p o is inside) (option_coloured p o is inside)))
 
 some_items : (n : ℕ) (items : List ℕ) → some_below n items ≡ true → 0 < length items
 some_items n [] some = absurd (both_ways false refl some)
 some_items n (i ∷ is) some = omega arith
 
--- there is a name at least
-pub names_some : (p : Problem) (o : ℕ) → IsProblem p → o < length p.options → 0 < length (items_of p o)
-names_some p o is inside = some_items p.primary (items_of p o) (is.each_primary o [] inside)
+some_words : (p : Problem) (items colours : List ℕ) → 0 < length items → length colours ≡ length items → 0 < length (map (word_text p) (zip items colours))
+some_words p [] colours some long = absurd (omega arith)
+some_words p (i ∷ is) [] some long = absurd (omega (arith, long))
+some_words p (i ∷ is) (c ∷ cs) some long = omega arith
 
--- ---- different names
-
-none_at : (name : List ℕ) (names : List (List ℕ)) (i : ℕ) → list_any (pointwise nat_eq name) names ≡ false → i < length names → name ≡ get_or names i [] → ⊥
-none_at name names i none inside same = both_ways (list_any (pointwise nat_eq name) names) none (list_any_at (pointwise nat_eq name) names i [] inside ((bytes_eq-Decides name (get_or names i [])).1 same))
-
-pub names_injective : (names : List (List ℕ)) (i j : ℕ) → names_differ names ≡ true → i < length names → j < length names → get_or names i [] ≡ get_or names j [] → i ≡ j
-names_injective [] i j differ in_i in_j same = absurd (omega arith)
-names_injective (name ∷ names) zero zero differ in_i in_j same = refl
-names_injective (name ∷ names) zero (suc j) differ in_i in_j same =
-    let parts = and_parts (not (list_any (pointwise nat_eq name) names)) (names_differ names) differ in
-    let inside : j < length names = omega arith in
-    absurd (none_at name names j (not-true _ parts.0) inside same)
-names_injective (name ∷ names) (suc i) zero differ in_i in_j same =
-    let parts = and_parts (not (list_any (pointwise nat_eq name) names)) (names_differ names) differ in
-    let inside : i < length names = omega arith in
-    absurd (none_at name names i (not-true _ parts.0) inside (sym same))
-names_injective (name ∷ names) (suc i) (suc j) differ in_i in_j same =
-    let parts = and_parts (not (list_any (pointwise nat_eq name) names)) (names_differ names) differ in
-    ap suc (names_injective names i j parts.1 (omega arith) (omega arith) same)
-
-items_injective : (p : Problem) (is js : List ℕ) → names_differ p.names ≡ true → All (λ i. i < length p.names) is → All (λ i. i < length p.names) js → map (name_text p) is ≡ map (name_text p) js → is ≡ js
-items_injective p [] [] differ all_i all_j same = refl
-items_injective p [] (j ∷ js) differ all_i all_j same = absurd (cc)
-items_injective p (i ∷ is) [] differ all_i all_j same = absurd (cc)
-items_injective p (i ∷ is) (j ∷ js) differ all_i all_j same =
-    let both : name_text p i ∷ map (name_text p) is ≡ name_text p j ∷ map (name_text p) js = same in
-    let first : name_text p i ≡ name_text p j = cc in
-    let rest : map (name_text p) is ≡ map (name_text p) js = cc in
-    let head : i ≡ j = names_injective p.names i j differ (all_i 0 0 (omega arith)) (all_j 0 0 (omega arith)) first in
-    let tail : is ≡ js = items_injective p is js differ (λ k d h. all_i (suc k) d (omega arith)) (λ k d h. all_j (suc k) d (omega arith)) rest in
-    cc
-
--- options with the same names have the same items
-pub same_items : (p : Problem) (o k : ℕ) → IsProblem p → o < length p.options → k < length p.options → item_names p o ≡ item_names p k → items_of p o ≡ items_of p k
-same_items p o k is in_o in_k same = items_injective p (items_of p o) (items_of p k) is.distinct_names (items_named p o is in_o) (items_named p k is in_k) same
+-- there is a word at least
+pub words_some : (p : Problem) (o : ℕ) → IsProblem p → o < length p.options → 0 < length (option_words p o)
+words_some p o is inside = some_words p (items_of p o) (colours_of p o) (some_items p.primary (items_of p o) (is.each_primary o [] inside)) (colours_long p o is)

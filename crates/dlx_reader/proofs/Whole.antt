@@ -1,29 +1,35 @@
 -- A text that has a problem is read.
-use Rattle.std.proofs.Common.{◌≡◌, ℕ, ◌+◌, ◌≤◌, List, [], ◌∷◌, ◌++◌, length, Option, Some, None, Ok, Bool, true, false, cond, refl, sym, ap, ◌∙◌, arith, append_assoc, append-nil, length-append, map, take, drop, get_or, not, ◌==◌, ◌||◌, ◌&&◌, nat_lt, nat_le, nat_eq, is_some, count_by}
-use Rattle.std.specs.List.{list_any, list_all, sum_by}
+use Rattle.std.proofs.Common.{◌≡◌, ℕ, ◌+◌, ◌≤◌, List, [], ◌∷◌, ◌++◌, length, Some, None, Ok, Err, Bool, true, false, cond, refl, sym, ap, ◌∙◌, arith, append_assoc, append-nil, length-append, map, take, drop, get_or, not, ◌==◌, ◌||◌, ◌&&◌, nat_lt, nat_le, nat_eq, is_some, count_by, add-one}
+use Rattle.std.specs.List.{list_any, list_all, sum_by, flat_map}
 use Rattle.std.specs.Cmp.Lexicographic.{pointwise, bytes_decides}
-use Rattle.std.proofs.lemmas.Bool.{and_parts, or_parts, or_from, not-true, leb-true, le-ltb, ltb-true, eqb-true, eqb-false, ne_eqb}
+use Rattle.std.proofs.lemmas.Bool.{and_parts, and_from, or_parts, or_from, not-true, not_from_false, leb-true, le-ltb, ltb-true, eqb-true, eqb-false, ne_eqb, true≢false}
+use Rattle.std.proofs.lemmas.Grind.{flat_map-append}
+use Rattle.std.proofs.lemmas.List.{map-append}
+use Rattle.std.proofs.lemmas.List.Elements.{filter-append}
 use Rattle.std.proofs.lemmas.List.Folds.{list_all-append}
 use Rattle.std.proofs.lemmas.List.Sums.{sum_by-cons, sum_by-append, AllPass-from_list_all, list_all-from_AllPass}
 use Rattle.std.proofs.Math.Dec.{eqb-suc-zero}
-use Rattle.cover_problem.specs.Numbers.{is_in, are_below, some_below}
+use Rattle.cover_problem.specs.Numbers.{is_in, is_distinct, are_below, some_below}
 use Rattle.cover_problem.specs.Problem.{Problem, forbidden, is_name, names_differ}
 use Rattle.dlx_reader.specs.Content.{begins_with_bar, content_of}
-use Rattle.dlx_reader.specs.Faults.{is_illegal, name_tests, item_tests}
+use Rattle.dlx_reader.specs.Faults.{first_of, placed, is_illegal, name_tests, part_tests, item_tests, option_tests, limit_tests}
 use Rattle.dlx_reader.specs.Items.{name_part, names_in, primary_in, primary_names}
+use Rattle.dlx_reader.specs.Kept.{KeptOptions}
 use Rattle.dlx_reader.specs.Names.{is_among, item_named}
-use Rattle.dlx_reader.specs.OptionLines.{names_of, names_primary, is_option_line, kept_lines}
+use Rattle.dlx_reader.specs.Occurrences.{has_colon, item_part, colour_part}
+use Rattle.dlx_reader.specs.OptionLines.{names_of, names_primary, is_occurrence, is_option_line, kept_lines, colours_in, names_of_colours}
 use Rattle.dlx_reader.specs.ProblemOf.{IsProblemIn, IsProblemOf}
-use Rattle.dlx_reader.specs.Reading.{◌>>=◌, after, add_name, item_at, items_from, known_item, option_item_at, option_from, keep_at, option_at, options_from, reading_of, read_by}
+use Rattle.dlx_reader.specs.Reading.{after, add_name, item_at, items_from, options_from, none_kept, reading_of, read_by}
 use Rattle.dlx_reader.specs.declared.fault.ReadFault.{ReadFault}
-use Rattle.dlx_reader.specs.declared.fault.ReadFault.TheVariants as faults
+use Rattle.dlx_reader.proofs.Colours.{different, different-le}
 use Rattle.dlx_reader.proofs.Differing.{same_name}
+use Rattle.dlx_reader.proofs.FirstFaults.{keeps_counts, word_tests, line_tests, options_fault, words_in-push}
 use Rattle.dlx_reader.proofs.Firsts.{Fails, none_from_fails}
 use Rattle.dlx_reader.proofs.ItemLines.{add_names, length-add}
 use Rattle.dlx_reader.proofs.Naming.{named_at, is_some-named}
-use Rattle.dlx_reader.proofs.OptionLines.{words_in}
-use Rattle.dlx_reader.proofs.OptionWords.{ReadsOption, option_read, same_item, same_primary, are_below-push, names_of-push}
-use Rattle.dlx_reader.proofs.Placed.{given, after_is}
+use Rattle.dlx_reader.proofs.OptionLines.{Stands, is_option, none_stands, options_stand, words_in}
+use Rattle.dlx_reader.proofs.Parts.{no_colon}
+use Rattle.dlx_reader.proofs.Placed.{or_first, first_of-append, fault_of, given, after_is, placed_from, placed_from-start, first_of-placed}
 
 -- where no test holds
 after_passes : {A : Type 0} (tests : List (Bool × ReadFault)) (x : A) → Fails tests → after tests x ≡ Ok x
@@ -109,35 +115,104 @@ items_whole line names divided (word ∷ words) lawful differ room bars =
 
 -- ---- an option's line
 
-known_whole : (line : ℕ) (names : List (List ℕ)) (items : List ℕ) (word : List ℕ) (found : Option ℕ) → is_some found ≡ true → ((item : ℕ) → found ≡ Some item → is_in items item ≡ false) → (item : ℕ) × ((found ≡ Some item) × ((known_item line found >>= (λ i. after ((is_in items i, faults.DuplicateInOption line) ∷ []) (items ++ i ∷ []))) ≡ Ok (items ++ item ∷ [])))
-known_whole line names items word None some fresh = absurd (cc)
-known_whole line names items word (Some item) some fresh = (item, (refl, after_passes ((is_in items item, faults.DuplicateInOption line) ∷ []) (items ++ item ∷ []) (fresh item refl, tt)))
+-- a name among lawful ones is lawful
+among_lawful : (names : List (List ℕ)) (name : List ℕ) → list_all is_name names ≡ true → is_among names name ≡ true → is_name name ≡ true
+among_lawful names name each among =
+    (elim (item_named names name) as (λ found. item_named names name ≡ found → is_name name ≡ true) [
+      | None ↦ λ e. absurd (true≢false (sym among ∙ sym (is_some-named names name) ∙ ap is_some e))
+      | Some item ↦ λ e. let at_item = named_at names name item e in ap is_name (sym at_item.1) ∙ AllPass-from_list_all is_name names each item [] at_item.0
+    ]) refl
 
--- a name that is not yet in the option adds its item
-word_whole : (line : ℕ) (names : List (List ℕ)) (items : List ℕ) (word : List ℕ) → list_all is_name names ≡ true → names_differ names ≡ true → are_below (length names) items ≡ true → is_among names word ≡ true → is_among (names_of names items) word ≡ false → (item : ℕ) × ((item_named names word ≡ Some item) × (option_item_at line names items word ≡ Ok (items ++ item ∷ [])))
-unfolding option_item_at
-word_whole line names items word lawful differ below among fresh =
-    let known = known_whole line names items word (item_named names word) (is_some-named names word ∙ among) (λ item named.
-    let at = named_at names word item named in
-    sym (same_item names items item differ below at.0) ∙ ap (is_among (names_of names items)) at.1 ∙ fresh) in
-    let at = named_at names word known.0 known.1.0 in
-    let name : is_name word ≡ true = ap is_name (sym at.1) ∙ AllPass-from_list_all is_name names lawful known.0 [] at.0 in
-    (known.0, (known.1.0, rw (after_passes (name_tests line word) word (name_passes line word name)) known.1.1))
+name_some : (name : List ℕ) → is_name name ≡ true → (length name == 0) ≡ false
+name_some name h =
+    let parts = and_parts (nat_le 1 (length name) && nat_le (length name) 32) (list_all (λ byte. not (is_in forbidden byte)) name) h in
+    let bounds = and_parts (nat_le 1 (length name)) (nat_le (length name) 32) parts.0 in
+    ne_eqb (length name) 0 (λ none. omega (arith, none, leb-true 1 (length name) bounds.0))
 
-option_whole : (line : ℕ) (names : List (List ℕ)) (items : List ℕ) (words : List (List ℕ)) → list_all is_name names ≡ true → names_differ names ≡ true → are_below (length names) items ≡ true → list_all (is_among names) words ≡ true → names_differ (names_of names items ++ words) ≡ true → (read : List ℕ) × (option_from line names items words ≡ Ok read)
-unfolding option_from
-option_whole line names items [] lawful differ below among apart = (items, refl)
-option_whole line names items (word ∷ words) lawful differ below among apart =
-    let parts = and_parts (is_among names word) (list_all (is_among names) words) among in
-    let one = word_whole line names items word lawful differ below parts.0 (differ_apart (names_of names items) word words apart) in
-    let at = named_at names word one.0 one.1.0 in
-    let more : names_of names (items ++ one.0 ∷ []) ++ words ≡ names_of names items ++ word ∷ words = rw (names_of-push names items (items ++ one.0 ∷ []) one.0 word refl at.1) (append_assoc (names_of names items) (word ∷ []) words) in
-    let rest = option_whole line names (items ++ one.0 ∷ []) words lawful differ (are_below-push (length names) items one.0 below at.0) parts.1 (rw more apart) in
-    (rest.0, rw one.1.1 rest.1)
+-- the parts of a word that may stand in an option pass the tests
+parts_pass : (line : ℕ) (names first_names : List (List ℕ)) (word : List ℕ) → list_all is_name names ≡ true → is_occurrence names first_names word ≡ true → Fails (part_tests line (has_colon word) (item_part word) (colour_part word)) × ((has_colon word && is_among first_names (item_part word)) ≡ false)
+parts_pass line names first_names word lawful occurs =
+    let parts = and_parts (is_among names (item_part word)) (not (has_colon word) || (is_name (colour_part word) && not (is_among first_names (item_part word)))) occurs in
+    let name : is_name (item_part word) ≡ true = among_lawful names (item_part word) lawful parts.0 in
+    (elim (has_colon word) as (λ b. has_colon word ≡ b → (not b || (is_name (colour_part word) && not (is_among first_names (item_part word)))) ≡ true → Fails (part_tests line b (item_part word) (colour_part word)) × ((b && is_among first_names (item_part word)) ≡ false)) [
+      | true ↦ λ colon coloured.
+          let two = and_parts (is_name (colour_part word)) (not (is_among first_names (item_part word))) coloured in
+          let own = name_passes line (item_part word) name in
+          let behind = name_passes line (colour_part word) two.0 in (
+            (
+              or_from (list_any is_illegal (item_part word)) (list_any is_illegal (colour_part word)) own.0 behind.0,
+              (own.1.0, (or_from (length (item_part word) == 0 || length (colour_part word) == 0) (nat_lt 32 (length (colour_part word))) (or_from (length (item_part word) == 0) (length (colour_part word) == 0) (name_some (item_part word) name) (name_some (colour_part word) two.0)) behind.1.0, tt)),
+            ),
+            not-true (is_among first_names (item_part word)) two.1,
+          )
+      | false ↦ λ none plain.
+          let own = name_passes line (item_part word) name in
+          let empty : list_any is_illegal (colour_part word) ≡ false = ap (list_any is_illegal) (no_colon word none).1 in
+          ((or_from (list_any is_illegal (item_part word)) (list_any is_illegal (colour_part word)) own.0 empty, (own.1.0, (refl, tt))), refl)
+    ]) refl parts.1
 
--- ---- the lines of options
+word_passes_tests : (line : ℕ) (names first_names before : List (List ℕ)) (word : List ℕ) → list_all is_name names ≡ true → is_occurrence names first_names word ≡ true → is_among (map item_part before) (item_part word) ≡ false → first_of (option_tests line names first_names before word) ≡ None
+word_passes_tests line names first_names before word lawful occurs fresh =
+    let among = (and_parts (is_among names (item_part word)) (not (has_colon word) || (is_name (colour_part word) && not (is_among first_names (item_part word)))) occurs).0 in
+    let passes = parts_pass line names first_names word lawful occurs in
+    none_from_fails (option_tests line names first_names before word) (passes.0.0, (passes.0.1.0, (passes.0.1.1.0, (ap not among, (fresh, (passes.1, tt))))))
 
--- items with the same names are the same
+words_pass : (line : ℕ) (names first_names before words : List (List ℕ)) → list_all is_name names ≡ true → list_all (is_occurrence names first_names) words ≡ true → names_differ (map item_part before ++ map item_part words) ≡ true → first_of (flat_map (word_tests line names first_names) (placed_from before words)) ≡ None
+words_pass line names first_names before [] lawful occur differ = refl
+words_pass line names first_names before (word ∷ words) lawful occur differ =
+    let parts = and_parts (is_occurrence names first_names word) (list_all (is_occurrence names first_names) words) occur in
+    let fresh = differ_apart (map item_part before) (item_part word) (map item_part words) differ in
+    let further : map item_part (before ++ word ∷ []) ++ map item_part words ≡ map item_part before ++ item_part word ∷ map item_part words =
+    ap (λ front. front ++ map item_part words) (map-append item_part before (word ∷ [])) ∙ append_assoc (map item_part before) (item_part word ∷ []) (map item_part words) in
+    first_of-placed (word_tests line names first_names) before word words
+    ∙ ap (λ found. or_first found (first_of (flat_map (word_tests line names first_names) (placed_from (before ++ word ∷ []) words)))) (word_passes_tests line names first_names before word lawful parts.0 fresh)
+    ∙ words_pass line names first_names (before ++ word ∷ []) words lawful parts.1 (rw further differ)
+
+line_passes : (line : ℕ) (names first_names words : List (List ℕ)) → list_all is_name names ≡ true → is_option_line names first_names words ≡ true → first_of (flat_map (word_tests line names first_names) (placed words)) ≡ None
+line_passes line names first_names words lawful is =
+    let parts = and_parts (list_all (is_occurrence names first_names) words) (names_differ (map item_part words)) is in
+    ap (λ places. first_of (flat_map (word_tests line names first_names) places)) (sym (placed_from-start words)) ∙ words_pass line names first_names [] words lawful parts.0 parts.1
+
+-- ---- the limits
+
+-- lines that keep them
+pub record KeepLimits (lines : List (List (List ℕ))) : Type 0 where
+  pub count : length lines ≤ 20000
+  pub occurrences : sum_by length lines ≤ 200000
+  pub colours : length (colours_in lines) ≤ 10000
+
+-- so do the first of them
+first_keep : (lines more : List (List (List ℕ))) → KeepLimits (lines ++ more) → KeepLimits lines
+first_keep lines more limits = record {
+  count = omega (arith, limits.count, length-append lines more);
+  occurrences = omega (arith, limits.occurrences, sum_by-append length lines more);
+  colours =
+      omega (arith, limits.colours, different-le (flat_map (map colour_part) lines) (flat_map (map colour_part) more), ap (λ cs. length (different cs)) (flat_map-append (map colour_part) lines more));
+}
+
+limits_pass : (line : ℕ) (lines : List (List (List ℕ))) → KeepLimits lines → first_of (limit_tests line lines) ≡ None
+limits_pass line lines limits = rw (le-ltb 20000 (length lines) limits.count, le-ltb 200000 (sum_by length lines) limits.occurrences, le-ltb 10000 (length (colours_in lines)) limits.colours) refl
+
+lines_pass : (names first_names : List (List ℕ)) (before lines : List (ℕ × List (List ℕ))) → list_all is_name names ≡ true → list_all (is_option_line names first_names) (words_in lines) ≡ true → KeepLimits (kept_lines first_names (words_in before ++ words_in lines)) → first_of (flat_map (line_tests names first_names) (placed_from before lines)) ≡ None
+lines_pass names first_names before [] lawful each limits = refl
+lines_pass names first_names before (line ∷ lines) lawful each limits =
+    let parts = and_parts (is_option_line names first_names line.1) (list_all (is_option_line names first_names) (words_in lines)) each in
+    let further : words_in (before ++ line ∷ []) ++ words_in lines ≡ words_in before ++ line.1 ∷ words_in lines =
+    ap (λ front. front ++ words_in lines) (words_in-push before line) ∙ append_assoc (words_in before) (line.1 ∷ []) (words_in lines) in
+    let all : KeepLimits (kept_lines first_names (words_in (before ++ line ∷ []) ++ words_in lines)) = rw further limits in
+    let here : KeepLimits (kept_lines first_names (words_in (before ++ line ∷ []))) =
+    first_keep (kept_lines first_names (words_in (before ++ line ∷ []))) (kept_lines first_names (words_in lines)) (rw (filter-append (names_primary first_names) (words_in (before ++ line ∷ [])) (words_in lines)) at all) in
+    let tests = flat_map (word_tests line.0 names first_names) (placed line.1) in
+    let limit = limit_tests line.0 (kept_lines first_names (words_in (before ++ line ∷ []))) in
+    let own : first_of tests ≡ None = line_passes line.0 names first_names line.1 lawful parts.0 in
+    let none : first_of (tests ++ limit) ≡ None = first_of-append tests limit ∙ ap (λ found. or_first found (first_of limit)) own ∙ limits_pass line.0 (kept_lines first_names (words_in (before ++ line ∷ []))) here in
+    first_of-placed (line_tests names first_names) before line lines
+    ∙ ap (λ found. or_first found (first_of (flat_map (line_tests names first_names) (placed_from (before ++ line ∷ []) lines)))) none
+    ∙ lines_pass names first_names (before ++ line ∷ []) lines lawful parts.1 all
+
+-- ---- the numbers that names have
+
+-- numbers with the same names are the same
 names_of-injective : (names : List (List ℕ)) (xs ys : List ℕ) → names_differ names ≡ true → are_below (length names) xs ≡ true → are_below (length names) ys ≡ true → names_of names xs ≡ names_of names ys → xs ≡ ys
 names_of-injective names [] [] differ p q e = refl
 names_of-injective names [] (y ∷ ys) differ p q e = absurd (cc)
@@ -150,100 +225,81 @@ names_of-injective names (x ∷ xs) (y ∷ ys) differ p q e =
     let same : x ≡ y = eqb-true x y (sym (same_name names x y differ (ltb-true x (length names) below.0) (ltb-true y (length names) under.0)) ∙ (bytes_decides (get_or names x []) (get_or names y [])).1 name) in
     rw (same, names_of-injective names xs ys differ below.1 under.1 rest) refl
 
--- a line of different names is read: as the next of these options, or as an ignored one
-keep_whole : (line primary : ℕ) (options : List (List ℕ)) (ignored : ℕ) (items : List ℕ) (rest : List (List ℕ)) → some_below primary items ≡ true → length (options ++ items ∷ rest) ≤ 20000 → sum_by length (options ++ items ∷ rest) ≤ 200000 → keep_at line primary options ignored items ≡ Ok (options ++ items ∷ [], ignored)
-unfolding keep_at
-keep_whole line primary options ignored items rest some count occurrences =
-    rw some
-    (after_passes {A = List (List ℕ) × ℕ} ((nat_lt 20000 (length options + 1), faults.TooManyOptions line) ∷ (nat_lt 200000 (sum_by length options + length items), faults.TooManyNodes line) ∷ []) (options ++ items ∷ [], ignored)
-    (le-ltb 20000 (length options + 1) (omega (arith, length-append options (items ∷ rest))), (le-ltb 200000 (sum_by length options + length items) (omega (arith, sum_by-append length options (items ∷ rest), sum_by-cons length items rest)), tt)))
+lists_injective : (names : List (List ℕ)) (xs ys : List (List ℕ)) → names_differ names ≡ true → list_all (are_below (length names)) xs ≡ true → list_all (are_below (length names)) ys ≡ true → map (names_of names) xs ≡ map (names_of names) ys → xs ≡ ys
+lists_injective names [] [] differ p q e = refl
+lists_injective names [] (y ∷ ys) differ p q e = absurd (cc)
+lists_injective names (x ∷ xs) [] differ p q e = absurd (cc)
+lists_injective names (x ∷ xs) (y ∷ ys) differ p q e =
+    let below = and_parts (are_below (length names) x) (list_all (are_below (length names)) xs) p in
+    let under = and_parts (are_below (length names) y) (list_all (are_below (length names)) ys) q in
+    let first : names_of names x ≡ names_of names y = cc in
+    let rest : map (names_of names) xs ≡ map (names_of names) ys = cc in
+    rw (names_of-injective names x y differ below.0 under.0 first, lists_injective names xs ys differ below.1 under.1 rest) refl
 
-skip_whole : (line primary : ℕ) (options : List (List ℕ)) (ignored : ℕ) (items : List ℕ) → some_below primary items ≡ false → keep_at line primary options ignored items ≡ Ok (options, ignored + 1)
-unfolding keep_at
-skip_whole line primary options ignored items none = rw none refl
-
-counted : (primary_names : List (List ℕ)) (words : List (List ℕ)) (lines : List (List (List ℕ))) → count_by (λ ws. not (names_primary primary_names ws)) (words ∷ lines) ≡ cond (not (names_primary primary_names words)) 1 0 + count_by (λ ws. not (names_primary primary_names ws)) lines
-counted primary_names words lines = sum_by-cons (λ ws. cond (not (names_primary primary_names ws)) 1 0) words lines
-
--- one line: what is left of the options after it
-record LineWhole (names : List (List ℕ)) (primary : ℕ) (options : List (List ℕ)) (ignored : ℕ) (line : ℕ × List (List ℕ)) (lines : List (List (List ℕ))) (rest : List (List ℕ)) : Type 0 where
-  more : List (List ℕ)
-  left : List (List ℕ)
-  passed : ℕ
-  reads : option_at names primary options ignored line ≡ Ok (more, passed)
-  whole : more ++ left ≡ options ++ rest
-  named : map (names_of names) left ≡ kept_lines (take primary names) lines
-  below : list_all (are_below (length names)) left ≡ true
-  total : passed ≡ ignored + cond (not (names_primary (take primary names) line.1)) 1 0
-
-line_whole : (names : List (List ℕ)) (primary : ℕ) (options : List (List ℕ)) (ignored : ℕ) (line : ℕ × List (List ℕ)) (lines : List (List (List ℕ))) (rest : List (List ℕ)) → list_all is_name names ≡ true → names_differ names ≡ true → is_option_line names line.1 ≡ true → list_all (are_below (length names)) rest ≡ true → map (names_of names) rest ≡ kept_lines (take primary names) (line.1 ∷ lines) → length (options ++ rest) ≤ 20000 → sum_by length (options ++ rest) ≤ 200000 → LineWhole names primary options ignored line lines rest
-unfolding option_at
-line_whole names primary options ignored line lines rest lawful differ each below named count occurrences =
-    let parts = and_parts (list_all (is_among names) line.1) (names_differ line.1) each in
-    let found = option_whole line.0 names [] line.1 lawful differ refl parts.0 parts.1 in
-    let read = option_read line.0 names [] line.1 found.0 found.1 in
-    let primary_is : names_primary (take primary names) line.1 ≡ some_below primary found.0 = ap (names_primary (take primary names)) (sym read.whole) ∙ same_primary names primary found.0 differ (read.below refl) in
-    (elim (names_primary (take primary names) line.1) as (λ b. names_primary (take primary names) line.1 ≡ b → map (names_of names) rest ≡ cond b (line.1 ∷ kept_lines (take primary names) lines) (kept_lines (take primary names) lines) → LineWhole names primary options ignored line lines rest) [
-      | true ↦ λ kept is. keeps found.0 found.1 read (sym primary_is ∙ kept) kept rest below is count occurrences
-      | false ↦ λ other is. record {
-        more = options;
-        left = rest;
-        passed = ignored + 1;
-        reads = rw found.1 (skip_whole line.0 primary options ignored found.0 (sym primary_is ∙ other));
-        whole = refl;
-        named = is;
-        below = below;
-        total = rw other refl;
-      }
-    ]) refl named
+-- no colour has no name, so the names of colours differ from that of none
+none_differs : (names : List (List ℕ)) → list_all is_name names ≡ true → names_differ names ≡ true → names_differ ([] ∷ names) ≡ true
+none_differs names lawful differ = and_from (not (list_any (pointwise nat_eq []) names)) (names_differ names) (not_from_false (list_any (pointwise nat_eq []) names) (other names lawful)) differ
   where
-    keeps : (items : List ℕ) → option_from line.0 names [] line.1 ≡ Ok items → ReadsOption names [] line.1 items → some_below primary items ≡ true → names_primary (take primary names) line.1 ≡ true → (rest : List (List ℕ)) → list_all (are_below (length names)) rest ≡ true → map (names_of names) rest ≡ line.1 ∷ kept_lines (take primary names) lines → length (options ++ rest) ≤ 20000 → sum_by length (options ++ rest) ≤ 200000 → LineWhole names primary options ignored line lines rest
-    keeps items found read some kept [] below is count occurrences = absurd (cc)
-    keeps items found read some kept (o ∷ os) below is count occurrences =
-        let parts = and_parts (are_below (length names) o) (list_all (are_below (length names)) os) below in
-        let first : names_of names o ≡ line.1 = cc in
-        let others : map (names_of names) os ≡ kept_lines (take primary names) lines = cc in
-        let same : o ≡ items = names_of-injective names o items differ parts.0 (read.below refl) (first ∙ sym read.whole) in
-        record {
-          more = options ++ items ∷ [];
-          left = os;
-          passed = ignored;
-          reads = rw found (keep_whole line.0 primary options ignored items os some (rw (← same) count) (rw (← same) occurrences));
-          whole = rw same (append_assoc options (items ∷ []) os);
-          named = others;
-          below = parts.1;
-          total = rw kept (omega arith);
-        }
-
-options_whole : (names : List (List ℕ)) (primary : ℕ) (options : List (List ℕ)) (ignored : ℕ) (lines : List (ℕ × List (List ℕ))) (rest : List (List ℕ)) → list_all is_name names ≡ true → names_differ names ≡ true → list_all (is_option_line names) (words_in lines) ≡ true → list_all (are_below (length names)) rest ≡ true → map (names_of names) rest ≡ kept_lines (take primary names) (words_in lines) → length (options ++ rest) ≤ 20000 → sum_by length (options ++ rest) ≤ 200000 → options_from names primary options ignored lines ≡ Ok (options ++ rest, ignored + count_by (λ words. not (names_primary (take primary names) words)) (words_in lines))
-unfolding options_from
-options_whole names primary options ignored [] [] lawful differ each below named count occurrences =
-    let none : ignored ≡ ignored + 0 = omega arith in
-    let whole : options ≡ options ++ [] = sym (append-nil options) in
-    rw (← none, ← whole) refl
-options_whole names primary options ignored [] (o ∷ os) lawful differ each below named count occurrences = absurd (cc)
-options_whole names primary options ignored (line ∷ lines) rest lawful differ each below named count occurrences =
-    let parts = and_parts (is_option_line names line.1) (list_all (is_option_line names) (words_in lines)) each in
-    let one = line_whole names primary options ignored line (words_in lines) rest lawful differ parts.0 below named count occurrences in
-    let further = options_whole names primary one.more one.passed lines one.left lawful differ parts.1 one.below one.named (rw one.whole count) (rw one.whole occurrences) in
-    let total : one.passed + count_by (λ words. not (names_primary (take primary names) words)) (words_in lines) ≡ ignored + count_by (λ words. not (names_primary (take primary names) words)) (line.1 ∷ words_in lines) = omega (arith, one.total, counted (take primary names) line.1 (words_in lines)) in
-    rw one.reads (further ∙ rw (one.whole, total) refl)
+    other : (all : List (List ℕ)) → list_all is_name all ≡ true → list_any (pointwise nat_eq []) all ≡ false
+    other [] h = refl
+    other ([] ∷ all) h = absurd (cc)
+    other ((byte ∷ bytes) ∷ all) h = other all (and_parts (is_name (byte ∷ bytes)) (list_all is_name all) h).1
 
 -- ---- the text
 
-parts_whole : (line : ℕ) (words : List (List ℕ)) (others : List (ℕ × List (List ℕ))) (problem : Problem) (ignored : ℕ) → IsProblemIn words (words_in others) problem ignored → (items_from line [] false words ≡ Ok problem.names) × (options_from problem.names (primary_in words) [] 0 others ≡ Ok (problem.options, ignored))
+-- the options, their colours and the names of these, as a problem has them
+same_kept : (words : List (List ℕ)) (lines : List (List (List ℕ))) (problem : Problem) (ignored : ℕ) (kept : KeptOptions) → IsProblemIn words lines problem ignored → Stands problem.names (primary_in words) lines kept → kept ≡ record { options = problem.options; colours = problem.colours; colour_names = problem.colour_names; ignored = ignored }
+same_kept words lines problem ignored kept h stands =
+    let primary_same : take (primary_in words) problem.names ≡ primary_names words = ap (take (primary_in words)) h.names in
+    let below : list_all (are_below (length problem.names)) problem.options ≡ true = list_all-from_AllPass (are_below (length problem.names)) problem.options h.lawful.each_named in
+    let lawful : list_all is_name problem.colour_names ≡ true = list_all-from_AllPass is_name problem.colour_names h.lawful.each_colour_name in
+    let next : length problem.colour_names + 1 ≡ length ([] ∷ problem.colour_names) = add-one (length problem.colour_names) in
+    let numbers : list_all (are_below (length ([] ∷ problem.colour_names))) problem.colours ≡ true =
+    rw (← next) (list_all-from_AllPass (are_below (length problem.colour_names + 1)) problem.colours h.lawful.each_colour) in
+    let options : kept.options ≡ problem.options =
+    lists_injective problem.names kept.options problem.options h.lawful.distinct_names (options_below (primary_in words) (length problem.names) kept.options stands.each) below
+    (stands.options ∙ ap (λ pn. map (map item_part) (kept_lines pn lines)) primary_same ∙ sym h.options) in
+    let colour_names : kept.colour_names ≡ problem.colour_names = stands.colour_names ∙ ap (λ pn. colours_in (kept_lines pn lines)) primary_same ∙ sym h.colour_names in
+    let own : list_all (are_below (length ([] ∷ problem.colour_names))) kept.colours ≡ true = ap (λ (ns : List (List ℕ)). list_all (are_below (length ([] ∷ ns))) kept.colours) (sym colour_names) ∙ stands.numbers in
+    let colours : kept.colours ≡ problem.colours =
+    lists_injective ([] ∷ problem.colour_names) kept.colours problem.colours (none_differs problem.colour_names lawful h.lawful.distinct_colour_names) own numbers
+    (ap (λ ns. map (names_of_colours ns) kept.colours) (sym colour_names) ∙ stands.colours ∙ ap (λ pn. map (map colour_part) (kept_lines pn lines)) primary_same ∙ sym h.colours) in
+    let total : kept.ignored ≡ ignored = stands.total ∙ ap (λ pn. count_by (λ ws. not (names_primary pn ws)) lines) primary_same ∙ sym h.others in
+    same_fields kept.options problem.options kept.colours problem.colours kept.colour_names problem.colour_names kept.ignored ignored options colours colour_names total
+  where
+    options_below : (primary n : ℕ) (options : List (List ℕ)) → list_all (is_option primary n) options ≡ true → list_all (are_below n) options ≡ true
+    options_below primary n [] all = refl
+    options_below primary n (items ∷ options) all =
+        let parts = and_parts (is_option primary n items) (list_all (is_option primary n) options) all in
+        and_from (are_below n items) (list_all (are_below n) options) (and_parts (are_below n items) (is_distinct items) (and_parts (some_below primary items) (are_below n items && is_distinct items) parts.0).1).0 (options_below primary n options parts.1)
+
+    same_fields : (a b c d e f : List (List ℕ)) (n m : ℕ) → a ≡ b → c ≡ d → e ≡ f → n ≡ m → record { options = a; colours = c; colour_names = e; ignored = n } ≡ (let kept : KeptOptions = record { options = b; colours = d; colour_names = f; ignored = m } in kept)
+    same_fields a b c d e f n m p q r s = rw (p, q, r, s) refl
+
+problem_limits : (words : List (List ℕ)) (lines : List (List (List ℕ))) (problem : Problem) (ignored : ℕ) → IsProblemIn words lines problem ignored → KeepLimits (kept_lines (primary_names words) lines)
+problem_limits words lines problem ignored h =
+    let counts = keeps_counts problem.names problem.options (kept_lines (primary_names words) lines) h.options in
+    record {
+      count = omega (arith, counts.count, h.lawful.options);
+      occurrences = omega (arith, counts.occurrences, h.lawful.occurrences);
+      colours = omega (arith, ap length h.colour_names, h.lawful.colour_names);
+    }
+
+parts_whole : (line : ℕ) (words : List (List ℕ)) (others : List (ℕ × List (List ℕ))) (problem : Problem) (ignored : ℕ) → IsProblemIn words (words_in others) problem ignored → (items_from line [] false words ≡ Ok problem.names) × (options_from problem.names (primary_in words) none_kept others ≡ Ok (read_by problem ignored).kept)
 parts_whole line words others problem ignored h =
     let names : problem.names ≡ names_in words = h.names in
+    let primary = primary_in words in
+    let primary_same : primary_names words ≡ take primary problem.names = ap (take primary) (sym h.names) in
     let lawful : list_all is_name problem.names ≡ true = list_all-from_AllPass is_name problem.names h.lawful.each_name in
-    let below : list_all (are_below (length problem.names)) problem.options ≡ true = list_all-from_AllPass (are_below (length problem.names)) problem.options h.lawful.each_named in (
+    let passes : fault_of (options_from problem.names primary none_kept others) ≡ None =
+    options_fault problem.names primary none_kept [] others h.lawful.distinct_names (none_stands problem.names primary)
+    ∙ lines_pass problem.names (take primary problem.names) [] others lawful (rw (← primary_same) h.each_line) (rw (← primary_same) (problem_limits words (words_in others) problem ignored h)) in (
       items_whole line [] false words (rw (← names) lawful) (rw (← names) h.lawful.distinct_names) (rw (← names) h.lawful.names) (omega (arith, h.separator)) ∙ ap Ok (sym names),
-      options_whole problem.names (primary_in words) [] 0 others problem.options lawful h.lawful.distinct_names h.each_line below
-          (h.options ∙ ap (λ ns. kept_lines (take (primary_in words) ns) (words_in others)) (sym names)) h.lawful.options h.lawful.occurrences
-          ∙ ap (λ n. Ok (problem.options, n)) (total problem.names (sym names)),
+      (elim (options_from problem.names primary none_kept others) as (λ r. options_from problem.names primary none_kept others ≡ r → fault_of r ≡ None → r ≡ Ok (read_by problem ignored).kept) [
+        | Ok kept ↦ λ e none. ap Ok (same_kept words (words_in others) problem ignored kept h (options_stand problem.names primary [] others none_kept kept h.lawful.distinct_names (none_stands problem.names primary) e))
+        | Err fault ↦ λ e none. absurd (cc)
+      ]) refl passes,
     )
-  where
-    total : (ns : List (List ℕ)) → names_in words ≡ ns → 0 + count_by (λ ws. not (names_primary (take (primary_in words) ns) ws)) (words_in others) ≡ ignored
-    total ns e = rw (← e) (omega (arith, h.others))
 
 content_whole : (lines : List (ℕ × List (List ℕ))) (problem : Problem) (ignored : ℕ) → IsProblemIn (get_or lines 0 (0, [])).1 (words_in (drop 1 lines)) problem ignored → reading_of lines ≡ Ok (read_by problem ignored)
 unfolding reading_of

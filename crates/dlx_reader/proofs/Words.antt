@@ -58,8 +58,22 @@ pub content_words : (text : List ℕ) → list_all (λ line. is_content line.1 &
 unfolding content_from
 content_words text = filter_all (λ (line : ℕ × List (List ℕ)). is_content line.1) (λ line. list_all is_word line.1) (enumerate_from 1 (map words_of (lines_of text))) (numbered_words 1 (lines_of text) (lines_end text))
 
--- so have those of the item line
-pub first_words : (text : List ℕ) (lines : List (List ℕ)) (number : ℕ) (words : List (List ℕ)) (others : List (ℕ × List (List ℕ))) → lines ≡ lines_of text → content_from 1 lines ≡ (number, words) ∷ others → (is_content words ≡ true) × (list_all is_word words ≡ true)
+-- of lines that say something, each has words
+pub each_words : (lines : List (ℕ × List (List ℕ))) → list_all (λ line. is_content line.1 && list_all is_word line.1) lines ≡ true → list_all (λ line. list_all is_word line.1) lines ≡ true
+each_words [] h = refl
+each_words (line ∷ lines) h =
+    let parts = and_parts (is_content line.1 && list_all is_word line.1) (list_all (λ (l : ℕ × List (List ℕ)). is_content l.1 && list_all is_word l.1) lines) h in
+    and_from (list_all is_word line.1) (list_all (λ (l : ℕ × List (List ℕ)). list_all is_word l.1) lines) (and_parts (is_content line.1) (list_all is_word line.1) parts.0).1 (each_words lines parts.1)
+
+-- the item line has words, of which the first does not begin with a bar, and so have the lines behind it
+pub record FirstWords (words : List (List ℕ)) (others : List (ℕ × List (List ℕ))) : Type 0 where
+  pub content : is_content words ≡ true
+  pub words_are : list_all is_word words ≡ true
+  pub others_are : list_all (λ line. list_all is_word line.1) others ≡ true
+
+pub first_words : (text : List ℕ) (lines : List (List ℕ)) (number : ℕ) (words : List (List ℕ)) (others : List (ℕ × List (List ℕ))) → lines ≡ lines_of text → content_from 1 lines ≡ (number, words) ∷ others → FirstWords words others
 first_words text lines number words others same first =
     let all = rw (← same, first) at (content_words text) in
-    and_parts (is_content words) (list_all is_word words) (and_parts (is_content words && list_all is_word words) (list_all (λ line. is_content line.1 && list_all is_word line.1) others) all).0
+    let parts = and_parts (is_content words && list_all is_word words) (list_all (λ line. is_content line.1 && list_all is_word line.1) others) all in
+    let own = and_parts (is_content words) (list_all is_word words) parts.0 in
+    record { content = own.0; words_are = own.1; others_are = each_words others parts.1 }

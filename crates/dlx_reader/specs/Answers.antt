@@ -8,7 +8,7 @@ use Rattle.cover_problem.specs.Numbers.{is_in}
 use Rattle.cover_problem.specs.declared.answer.Answer.{Answer}
 use Rattle.cover_problem.specs.declared.answer.Answer.TheVariants.{Cover, NoCover}
 use Rattle.dlx_reader.specs.Lines.{lines_of, words_of}
-use Rattle.dlx_reader.specs.Writing.{item_names}
+use Rattle.dlx_reader.specs.Writing.{option_words}
 use Rattle.dlx_reader.specs.declared.answer_fault.AnswerFault.{AnswerFault}
 use Rattle.dlx_reader.specs.declared.answer_fault.AnswerFault.TheVariants.{BadHead, WrongCount, UnknownOption, Memory}
 
@@ -53,11 +53,11 @@ IsHead words count = (IsNoneHead words × (count ≡ 0)) ⊎ IsCoverHead words c
 
 -- ---- the options
 
--- an option that isn't used, and whose names in its order are the words
+-- an option that isn't used, and whose items with their colours, in its order, are the words
 pub record IsFree (problem : Problem) (used : List ℕ) (words : List (List ℕ)) (option : ℕ) : Type 0 where
   pub in_range : option < length problem.options
   pub unused : is_in used option ≡ false
-  pub named : item_names problem option ≡ words
+  pub named : option_words problem option ≡ words
 
 -- the one of these of lowest number
 pub record IsLowestFree (problem : Problem) (used : List ℕ) (words : List (List ℕ)) (option : ℕ) : Type 0 where

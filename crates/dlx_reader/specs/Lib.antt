@@ -10,6 +10,7 @@ pub mod Left
 pub mod Lines
 pub mod Meant
 pub mod Names
+pub mod Occurrences
 pub mod OptionLines
 pub mod Passing
 pub mod ProblemOf

@@ -1,12 +1,15 @@
 -- Reading a problem word by word, with the first fault: what the code does, as a function on lists.
-use Rattle.std.specs.Prelude.{◌≡◌, ℕ, ◌+◌, List, [], ◌∷◌, ◌++◌, length, Option, Some, None, Result, Ok, Err, nat_lt, ◌||◌, ◌==◌, Bool, false, if◌then◌else◌}
+use Rattle.std.specs.Prelude.{◌≡◌, ℕ, ◌+◌, List, [], ◌∷◌, ◌++◌, length, Option, Some, None, Result, Ok, Err, map, nat_lt, ◌&&◌, ◌||◌, ◌==◌, Bool, false, if◌then◌else◌}
 use Rattle.std.specs.List.{sum_by}
 use Rattle.cover_problem.specs.Numbers.{is_in, some_below}
 use Rattle.cover_problem.specs.Problem.{Problem}
+use Rattle.cover_problem.specs.declared.limits.TheConstants.{MOST_COLOURS, MOST_NODES, MOST_OPTIONS}
 use Rattle.dlx_reader.specs.Content.{begins_with_bar}
 use Rattle.dlx_reader.specs.Items.{name_part, primary_in}
+use Rattle.dlx_reader.specs.Kept.{KeptOptions}
 use Rattle.dlx_reader.specs.Names.{item_named}
-use Rattle.dlx_reader.specs.Faults.{name_tests, item_tests}
+use Rattle.dlx_reader.specs.Faults.{part_tests, item_tests}
+use Rattle.dlx_reader.specs.Occurrences.{has_colon, item_part, colour_part}
 use Rattle.dlx_reader.specs.declared.fault.ReadFault.{ReadFault}
 use Rattle.dlx_reader.specs.declared.fault.ReadFault.TheVariants as faults
 
@@ -47,58 +50,97 @@ known_item line None = Err (faults.UnknownItem line)
 known_item line (Some item) = Ok item
 
 -- the items of an option after a further word
-unfoldable pub option_item_at : ℕ → List (List ℕ) → List ℕ → List ℕ → Result (List ℕ) ReadFault
-option_item_at line names items word = do
-  name ← after (name_tests line word) word
+unfoldable pub option_item_at : ℕ → List (List ℕ) → ℕ → List ℕ → List ℕ → Result (List ℕ) ReadFault
+option_item_at line names primary items word = do
+  name ← after (part_tests line (has_colon word) (item_part word) (colour_part word)) (item_part word)
   item ← known_item line (item_named names name)
-  after ((is_in items item, faults.DuplicateInOption line) ∷ []) (items ++ item ∷ [])
+  after ((is_in items item, faults.DuplicateInOption line) ∷ (has_colon word && nat_lt item primary, faults.ColourOnPrimary line) ∷ []) (items ++ item ∷ [])
 
 -- the items of an option after further words
-unfoldable pub option_from : ℕ → List (List ℕ) → List ℕ → List (List ℕ) → Result (List ℕ) ReadFault
-option_from line names items [] = Ok items
-option_from line names items (word ∷ words) = do
-  more ← option_item_at line names items word
-  option_from line names more words
+unfoldable pub option_from : ℕ → List (List ℕ) → ℕ → List ℕ → List (List ℕ) → Result (List ℕ) ReadFault
+option_from line names primary items [] = Ok items
+option_from line names primary items (word ∷ words) = do
+  more ← option_item_at line names primary items word
+  option_from line names primary more words
 
--- the options, and how many were ignored, after an option with these items
-unfoldable pub keep_at : ℕ → ℕ → List (List ℕ) → ℕ → List ℕ → Result (List (List ℕ) × ℕ) ReadFault
-keep_at line primary options ignored items =
+-- the names of colours and the number of a colour that is found among them, or is added to them
+abbrev pub colour_found : ℕ → List (List ℕ) → List ℕ → Option ℕ → Result (List (List ℕ) × ℕ) ReadFault
+colour_found line names colour (Some number) = Ok (names, number + 1)
+colour_found line names colour None = after ((nat_lt MOST_COLOURS (length names + 1), faults.TooManyColours line) ∷ []) (names ++ colour ∷ [], length names + 1)
+
+-- the same of the colour that a word has, or has not: no colour has the number 0
+unfoldable pub colour_at : ℕ → List (List ℕ) → List ℕ → Result (List (List ℕ) × ℕ) ReadFault
+colour_at line names colour = if length colour == 0 then Ok (names, 0) else colour_found line names colour (item_named names colour)
+
+-- the names of colours, and the numbers of the colours of an option, after further ones
+unfoldable pub colours_from : ℕ → List (List ℕ) → List ℕ → List (List ℕ) → Result (List (List ℕ) × List ℕ) ReadFault
+colours_from line names numbers [] = Ok (names, numbers)
+colours_from line names numbers (colour ∷ colours) = do
+  state ← colour_at line names colour
+  colours_from line state.0 (numbers ++ state.1 ∷ []) colours
+
+-- the tests of the limits where an option with these items is kept, but for that of the colours
+abbrev pub room_tests : ℕ → List (List ℕ) → List ℕ → List (Bool × ReadFault)
+room_tests line options items =
+    (nat_lt MOST_OPTIONS (length options + 1), faults.TooManyOptions line) ∷ (nat_lt MOST_NODES (sum_by length options + length items), faults.TooManyNodes line) ∷ []
+
+-- what is kept with an option of these items and colours, and the names of colours then
+abbrev pub more_kept : KeptOptions → List ℕ → List (List ℕ) × List ℕ → KeptOptions
+more_kept kept items colours = record kept {
+  options = kept.options ++ items ∷ [];
+  colours = kept.colours ++ colours.1 ∷ [];
+  colour_names = colours.0;
+}
+
+-- what is kept where one more option is ignored
+abbrev pub more_ignored : KeptOptions → KeptOptions
+more_ignored kept = record kept { ignored = kept.ignored + 1 }
+
+-- what is kept after an option with these items and words
+unfoldable pub keep_at : ℕ → ℕ → KeptOptions → List ℕ → List (List ℕ) → Result KeptOptions ReadFault
+keep_at line primary kept items words =
     if some_below primary items
-    then after ((nat_lt 20000 (length options + 1), faults.TooManyOptions line) ∷ (nat_lt 200000 (sum_by length options + length items), faults.TooManyNodes line) ∷ []) (options ++ items ∷ [], ignored)
-    else Ok (options, ignored + 1)
+    then (do
+      own ← after (room_tests line kept.options items) items
+      colours ← colours_from line kept.colour_names [] (map colour_part words)
+      Ok (more_kept kept own colours))
+    else Ok (more_ignored kept)
 
--- the same after an option's line
-unfoldable pub option_at : List (List ℕ) → ℕ → List (List ℕ) → ℕ → ℕ × List (List ℕ) → Result (List (List ℕ) × ℕ) ReadFault
-option_at names primary options ignored line = do
-  items ← option_from line.0 names [] line.1
-  keep_at line.0 primary options ignored items
+-- what is kept after an option's line
+unfoldable pub option_at : List (List ℕ) → ℕ → KeptOptions → ℕ × List (List ℕ) → Result KeptOptions ReadFault
+option_at names primary kept line = do
+  items ← option_from line.0 names primary [] line.1
+  keep_at line.0 primary kept items line.1
 
--- the same after further lines
-unfoldable pub options_from : List (List ℕ) → ℕ → List (List ℕ) → ℕ → List (ℕ × List (List ℕ)) → Result (List (List ℕ) × ℕ) ReadFault
-options_from names primary options ignored [] = Ok (options, ignored)
-options_from names primary options ignored (line ∷ lines) = do
-  state ← option_at names primary options ignored line
-  options_from names primary state.0 state.1 lines
+-- what is kept after further lines
+unfoldable pub options_from : List (List ℕ) → ℕ → KeptOptions → List (ℕ × List (List ℕ)) → Result KeptOptions ReadFault
+options_from names primary kept [] = Ok kept
+options_from names primary kept (line ∷ lines) = do
+  more ← option_at names primary kept line
+  options_from names primary more lines
+
+-- before the first line nothing is kept
+abbrev pub none_kept : KeptOptions
+none_kept = record { options = []; colours = []; colour_names = []; ignored = 0 }
 
 -- what is read: the parts of a problem, and how many options were ignored
 pub record Reading : Type 0 where
   pub names : List (List ℕ)
   pub primary : ℕ
-  pub options : List (List ℕ)
-  pub ignored : ℕ
-
--- what is read, of its parts
-abbrev pub reading_by : List (List ℕ) → ℕ → List (List ℕ) × ℕ → Reading
-reading_by names primary kept = record { names = names; primary = primary; options = kept.0; ignored = kept.1 }
+  pub kept : KeptOptions
 
 -- what is read in the lines that say something
 unfoldable pub reading_of : List (ℕ × List (List ℕ)) → Result Reading ReadFault
 reading_of [] = Err faults.NoItems
 reading_of (first ∷ others) = do
   names ← items_from first.0 [] false first.1
-  kept ← options_from names (primary_in first.1) [] 0 others
-  Ok (reading_by names (primary_in first.1) kept)
+  kept ← options_from names (primary_in first.1) none_kept others
+  Ok (record { names = names; primary = primary_in first.1; kept = kept })
 
 -- a problem and the number of ignored options, as what is read
 abbrev pub read_by : Problem → ℕ → Reading
-read_by problem ignored = record { names = problem.names; primary = problem.primary; options = problem.options; ignored = ignored }
+read_by problem ignored = record {
+  names = problem.names;
+  primary = problem.primary;
+  kept = record { options = problem.options; colours = problem.colours; colour_names = problem.colour_names; ignored = ignored };
+}

@@ -3,7 +3,6 @@
 ghost use Rattle.std.specs.Prelude.{◌≡◌, ◌≢◌, ℕ, ◌<◌, length, IfSome, IfNone, IfOk, IfErr, ◌↔◌, IsTrue, Result};
 ghost use Rattle.cover_problem.specs.declared.answer.Answer.{Answer as AnswerValue};
 ghost use Rattle.dlx_reader.specs.declared.answer_fault.AnswerFault.{AnswerFault as Fault};
-ghost use Rattle.dlx_reader.specs.Writing.{item_names};
 ghost use Rattle.dlx_reader.specs.Answers.{AreOptionsOf, IsFirstUnknown, IsAnswerOf, IsFaultOf, IsReadOf};
 ghost use Rattle.dlx_reader.specs.Left.{worded_left};
 ghost use Rattle.dlx_reader.specs.AnswerSteps.{IsOptionFault};
@@ -11,7 +10,7 @@ ghost use Rattle.dlx_reader.specs.AnswerSteps.{IsOptionFault};
 use crate::answer_fault::AnswerFault;
 use crate::answer_head::{Head, head_before};
 use crate::left::Lines;
-use crate::meant::{Meant, items_named};
+use crate::meant::{Meant, keys_of, name_key};
 use crate::names::Names;
 use cover_problem::{Answer, Numbers, Problem};
 use std::alloc::Global;
@@ -22,10 +21,14 @@ fn options_of(alloc: Global, mut lines: Lines, problem: &Problem) -> Result<Numb
     ensures fault { IfErr result (IsOptionFault problem.now (worded_left lines.entry)) }
 {
     let names = Names::of_problem(alloc, problem)?;
-    let mut meant = Meant::new(alloc, problem)?;
+    let colour_names = Names::of_colours(alloc, problem)?;
+    let keys = keys_of(alloc, problem)?;
+    let mut meant = Meant::new(alloc, problem, &keys)?;
+    let mut key = Vec::new(alloc);
+    let mut colours = Vec::new(alloc);
     while let Some(line) = lines.take_worded() {
-        let items = items_named(alloc, &names, line.text)?;
-        let Some(_option) = meant.take(&items)? else {
+        name_key(&names, &colour_names, line.text, &mut key, &mut colours)?;
+        let Some(_option) = meant.take(&key)? else {
             return Err(AnswerFault::UnknownOption(line.number));
         };
     }
@@ -52,8 +55,9 @@ fn answer_of(alloc: Global, text: &[u8], problem: &Problem) -> Result<Answer, An
 ///
 /// Lines and words are those of problem files, but there are no comments. The first line that isn't blank is `none`,
 /// or `cover` and the number of options in one to five decimal digits. As many lines follow that aren't blank, each
-/// with the names of an option in the option's order. Of equal options a line means the one of lowest number that no
-/// earlier line means. The options of a cover stand in the order of their lines.
+/// with the names of an option's items in its order, each with a `:` and the name of its colour where it has one. Of equal
+/// options, those with the same items and colours, a line means the one of lowest number that no earlier line means. The
+/// options of a cover stand in the order of their lines.
 ///
 /// A fault is the first of these: `BadHead`, `WrongCount`, then `UnknownOption` of the first such line. `Memory` comes
 /// only where a growth was refused. Beside the text it takes memory of the order of the problem, and of the longest line.

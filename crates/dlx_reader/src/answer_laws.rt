@@ -13,7 +13,8 @@ ghost use Rattle.dlx_reader.specs.AnswerLaws.{GivesCover};
 /// What was written is read again: the text of a cover in file order gives the same lists of items in the same order,
 /// where equal options may stand for one another, and the text of `none` gives `none`.
 pub fn written_answers_are_read()
-    ensures cover { (problem : ProblemValue) (options : List ℕ) → IsProblem problem → InFileOrder problem options →
+    ensures cover { (problem : ProblemValue) (options : List ℕ) → IsProblem problem →
+        InFileOrder problem options →
         GivesCover (answer_text problem (Cover options)) problem options }
     ensures none { (problem : ProblemValue) →
         IsAnswerOf (answer_text problem NoCover) problem NoCover }

@@ -1,9 +1,10 @@
 //! The lines of a text and the words of a line, cut off one by one: no list of them is made.
 
-ghost use Rattle.std.specs.Prelude.{◌≡◌, ◌<◌, ◌==◌, [], ◌∷◌, length, not, position, IfNone, IfSome};
+ghost use Rattle.std.specs.Prelude.{◌≡◌, ◌<◌, ◌==◌, [], ◌∷◌, length, not, position, is_some, IfNone, IfSome};
 ghost use Rattle.dlx_reader.specs.Content.{begins_with_bar, is_content};
 ghost use Rattle.dlx_reader.specs.Lines.{is_white, lines_of, words_of};
 ghost use Rattle.dlx_reader.specs.Left.{lines_in};
+ghost use Rattle.dlx_reader.specs.Occurrences.{bytes_in, colour_part, has_colon, item_part};
 
 /// Whether a byte is white space within a line.
 fn is_white(byte: u8) -> bool
@@ -38,6 +39,36 @@ pub fn split_word(line: &[u8]) -> Option<(&[u8], &[u8])>
     match word_end(word) {
         None => Some((word, &[])),
         Some(end) => Some(word.split_at(end)),
+    }
+}
+
+/// Where the first colon of a word stands, if it has one.
+fn colon_place(word: &[u8]) -> Option<usize>
+    ensures place { result ≡ position (λ byte. byte == 58) word.now }
+    ensures within { IfSome result (λ place. place < length word.now) }
+{
+    word.iter().position(|byte| *byte == b':')
+}
+
+/// What stands before the first colon of an option's word, and what stands behind it, if there is one.
+pub fn split_colour(word: &[u8]) -> (&[u8], Option<&[u8]>)
+    ensures item { result.0.now ≡ item_part word.now }
+    ensures colour { bytes_in result.1 ≡ colour_part word.now }
+    ensures colon { is_some result.1 ≡ has_colon word.now }
+{
+    match colon_place(word) {
+        None => (word, None),
+        Some(place) => (&word[..place], Some(&word[place + 1..])),
+    }
+}
+
+/// The name of the colour that an option's word has; nothing where it has none.
+pub fn colour_part(word: &[u8]) -> &[u8]
+    ensures { result.now ≡ colour_part word.now }
+{
+    match split_colour(word) {
+        (_, None) => &[],
+        (_, Some(colour)) => colour,
     }
 }
 

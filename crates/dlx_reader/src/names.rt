@@ -1,13 +1,14 @@
-//! The names of the items, with an index by which a name's item is found.
+//! The names of items or of colours, with an index by which a name's number is found.
 
 ghost use Rattle.std.specs.Prelude.{◌≡◌, ◌<◌, ◌≤◌, [], ◌∷◌, ◌++◌, length, false, IfOk, IfSome, OnOk, OnErr};
+ghost use Rattle.cover_problem.specs.declared.limits.TheConstants.{MOST_COLOURS};
 
 use cover_problem::{Name, Problem};
 use std::alloc::{AllocError, Global};
 use std::collections::BTreeMap;
 use std::marker::Model;
 
-/// The names of the items in their order, of which there are at most 1,000. Each is found by some ten comparisons,
+/// The names of items or of colours in their order, of which there are at most 10,000. Each is found by some ten comparisons,
 /// whatever the names are.
 #[derive(Drop)]
 pub struct Names<'a> {
@@ -17,13 +18,14 @@ pub struct Names<'a> {
 
 impl<'a> Model for Names<'a> {
     ghost use Rattle.std.specs.Prelude.{ℕ, List, length, ◌≤◌};
+    ghost use Rattle.cover_problem.specs.declared.limits.TheConstants.{MOST_COLOURS};
     ghost use Rattle.dlx_reader.specs.Names.{IsIndex};
 
     ghost Value = { List (List ℕ) };
 
     ghost view = { λ n. n.list.items };
 
-    ghost invariant = { λ n. (length n.list.items ≤ 1000) × IsIndex n.list.items n.index };
+    ghost invariant = { λ n. (length n.list.items ≤ MOST_COLOURS) × IsIndex n.list.items n.index };
 }
 
 impl<'a> Names<'a> {
@@ -52,27 +54,39 @@ impl<'a> Names<'a> {
         Ok(names)
     }
 
+    /// The names of a problem's colours. The only error is want of memory.
+    pub fn of_colours(alloc: Global, problem: &'a Problem) -> Result<Names<'a>, AllocError>
+        ensures names { IfOk result (λ names. names ≡ problem.now.colour_names) }
+        ensures problem { IsProblem problem.now }
+    {
+        let mut names = Names::new(alloc);
+        for before in 0..problem.colour_names() as u16 {
+            names.push(alloc, problem.colour_name(before + 1))?;
+        }
+        Ok(names)
+    }
+
     /// How many names there are.
     pub fn len(&self) -> usize
         ensures len { result ≡ length self.now }
-        ensures most { result ≤ 1000 }
+        ensures most { result ≤ MOST_COLOURS }
     {
         self.list.len()
     }
 
-    /// The number of the item with a name, counted from 0.
+    /// The number of the item or colour with a name, counted from 0.
     pub fn item_named(&self, word: &[u8]) -> Option<u16>
         ensures item { result ≡ item_named self.now word.now }
         ensures within { IfSome result (λ item. item < length self.now) }
-        ensures most { length self.now ≤ 1000 }
+        ensures most { length self.now ≤ MOST_COLOURS }
     {
         self.index.get(word).copied()
     }
 
-    /// Whether an item has this name.
+    /// Whether it is one of the names.
     pub fn contains(&self, word: &[u8]) -> bool
         ensures among { result ≡ is_among self.now word.now }
-        ensures most { length self.now ≤ 1000 }
+        ensures most { length self.now ≤ MOST_COLOURS }
     {
         self.item_named(word).is_some()
     }
@@ -80,7 +94,7 @@ impl<'a> Names<'a> {
     /// Adds a name that is new. The only error is want of memory, and the names are then as before.
     pub fn push(&mut self, alloc: Global, word: &'a [u8]) -> Result<(), AllocError>
         requires fresh { is_among self.old word.now ≡ false }
-        requires room { length self.old < 1000 }
+        requires room { length self.old < MOST_COLOURS }
         ensures ok { OnOk result (self.new ≡ self.old ++ word.now ∷ []) }
         ensures err { OnErr result (self.new ≡ self.old) }
     {

@@ -1,10 +1,10 @@
 //! The text of an answer, passed on piece by piece: pieces wait to be written together.
 
-ghost use Rattle.std.specs.Prelude.{◌≡◌, ◌-◌, ◌<◌, ◌^◌, [], ◌∷◌, ◌++◌, length, All, IfOk};
-ghost use Rattle.std.specs.List.{flat_map};
+ghost use Rattle.std.specs.Prelude.{◌≡◌, ◌-◌, ◌<◌, ◌≤◌, ◌^◌, [], ◌∷◌, ◌++◌, length, All, IfOk};
+ghost use Rattle.std.specs.List.{flat_map, zip};
 ghost use Rattle.dlx_reader.specs.Devices.{IsWritten, IsCounted};
 ghost use Rattle.dlx_reader.specs.Passing.{IsPassed};
-ghost use Rattle.dlx_reader.specs.Writing.{items_text, names_after, option_text, cover_text};
+ghost use Rattle.dlx_reader.specs.Writing.{colour_behind, option_text, occurrences_of, cover_text, word_text, words_after, words_text};
 ghost use Rattle.cover_problem.specs.Prefix.{AreOptions};
 
 use crate::devices::Sink;
@@ -71,43 +71,106 @@ fn pass_two<W: Sink>(
     pass_bytes(second, waiting, sink)
 }
 
-/// Passes on each name after a space.
+/// Passes on a colon and the name of a colour, or nothing where it is none.
+fn pass_colour<W: Sink>(
+    problem: &Problem,
+    colour: u16,
+    waiting: &mut Waiting,
+    sink: &mut W,
+) -> Result<(), WriteFault>
+    requires colour { colour ≤ length problem.now.colour_names }
+    requires failed { W.failed sink.old < 2 ^ 64 - 1 }
+    ensures bytes { IsPassed waiting.old waiting.new (W.contents sink.old) (W.contents sink.new)
+        (colour_behind problem.now colour) result }
+    ensures failed { IsCounted (W.failed sink.old) (W.failed sink.new) result }
+{
+    if colour == 0 {
+        return Ok(());
+    }
+    pass_two(b":", problem.colour_name(colour), waiting, sink)
+}
+
+/// Passes on the word of an item with this colour.
+fn pass_word<W: Sink>(
+    problem: &Problem,
+    item: u16,
+    colour: u16,
+    waiting: &mut Waiting,
+    sink: &mut W,
+) -> Result<(), WriteFault>
+    requires item { item < length problem.now.names }
+    requires colour { colour ≤ length problem.now.colour_names }
+    requires failed { W.failed sink.old < 2 ^ 64 - 1 }
+    ensures bytes { IsPassed waiting.old waiting.new (W.contents sink.old) (W.contents sink.new)
+        (word_text problem.now (item, colour)) result }
+    ensures failed { IsCounted (W.failed sink.old) (W.failed sink.new) result }
+{
+    pass_bytes(problem.name(item), waiting, sink)?;
+    pass_colour(problem, colour, waiting, sink)
+}
+
+/// Passes on a space and a word.
+fn pass_behind<W: Sink>(
+    problem: &Problem,
+    item: u16,
+    colour: u16,
+    waiting: &mut Waiting,
+    sink: &mut W,
+) -> Result<(), WriteFault>
+    requires item { item < length problem.now.names }
+    requires colour { colour ≤ length problem.now.colour_names }
+    requires failed { W.failed sink.old < 2 ^ 64 - 1 }
+    ensures bytes { IsPassed waiting.old waiting.new (W.contents sink.old) (W.contents sink.new)
+        (32 ∷ word_text problem.now (item, colour)) result }
+    ensures failed { IsCounted (W.failed sink.old) (W.failed sink.new) result }
+{
+    pass_bytes(b" ", waiting, sink)?;
+    pass_word(problem, item, colour, waiting, sink)
+}
+
+/// Passes on each word after a space.
 fn pass_others<W: Sink>(
     problem: &Problem,
     items: &[u16],
+    colours: &[u16],
     waiting: &mut Waiting,
     sink: &mut W,
 ) -> Result<(), WriteFault>
     requires items { All (λ i. i < length problem.now.names) items.now }
+    requires colours { All (λ c. c ≤ length problem.now.colour_names) colours.now }
+    requires long { length colours.now ≡ length items.now }
     requires failed { W.failed sink.old < 2 ^ 64 - 1 }
     ensures bytes { IsPassed waiting.old waiting.new (W.contents sink.old) (W.contents sink.new)
-        (names_after problem.now items.now) result }
+        (words_after problem.now (zip items.now colours.now)) result }
     ensures failed { IsCounted (W.failed sink.old) (W.failed sink.new) result }
 {
-    for item in items {
-        pass_two(b" ", problem.name(*item), waiting, sink)?;
+    for place in 0..items.len() {
+        pass_behind(problem, items[place], colours[place], waiting, sink)?;
     }
     Ok(())
 }
 
-/// Passes on the names of items, with one space between.
-fn pass_items<W: Sink>(
+/// Passes on the words of items with their colours, with one space between.
+fn pass_words<W: Sink>(
     problem: &Problem,
     items: &[u16],
+    colours: &[u16],
     waiting: &mut Waiting,
     sink: &mut W,
 ) -> Result<(), WriteFault>
     requires items { All (λ i. i < length problem.now.names) items.now }
+    requires colours { All (λ c. c ≤ length problem.now.colour_names) colours.now }
+    requires long { length colours.now ≡ length items.now }
     requires failed { W.failed sink.old < 2 ^ 64 - 1 }
     ensures bytes { IsPassed waiting.old waiting.new (W.contents sink.old) (W.contents sink.new)
-        (items_text problem.now items.now) result }
+        (words_text problem.now (zip items.now colours.now)) result }
     ensures failed { IsCounted (W.failed sink.old) (W.failed sink.new) result }
 {
     match items {
         [] => Ok(()),
         [first, others @ ..] => {
-            pass_bytes(problem.name(*first), waiting, sink)?;
-            pass_others(problem, others, waiting, sink)
+            pass_word(problem, *first, colours[0], waiting, sink)?;
+            pass_others(problem, others, &colours[1..], waiting, sink)
         }
     }
 }
@@ -125,7 +188,8 @@ fn pass_option<W: Sink>(
         (option_text problem.now option) result }
     ensures failed { IsCounted (W.failed sink.old) (W.failed sink.new) result }
 {
-    pass_items(problem, problem.option(option), waiting, sink)?;
+    let (items, colours) = (problem.option(option), problem.colours(option));
+    pass_words(problem, items, colours, waiting, sink)?;
     pass_bytes(b"\n", waiting, sink)
 }
 

@@ -1,29 +1,28 @@
-//! Reading a problem, in the general form of the input of Knuth's program DLX1.
+//! Reading a problem, in the general form of the inputs of Knuth's programs DLX1 and DLX2.
 
-ghost use Rattle.std.specs.Prelude.{◌≡◌, ◌≢◌, ◌<◌, ◌≤◌, ◌+◌, ◌^◌, [], ◌∷◌, length, true, false, Some, IfOk, IfErr};
+ghost use Rattle.std.specs.Prelude.{◌≡◌, ◌≢◌, ◌<◌, ◌≤◌, ◌+◌, ◌^◌, [], ◌∷◌, length, true, false, is_some, Some, IfOk, IfErr, OnOk};
 ghost use Rattle.std.specs.List.{list_any, list_all};
 ghost use Rattle.dlx_reader.specs.Content.{is_content, is_word, content_from, content_of};
-ghost use Rattle.dlx_reader.specs.Faults.{first_fault, is_illegal, name_tests};
+ghost use Rattle.dlx_reader.specs.Faults.{first_fault, is_bad_colour, is_illegal, name_tests, part_tests};
 ghost use Rattle.dlx_reader.specs.Items.{name_part, primary_in};
+ghost use Rattle.dlx_reader.specs.Kept.{AreItemsOf};
 ghost use Rattle.dlx_reader.specs.Left.{content_left, line_of};
 ghost use Rattle.dlx_reader.specs.Lines.{words_of};
+ghost use Rattle.dlx_reader.specs.Occurrences.{bytes_in, colour_part, has_colon, item_part};
 ghost use Rattle.dlx_reader.specs.ProblemOf.{HasNoProblem, IsProblemOf};
-ghost use Rattle.dlx_reader.specs.Reading.{Gives, after, item_at, items_from, option_item_at, option_from, option_at, options_from, reading_of, read_by};
+ghost use Rattle.dlx_reader.specs.Reading.{Gives, after, item_at, items_from, none_kept, option_item_at, option_from, option_at, options_from, reading_of, read_by};
 ghost use Rattle.dlx_reader.specs.declared.fault.ReadFault.TheVariants.{Memory};
 
 use crate::fault::ReadFault;
-use crate::kept::Kept;
+use crate::kept::{Kept, KeptParts, LineItems};
 use crate::left::{Line, Lines};
-use crate::lines::{begins_with_bar, split_word};
+use crate::lines::{begins_with_bar, split_colour, split_word};
 use crate::names::Names;
-use cover_problem::Problem;
+use cover_problem::{MOST_BYTES, MOST_ITEMS, Problem};
 use std::alloc::Global;
 
-/// The greatest number of items.
-const MOST_ITEMS: usize = 1000;
-
-/// The greatest number of bytes of a name.
-const LONGEST_NAME: usize = 32;
+/// For how many items of an option room is made at first: as many as the least block of the C library's allocator holds.
+const USUAL_ITEMS: usize = 12;
 
 /// Whether a byte stands in it that is in no name.
 fn has_illegal(name: &[u8]) -> bool
@@ -39,7 +38,7 @@ fn test_name(name: &[u8], line: usize) -> Result<(), ReadFault>
     if has_illegal(name) {
         return Err(ReadFault::IllegalByte(line));
     }
-    if name.len() > LONGEST_NAME {
+    if name.len() > MOST_BYTES {
         return Err(ReadFault::NameTooLong(line));
     }
     Ok(())
@@ -64,8 +63,10 @@ fn read_item<'a>(
     word: &'a [u8],
     line: usize,
 ) -> Result<(), ReadFault>
+    requires { length names.old ≤ MOST_ITEMS }
     ensures gives { Gives (λ _. (names.new, divided.new)) result
         (item_at line names.old divided.old word.now) }
+    ensures few { length names.new ≤ MOST_ITEMS }
 {
     let name = name_part(word);
     test_name(name, line)?;
@@ -120,71 +121,132 @@ fn primary_in(line: &[u8]) -> usize
     place
 }
 
-/// Reads a further word of an option.
+/// Whether nothing stands before a colon or behind it, or too much behind it.
+fn is_bad_colour(name: &[u8], colour: Option<&[u8]>) -> bool
+    ensures { result ≡ is_bad_colour (is_some colour.entry) name.now (bytes_in colour.entry) }
+{
+    match colour {
+        None => false,
+        Some(colour) => name.is_empty() || colour.is_empty() || colour.len() > MOST_BYTES,
+    }
+}
+
+/// Tests the parts of an option's word: the name of the item, and that of the colour behind the colon, if there is one.
+fn test_parts(name: &[u8], colour: Option<&[u8]>, line: usize) -> Result<(), ReadFault>
+    ensures { Gives (λ _. name.now) result
+        (after (part_tests line (is_some colour.entry) name.now (bytes_in colour.entry)) name.now) }
+{
+    if has_illegal(name) || has_illegal(colour.unwrap_or(&[])) {
+        return Err(ReadFault::IllegalByte(line));
+    }
+    if name.len() > MOST_BYTES {
+        return Err(ReadFault::NameTooLong(line));
+    }
+    if is_bad_colour(name, colour) {
+        return Err(ReadFault::BadColour(line));
+    }
+    Ok(())
+}
+
+/// Reads the name of the item in an option's word, and whether a colour's stands behind it. A word is looked through a second
+/// time only where it has a colon, or a byte that is in no name.
+fn read_parts(word: &[u8], line: usize) -> Result<(&[u8], bool), ReadFault>
+    ensures name { Gives (λ parts. parts.0.now) result
+        (after (part_tests line (has_colon word.now) (item_part word.now) (colour_part word.now))
+        (item_part word.now)) }
+    ensures colon { IfOk result (λ parts. parts.1 ≡ has_colon word.now) }
+{
+    if has_illegal(word) {
+        let (name, colour) = split_colour(word);
+        test_parts(name, colour, line)?;
+        return Ok((name, colour.is_some()));
+    }
+    if word.len() > MOST_BYTES {
+        return Err(ReadFault::NameTooLong(line));
+    }
+    Ok((word, false))
+}
+
+/// Reads a further word of an option, and answers whether it has a colour.
 #[tactic(auto, unfolding(crate::specs::Reading::option_item_at))]
 fn read_option_item(
     names: &Names,
+    primary: usize,
     items: &mut Vec<u16>,
     word: &[u8],
     line: usize,
-) -> Result<(), ReadFault>
+) -> Result<bool, ReadFault>
     ensures gives { Gives (λ _. items.new.items) result
-        (option_item_at line names.now items.old.items word.now) }
+        (option_item_at line names.now primary items.old.items word.now) }
+    ensures colon { IfOk result (λ colon. colon ≡ has_colon word.now) }
+    ensures one { OnOk result (length items.new.items ≡ length items.old.items + 1) }
 {
-    test_name(word, line)?;
-    let Some(item) = names.item_named(word) else {
+    let (name, has_colour) = read_parts(word, line)?;
+    let Some(item) = names.item_named(name) else {
         return Err(ReadFault::UnknownItem(line));
     };
     if items.contains(&item) {
         return Err(ReadFault::DuplicateInOption(line));
     }
+    if has_colour && usize::from(item) < primary {
+        return Err(ReadFault::ColourOnPrimary(line));
+    }
     items.push(item)?;
-    Ok(())
+    Ok(has_colour)
 }
 
 /// Reads the words of an option.
 #[tactic(auto, unfolding(crate::specs::Reading::option_from))]
-fn read_option(alloc: Global, names: &Names, line: Line) -> Result<Vec<u16>, ReadFault>
-    ensures gives { Gives (λ items. items.items) result
-        (option_from line.entry.number names.now [] (words_of line.entry.text.now)) }
+fn read_option(
+    alloc: Global,
+    names: &Names,
+    primary: usize,
+    line: Line,
+) -> Result<LineItems, ReadFault>
+    ensures gives { Gives (λ read. read.items.items) result
+        (option_from line.entry.number names.now primary [] (words_of line.entry.text.now)) }
+    ensures of { IfOk result (λ read. AreItemsOf (words_of line.entry.text.now) read) }
 {
-    let mut items = Vec::new(alloc);
+    let mut items = Vec::with_capacity(alloc, USUAL_ITEMS)?;
+    let mut has_colours = false;
     let mut left = line.text;
     while let Some((word, rest)) = split_word(left) {
-        read_option_item(names, &mut items, word, line.number)?;
+        if read_option_item(names, primary, &mut items, word, line.number)? {
+            has_colours = true;
+        }
         left = rest;
     }
-    Ok(items)
+    Ok(LineItems { items, has_colours })
 }
 
 /// Reads an option's line, and keeps the option or counts it as ignored.
 #[tactic(auto, unfolding(crate::specs::Reading::option_at))]
-fn read_option_line(
+fn read_option_line<'a>(
     alloc: Global,
     names: &Names,
     primary: usize,
-    kept: &mut Kept,
-    line: Line,
+    kept: &mut Kept<'a>,
+    line: Line<'a>,
 ) -> Result<(), ReadFault>
     requires ignored { kept.old.ignored < line.number }
-    ensures gives { Gives (λ _. (kept.new.options, kept.new.ignored)) result
-        (option_at names.now primary kept.old.options kept.old.ignored (line_of line.entry)) }
+    ensures gives { Gives (λ _. kept.new) result
+        (option_at names.now primary kept.old (line_of line.entry)) }
     ensures ignored { kept.new.ignored ≤ kept.old.ignored + 1 }
 {
-    let items = read_option(alloc, names, line)?;
-    kept.keep(primary, items, line.number)
+    let read = read_option(alloc, names, primary, line)?;
+    kept.keep(alloc, primary, read, line)
 }
 
 /// Reads the lines of options: those that say something, of the lines that are left.
 #[tactic(auto, unfolding(crate::specs::Reading::options_from))]
-fn read_options(
+fn read_options<'a>(
     alloc: Global,
     names: &Names,
     primary: usize,
-    mut lines: Lines,
-) -> Result<Kept, ReadFault>
-    ensures { Gives (λ kept. (kept.options, kept.ignored)) result
-        (options_from names.now primary [] 0 (content_left lines.entry)) }
+    mut lines: Lines<'a>,
+) -> Result<Kept<'a>, ReadFault>
+    ensures { Gives (λ kept. kept) result
+        (options_from names.now primary none_kept (content_left lines.entry)) }
 {
     let mut kept = Kept::new(alloc);
     while let Some(line) = lines.take_content() {
@@ -207,6 +269,7 @@ pub struct Read {
 fn read_content(alloc: Global, items: Line, others: Lines) -> Result<Read, ReadFault>
     requires content { is_content (words_of items.text.now) ≡ true }
     requires words { list_all is_word (words_of items.text.now) ≡ true }
+    requires others { list_all (λ line. list_all is_word line.1) (content_left others) ≡ true }
     ensures { Gives (λ read. read_by read.problem read.ignored) result
         (reading_of (line_of items.entry ∷ content_left others.entry)) }
 {
@@ -214,8 +277,14 @@ fn read_content(alloc: Global, items: Line, others: Lines) -> Result<Read, ReadF
     let primary = primary_in(items.text);
     let kept = read_options(alloc, &names, primary, others)?;
     let ignored = kept.ignored();
+    let KeptParts {
+        options,
+        colours,
+        colour_names,
+    } = kept.into_parts();
+    let names = names.into_list();
     Ok(Read {
-        problem: Problem::from_parts(names.into_list(), primary, kept.into_list()),
+        problem: Problem::from_parts(names, primary, options, colours, colour_names),
         ignored,
     })
 }
@@ -233,12 +302,12 @@ fn read_lines(alloc: Global, text: &[u8]) -> Result<Read, ReadFault>
     read_content(alloc, items, lines)
 }
 
-/// Reads a problem in the general form of the input of Knuth's program DLX1.
+/// Reads a problem in the general form of the inputs of Knuth's programs DLX1 and DLX2.
 ///
 /// A line ends at byte 10 or at the end of the text; words are divided by the bytes 9, 11, 12, 13 and 32. Blank lines, and
 /// lines whose first word begins with `|`, are skipped. The first other line names the items, of which those behind a word
-/// that begins with `|` are secondary. Each later line is an option, a list of different names of items; options without a
-/// primary item are ignored, and counted.
+/// that begins with `|` are secondary. Each later line is an option, a list of different names of items; behind that of a
+/// secondary item a `:` and the name of a colour may stand. Options without a primary item are ignored, and counted.
 ///
 /// An error other than `Memory` is the first fault of the text in reading order, with its line counted from 1. Beside the text
 /// it takes memory of the order of the problem, whatever else the text has.

@@ -1,6 +1,7 @@
 //! Texts of problems and answers, lawful and not.
 
 mod answers;
+mod clashes;
 mod copies;
 mod devices;
 mod greatest;

@@ -13,6 +13,7 @@ use Rattle.packet_wire.specs.declared.packet.Packet.{Packet}
 use Rattle.spawn_frame.specs.Tables.{HasParents, IsAscending}
 use Rattle.spawn_frame.specs.Units.{Entry, GuestEntry, Table}
 use Rattle.spawn_frame.specs.declared.site.Site.{Site}
+use Rattle.spawn_frame.specs.declared.site.TheConstants.{LAST_NODE}
 use Rattle.spawn_frame.specs.declared.status.Status.{Status}
 use Rattle.spawn_frame.specs.declared.status.Status.TheVariants.{Aborted, Done, Dropped, Finished, Here, Out, Ready, Settled, Split}
 
@@ -82,12 +83,12 @@ pub record IsKnown (nodes : ℕ) (known : List ℕ) : Type 0 where
   pub registry : slice_index known 0 ≡ 1
   pub counted : list_all is_counted known ≡ true
 
--- What is true of the view of each site of the problem: there are 1 to 16 nodes, of which the site is one unless it is the
+-- What is true of the view of each site of the problem: there are 1 to the most nodes, of which the site is one unless it is the
 -- registry, and packets can tell all that it knows.
 pub record IsFormed (problem : Problem) (view : View) : Type 0 where
   pub lawful : IsProblem problem
   pub some : 1 ≤ view.nodes
-  pub most : view.nodes ≤ 16
+  pub most : view.nodes ≤ LAST_NODE
   pub within : view.site.node ≤ view.nodes
   pub known : IsKnown view.nodes view.known
   pub units : IsFormedTable problem view.table
@@ -104,9 +105,9 @@ pub record FormedStep (problem : Problem) (old : View) (event : Event) (reply : 
   pub fit : IsFit problem event
   pub step : NodeStep problem old event reply out new
 
--- A site that a node may be: one of 1 to 16 nodes, in a run that packets can tell, as each name that it may give.
+-- A site that a node may be: one of at most as many nodes as there may be, in a run that packets can tell, as each name that it may give.
 pub record MayBegin (site : Site) (nodes limit : ℕ) : Type 0 where
-  pub most : nodes ≤ 16
+  pub most : nodes ≤ LAST_NODE
   pub first : 1 ≤ site.node
   pub last : site.node ≤ nodes
   pub counted : 1 ≤ site.incarnation

@@ -24,7 +24,7 @@ Tells old out new _ = ⊥
 
 -- the view of a node that takes part no more
 abbrev pub over_now : View → View
-over_now view = record { ledger = view.ledger; over = true }
+over_now view = record view { over = true }
 
 -- a packet of this body arrives from a site
 abbrev pub HearStep : Problem → View → Site → Body → Reply → List Packet → View → Type 0

@@ -25,7 +25,7 @@ unit_in view unit = unit_of view.table unit
 
 -- the view with another ledger
 abbrev pub with_ledger : View → Ledger → View
-with_ledger view ledger = record { ledger = ledger; over = view.over }
+with_ledger view ledger = record view { ledger = ledger }
 
 -- the view with another table
 abbrev pub with_table : View → Table → View

@@ -10,7 +10,7 @@ use crate::act_fault::ActFault;
 use crate::outgoing::Outgoing;
 use crate::reply::Reply;
 use crate::site_state::SiteState;
-use cover_problem::{Problem, is_prefix};
+use cover_problem::{Numbers, Problem, is_prefix};
 use packet_wire::{Body, Packet};
 use spawn_frame::{Attempt, ChildName, ChildResult, Site};
 use steal_return::{Given, Judged, aborts_are_few};
@@ -24,21 +24,21 @@ impl SiteState {
         from: Site,
         serial: u32,
         attempt: Attempt,
-        prefix: &[u16],
+        prefix: Numbers,
     ) -> Result<Reply, ActFault>
         requires { 1 ≤ attempt }
         ensures step { IfOk result (λ reply.
-            GiveStep problem.now self.old from serial attempt prefix.now reply [] self.new) }
+            GiveStep problem.now self.old from serial attempt prefix reply [] self.new) }
         ensures refusal { refusal_told result
             ≡ give_refusal problem.now self.old
-            (record { site = from; serial = serial }) attempt prefix.now }
+            (record { site = from; serial = serial }) attempt prefix }
         ensures err { OnErr result (self.new ≡ self.old) }
     {
         let name = ChildName { site: from, serial };
         if !self.ledger.is_new(name, attempt) {
             return Ok(Reply::Ignored);
         }
-        if !is_prefix(problem, prefix) {
+        if !is_prefix(problem, prefix.as_slice()) {
             return Err(ActFault::BadPrefix);
         }
         self.ledger.admit(name, attempt, prefix)?;
@@ -69,7 +69,8 @@ impl SiteState {
     /// Another site asks for work: it gets the ready own child of least serial, or is told that there is none.
     pub fn receive_steal(&mut self, from: Site, out: &mut Outgoing) -> Result<Reply, ActFault>
         ensures step { Answered result out.old out.new (λ reply sent.
-            (reply ≡ Reply.Moved) × StealStep self.old from sent self.new × GivesLeastTo self.old from sent) }
+            (reply ≡ Reply.Moved) × StealStep self.old from sent self.new
+            × GivesLeastTo self.old from sent) }
         ensures refusal { refusal_told result ≡ None }
         ensures err { OnErr result (self.new ≡ self.old) }
         ensures list { OnErr result (MaySend out.old out.new) }
@@ -95,7 +96,8 @@ impl SiteState {
         out: &mut Outgoing,
     ) -> Result<Reply, ActFault>
         ensures step { Answered result out.old out.new (λ reply sent.
-            (reply ≡ Reply.Moved) × ReturnStep self.old from serial attempt child_result sent self.new) }
+            (reply ≡ Reply.Moved) × ReturnStep self.old from serial attempt child_result sent
+            self.new) }
         ensures refusal { refusal_told result ≡ None }
         ensures err { OnErr result (self.new ≡ self.old) }
         ensures list { OnErr result (MaySend out.old out.new) }
@@ -143,7 +145,8 @@ impl SiteState {
         out: &mut Outgoing,
     ) -> Result<Reply, ActFault>
         ensures step { Answered result out.old out.new (λ reply sent.
-            RefuseStep self.old (record { site = from; serial = serial }) attempt reply sent self.new) }
+            RefuseStep self.old (record { site = from; serial = serial }) attempt reply sent
+            self.new) }
         ensures refusal { refusal_told result ≡ None }
         ensures err { OnErr result (self.new ≡ self.old) }
         ensures list { OnErr result (MaySend out.old out.new) }

@@ -77,7 +77,8 @@ pub trait Core {
     ) -> Result<Reply, ActFault>
         requires { IsFit (problem self.old) event }
         ensures problem { problem self.new ≡ problem self.old }
-        ensures acts { PutsOutBoth result (out.old.items, copies.old.items) (out.new.items, copies.new.items) (λ reply sent.
+        ensures acts { PutsOutBoth result (out.old.items, copies.old.items)
+            (out.new.items, copies.new.items) (λ reply sent.
             Acts step (problem self.old) (view self.old) event reply sent (view self.new)) }
         ensures refusal { refusal_told result ≡ refusal (problem self.old) (view self.old) event }
         ensures err { OnErr result (view self.new ≡ view self.old) }

@@ -21,7 +21,8 @@ impl SiteState {
         out: &mut Outgoing,
     ) -> Result<Reply, ActFault>
         ensures step { Answered result out.old out.new (λ reply sent.
-            MembersStep self.old incarnations.now sent self.new × Tells self.old sent self.new reply) }
+            MembersStep self.old incarnations.now sent self.new
+            × Tells self.old sent self.new reply) }
         ensures refusal { refusal_told result ≡ members_refusal self.old incarnations.now }
         ensures err { OnErr result (self.new ≡ self.old) }
         ensures list { OnErr result (MaySend out.old out.new) }

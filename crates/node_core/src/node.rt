@@ -7,6 +7,7 @@ ghost use Rattle.packet_wire.specs.WellFormed.{is_body, is_well_formed};
 ghost use Rattle.packet_wire.specs.declared.packet.Body.{Body};
 ghost use Rattle.node_core.specs.declared.event.Event.{Event};
 ghost use Rattle.packet_wire.specs.declared.packet.Packet.{Packet};
+ghost use Rattle.spawn_frame.specs.declared.site.TheConstants.{LAST_NODE};
 
 use crate::act_fault::ActFault;
 use crate::core_trait::Core;
@@ -56,7 +57,7 @@ impl<'a> NodeCore<'a> {
         nodes: u8,
         names_limit: u32,
     ) -> Result<NodeCore<'a>, AllocError>
-        requires most { nodes ≤ 16 }
+        requires most { nodes ≤ LAST_NODE }
         requires first { 1 ≤ site.node }
         requires last { site.node ≤ nodes }
         requires run { 1 ≤ site.incarnation }
@@ -120,7 +121,8 @@ fn answer_event(
     requires fit { IsFit links.old.problem event }
     ensures problem { links.new.problem ≡ links.old.problem }
     ensures step { Answered result out.old out.new (λ reply sent.
-        NodeStep links.old.problem state.old event reply sent state.new × GivesLeast state.old event sent) }
+        NodeStep links.old.problem state.old event reply sent state.new
+        × GivesLeast state.old event sent) }
     ensures refusal { refusal_told result ≡ node_refusal links.old.problem state.old event }
     ensures err { OnErr result (state.new ≡ state.old) }
     ensures list { OnErr result (MaySend out.old out.new) }
@@ -145,7 +147,8 @@ fn hear(
     requires formed { is_body body ≡ true }
     requires heard { body ≢ Body.Hello }
     ensures step { Answered result out.old out.new (λ reply sent.
-        HearStep problem.now state.old from body reply sent state.new × AnswersLeast state.old from body sent) }
+        HearStep problem.now state.old from body reply sent state.new
+        × AnswersLeast state.old from body sent) }
     ensures refusal { refusal_told result ≡ hear_refusal problem.now state.old from body }
     ensures err { OnErr result (state.new ≡ state.old) }
     ensures list { OnErr result (MaySend out.old out.new) }
@@ -158,7 +161,7 @@ fn hear(
             serial,
             attempt,
             prefix,
-        } => state.receive_give(problem, from, serial, attempt, prefix.as_slice()),
+        } => state.receive_give(problem, from, serial, attempt, prefix),
         Body::NoWork => Ok(Reply::Ignored),
         Body::Return {
             serial,
@@ -190,7 +193,8 @@ fn deliver(
     requires fit { is_well_formed packet ≡ true }
     requires node { 1 ≤ state.old.site.node }
     ensures step { Answered result out.old out.new (λ reply sent.
-        NodeStep problem.now state.old (Event.Deliver packet) reply sent state.new × AnswersLeast state.old packet.from packet.body sent) }
+        NodeStep problem.now state.old (Event.Deliver packet) reply sent state.new
+        × AnswersLeast state.old packet.from packet.body sent) }
     ensures refusal { refusal_told result
         ≡ node_refusal problem.now state.old (Event.Deliver packet) }
     ensures err { OnErr result (state.new ≡ state.old) }

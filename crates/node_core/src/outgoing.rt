@@ -23,7 +23,13 @@ impl Model for Outgoing {
 
     ghost Value = { Lists };
 
-    ghost view = { λ o. record { packets = o.packets.items; copies = o.copies.items; both = o.both; room = room_in (vec_capacity o.packets - vec_len o.packets) (vec_capacity o.copies - vec_len o.copies) o.both } };
+    ghost view = { λ o. record {
+      packets = o.packets.items;
+      copies = o.copies.items;
+      both = o.both;
+      room = room_in (vec_capacity o.packets - vec_len o.packets)
+          (vec_capacity o.copies - vec_len o.copies) o.both;
+    } };
 }
 
 /// A packet for each of the lists, ready to be put there.

@@ -16,6 +16,7 @@ use Rattle.packet_wire.specs.declared.packet.Body.{Body}
 use Rattle.packet_wire.specs.declared.packet.Body.TheVariants as bodies
 use Rattle.packet_wire.specs.declared.packet.Packet.{Packet}
 use Rattle.packet_wire.specs.declared.reading.Header.{Header}
+use Rattle.packet_wire.specs.declared.writing.TheConstants.{MAGIC, VERSION}
 
 -- one step after another: the first fault ends them
 infixl 10 ◌>>=◌
@@ -55,11 +56,11 @@ abbrev pub known : {A : Type 0} → WireFault → Option A → List ℕ → Read
 known fault None rest = Err fault
 known fault (Some x) rest = Ok (x, rest)
 
--- the magic 43 4e, the version 1, and the kind
+-- the magic, the version, and the kind
 unfoldable pub start_at : List ℕ → Read Kind
 start_at bytes = do
-  magic ← field_at 2 (λ n. n == 17230) faults.Magic bytes
-  version ← field_at 1 (λ n. n == 1) faults.Version magic.1
+  magic ← field_at 2 (λ n. n == MAGIC) faults.Magic bytes
+  version ← field_at 1 (λ n. n == VERSION) faults.Version magic.1
   number ← number_at 1 version.1
   known faults.Kind (kind_numbered number.0) number.1
 

@@ -12,6 +12,7 @@ use Rattle.packet_wire.specs.declared.kind.Kind.{Kind}
 use Rattle.packet_wire.specs.declared.packet.Body.{Body}
 use Rattle.packet_wire.specs.declared.packet.Body.TheVariants as bodies
 use Rattle.packet_wire.specs.declared.packet.Packet.{Packet}
+use Rattle.packet_wire.specs.declared.writing.TheConstants.{MAGIC, VERSION}
 
 -- a number in so many bytes, the highest first
 unfoldable pub number : ℕ → ℕ → List ℕ
@@ -23,7 +24,7 @@ numbers width ns = flat_map (number width) ns
 
 -- the magic, the version and the kind: 43 4e 01 and its number
 abbrev pub start_text : Kind → List ℕ
-start_text kind = number 2 17230 ++ (number 1 1 ++ number 1 (kind_number kind))
+start_text kind = number 2 MAGIC ++ (number 1 VERSION ++ number 1 (kind_number kind))
 
 -- the node, and its incarnation
 abbrev pub site_text : Site → List ℕ

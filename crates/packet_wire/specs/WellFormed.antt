@@ -1,9 +1,11 @@
 -- Which packets have a spelling: what each field of them allows.
-use Rattle.std.specs.Prelude.{ℕ, Bool, true, not, ◌&&◌, ◌||◌, ◌==◌, nat_lt, List, length}
+use Rattle.std.specs.Prelude.{ℕ, ◌+◌, Bool, true, not, ◌&&◌, ◌||◌, ◌==◌, nat_lt, List, length}
 use Rattle.std.specs.List.{list_all}
+use Rattle.cover_problem.specs.declared.limits.TheConstants.{MOST_ITEMS, MOST_OPTIONS}
 use Rattle.spawn_frame.specs.declared.child_result.ChildResult.{ChildResult}
 use Rattle.spawn_frame.specs.declared.child_result.ChildResult.TheVariants.{Cover, Empty}
 use Rattle.spawn_frame.specs.declared.site.Site.{Site}
+use Rattle.spawn_frame.specs.declared.site.TheConstants.{LAST_NODE}
 use Rattle.packet_wire.specs.Kinds.{is_routed, kind_of}
 use Rattle.packet_wire.specs.declared.packet.Body.{Body}
 use Rattle.packet_wire.specs.declared.packet.Body.TheVariants as bodies
@@ -11,7 +13,7 @@ use Rattle.packet_wire.specs.declared.packet.Packet.{Packet}
 
 -- a node, or 0 for the registry
 abbrev pub is_node : ℕ → Bool
-is_node n = nat_lt n 17
+is_node n = nat_lt n (LAST_NODE + 1)
 
 -- a serial number: it has four bytes
 abbrev pub is_serial : ℕ → Bool
@@ -31,19 +33,19 @@ is_site s = is_node s.node && is_incarnation_of s.node s.incarnation
 
 -- the number of an option
 abbrev pub is_option : ℕ → Bool
-is_option n = nat_lt n 20000
+is_option n = nat_lt n MOST_OPTIONS
 
--- a count of options, where there are at least so many
+-- a count of options, where there are at least so many: no more than there are items
 abbrev pub is_option_count : ℕ → ℕ → Bool
-is_option_count least n = not (nat_lt n least) && nat_lt n 1001
+is_option_count least n = not (nat_lt n least) && nat_lt n (MOST_ITEMS + 1)
 
 -- a list of at least so many options
 abbrev pub are_options : ℕ → List ℕ → Bool
 are_options least options = is_option_count least (length options) && list_all is_option options
 
--- a count of incarnations: there are at most 16 nodes, and at least 1
+-- a count of incarnations: one for each node, of which there is at least one
 abbrev pub is_node_count : ℕ → Bool
-is_node_count n = nat_lt 0 n && nat_lt n 17
+is_node_count n = nat_lt 0 n && nat_lt n (LAST_NODE + 1)
 
 -- the incarnations of the nodes from 1 on
 abbrev pub are_incarnations : List ℕ → Bool

@@ -6,16 +6,8 @@ ghost use Rattle.packet_wire.specs.WellFormed.{are_incarnations, are_options, is
 
 use crate::kind::Kind;
 use crate::packet::{Body, Packet};
-use spawn_frame::{Attempt, ChildResult, Site};
-
-/// The greatest number of a node.
-const LAST_NODE: u8 = 16;
-
-/// The greatest number of an option.
-const LAST_OPTION: u16 = 19_999;
-
-/// The greatest length of a list of options.
-const MOST_OPTIONS: usize = 1000;
+use cover_problem::{MOST_ITEMS, MOST_OPTIONS};
+use spawn_frame::{Attempt, ChildResult, LAST_NODE, Site};
 
 /// Whether it is a node's number, or 0 for the registry.
 pub(crate) fn is_node(node: u8) -> bool
@@ -49,14 +41,14 @@ fn is_site(site: Site) -> bool
 pub(crate) fn is_option(number: u16) -> bool
     ensures { result ≡ is_option number }
 {
-    number <= LAST_OPTION
+    usize::from(number) < MOST_OPTIONS
 }
 
-/// Whether a list of at least so many options may have this length.
+/// Whether a list of at least so many options may have this length: no prefix has more options than there are items.
 pub(crate) fn is_option_count(least: usize, count: usize) -> bool
     ensures { result ≡ is_option_count least count }
 {
-    least <= count && count <= MOST_OPTIONS
+    least <= count && count <= MOST_ITEMS
 }
 
 /// Whether each is the number of an option.

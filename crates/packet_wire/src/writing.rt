@@ -12,10 +12,10 @@ use spawn_frame::{Attempt, Cause, ChildResult, Site};
 use std::alloc::{AllocError, Global};
 
 /// The number with which each packet begins.
-pub(crate) const MAGIC: u16 = 0x434e;
+pub const MAGIC: u16 = 0x434e;
 
 /// The version of each packet.
-pub(crate) const VERSION: u8 = 1;
+pub const VERSION: u8 = 1;
 
 /// The most bytes that a packet has: a header, a child, a cover and its 1,000 options.
 const MOST_BYTES: usize = 2025;

@@ -53,7 +53,7 @@ unanswered problem = record { problem = problem; answer = None }
 
 -- the same problem with this answer
 abbrev pub answered : Publishing → Answer → Publishing
-answered old answer = record { problem = old.problem; answer = Some answer }
+answered old answer = record old { answer = Some answer }
 
 -- what is published once a result enters, if one does
 abbrev pub publishing : Publishing → Option ChildResult → Publishing

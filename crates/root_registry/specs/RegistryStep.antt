@@ -37,9 +37,8 @@ pub record HelloStep (old : View) (from : Site) (out : List Packet) (new : View)
   pub known : List ℕ
   pub known_is : known ≡ raised old.known from.node from.incarnation
   pub redoable : IsRedoable (is_earlier_run from.node known) old.own
-  pub after : new ≡ with_ledger old (record {
+  pub after : new ≡ with_ledger old (record old.ledger {
     table = table_own old.table (redo_lost (is_earlier_run from.node known) old.own);
-    nodes = old.nodes;
     known = known;
   })
   pub sends : out ≡ to_each old.site (Members (drop 1 known)) 1 (drop 1 known)

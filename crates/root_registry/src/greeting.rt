@@ -6,6 +6,7 @@ ghost use Rattle.node_core.specs.Outgoing.{Sends};
 ghost use Rattle.root_registry.specs.Core.{members_packets};
 ghost use Rattle.root_registry.specs.Refusal.{hello_refusal};
 ghost use Rattle.root_registry.specs.RegistryStep.{raised, HelloStep};
+ghost use Rattle.spawn_frame.specs.declared.site.TheConstants.{LAST_NODE};
 
 use crate::telling::send_to_each;
 use node_core::{ActFault, Outgoing, Reply, SiteState};
@@ -35,7 +36,7 @@ fn later_of(first: u32, second: u32) -> u32
 
 /// Tells every node which runs there will be; the only error is want of memory.
 fn send_members(state: &SiteState, from: Site, out: &mut Outgoing) -> Result<(), AllocError>
-    requires most { state.now.nodes ≤ 16 }
+    requires most { state.now.nodes ≤ LAST_NODE }
     requires some { 1 ≤ from.node }
     requires there { from.node ≤ state.now.nodes }
     ensures ok { OnOk result
@@ -58,7 +59,7 @@ pub(crate) fn receive_hello(
     from: Site,
     out: &mut Outgoing,
 ) -> Result<Reply, ActFault>
-    requires most { state.old.nodes ≤ 16 }
+    requires most { state.old.nodes ≤ LAST_NODE }
     requires some { 1 ≤ from.node }
     requires there { from.node ≤ state.old.nodes }
     ensures step { IfOk result (λ reply.

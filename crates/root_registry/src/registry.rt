@@ -7,6 +7,7 @@ ghost use Rattle.root_registry.specs.Core.{goes_to_registry, AnswersBody, Answer
 ghost use Rattle.root_registry.specs.Formed.{IsFormedRegistry};
 ghost use Rattle.root_registry.specs.Published.{entering, entering_with, published_by, publishing};
 ghost use Rattle.root_registry.specs.Refusal.{registry_refusal, root_hear_refusal};
+ghost use Rattle.spawn_frame.specs.declared.site.TheConstants.{LAST_NODE};
 
 use crate::again::say_again;
 use crate::formed::the_registry_stays_formed;
@@ -49,7 +50,7 @@ impl<'a> Registry<'a> {
     /// every node. The only error is want of memory.
     pub fn start(alloc: Global, problem: &'a Problem, nodes: u8) -> Result<Registry<'a>, AllocError>
         requires some { 1 ≤ nodes }
-        requires most { nodes ≤ 16 }
+        requires most { nodes ≤ LAST_NODE }
         ensures { IfOk result (λ registry. registry ≡ opening_registry_core problem.now nodes) }
     {
         let ledger = Ledger::with_root(alloc, nodes)?;
@@ -167,7 +168,7 @@ fn hear(
     body: Body,
     out: &mut Outgoing,
 ) -> Result<Reply, ActFault>
-    requires most { state.old.nodes ≤ 16 }
+    requires most { state.old.nodes ≤ LAST_NODE }
     requires some { 1 ≤ from.node }
     requires there { from.node ≤ state.old.nodes }
     requires heard { goes_to_registry body ≡ true }

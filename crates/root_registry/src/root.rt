@@ -9,6 +9,7 @@ ghost use Rattle.root_registry.specs.Published.{entering_with, publishing};
 ghost use Rattle.root_registry.specs.Refusal.{is_acceptable, root_hear_refusal};
 ghost use Rattle.root_registry.specs.RegistryStep.{root_result};
 ghost use Rattle.spawn_frame.specs.Tables.{has_status, is_out};
+ghost use Rattle.spawn_frame.specs.declared.site.TheConstants.{LAST_NODE};
 ghost use Rattle.steal_return.specs.Returns.{judged, Enters};
 
 use crate::publication::{Publication, answer_of};
@@ -89,15 +90,18 @@ pub(crate) fn receive_return(
     child_result: ChildResult,
     out: &mut Outgoing,
 ) -> Result<Reply, ActFault>
-    requires { state.old.nodes ≤ 16 }
+    requires { state.old.nodes ≤ LAST_NODE }
     ensures step { IfOk result (λ reply. Sending out.old out.new
-        (AnswersBody publication.old.problem state.old from (Body.Return serial attempt child_result) state.new reply)) }
+        (AnswersBody publication.old.problem state.old from
+        (Body.Return serial attempt child_result) state.new reply)) }
     ensures refusal { refusal_told result
-        ≡ root_hear_refusal publication.old.problem state.old from (Body.Return serial attempt child_result) }
+        ≡ root_hear_refusal publication.old.problem state.old from
+        (Body.Return serial attempt child_result) }
     ensures err { OnErr result (state.new ≡ state.old) }
     ensures list { OnErr result (MaySend out.old out.new) }
     ensures published { OnOk result (publication.new
-        ≡ publishing publication.old (entering_with state.old from (Body.Return serial attempt child_result))) }
+        ≡ publishing publication.old (entering_with state.old from
+        (Body.Return serial attempt child_result))) }
     ensures unpublished { OnErr result (publication.new ≡ publication.old) }
 {
     if !is_awaited(state, from, serial, attempt) {

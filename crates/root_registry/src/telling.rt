@@ -4,6 +4,7 @@ ghost use Rattle.std.specs.Prelude.{◌≤◌, ◌∷◌, [], length, OnErr, OnO
 ghost use Rattle.node_core.specs.Acting.{MaySend};
 ghost use Rattle.node_core.specs.Outgoing.{Sends};
 ghost use Rattle.root_registry.specs.RegistryStep.{if_done, over_packets, root_result, to_each};
+ghost use Rattle.spawn_frame.specs.declared.site.TheConstants.{LAST_NODE};
 
 use crate::root::is_done;
 use node_core::{Outgoing, SiteState};
@@ -18,7 +19,7 @@ pub(crate) fn send_to_each(
     runs: &[u32],
     out: &mut Outgoing,
 ) -> Result<(), AllocError>
-    requires { length runs.now ≤ 16 }
+    requires { length runs.now ≤ LAST_NODE }
     ensures ok { OnOk result (Sends out.old (to_each from body.now 1 runs.now) out.new) }
     ensures err { OnErr result (MaySend out.old out.new) }
 {
@@ -48,7 +49,7 @@ fn send_to_node(
 
 /// Tells each node that the search is over; the only error is want of memory.
 pub(crate) fn send_over(state: &SiteState, out: &mut Outgoing) -> Result<(), AllocError>
-    requires { state.now.nodes ≤ 16 }
+    requires { state.now.nodes ≤ LAST_NODE }
     ensures ok { OnOk result (Sends out.old (over_packets state.now) out.new) }
     ensures err { OnErr result (MaySend out.old out.new) }
 {
@@ -61,7 +62,7 @@ pub(crate) fn send_over(state: &SiteState, out: &mut Outgoing) -> Result<(), All
 
 /// Tells each node that the search is over, if it is; the only error is want of memory.
 pub(crate) fn send_over_again(state: &SiteState, out: &mut Outgoing) -> Result<(), AllocError>
-    requires { state.now.nodes ≤ 16 }
+    requires { state.now.nodes ≤ LAST_NODE }
     ensures ok { OnOk result
         (Sends out.old (if_done (root_result state.now) (over_packets state.now)) out.new) }
     ensures err { OnErr result (MaySend out.old out.new) }

@@ -2,6 +2,7 @@
 use Rattle.std.specs.Prelude.{◌≡◌, ℕ, ◌<◌, ◌≤◌, true, List, [], length}
 use Rattle.cover_problem.specs.Prefix.{is_prefix}
 use Rattle.cover_problem.specs.Problem.{Problem}
+use Rattle.cover_problem.specs.declared.limits.TheConstants.{MOST_ITEMS}
 use Rattle.node_core.specs.Acting.{StepOf}
 use Rattle.node_core.specs.Formed.{AllFormed}
 use Rattle.node_core.specs.SiteView.{View}
@@ -42,7 +43,7 @@ IsTold _ many limit = many < limit
 
 -- the most numbers that the reply to an event may hold: only a Take is told a prefix
 abbrev pub room_for : Event → ℕ
-room_for Take = 1000
+room_for Take = MOST_ITEMS
 room_for _ = 0
 
 -- the prefix that a reply holds

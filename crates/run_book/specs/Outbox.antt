@@ -7,6 +7,7 @@ use Rattle.crossbeam_queue.specs.Passes.{Pass as Holder, view}
 use Rattle.crossbeam_queue.specs.declared.array_queue.Doing.{Doing}
 use Rattle.crossbeam_queue.specs.declared.array_queue.Slotted.{Slotted}
 use Rattle.run_book.specs.Beginnings.{BeginsWith}
+use Rattle.run_book.specs.declared.outbox.TheConstants.{CAPACITY}
 use Rattle.run_book.specs.declared.parcel.Parcel.{Parcel}
 
 -- A moment of an outbox: what had been put in is what had been taken out, and then what it held.
@@ -18,7 +19,7 @@ pub record Moment : Type 0 where
 
 -- At some moment the outbox held as many parcels as fit, and these had been put in first.
 abbrev pub FoundFull : List Parcel → Type 0
-FoundFull seen = (moment : Moment) × (length moment.held ≡ 1024) × BeginsWith moment.put seen
+FoundFull seen = (moment : Moment) × (length moment.held ≡ CAPACITY) × BeginsWith moment.put seen
 
 -- At some moment the outbox held nothing, and these had been taken out.
 abbrev pub FoundEmpty : List Parcel → Type 0
@@ -42,7 +43,7 @@ pub record HasPut (old : PassView) (parcel : Parcel) (new : PassView) : Type 0 w
 
 -- the drain with the parcel added to what it has taken out
 abbrev pub has_taken : DrainView → Parcel → DrainView
-has_taken drain parcel = record { outbox = drain.outbox; taken = drain.taken ++ parcel ∷ [] }
+has_taken drain parcel = record drain { taken = drain.taken ++ parcel ∷ [] }
 
 -- ---- the rule of the queue
 
@@ -72,7 +73,7 @@ pub record HasSeenPut (old : Known) (parcel : Parcel) (new : Known) : Type 0 whe
 
 -- the drain has taken out the parcel
 abbrev pub HasSeenTaken : Known → Parcel → Known → Type 0
-HasSeenTaken old parcel new = new ≡ record { seen = old.seen; taken = old.taken ++ parcel ∷ [] }
+HasSeenTaken old parcel new = new ≡ record old { taken = old.taken ++ parcel ∷ [] }
 
 -- at a moment at which the queue holds these, what the holder has seen had been put in first
 abbrev pub Finds : Known → List Parcel → Type 0

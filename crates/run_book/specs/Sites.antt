@@ -1,6 +1,6 @@
 -- Sites of a run: how each begins, and its steps.
 use Rattle.std.specs.Prelude.{◌≡◌, ℕ, zero, suc, ◌≤◌, List, []}
-use Rattle.cover_problem.specs.Problem.{IsProblem, Problem}
+use Rattle.cover_problem.specs.Problem.{IsProblem, Problem, uncoloured}
 use Rattle.node_core.specs.Acting.{StepOf}
 use Rattle.node_core.specs.Formed.{IsFormedNode, MayBegin}
 use Rattle.node_core.specs.NodeStep.{NodeStep}
@@ -13,6 +13,7 @@ use Rattle.root_registry.specs.Formed.{IsFormedRegistry}
 use Rattle.root_registry.specs.RegistryStep.{RegistryStep}
 use Rattle.spawn_frame.specs.declared.site.Site.{Site}
 use Rattle.steal_return.specs.Ledger.{opening_ledger, root_ledger}
+use Rattle.spawn_frame.specs.declared.site.TheConstants.{LAST_NODE}
 
 -- a run: the problem, and how many nodes there are beside the registry
 pub record RunName : Type 0 where
@@ -23,7 +24,7 @@ pub record RunName : Type 0 where
 pub record IsRun (run : RunName) : Type 0 where
   pub lawful : IsProblem run.problem
   pub some : 1 ≤ run.nodes
-  pub most : run.nodes ≤ 16
+  pub most : run.nodes ≤ LAST_NODE
 
 -- a step of the registry at node 0, else of a node
 abbrev pub StepAt : ℕ → Problem → View → Event → Reply → List Packet → View → Type 0
@@ -61,4 +62,4 @@ StepsAt node Step =
 
 -- the run of no problem
 abbrev pub no_run : RunName
-no_run = record { problem = record { names = []; primary = 0; options = [] }; nodes = 0 }
+no_run = record { problem = uncoloured [] 0 []; nodes = 0 }

@@ -72,7 +72,8 @@ impl<J: Run> Book<J> {
         requires problem { problem.now ≡ J.run.problem }
         ensures first { IfOk result (λ answer.
             answer ≡ book_answer J.run.problem self.now.entries) }
-        ensures published { IfOk result (λ answer. (limit : ℕ) (last : View) → EndsIn J.run self.now limit last →
+        ensures published { IfOk result (λ answer. (limit : ℕ) (last : View) →
+            EndsIn J.run self.now limit last →
             answer ≡ published_by J.run.problem last) }
         ensures counts_right { IfOk result (λ answer. IfSome answer (CountsRight J.run.problem)) }
     {

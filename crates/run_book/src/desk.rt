@@ -36,10 +36,15 @@ impl<J: Run, C: Core + Drop, N: Room> Model for Desk<J, C, N> {
 
     ghost Value = { DeskView };
 
-    ghost view = { λ d. record { entries = d.entries.items; limit = d.limit; given = d.seats.given } };
+    ghost view = { λ d. record {
+      entries = d.entries.items;
+      limit = d.limit;
+      given = d.seats.given;
+    } };
 
     ghost invariant = { λ d. IsDesk J.run N.site N.limit C.step (C.problem d.core) (C.view d.core)
-        (record { entries = d.entries.items; limit = d.limit; given = d.seats.given }) d.register d.seats.total };
+        (record { entries = d.entries.items; limit = d.limit; given = d.seats.given }) d.register
+        d.seats.total };
 }
 
 /// What a core did at an event.

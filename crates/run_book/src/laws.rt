@@ -23,7 +23,8 @@ pub fn cores_step_as_their_sites()
 /// The answer of the registry's book is what its last view publishes: the book's first Accept told the root's result.
 pub fn a_book_tells_what_is_published()
     ensures { (run : RunName) (book : BookView) (limit : ℕ) (last : View) → book.site.node ≡ 0 →
-        EndsIn run book limit last → book_answer run.problem book.entries ≡ published_by run.problem last }
+        EndsIn run book limit last → book_answer run.problem book.entries
+        ≡ published_by run.problem last }
 {}
 
 /// The answer of the registry's book counts right: the registry has counted each cover before it entered.
@@ -35,7 +36,9 @@ pub fn what_is_published_counts_right()
 /// A node of 1 or more begins in a run as a node begins, and the registry as the registry does.
 pub fn sites_begin()
     ensures node { (run : RunName) (site : Site) (limit : ℕ) → MayBegin site run.nodes limit →
-        MayBeginIn run site limit × (opening_of run site limit ≡ opening_view (opening_ledger site run.nodes limit)) }
+        MayBeginIn run site limit × (opening_of run site limit
+        ≡ opening_view (opening_ledger site run.nodes limit)) }
     ensures registry { (run : RunName) (limit : ℕ) →
-        MayBeginIn run registry limit × (opening_of run registry limit ≡ opening_view (root_ledger run.nodes)) }
+        MayBeginIn run registry limit × (opening_of run registry limit
+        ≡ opening_view (root_ledger run.nodes)) }
 {}

@@ -26,7 +26,8 @@ impl Model for Opened {
 
     ghost view = { λ o. record { table = o.keeper.table_id; name = o.blank.name } };
 
-    ghost invariant = { λ o. IsPassOf o.carrier o.keeper × (known o.keeper ≡ keeper_of_none) × (o.blank.parts ≡ 18446744073709551615) };
+    ghost invariant = { λ o. IsPassOf o.carrier o.keeper × (known o.keeper ≡ keeper_of_none)
+        × (o.blank.parts ≡ 18446744073709551615) };
 }
 
 impl Opened {

@@ -56,12 +56,13 @@ impl Model for Outbox {
     ghost use Rattle.atomic_table.specs.Seated.{TableId};
     ghost use Rattle.crossbeam_queue.specs.Passes.{ruled_capacity};
     ghost use Rattle.run_book.specs.Outbox.{name_of};
+    ghost use Rattle.run_book.specs.declared.outbox.TheConstants.{CAPACITY};
 
     ghost Value = { TableId };
 
     ghost view = { λ o. name_of o.queue };
 
-    ghost invariant = { λ o. ruled_capacity o.queue ≡ 1024 };
+    ghost invariant = { λ o. ruled_capacity o.queue ≡ CAPACITY };
 }
 
 impl Outbox {

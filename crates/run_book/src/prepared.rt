@@ -1,7 +1,7 @@
 ghost use Rattle.std.specs.Prelude.{◌≡◌, ◌≤◌, [], length, vec_capacity, IfErr, IfOk};
 ghost use Rattle.run_book.specs.Desks.{prefix_in, room_for};
 
-use cover_problem::Numbers;
+use cover_problem::{MOST_ITEMS, Numbers};
 use node_core::{Event, Reply};
 use std::alloc::Global;
 
@@ -42,11 +42,15 @@ impl Prepared {
     }
 }
 
-/// The most numbers that the reply to an event may hold: only a Take is told a prefix, which has at most 1,000.
+/// The most numbers that the reply to an event may hold: only a Take is told a prefix.
 fn numbers_for(event: &Event) -> usize
     ensures { result ≡ room_for event.now }
 {
-    if let Event::Take = event { 1000 } else { 0 }
+    if let Event::Take = event {
+        MOST_ITEMS
+    } else {
+        0
+    }
 }
 
 /// An equal reply, whose prefix goes into the room.

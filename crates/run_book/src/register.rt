@@ -57,7 +57,8 @@ impl<N: Room> Model for Register<N> {
 
     ghost view = { λ r. register_view (known r.keeper) };
 
-    ghost invariant = { λ r. (r.keeper.table_id ≡ N.table) × IsPassOf r.carrier r.keeper × IsKeeper (known r.keeper) };
+    ghost invariant = { λ r. (r.keeper.table_id ≡ N.table) × IsPassOf r.carrier r.keeper
+        × IsKeeper (known r.keeper) };
 }
 
 impl<N: Room> Register<N> {

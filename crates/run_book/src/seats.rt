@@ -46,7 +46,8 @@ impl<N: Room> Model for Seats<N> {
 
     ghost view = { λ s. record { given = s.given; total = s.book.total } };
 
-    ghost invariant = { λ s. (N.parts ≡ 18446744073709551615) × (s.rest.parts + s.given ≡ 18446744073709551615) × (s.rest.amount ≡ 0) };
+    ghost invariant = { λ s. (N.parts ≡ 18446744073709551615) × (s.rest.parts + s.given
+        ≡ 18446744073709551615) × (s.rest.amount ≡ 0) };
 }
 
 impl<N: Room> Seats<N> {

@@ -1,5 +1,6 @@
 //! Links and searches of small problems, and of random ones.
 
+mod coloured;
 mod links;
 mod plain;
 mod search;

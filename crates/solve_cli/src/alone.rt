@@ -77,7 +77,8 @@ pub fn alone_engine<R: Source, W: Sink>(
     requires source { R.failed source.old < 2 ^ 64 - 1 }
     requires sink { W.failed sink.old < 2 ^ 64 - 1 }
     ensures ended { IfSome (R.remaining source.old) (λ text.
-        IsEnded (AloneSays fuel) refuses_none text (W.contents sink.old) (W.contents sink.new) result) }
+        IsEnded (AloneSays fuel) refuses_none text (W.contents sink.old)
+        (W.contents sink.new) result) }
     ensures read { result ≢ Err EngineFault.Read → result ≢ Err EngineFault.Memory →
         IsAtEnd (R.remaining source.new) }
     ensures read_fault { result ≡ Err EngineFault.Read → R.failed source.old < R.failed source.new }

@@ -168,7 +168,8 @@ pub fn check_engine<R: Source, S: Source, W: Sink>(
     requires answer { S.failed answer.old < 2 ^ 64 - 1 }
     requires sink { W.failed sink.old < 2 ^ 64 - 1 }
     ensures ended { IfSome (R.remaining file.old) (λ text. IfSome (S.remaining answer.old) (λ given.
-        IsEnded (CheckSays given fuel) (CheckRefuses given) text (W.contents sink.old) (W.contents sink.new) result)) }
+        IsEnded (CheckSays given fuel) (CheckRefuses given) text (W.contents sink.old)
+        (W.contents sink.new) result)) }
 
     // Both texts are read to their ends before either is tested, so a refusal of one says that the other can be read.
     ensures file_read { result ≢ Err EngineFault.Read → result ≢ Err EngineFault.Memory →

@@ -5,6 +5,7 @@ ghost use Rattle.std.specs.Str.Parse.{IsNumeral, digits_value};
 ghost use Rattle.clap.specs.Words.{Row, Text, app_of, first_of, first_value, found_of, kind_of, rule_of, subcommand_of};
 ghost use Rattle.clap.specs.declared.builder.command.Command.TheViews.{out-Command};
 ghost use Rattle.solve_cli.specs.CommandLine.{AreMet, AreSpelled, IsAnswerFile, IsLineStatus, Spells, SpellsFuel, SpellsOr, alone_app, check_app, file_rule, greatest_fuel_rule, mode_word, number_rule, one_thread_app, simulate_app, sites_app, solve_app, solver_app};
+ghost use Rattle.spawn_frame.specs.declared.site.TheConstants.{LAST_NODE};
 
 use crate::settings::{Mode, Settings};
 use clap::error::ErrorKind;
@@ -263,9 +264,10 @@ fn number_or(inner: &ArgMatches<'_>, id: &str, default: u64) -> Option<u64>
 fn nodes(inner: &ArgMatches<'_>) -> Option<u8>
     ensures given { IfSome result (SpellsOr 4 (first_value (found_of inner.now) (codes "nodes"))) }
     ensures some { IfSome result (λ nodes. 1 ≤ nodes) }
-    ensures most { IfSome result (λ nodes. nodes ≤ 16) }
+    ensures most { IfSome result (λ nodes. nodes ≤ LAST_NODE) }
     ensures none { IfNone result ((n : ℕ) →
-        SpellsOr 4 (first_value (found_of inner.now) (codes "nodes")) n → 1 ≤ n → n ≤ 16 → ⊥) }
+        SpellsOr 4 (first_value (found_of inner.now) (codes "nodes")) n → 1 ≤ n → n ≤ LAST_NODE →
+        ⊥) }
 {
     let nodes = number_or(inner, "nodes", 4)?;
     if nodes == 0 || nodes > 16 {
@@ -336,7 +338,8 @@ fn fuel(inner: &ArgMatches<'_>) -> Option<u64>
 
 /// The answer's file, for a check alone.
 fn answer_file<'a>(mode: Mode, inner: &ArgMatches<'a>) -> Option<Option<&'a str>>
-    ensures given { IfSome result (λ given. IsAnswerFile mode (option_map (λ answer. answer.now) given)
+    ensures given { IfSome result (λ given. IsAnswerFile mode (option_map
+        (λ answer. answer.now) given)
         (first_value (found_of inner.now) (codes "answer"))) }
     ensures checked { IfSome result (λ given. mode ≡ Mode.Check → is_some given ≡ true) }
     ensures none { IfNone result ((answer : Option Text) →

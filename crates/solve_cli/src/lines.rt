@@ -50,7 +50,8 @@ pub fn write_published<W: Sink>(
 ) -> Result<u8, EngineFault>
     requires order { IfSome published (λ answer. IsWritable problem.now answer.now) }
     requires failed { W.failed sink.old < 2 ^ 64 - 1 }
-    ensures output { IsOutput (published_said problem.now (option_map (λ answer. answer.now) published.entry))
+    ensures output { IsOutput (published_said problem.now (option_map
+        (λ answer. answer.now) published.entry))
         (W.contents sink.old) (W.contents sink.new) result }
     ensures failed { result ≡ Err EngineFault.Write → W.failed sink.old < W.failed sink.new }
 {

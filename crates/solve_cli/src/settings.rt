@@ -2,6 +2,7 @@
 
 ghost use Rattle.std.specs.Prelude.{◌≡◌, ◌≤◌, is_some, true};
 ghost use Rattle.solve_cli.specs.declared.settings.Mode.{Mode};
+ghost use Rattle.spawn_frame.specs.declared.site.TheConstants.{LAST_NODE};
 
 /// What the program is to do.
 #[derive(Clone, Copy, Debug, PartialEq, Eq)]
@@ -40,7 +41,7 @@ pub struct Settings<'a> {
     pub ghost answered: { mode ≡ Mode.Check → is_some answer ≡ true },
     pub ghost some_fuel: { 1 ≤ fuel },
     pub ghost some_nodes: { 1 ≤ nodes },
-    pub ghost most_nodes: { nodes ≤ 16 },
+    pub ghost most_nodes: { nodes ≤ LAST_NODE },
     pub ghost some_workers: { 1 ≤ workers },
     pub ghost most_workers: { workers ≤ 8 },
     pub ghost most_turns: { turns ≤ 10000000 },

@@ -86,6 +86,9 @@ fn read_fault(fault: &ReadFault) -> Named {
         ReadFault::TooManyItems(line) => ("TooManyItems", Some(*line)),
         ReadFault::TooManyOptions(line) => ("TooManyOptions", Some(*line)),
         ReadFault::TooManyNodes(line) => ("TooManyNodes", Some(*line)),
+        ReadFault::BadColour(line) => ("BadColour", Some(*line)),
+        ReadFault::ColourOnPrimary(line) => ("ColourOnPrimary", Some(*line)),
+        ReadFault::TooManyColours(line) => ("TooManyColours", Some(*line)),
         ReadFault::Memory => ("Memory", None),
     }
 }

@@ -32,7 +32,7 @@ lesser child (Some winner) = min winner child
 -- what was heard, and the result of one child more: the least serial that had a cover goes on
 abbrev pub hearing_of : Hearing → ℕ → ChildResult → Hearing
 hearing_of before child (Cover options) = record { left = before.left - 1; winner = Some (lesser child before.winner) }
-hearing_of before child Empty = record { left = before.left - 1; winner = before.winner }
+hearing_of before child Empty = record before { left = before.left - 1 }
 
 -- settled once there is a winner, or none is left
 abbrev pub heard_of : Hearing → Heard

@@ -2,6 +2,7 @@
 use Rattle.std.specs.Prelude.{ℕ, zero, suc, Bool, ◌&&◌, if◌then◌else◌, List, [], ◌∷◌, Option, Some, None, slice_get, ◌==◌}
 use Rattle.spawn_frame.specs.Names.{guest_before, same_name}
 use Rattle.spawn_frame.specs.declared.site.ChildName.{ChildName}
+use Rattle.spawn_frame.specs.declared.site.TheConstants.{LAST_ATTEMPT}
 use Rattle.spawn_frame.specs.declared.site.Site.{Site}
 use Rattle.spawn_frame.specs.declared.status.Status.{Status}
 use Rattle.spawn_frame.specs.declared.status.Status.TheVariants.{Ready}
@@ -43,15 +44,15 @@ unit_of table (Guest name attempt) = guest_in table.guests name attempt
 
 -- the same unit, with another status
 abbrev pub with_status : Status → Entry → Entry
-with_status status entry = record { parent = entry.parent; prefix = entry.prefix; attempt = entry.attempt; status = status }
+with_status status entry = record entry { status = status }
 
 -- the greatest number that a packet can tell
 abbrev pub last_attempt : ℕ
-last_attempt = 4294967295
+last_attempt = LAST_ATTEMPT
 
 -- ready again, at the next attempt
 abbrev pub redone : Entry → Entry
-redone entry = record { parent = entry.parent; prefix = entry.prefix; attempt = suc entry.attempt; status = Ready }
+redone entry = record entry { attempt = suc entry.attempt; status = Ready }
 
 -- the list with its element at k changed
 abbrev pub change_at : (Entry → Entry) → List Entry → ℕ → List Entry
@@ -63,7 +64,7 @@ change_at f (c ∷ cs) (suc k) = c ∷ change_at f cs k
 abbrev pub change_guest : (Entry → Entry) → List GuestEntry → ChildName → ℕ → List GuestEntry
 change_guest f [] name attempt = []
 change_guest f (g ∷ gs) name attempt =
-    if is_guest name attempt g then record { name = g.name; entry = f g.entry } ∷ gs else g ∷ change_guest f gs name attempt
+    if is_guest name attempt g then record g { entry = f g.entry } ∷ gs else g ∷ change_guest f gs name attempt
 
 -- the list with a new guest at its place in the order
 abbrev pub insert_guest : GuestEntry → List GuestEntry → List GuestEntry
@@ -73,11 +74,11 @@ insert_guest new (g ∷ gs) =
 
 -- the table with other own children
 abbrev pub table_own : Table → List Entry → Table
-table_own table own = record { site = table.site; limit = table.limit; own = own; guests = table.guests }
+table_own table own = record table { own = own }
 
 -- the table with other guests
 abbrev pub table_guests : Table → List GuestEntry → Table
-table_guests table guests = record { site = table.site; limit = table.limit; own = table.own; guests = guests }
+table_guests table guests = record table { guests = guests }
 
 -- the table in which the unit has this status
 abbrev pub table_gets : Table → WorkUnit → Status → Table

@@ -113,36 +113,31 @@ inlet_after child result (Some hearing) = Some (hearing_of hearing child result)
 
 -- the work once it hears the result of a child, if it is a frame
 abbrev pub with_heard : ℕ → ChildResult → Work → Work
-with_heard child result w = record {
-  prefix = w.prefix;
-  attempt = w.attempt;
-  status = w.status;
-  inlet = if is_split w.status then inlet_after child result w.inlet else w.inlet;
-}
+with_heard child result w = record w { inlet = if is_split w.status then inlet_after child result w.inlet else w.inlet }
 
 -- the work with another status
 abbrev pub with_work_status : Status → Work → Work
-with_work_status status w = record { prefix = w.prefix; attempt = w.attempt; status = status; inlet = w.inlet }
+with_work_status status w = record w { status = status }
 
 -- the work ready again, at the next attempt
 abbrev pub redone_work : Work → Work
-redone_work w = record { prefix = w.prefix; attempt = w.attempt + 1; status = Ready; inlet = w.inlet }
+redone_work w = record w { attempt = w.attempt + 1; status = Ready }
 
 -- the work as a frame of so many children
 abbrev pub split_work : ℕ → Work → Work
-split_work children w = record { prefix = w.prefix; attempt = w.attempt; status = Split; inlet = Some (new_hearing children) }
+split_work children w = record w { status = Split; inlet = Some (new_hearing children) }
 
 -- the list with the work of its child at k changed
 abbrev pub change_child : (Work → Work) → List Child → ℕ → List Child
 change_child f [] k = []
-change_child f (c ∷ cs) zero = record { parent = c.parent; work = f c.work } ∷ cs
+change_child f (c ∷ cs) zero = record c { work = f c.work } ∷ cs
 change_child f (c ∷ cs) (suc k) = c ∷ change_child f cs k
 
 -- the list with the work of this guest changed
 abbrev pub change_work : (Work → Work) → List Guest → ChildName → ℕ → List Guest
 change_work f [] name attempt = []
 change_work f (g ∷ gs) name attempt =
-    if is_guest name attempt (guest_entry g) then record { name = g.name; work = f g.work } ∷ gs else g ∷ change_work f gs name attempt
+    if is_guest name attempt (guest_entry g) then record g { work = f g.work } ∷ gs else g ∷ change_work f gs name attempt
 
 -- the own children where the work of this unit is changed
 abbrev pub own_after : WorkUnit → (Work → Work) → List Child → List Child

@@ -53,17 +53,11 @@ fn new_child(alloc: Global, unit: Unit, prefix: &[u16], option: u16) -> Result<C
 }
 
 /// A guest with this prefix.
-pub fn new_guest(
-    alloc: Global,
-    name: ChildName,
-    attempt: Attempt,
-    prefix: &[u16],
-) -> Result<Guest, AllocError>
-    ensures { IfOk result (λ guest. guest ≡ fresh_guest name attempt prefix.now) }
+pub fn new_guest(name: ChildName, attempt: Attempt, prefix: Numbers) -> Guest
+    ensures { result ≡ fresh_guest name attempt prefix }
 {
-    let numbers = Numbers::from_vec(Vec::from_slice(alloc, prefix)?);
-    Ok(Guest {
+    Guest {
         name,
-        work: Work::new(numbers, attempt),
-    })
+        work: Work::new(prefix, attempt),
+    }
 }

@@ -32,7 +32,7 @@ pub use guest_view::GuestView;
 pub use heard::Heard;
 pub use inlet::Inlet;
 pub use out::Out;
-pub use site::{Attempt, ChildName, Site};
+pub use site::{Attempt, ChildName, LAST_ATTEMPT, LAST_NODE, Site};
 pub use spawn_fault::SpawnFault;
 pub use status::Status;
 pub use table::Table;

@@ -1,5 +1,11 @@
 //! Names: sites, children and attempts.
 
+/// The greatest number of a node; 0 is the registry's.
+pub const LAST_NODE: u8 = 16;
+
+/// The last attempt, after which no child is given out anew: the greatest number that a packet can tell.
+pub const LAST_ATTEMPT: Attempt = 4_294_967_295;
+
 /// One run of one node: each start of a node has a greater incarnation.
 #[derive(Clone, Copy, Debug, PartialEq, Eq, PartialOrd, Ord)]
 pub struct Site {

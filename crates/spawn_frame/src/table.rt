@@ -30,6 +30,7 @@ use crate::units::{
 };
 use crate::wanted::Wanted;
 use crate::work::Work;
+use cover_problem::Numbers;
 use std::alloc::{AllocError, Global};
 use std::marker::Model;
 
@@ -384,22 +385,22 @@ impl Table {
         self.own.redo(serial);
     }
 
-    /// Another site's child becomes a ready guest; the only error is want of memory, which changes nothing. It costs a
-    /// search by halving, a move of the guests that stand behind, and the prefix.
+    /// Another site's child becomes a ready guest, which keeps the prefix that is handed in; the only error is want of
+    /// memory, which changes nothing. It costs a search by halving and a move of the guests that stand behind.
     pub fn admit(
         &mut self,
         name: ChildName,
         attempt: Attempt,
-        prefix: &[u16],
+        prefix: Numbers,
     ) -> Result<(), AllocError>
         requires absent { guest_in self.old.guests name attempt ≡ None }
         requires attempt { 1 ≤ attempt }
         ensures ok { OnOk result (self.new
             ≡ table_guests self.old
-            (insert_guest (new_guest name attempt prefix.now) self.old.guests)) }
+            (insert_guest (new_guest name attempt prefix) self.old.guests)) }
         ensures err { OnErr result (self.new ≡ self.old) }
     {
-        let guest = new_guest(self.alloc, name, attempt, prefix)?;
+        let guest = new_guest(name, attempt, prefix);
         let place = place_behind(&self.guests, name, attempt);
         self.guests.insert(place, guest)?;
         Ok(())

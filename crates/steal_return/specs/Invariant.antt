@@ -5,6 +5,7 @@ use Rattle.spawn_frame.specs.Units.{Entry}
 use Rattle.steal_return.specs.Ledger.{Ledger}
 use Rattle.steal_return.specs.Members.{is_out_to}
 use Rattle.steal_return.specs.Steals.{is_older}
+use Rattle.spawn_frame.specs.declared.site.TheConstants.{LAST_NODE}
 
 -- no child is out to an earlier run than is known
 abbrev pub NoneOutrun : List ℕ → List Entry → Type 0
@@ -13,7 +14,7 @@ NoneOutrun known own = AllByRecursion (λ c. is_out_to (is_older known) c.status
 -- What is true of what is known: the registry's run is, and the runs of at most sixteen nodes.
 pub record IsKnown (known : List ℕ) : Type 0 where
   pub some : 0 < length known
-  pub few : length known ≤ 17
+  pub few : length known ≤ suc LAST_NODE
 
 -- What is true of every ledger: one incarnation is known of the registry and of each node, of which the site is one, and no child
 -- is out to an earlier run than is known.

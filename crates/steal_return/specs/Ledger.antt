@@ -16,7 +16,7 @@ pub record Ledger : Type 0 where
 
 -- the ledger with another table
 abbrev pub ledger_table : Ledger → Table → Ledger
-ledger_table ledger table = record { table = table; nodes = ledger.nodes; known = ledger.known }
+ledger_table ledger table = record ledger { table = table }
 
 -- the ledger with other own children
 abbrev pub ledger_own : Ledger → List Entry → Ledger

@@ -61,7 +61,7 @@ pub record IsSpent (lost : Site → Bool) (own : List Entry) : Type 0 where
 
 -- the guest, dropped or as it was
 abbrev pub drop_if : Bool → GuestEntry → GuestEntry
-drop_if true g = record { name = g.name; entry = with_status Dropped g.entry }
+drop_if true g = record g { entry = with_status Dropped g.entry }
 drop_if false g = g
 
 -- an open guest of a lost owner
@@ -122,9 +122,8 @@ pub record LearnsMembers (old : Ledger) (incarnations : List ℕ) (outs : List R
   pub redoable : IsRedoable (is_older known) old.own
   pub own : List Entry
   pub aborts : AbortsBelow (is_lost_guest known old.guests) (redo_lost (is_older known) old.own) own
-  pub after : new ≡ record {
+  pub after : new ≡ record old {
     table = table_guests (table_own old.table own) (drop_lost known old.guests);
-    nodes = old.nodes;
     known = known;
   }
   pub reaches : outs ≡ reached 0 (redo_lost (is_older known) old.own) own
@@ -134,9 +133,8 @@ pub record LearnsHello (old : Ledger) (from : Site) (new : Ledger) : Type 0 wher
   pub known : List ℕ
   pub known_is : known ≡ raised old.known from.node from.incarnation
   pub redoable : IsRedoable (is_earlier_run from.node known) old.own
-  pub after : new ≡ record {
+  pub after : new ≡ record old {
     table = table_own old.table (redo_lost (is_earlier_run from.node known) old.own);
-    nodes = old.nodes;
     known = known;
   }
 

@@ -11,10 +11,7 @@ ghost use Rattle.steal_return.specs.Steals.{first_ready, is_older};
 
 use crate::known::Known;
 use crate::told::Told;
-use spawn_frame::{Status, Table, Unit};
-
-/// The last attempt, after which no child is given out anew.
-pub const LAST_ATTEMPT: u32 = 4_294_967_295;
+use spawn_frame::{LAST_ATTEMPT, Status, Table, Unit};
 
 /// The ready child of least serial. It costs what the table's `next_ready` does.
 pub fn first_ready(table: &Table) -> Option<u32>

@@ -4,6 +4,7 @@ ghost use Rattle.std.specs.Prelude.{◌≡◌, ◌<◌, ◌≤◌, IfOk, length,
 ghost use Rattle.steal_return.specs.Invariant.{IsKnown};
 ghost use Rattle.steal_return.specs.Members.{known_after, now_known, raised};
 ghost use Rattle.steal_return.specs.Steals.{is_older};
+ghost use Rattle.spawn_frame.specs.declared.site.TheConstants.{LAST_NODE};
 
 use crate::told::Told;
 use spawn_frame::Site;
@@ -31,7 +32,7 @@ impl Model for Known {
 impl Known {
     /// The first run of the registry and of each of so many nodes; the only error is want of memory.
     pub fn start(alloc: Global, nodes: u8) -> Result<Known, AllocError>
-        requires { nodes ≤ 16 }
+        requires { nodes ≤ LAST_NODE }
         ensures { IfOk result (λ known. known ≡ replicate (suc nodes) 1) }
     {
         let runs = vec![in alloc; 1; nodes as usize + 1]?;

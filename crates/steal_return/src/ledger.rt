@@ -7,6 +7,7 @@ ghost use Rattle.spawn_frame.specs.Picks.{is_ready, is_split, ready_unit};
 ghost use Rattle.spawn_frame.specs.Splits.{with_result};
 ghost use Rattle.spawn_frame.specs.Tables.{has_status, is_here, is_out, may_end, outs_of, parent_heard, IsSeen};
 ghost use Rattle.spawn_frame.specs.Units.{unit_of};
+ghost use Rattle.spawn_frame.specs.declared.site.TheConstants.{LAST_NODE};
 ghost use Rattle.steal_return.specs.Finishing.{Appends, FinishesFrame};
 ghost use Rattle.steal_return.specs.Guests.{AdmitsGuest, DropsGuest, IsNew, IsNotFinished, IsNotNew, IsNotOpen, SettlesGuest};
 ghost use Rattle.steal_return.specs.Invariant.{IsLedger};
@@ -19,7 +20,7 @@ ghost use Rattle.steal_return.specs.Ledger.{ledger_split};
 ghost use Rattle.steal_return.specs.Members.{IsSpentForHello, IsSpentForMembers};
 ghost use Rattle.steal_return.specs.Steals.{IsLastOut, TellsSteal};
 
-use crate::children::{LAST_ATTEMPT, first_lost, first_ready, is_redoable, redo_lost};
+use crate::children::{first_lost, first_ready, is_redoable, redo_lost};
 use crate::given::Given;
 use crate::guests::{drop_guests, is_open, lost_guests};
 use crate::judged::Judged;
@@ -31,7 +32,8 @@ use crate::told::Told;
 use abort_tree::{Out, Reach, parents_decide};
 use cover_problem::Numbers;
 use spawn_frame::{
-    Attempt, Cause, ChildName, ChildResult, Heard, Job, Site, SpawnFault, Status, Table, Unit,
+    Attempt, Cause, ChildName, ChildResult, Heard, Job, LAST_ATTEMPT, Site, SpawnFault, Status,
+    Table, Unit,
 };
 use std::alloc::{AllocError, Global};
 use std::marker::Model;
@@ -53,7 +55,12 @@ impl Model for Ledger {
 
     ghost view = { λ l. record { table = l.table; nodes = length l.known - 1; known = l.known } };
 
-    ghost invariant = { λ l. IsLedger (record { table = l.table; nodes = length l.known - 1; known = l.known }) };
+    ghost invariant = { λ l. IsLedger (record {
+      table = l.table;
+      nodes = length l.known - 1;
+      known
+          = l.known;
+    }) };
 }
 
 impl Ledger {
@@ -66,7 +73,7 @@ impl Ledger {
         names_limit: u32,
     ) -> Result<Ledger, AllocError>
         requires some { 1 ≤ nodes }
-        requires most { nodes ≤ 16 }
+        requires most { nodes ≤ LAST_NODE }
         requires first { 1 ≤ site.node }
         requires last { site.node ≤ nodes }
         requires run { 1 ≤ site.incarnation }
@@ -83,7 +90,7 @@ impl Ledger {
     /// node. The only error is want of memory.
     pub fn with_root(alloc: Global, nodes: u8) -> Result<Ledger, AllocError>
         requires some { 1 ≤ nodes }
-        requires most { nodes ≤ 16 }
+        requires most { nodes ≤ LAST_NODE }
         ensures { IfOk result (λ ledger. ledger ≡ root_ledger nodes) }
     {
         Ok(Ledger {
@@ -370,6 +377,7 @@ impl Ledger {
         if !self.is_new(name, attempt) {
             return Ok(false);
         }
+        let prefix = Numbers::from_vec(Vec::from_slice(self.alloc, prefix)?);
         self.admit(name, attempt, prefix)?;
         Ok(true)
     }
@@ -383,16 +391,17 @@ impl Ledger {
         !self.known.is_older(name.site) && self.table.unit(Unit::Guest(name, attempt)).is_none()
     }
 
-    /// A new child of another site becomes a ready guest; the only error is want of memory, which changes nothing.
+    /// A new child of another site becomes a ready guest, which keeps the prefix that is handed in; the only error is want
+    /// of memory, which changes nothing.
     pub fn admit(
         &mut self,
         name: ChildName,
         attempt: Attempt,
-        prefix: &[u16],
+        prefix: Numbers,
     ) -> Result<(), AllocError>
         requires new { IsNew self.old name attempt }
         requires attempt { 1 ≤ attempt }
-        ensures ok { OnOk result (AdmitsGuest self.old name attempt prefix.now self.new) }
+        ensures ok { OnOk result (AdmitsGuest self.old name attempt prefix self.new) }
         ensures err { OnErr result (self.new ≡ self.old) }
     {
         self.table.admit(name, attempt, prefix)
@@ -461,7 +470,8 @@ impl Ledger {
         ensures able { OnTrue result
             (IsRedoable (is_older
             (now_known self.now.site.node self.now.known incarnations.now)) self.now.own) }
-        ensures spent { OnFalse result (IsSpent (is_older (now_known self.now.site.node self.now.known incarnations.now)) self.now.own) }
+        ensures spent { OnFalse result (IsSpent (is_older
+            (now_known self.now.site.node self.now.known incarnations.now)) self.now.own) }
     {
         let told = Told::Members(self.table.site().node, incarnations);
         is_redoable(&self.table, &self.known, told)
@@ -486,7 +496,8 @@ impl Ledger {
             (length list.new.items ≤ length list.old.items + outs_of self.old.own) }
         ensures moved { IfOk result (λ moved. OnTrue moved (self.new ≢ self.old)) }
         ensures same { IfOk result (λ moved. OnFalse moved (self.new ≡ self.old)) }
-        ensures spent { IsErrOf result LearnFault.NamesSpent ↔ IsSpentForMembers self.old incarnations.now }
+        ensures spent { IsErrOf result LearnFault.NamesSpent ↔ IsSpentForMembers self.old
+            incarnations.now }
         ensures err { OnErr result (self.new ≡ self.old) }
         ensures list { OnErr result (list.new.items ≡ list.old.items) }
     {

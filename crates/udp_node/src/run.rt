@@ -7,6 +7,7 @@ ghost use Rattle.run_book.specs.Books.{are_distinct, IsBook};
 ghost use Rattle.run_book.specs.Runs.{IsRunEnd};
 ghost use Rattle.run_book.specs.Sites.{IsRun};
 ghost use Rattle.udp_node.specs.Numbers.{AreNumbered};
+ghost use Rattle.spawn_frame.specs.declared.site.TheConstants.{LAST_NODE};
 
 use crate::gate::Gate;
 use crate::link::Link;
@@ -52,7 +53,7 @@ pub fn run_sites<
     requires problem { problem.now ≡ J.run.problem }
     requires nodes { plan.nodes ≡ J.run.nodes }
     requires some { 1 ≤ plan.nodes }
-    requires most { plan.nodes ≤ 16 }
+    requires most { plan.nodes ≤ LAST_NODE }
     requires links { vec_len links ≡ plan.nodes + 1 }
     ensures { IfOk result (λ end. IsRunEnd J.run end.answer end.books.items) }
 {

@@ -208,7 +208,10 @@ fn run_registry<
     requires parts { N.parts ≡ 18446744073709551615 }
     requires begins { MayBeginIn J.run N.site N.limit }
     requires registry { N.site.node ≡ 0 }
-    requires core { core ≡ record { problem = J.run.problem; view = opening_of J.run N.site N.limit } }
+    requires core { core ≡ record {
+      problem = J.run.problem;
+      view = opening_of J.run N.site N.limit;
+    } }
     ensures { IfSome result.0 (λ book. book.site ≡ N.site) }
 {
     cores_step_as_their_sites();
@@ -235,7 +238,10 @@ fn run_worker_node<
     requires parts { N.parts ≡ 18446744073709551615 }
     requires begins { MayBeginIn J.run N.site N.limit }
     requires node { 1 ≤ N.site.node }
-    requires core { core ≡ record { problem = J.run.problem; view = opening_of J.run N.site N.limit } }
+    requires core { core ≡ record {
+      problem = J.run.problem;
+      view = opening_of J.run N.site N.limit;
+    } }
     ensures { IfSome result.0 (λ book. book.site ≡ N.site) }
 {
     cores_step_as_their_sites();

@@ -1,5 +1,5 @@
 use node_core::ActFault;
-use std::alloc::AllocError;
+use std::alloc::{AllocError, AllocFailed};
 
 /// Why a count stopped.
 #[derive(Clone, Copy, Debug, PartialEq, Eq)]
@@ -8,12 +8,20 @@ pub enum BenchFault {
     Memory,
     /// A core refused an event.
     Act(ActFault),
-    /// A core put out no packet where one was due, or one without a spelling.
+    /// A core put out no packet where one was due, or one without a spelling; or a unit isn't as it was to be.
     Unexpected,
+    /// The clock told no time.
+    Clock,
 }
 
 impl From<AllocError> for BenchFault {
     fn from(_: AllocError) -> BenchFault {
+        BenchFault::Memory
+    }
+}
+
+impl<T: Drop> From<AllocFailed<T>> for BenchFault {
+    fn from(_: AllocFailed<T>) -> BenchFault {
         BenchFault::Memory
     }
 }

@@ -7,6 +7,9 @@
 //! `workbench greet THREADS TIMES` lets so many threads greet at one cell, each so many times; with 0 threads a core without a lock.
 //! `bench/cells.py` takes their times.
 //!
+//! `workbench table UNITS` times the calls of a ledger with so many own children, `workbench guests UNITS` of one with so many
+//! guests: a line for each call, how often it was called, and the nanoseconds of all. `bench/table.py` reads them.
+//!
 //! `workbench sites FILE NODES WORKERS SEED FUEL TURNS` lets sites with threads search a file's problem over links in memory, and tells how each
 //! ended and what its book holds. `bench/books.py` reads it.
 //!
@@ -15,6 +18,7 @@
 #![tactic(auto)]
 
 ghost use Rattle.std.specs.Prelude.{◌≤◌, IfSome};
+ghost use Rattle.spawn_frame.specs.declared.site.TheConstants.{LAST_NODE};
 
 mod cells;
 mod cycle;
@@ -22,6 +26,7 @@ mod deliveries;
 mod fault;
 mod sites;
 mod story;
+mod table;
 mod told;
 
 use crate::cells::{greet_cell, greet_core};
@@ -30,6 +35,7 @@ use crate::deliveries::{act_deliveries, packet_of};
 use crate::fault::BenchFault;
 use crate::sites::run_over_memory;
 use crate::story::{Plan, measure, tell};
+use crate::table::{measure_children, measure_guests};
 use dlx_reader::read_problem;
 use std::alloc::Global;
 use std::env;
@@ -93,9 +99,30 @@ fn greet<R: Threads + Wait + Sync>(
     greet_cell(rt, alloc, &read.problem, threads, times)
 }
 
+/// Times the calls of a ledger with so many children, or guests.
+fn time_calls(rt: &HostRuntime, what: &str, units: &str) -> io::Result<Result<(), BenchFault>> {
+    let Ok(units) = units.parse::<u32>() else {
+        return Ok(Err(BenchFault::Unexpected));
+    };
+    let measured = match what {
+        "table" => measure_children(rt, rt.alloc(), units),
+        "guests" => measure_guests(rt, rt.alloc(), units),
+        _ => Err(BenchFault::Unexpected),
+    };
+    match measured {
+        Ok(rows) => {
+            for row in &rows {
+                println!(rt; "{},{},{}", row.name, row.calls, row.time.as_nanos())?;
+            }
+            Ok(Ok(()))
+        }
+        Err(fault) => Ok(Err(fault)),
+    }
+}
+
 /// The plan that the numbers spell: nodes, seed, fuel, restarts, turns.
 fn plan_of(nodes: &str, seed: &str, fuel: &str, restarts: &str, turns: &str) -> Option<Plan>
-    ensures { IfSome result (λ plan. (1 ≤ plan.nodes) × (plan.nodes ≤ 16)) }
+    ensures { IfSome result (λ plan. (1 ≤ plan.nodes) × (plan.nodes ≤ LAST_NODE)) }
 {
     let nodes = nodes.parse::<u8>().ok()?;
     if nodes == 0 || nodes > 16 {
@@ -113,7 +140,7 @@ fn plan_of(nodes: &str, seed: &str, fuel: &str, restarts: &str, turns: &str) -> 
 /// Tells the search of a problem's file, or only measures it.
 fn tell_file(rt: &HostRuntime, file: &str, plan: Plan, is_told: bool) -> io::Result<()>
     requires some { 1 ≤ plan.nodes }
-    requires most { plan.nodes ≤ 16 }
+    requires most { plan.nodes ≤ LAST_NODE }
 {
     let mut text = Vec::new(rt.alloc());
     File::open(rt, file)?.read_to_end(&mut text)?;
@@ -136,7 +163,7 @@ fn sites_plan(
     fuel: &str,
     turns: &str,
 ) -> Option<udp_node::Plan>
-    ensures { IfSome result (λ plan. (1 ≤ plan.nodes) × (plan.nodes ≤ 16)) }
+    ensures { IfSome result (λ plan. (1 ≤ plan.nodes) × (plan.nodes ≤ LAST_NODE)) }
 {
     let nodes = nodes.parse::<u8>().ok()?;
     if nodes == 0 || nodes > 16 {
@@ -160,7 +187,7 @@ fn tell_sites<R: Threads + Wait + Clock + Sync>(
     plan: udp_node::Plan,
 ) -> io::Result<()>
     requires some { 1 ≤ plan.nodes }
-    requires most { plan.nodes ≤ 16 }
+    requires most { plan.nodes ≤ LAST_NODE }
 {
     let mut text = Vec::new(rt.alloc());
     File::open(rt, file)?.read_to_end(&mut text)?;
@@ -198,6 +225,7 @@ const QUIET: u64 = 1_000_000;
 /// How it is called.
 const USAGE: &str = "workbench act|copy KIND TIMES
 workbench greet THREADS TIMES
+workbench table|guests UNITS
 workbench sites FILE NODES WORKERS SEED FUEL TURNS
 workbench tell|measure FILE NODES SEED FUEL RESTARTS TURNS";
 
@@ -210,6 +238,7 @@ fn main(rt: HostRuntime) -> io::Result<ExitCode> {
             threads,
             times,
         ),
+        [what, units] => time_calls(&rt, what, units)?,
         [what, kind, times] => count(rt.alloc(), what, kind, times),
         [what, file, nodes, workers, seed, fuel, turns] if what.as_str() == "sites" => {
             match sites_plan(nodes, workers, seed, fuel, turns) {

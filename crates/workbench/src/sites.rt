@@ -2,6 +2,7 @@
 
 ghost use Rattle.std.specs.Prelude.{◌≡◌, ◌+◌, ◌≤◌, vec_len, IfOk};
 ghost use Rattle.run_book.specs.Sites.{RunName};
+ghost use Rattle.spawn_frame.specs.declared.site.TheConstants.{LAST_NODE};
 
 use brancher::Outcome;
 use cover_problem::Problem;
@@ -96,7 +97,7 @@ pub fn run_over_memory<R: Threads + Wait + Clock + Sync>(
     plan: Plan,
 ) -> Result<Ran, AllocError>
     requires some { 1 ≤ plan.nodes }
-    requires most { plan.nodes ≤ 16 }
+    requires most { plan.nodes ≤ LAST_NODE }
 {
     run_named::<Brand, R>(rt, alloc, problem, plan)
 }
@@ -110,7 +111,7 @@ fn run_named<J: Run + Send + Sync, R: Threads + Wait + Clock + Sync>(
 ) -> Result<Ran, AllocError>
     requires run { J.run ≡ record { problem = problem.now; nodes = plan.nodes } }
     requires some { 1 ≤ plan.nodes }
-    requires most { plan.nodes ≤ 16 }
+    requires most { plan.nodes ≤ LAST_NODE }
 {
     let links = links(alloc, plan.nodes + 1)?;
     let end: RunEnd<J> = run_sites(rt, alloc, problem, plan, links, &Open)?;

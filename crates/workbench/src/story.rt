@@ -1,6 +1,7 @@
 //! A simulated search, told event by event.
 
 ghost use Rattle.std.specs.Prelude.{◌<◌, ◌≤◌, length};
+ghost use Rattle.spawn_frame.specs.declared.site.TheConstants.{LAST_NODE};
 
 use crate::told::{BodyText, OptionsText, SiteText, StatusText, UnitText};
 use cover_problem::{Answer, Problem};
@@ -34,7 +35,7 @@ struct Story<'a> {
 /// nothing are left out, and so are packets of which there is nothing new to tell. In the end it tells which packets never came to a site.
 pub fn tell<W: Write>(alloc: Global, problem: &Problem, plan: Plan, out: &mut W) -> io::Result<()>
     requires some { 1 ≤ plan.nodes }
-    requires most { plan.nodes ≤ 16 }
+    requires most { plan.nodes ≤ LAST_NODE }
 {
     let mut story = Story {
         world: World::start(alloc, problem, plan.nodes)?,
@@ -69,7 +70,7 @@ pub struct Measured {
 /// Lets a search go on until an answer is published, or so many turns are over, and measures it.
 pub fn measure(alloc: Global, problem: &Problem, plan: Plan) -> io::Result<Measured>
     requires some { 1 ≤ plan.nodes }
-    requires most { plan.nodes ≤ 16 }
+    requires most { plan.nodes ≤ LAST_NODE }
 {
     let mut world = World::start(alloc, problem, plan.nodes)?;
     let mut rng = Pcg32::seed_from_u64(plan.seed);

@@ -161,21 +161,47 @@ impl<'a> Stage<'a> {
         }
     }
 
-    /// Lets one row of a script happen; whether all is as it says.
-    fn plays<R: Abort>(&mut self, rt: &R, row: Row) -> bool {
-        let (does, comes, sent) = row;
-        let mut out = Vec::new(self.alloc);
-        let answer = match does {
-            Does::Post(fuel) => self.post(rt, fuel, &mut out),
+    /// Lets the event happen that the row names.
+    fn does<R: Abort>(
+        &mut self,
+        rt: &R,
+        does: Does,
+        out: &mut Vec<Packet>,
+    ) -> Result<Reply, ActFault> {
+        match does {
+            Does::Post(fuel) => self.post(rt, fuel, out),
             Does::PostFor(job, prefix, fuel) => {
                 let prefix = Vec::from_slice(self.alloc, prefix).expect(rt, "memory");
-                self.post_for(rt, job, prefix, fuel, &mut out)
+                self.post_for(rt, job, prefix, fuel, out)
             }
             other => {
                 let event = self.event(rt, other);
-                self.act(rt, event, &mut out)
+                self.act(rt, event, out)
             }
-        };
+        }
+    }
+
+    /// The same; where memory is refused and a row may happen again, nothing has changed, and it does.
+    fn answer<R: Abort>(
+        &mut self,
+        rt: &R,
+        does: Does,
+        again: bool,
+        out: &mut Vec<Packet>,
+    ) -> Result<Reply, ActFault> {
+        let answer = self.does(rt, does, out);
+        if again && answer == Err(ActFault::Memory) {
+            assert!(rt; out.is_empty());
+            return self.does(rt, does, out);
+        }
+        answer
+    }
+
+    /// Lets one row of a script happen; whether all is as it says.
+    fn plays<R: Abort>(&mut self, rt: &R, row: Row, again: bool) -> bool {
+        let (does, comes, sent) = row;
+        let mut out = Vec::new(self.alloc);
+        let answer = self.answer(rt, does, again, &mut out);
         if let Ok(Reply::Taken(job, prefix)) = &answer {
             self.taken = Some(*job);
             self.prefix = Vec::from_slice(self.alloc, prefix.as_slice()).expect(rt, "memory");
@@ -184,12 +210,13 @@ impl<'a> Stage<'a> {
     }
 }
 
-/// Plays the script at a node with so many names; the first row that isn't as it says ends it.
-fn play<R: Abort>(rt: &R, alloc: Global, names_limit: u32, rows: &[Row]) {
+/// Plays the script at a node with so many names; the first row that isn't as it says ends it. Whether a row may happen
+/// again where memory is refused, is told.
+fn play<R: Abort>(rt: &R, alloc: Global, names_limit: u32, rows: &[Row], again: bool) {
     let read = read_problem(alloc, LETTERS.as_bytes()).expect(rt, "a problem");
     let mut stage = Stage::new(rt, alloc, &read.problem, names_limit);
     for (number, row) in rows.iter().enumerate() {
-        let right = stage.plays(rt, *row);
+        let right = stage.plays(rt, *row, again);
         assert!(rt; right, "row {number}");
     }
 }
@@ -401,32 +428,41 @@ static FIRST_FAULTS: [Row; 13] = [
 
 #[test]
 fn a_node_of_one_name(rt: HostRuntime) {
-    play(&rt, rt.alloc(), 1, &ONE_NAME);
+    play(&rt, rt.alloc(), 1, &ONE_NAME, false);
 }
 
 #[test]
 fn a_child_is_stolen_and_aborted(rt: HostRuntime) {
-    play(&rt, rt.alloc(), 2, &STOLEN);
+    play(&rt, rt.alloc(), 2, &STOLEN, false);
 }
 
 #[test]
 fn a_thief_runs_anew(rt: HostRuntime) {
-    play(&rt, rt.alloc(), 2, &RUNS_ANEW);
+    play(&rt, rt.alloc(), 2, &RUNS_ANEW, false);
 }
 
 #[test]
 fn a_guest_is_dropped(rt: HostRuntime) {
-    play(&rt, rt.alloc(), 2, &DROPPED);
+    play(&rt, rt.alloc(), 2, &DROPPED, false);
 }
 
 #[test]
 fn a_stale_job_is_refused(rt: HostRuntime) {
-    play(&rt, rt.alloc(), 1, &STALE);
+    play(&rt, rt.alloc(), 1, &STALE, false);
 }
 
 #[test]
 fn the_first_fault_is_told(rt: HostRuntime) {
-    play(&rt, rt.alloc(), 1, &FIRST_FAULTS);
+    play(&rt, rt.alloc(), 1, &FIRST_FAULTS, false);
+}
+
+/// With `rt try --test --fail-alloc N` one growth is refused: the event in which it was then happens again.
+#[test]
+fn refused_memory_changes_nothing(rt: HostRuntime) {
+    play(&rt, rt.alloc(), 1, &ONE_NAME, true);
+    play(&rt, rt.alloc(), 2, &STOLEN, true);
+    play(&rt, rt.alloc(), 2, &RUNS_ANEW, true);
+    play(&rt, rt.alloc(), 2, &DROPPED, true);
 }
 
 /// Whether a Greet puts equal packets into both lists, behind what stands there.

@@ -75,6 +75,36 @@ static ANSWERS: [(&str, Result<Option<&[u16]>, AnswerFault>); 48] = [
     ("cover 2\nf d a\nf d a\n", Err(UnknownOption(3))),
 ];
 
+/// Options 0 and 2 are equal; options 1, 3 and 4 have their items, and other colours.
+const COLOURED_FILE: &str = "a b | x y\na x:A y\na x y:A\na x:A y\na x:AA y\na x y\nb\n";
+
+/// An answer for it, as above.
+static COLOURED_ANSWERS: [(&str, Result<Option<&[u16]>, AnswerFault>); 17] = [
+    ("cover 1\na x:A y\n", Ok(Some(&[0]))),
+    ("cover 1\na x y:A\n", Ok(Some(&[1]))),
+    ("cover 1\na x:AA y\n", Ok(Some(&[3]))),
+    ("cover 2\nb\na x y\n", Ok(Some(&[5, 4]))),
+    // Of equal options the lowest that no earlier line has.
+    ("cover 2\na x:A y\na x:A y\n", Ok(Some(&[0, 2]))),
+    ("cover 3\na x:A y\na x y\na x:A y\n", Ok(Some(&[0, 4, 2]))),
+    (
+        "cover 3\na x:A y\na x:A y\na x:A y\n",
+        Err(UnknownOption(4)),
+    ),
+    // No option has these items with these colours, in this order.
+    ("cover 1\na x:A y:A\n", Err(UnknownOption(2))),
+    ("cover 1\nx:A a y\n", Err(UnknownOption(2))),
+    ("cover 1\na x:AA y:A\n", Err(UnknownOption(2))),
+    // A colour that is none, or on no item.
+    ("cover 1\na x:B y\n", Err(UnknownOption(2))),
+    ("cover 1\na x: y\n", Err(UnknownOption(2))),
+    ("cover 1\na x y:\n", Err(UnknownOption(2))),
+    ("cover 1\na x:A:A y\n", Err(UnknownOption(2))),
+    ("cover 1\nb:A\n", Err(UnknownOption(2))),
+    ("cover 1\nb:\n", Err(UnknownOption(2))),
+    ("cover 1\n:A\n", Err(UnknownOption(2))),
+];
+
 /// Whether this cover is expected.
 fn is_cover(options: &Numbers, expected: Result<Option<&[u16]>, AnswerFault>) -> bool {
     matches!(expected, Ok(Some(cover)) if options.as_slice() == cover)
@@ -98,6 +128,14 @@ fn reads(
 fn answers_are_read_or_refused(rt: HostRuntime) {
     let problem = problem_of(&rt, rt.alloc(), FILE);
     for (text, expected) in ANSWERS.iter() {
+        assert!(rt; reads(rt.alloc(), &problem, text, *expected), "{text:?}");
+    }
+}
+
+#[test]
+fn answers_with_colours_are_read_or_refused(rt: HostRuntime) {
+    let problem = problem_of(&rt, rt.alloc(), COLOURED_FILE);
+    for (text, expected) in COLOURED_ANSWERS.iter() {
         assert!(rt; reads(rt.alloc(), &problem, text, *expected), "{text:?}");
     }
 }
@@ -165,15 +203,20 @@ impl Sink for Narrow {
     }
 }
 
-/// Whether the cover c e / a d f / b g is written to such a writer.
-fn is_written<R: Abort>(rt: &R, alloc: Global, problem: &Problem, sink: &mut Narrow) -> bool {
-    let cover = Numbers::from_vec(vec![in alloc; 0u16, 3, 4].expect(rt, "memory"));
+/// Whether a cover of these options is written to such a writer.
+fn is_written<R: Abort>(
+    rt: &R,
+    alloc: Global,
+    (problem, options): (&Problem, &[u16]),
+    sink: &mut Narrow,
+) -> bool {
+    let cover = Numbers::from_vec(Vec::from_slice(alloc, options).expect(rt, "memory"));
     assert!(rt; in_file_order(problem, cover.as_slice()));
     assert!(rt; sink.failures == 0);
     write_answer(problem, &Answer::Cover(cover), sink).is_ok()
 }
 
-/// The text of the cover.
+/// The text of the cover c e / a d f / b g.
 const TEXT: &[u8] = b"cover 3\nc e\na d f\nb g\n";
 
 /// Whether that many bytes stand there, and a failure is counted where they aren't all.
@@ -189,7 +232,7 @@ fn fails_after<R: Abort>(rt: &R, alloc: Global, problem: &Problem, calls: usize)
         calls_left: calls as u64,
         failures: 0,
     };
-    let is_written = is_written(rt, alloc, problem, &mut sink);
+    let is_written = is_written(rt, alloc, (problem, &[0, 3, 4]), &mut sink);
     assert!(rt; is_written == (calls == TEXT.len()));
     assert!(rt; is_left(&sink, calls));
 }
@@ -200,4 +243,17 @@ fn each_write_fails_once(rt: HostRuntime) {
     for calls in 0..TEXT.len() + 1 {
         fails_after(&rt, rt.alloc(), &problem, calls);
     }
+}
+
+#[test]
+fn colours_are_written(rt: HostRuntime) {
+    let problem = problem_of(&rt, rt.alloc(), COLOURED_FILE);
+    let mut sink = Narrow {
+        bytes: Vec::new(rt.alloc()),
+        calls_left: 100,
+        failures: 0,
+    };
+    assert!(rt; is_written(&rt, rt.alloc(), (&problem, &[0, 1, 3, 4, 5]), &mut sink));
+    let text = b"cover 5\na x:A y\na x y:A\na x:AA y\na x y\nb\n";
+    assert!(rt; sink.bytes.as_slice() == text.as_slice());
 }

@@ -1,7 +1,7 @@
 //! Texts at the limits, and one above.
 
 use dlx_reader::ReadFault::{
-    DuplicateItem, IllegalByte, TooManyItems, TooManyNodes, TooManyOptions,
+    DuplicateItem, IllegalByte, TooManyColours, TooManyItems, TooManyNodes, TooManyOptions,
 };
 use dlx_reader::{ReadFault, read_problem};
 use std::alloc::Global;
@@ -113,4 +113,29 @@ fn both(rt: HostRuntime) {
     let mut text = lines(&rt, rt.alloc(), line.as_str(), 20001);
     let last = ("n0\n", TooManyOptions(20002));
     ends_with(&rt, rt.alloc(), &mut text, (20000, 0), last);
+}
+
+/// A line of an option with a hundred colours, each of which stands in this line alone.
+fn coloured_line<R: Abort>(rt: &R, text: &mut String, line: u16) {
+    text.push_str("a").expect(rt, "memory");
+    for item in 0..100u16 {
+        write!(text, " n{item}:c{line}_{item}").expect(rt, "memory");
+    }
+    text.push('\n').expect(rt, "memory");
+}
+
+/// Colours of an option that is ignored don't count.
+#[test]
+fn colours(rt: HostRuntime) {
+    let mut text = String::from_str(rt.alloc(), "a | ").expect(&rt, "memory");
+    text.push_str(names(&rt, rt.alloc(), 100).as_str())
+        .expect(&rt, "memory");
+    text.push('\n').expect(&rt, "memory");
+    for line in 0..100 {
+        coloured_line(&rt, &mut text, line);
+    }
+    text.push_str("n0:more\na n0:c99_99\n")
+        .expect(&rt, "memory");
+    let last = ("a n0:more\n", TooManyColours(104));
+    ends_with(&rt, rt.alloc(), &mut text, (101, 1), last);
 }

@@ -2,15 +2,15 @@
 
 use cover_problem::Problem;
 use dlx_reader::ReadFault::{
-    self, DuplicateInOption, DuplicateItem, IllegalByte, NameTooLong, NoItems, SecondBar,
-    UnknownItem,
+    self, BadColour, ColourOnPrimary, DuplicateInOption, DuplicateItem, IllegalByte, NameTooLong,
+    NoItems, SecondBar, UnknownItem,
 };
 use dlx_reader::{Read, read_problem};
 
 /// 32 bytes, and one more.
 const LONGEST: &str = "aaaaaaaaaabbbbbbbbbbccccccccccdd";
 
-static FAULTS: [(&str, ReadFault); 75] = [
+static FAULTS: [(&str, ReadFault); 97] = [
     // No item line: empty, blank lines and comments alone.
     ("", NoItems),
     ("\n", NoItems),
@@ -32,15 +32,19 @@ static FAULTS: [(&str, ReadFault); 75] = [
     ("a |:\n", IllegalByte(1)),
     ("a | x|y\n", IllegalByte(1)),
     ("\n| a:\n\na:", IllegalByte(4)),
-    // In an option: the same, and each bar.
+    ("a | x:1\na\n", IllegalByte(1)),
+    // In an option: the same, each bar, and a second colon.
     ("a\na | a\n", IllegalByte(2)),
-    ("a\na:red\n", IllegalByte(2)),
     ("a\na |a\n", IllegalByte(2)),
     ("a\na\0", IllegalByte(2)),
     ("a\na a|\n", IllegalByte(2)),
-    ("\n\n| c\na\n\na a:\n", IllegalByte(6)),
-    ("a | x\nx x:\n", IllegalByte(2)),
     ("a | x\nx |\na\n", IllegalByte(2)),
+    ("a | x\na x:1:2\n", IllegalByte(2)),
+    ("a | x\na x::\n", IllegalByte(2)),
+    ("a | x\na ::1\n", IllegalByte(2)),
+    ("a | x\na x:1|\n", IllegalByte(2)),
+    ("a | x\na x|:1\n", IllegalByte(2)),
+    ("a | x\na x:\0\n", IllegalByte(2)),
     // More than 32 bytes, of which the separator's bar is none.
     ("aaaaaaaaaabbbbbbbbbbccccccccccddd\n", NameTooLong(1)),
     ("a |aaaaaaaaaabbbbbbbbbbccccccccccddd", NameTooLong(1)),
@@ -50,6 +54,20 @@ static FAULTS: [(&str, ReadFault); 75] = [
     ),
     ("a\na aaaaaaaaaabbbbbbbbbbccccccccccddd a\n", NameTooLong(2)),
     ("éééééééééééééééée\n", NameTooLong(1)),
+    (
+        "a | x\na aaaaaaaaaabbbbbbbbbbccccccccccddd:1\n",
+        NameTooLong(2),
+    ),
+    // Nothing before a colon or behind it, or more than 32 bytes behind it.
+    ("a | x\na x:\n", BadColour(2)),
+    ("a | x\na :1\n", BadColour(2)),
+    ("a | x\na :\n", BadColour(2)),
+    ("\n\n| c\na\n\na a:\n", BadColour(6)),
+    ("a | x y\nx:1 y:\n", BadColour(2)),
+    (
+        "a | x\na x:aaaaaaaaaabbbbbbbbbbccccccccccddd\n",
+        BadColour(2),
+    ),
     // A name twice on the item line.
     ("a a\n", DuplicateItem(1)),
     ("a b a", DuplicateItem(1)),
@@ -79,11 +97,18 @@ static FAULTS: [(&str, ReadFault); 75] = [
     ("a\r\nb\r\n", UnknownItem(2)),
     ("a\u{a0}b\na\n", UnknownItem(2)),
     ("a | x\nx\nx y\n", UnknownItem(3)),
+    ("a | x\na y:1\n", UnknownItem(2)),
     // An item twice in an option.
     ("a\na a\n", DuplicateInOption(2)),
     ("a | x\na x x\n", DuplicateInOption(2)),
     ("a b\na b a", DuplicateInOption(2)),
     ("a | x\na\nx x\n", DuplicateInOption(3)),
+    ("a | x\na x:1 x:2\n", DuplicateInOption(2)),
+    ("a | x\na x:1 x\n", DuplicateInOption(2)),
+    ("a | x\na x x:1\n", DuplicateInOption(2)),
+    // A primary item with a colour.
+    ("a\na:red\n", ColourOnPrimary(2)),
+    ("a b | x\na x:1\nb:1 x:1\n", ColourOnPrimary(3)),
     // Two faults in a word: that of the lesser number.
     ("a |x |x\n", DuplicateItem(1)),
     ("a | |a\n", DuplicateItem(1)),
@@ -91,7 +116,18 @@ static FAULTS: [(&str, ReadFault); 75] = [
     ("a | |aaaaaaaaaabbbbbbbbbbccccccccccddd\n", NameTooLong(1)),
     ("aaaaaaaaaabbbbbbbbbbccccccccccdd:\n", IllegalByte(1)),
     ("a\naaaaaaaaaabbbbbbbbbbccccccccccddd\n", NameTooLong(2)),
-    ("a\nb:\n", IllegalByte(2)),
+    (
+        "a | x\na aaaaaaaaaabbbbbbbbbbccccccccccddd:1:2\n",
+        IllegalByte(2),
+    ),
+    (
+        "a | x\na aaaaaaaaaabbbbbbbbbbccccccccccddd:\n",
+        NameTooLong(2),
+    ),
+    ("a\nb:\n", BadColour(2)),
+    ("a | x\nx x:\n", BadColour(2)),
+    ("a\na:\n", BadColour(2)),
+    ("a\na a:1\n", DuplicateInOption(2)),
     // Two faults in a line, and in two lines: the former.
     ("a b\na c a\n", UnknownItem(2)),
     ("a b\na a c\n", DuplicateInOption(2)),
@@ -180,6 +216,44 @@ static PROBLEMS: [(&str, &[&str], usize, &[&[u16]], usize); 18] = [
     ),
 ];
 
+/// A text with colours; the options' items and their colours, the colours' names, and how many options are ignored.
+static COLOURED: [(&str, &[&[u16]], &[&[u16]], &[&str], usize); 7] = [
+    ("a | x\na x\n", &[&[0, 1]], &[&[0, 0]], &[], 0),
+    ("a | x\na x:1\n", &[&[0, 1]], &[&[0, 1]], &["1"], 0),
+    // Colours are numbered as they first stand.
+    (
+        "a b | x y\na x:B y:A\nb y:C x:A\nb x:B y\n",
+        &[&[0, 2, 3], &[1, 3, 2], &[1, 2, 3]],
+        &[&[0, 1, 2], &[0, 3, 2], &[0, 1, 0]],
+        &["B", "A", "C"],
+        0,
+    ),
+    // An option that is ignored numbers none.
+    (
+        "a | x\nx:Z\nx:A a\nx:Z\n",
+        &[&[1, 0]],
+        &[&[1, 0]],
+        &["A"],
+        2,
+    ),
+    // The name of an item is another name than that of a colour.
+    (
+        "a | x\na x:x\na x\na x:a\n",
+        &[&[0, 1], &[0, 1], &[0, 1]],
+        &[&[0, 1], &[0, 0], &[0, 2]],
+        &["x", "a"],
+        0,
+    ),
+    ("é | ü\nü:é é\n", &[&[1, 0]], &[&[1, 0]], &["é"], 0),
+    (
+        "a | x\na x:aaaaaaaaaabbbbbbbbbbccccccccccdd\n",
+        &[&[0, 1]],
+        &[&[0, 1]],
+        &[LONGEST],
+        0,
+    ),
+];
+
 /// Whether these are the names of a problem's items.
 fn are_names(problem: &Problem, names: &[&str]) -> bool {
     for item in 0..problem.items() as u16 {
@@ -222,6 +296,39 @@ fn problems(rt: HostRuntime) {
             is_read(&read, (names, *primary), (options, *ignored)),
             "{text:?}"
         );
+    }
+}
+
+/// Whether these are the colours of a problem's options.
+fn are_colours(problem: &Problem, colours: &[&[u16]]) -> bool {
+    for option in 0..problem.options() as u16 {
+        match colours.get(usize::from(option)) {
+            Some(own) if problem.colours(option) == *own => {}
+            _ => return false,
+        }
+    }
+    problem.options() == colours.len()
+}
+
+/// Whether these are the names of a problem's colours.
+fn are_colour_names(problem: &Problem, names: &[&str]) -> bool {
+    for before in 0..problem.colour_names() as u16 {
+        match names.get(usize::from(before)) {
+            Some(name) if problem.colour_name(before + 1) == name.as_bytes() => {}
+            _ => return false,
+        }
+    }
+    problem.colour_names() == names.len()
+}
+
+#[test]
+fn colours(rt: HostRuntime) {
+    for (text, options, colours, names, ignored) in COLOURED.iter() {
+        let read = read_problem(rt.alloc(), text.as_bytes()).expect(&rt, "a problem");
+        assert!(rt; are_options(&read.problem, options), "{text:?}");
+        assert!(rt; are_colours(&read.problem, colours), "{text:?}");
+        assert!(rt; are_colour_names(&read.problem, names), "{text:?}");
+        assert!(rt; read.ignored == *ignored, "{text:?}");
     }
 }
 

@@ -83,7 +83,7 @@ static REFUSALS: [(&str, &str); 10] = [
         "refused: NameTooLong line 1\n",
     ),
     ("a\na | a\n", "refused: IllegalByte line 2\n"),
-    ("a\na:red\n", "refused: IllegalByte line 2\n"),
+    ("a\na:red\n", "refused: ColourOnPrimary line 2\n"),
     ("a a\n", "refused: DuplicateItem line 1\n"),
     ("| note\n\na\nb\n", "refused: UnknownItem line 4\n"),
     ("a\na a\n", "refused: DuplicateInOption line 2\n"),

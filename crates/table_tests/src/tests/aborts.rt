@@ -1,6 +1,6 @@
 //! Aborts in small tables; what is expected is worked out by hand from the rules.
 
-use super::units::{HERE, ROOT, THIEF, is_here, is_ready, is_split};
+use super::units::{HERE, ROOT, THIEF, is_here, is_ready, is_split, list};
 use abort_tree::abort_below;
 use spawn_frame::Status::{Aborted, Ready, Split};
 use spawn_frame::Unit::{Guest, Own};
@@ -30,7 +30,9 @@ fn split<R: Abort>(rt: &R, table: &mut Table, unit: Unit, options: &[u16]) {
 fn three_deep<R: Abort>(rt: &R, alloc: Global) -> Table {
     let mut table = Table::start(alloc, HERE, 4);
     assert!(rt; table.unit(Guest(ROOT, 1)).is_none());
-    table.admit(ROOT, 1, &[]).expect(rt, "memory");
+    table
+        .admit(ROOT, 1, list(rt, alloc, &[]))
+        .expect(rt, "memory");
     split(rt, &mut table, Guest(ROOT, 1), &[0, 1]);
     split(rt, &mut table, Own(1), &[4]);
     assert!(rt; is_ready(&table, Own(0)));

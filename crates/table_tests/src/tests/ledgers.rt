@@ -352,6 +352,52 @@ fn returns_meet_every_status(rt: HostRuntime) {
     run_node(&rt, rt.alloc(), RETURNS);
 }
 
+/// The ready child of least serial is given, wherever it stands among children that aren't ready, and no other is out then.
+static LEAST_GIVEN: &[Step] = &[
+    Receive(OF_3, true),
+    Receive(ROOT, true),
+    // The children 0 to 2 of the root, then 3 to 5 of its last, then 6 to 8 of the guest of node 3.
+    Take(Guest(ROOT, 1)),
+    Split(Guest(ROOT, 1), &[0, 1, 2], 0),
+    Give(NODE_3, Some((0, 1, &[7, 0]))),
+    Take(Own(2)),
+    Split(Own(2), &[3, 4, 5], 3),
+    // Behind one that is out; one that is split stands between the ready ones then.
+    Give(NODE_2, Some((1, 1, &[7, 1]))),
+    Children("O1O1S1R1R1R1"),
+    Return(NODE_2, (0, 1, None), Err(Superseded)),
+    Return(NODE_2, (2, 1, None), Err(Superseded)),
+    Return(NODE_2, (3, 1, None), Err(Superseded)),
+    Return(NODE_2, (1, 1, None), Ok(None)),
+    // Behind one that is out, one that is done and one that is split.
+    Give(NODE_2, Some((3, 1, &[7, 2, 3]))),
+    Children("O1D1S1O1R1R1"),
+    Return(NODE_2, (0, 1, Some(8)), Err(Superseded)),
+    Return(NODE_2, (4, 1, Some(8)), Err(Superseded)),
+    Return(NODE_2, (5, 1, Some(8)), Err(Superseded)),
+    Take(Own(5)),
+    Give(NODE_3, Some((4, 1, &[7, 2, 4]))),
+    Return(NODE_3, (3, 1, None), Err(Superseded)),
+    // Behind children of all these, and one that is here.
+    Take(Guest(OF_3, 1)),
+    Split(Guest(OF_3, 1), &[0, 1, 2], 6),
+    Give(NODE_2, Some((6, 1, &[7, 0]))),
+    Children("O1D1S1O1O1H1O1R1R1"),
+    Return(NODE_2, (5, 1, None), Err(Superseded)),
+    Return(NODE_2, (7, 1, None), Err(Superseded)),
+    Return(NODE_2, (8, 1, None), Err(Superseded)),
+    Return(NODE_2, (6, 1, None), Ok(None)),
+    // A child that is redone is ready before the others.
+    Redo(4, Ok(())),
+    Give(NODE_2, Some((4, 2, &[7, 2, 4]))),
+    Children("O1D1S1O1O2H1D1R1R1"),
+];
+
+#[test]
+fn the_least_ready_child_is_given(rt: HostRuntime) {
+    run_node(&rt, rt.alloc(), LEAST_GIVEN);
+}
+
 static MEMBERS: &[Step] = &[
     // Below a guest of node 2: 0 and 2 out to node 3, 1 out to node 2. Below the root: 3 out to node 2, 4 out to node 3.
     // Another guest of node 2 is ready.

@@ -1,7 +1,7 @@
 //! A table of more children than two pages have: what is found at the ends of pages.
 
 use super::tables::{ended, give, redo, split};
-use super::units::{HERE, ROOT, is_ready};
+use super::units::{HERE, ROOT, is_ready, list};
 use spawn_frame::Heard::{Open, Settled};
 use spawn_frame::Unit::{Guest, Own};
 use spawn_frame::*;
@@ -44,7 +44,9 @@ fn three_pages<R: Abort>(rt: &R, alloc: Global) -> Table {
     let mut table = Table::start(alloc, HERE, 1000);
     let guest = Guest(ROOT, 1);
     assert!(rt; table.unit(guest).is_none());
-    table.admit(ROOT, 1, &[]).expect(rt, "memory");
+    table
+        .admit(ROOT, 1, list(rt, alloc, &[]))
+        .expect(rt, "memory");
     assert!(rt; is_ready(&table, guest));
     table.take_up(guest);
     let options = zeros(alloc).expect(rt, "memory");

@@ -6,8 +6,9 @@ ghost use Rattle.spawn_frame.specs.Units.{last_attempt};
 
 use super::units::{
     Came, HERE, REGISTRY, ROOT, THIEF, has_come, is_finished, is_here, is_open, is_ready, is_split,
-    letter, may_end, result_of,
+    letter, list, may_end, result_of,
 };
+use cover_problem::Numbers;
 use spawn_frame::Heard::{Open, Settled};
 use spawn_frame::Unit::{Guest, Own};
 use spawn_frame::*;
@@ -136,7 +137,7 @@ fn is_shown<R: Abort>(rt: &R, alloc: Global, table: &Table, step: &Step) -> bool
 }
 
 /// Admits a guest that isn't there.
-fn admit<R: Abort>(rt: &R, table: &mut Table, name: ChildName, attempt: Attempt, prefix: &[u16]) {
+fn admit<R: Abort>(rt: &R, table: &mut Table, name: ChildName, attempt: Attempt, prefix: Numbers) {
     assert!(rt; table.unit(Guest(name, attempt)).is_none());
     assert!(rt; attempt > 0);
     table.admit(name, attempt, prefix).expect(rt, "memory");
@@ -187,7 +188,9 @@ fn drop_guest<R: Abort>(rt: &R, table: &mut Table, name: ChildName) {
 /// Makes a step that answers nothing; false of any other, which is left.
 fn is_made<R: Abort>(rt: &R, alloc: Global, table: &mut Table, step: &Step) -> bool {
     match *step {
-        Admit(name, attempt, prefix) => admit(rt, table, name, attempt, prefix),
+        Admit(name, attempt, prefix) => {
+            admit(rt, table, name, attempt, list(rt, alloc, prefix));
+        }
         Give(serial) => give(rt, table, serial),
         Redo(serial) => redo(rt, table, serial),
         Cancel(serial) => cancel(rt, table, serial),

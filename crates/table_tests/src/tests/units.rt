@@ -46,6 +46,11 @@ pub fn result_of<R: Abort>(rt: &R, alloc: Global, option: Came) -> ChildResult {
     }
 }
 
+/// A list of these options.
+pub fn list<R: Abort>(rt: &R, alloc: Global, options: &[u16]) -> Numbers {
+    Numbers::from_vec(Vec::from_slice(alloc, options).expect(rt, "memory"))
+}
+
 /// Whether it is this result.
 pub fn is_result(child_result: &ChildResult, came: Came) -> bool {
     match (child_result, came) {

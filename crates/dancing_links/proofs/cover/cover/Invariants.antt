@@ -7,7 +7,7 @@ abbrev pub invariant-loop-node : goal.invariant-loop-node
 invariant-loop-node l = record {
   linked : IsLinked (columns_of l.layout) l.links;
   low : l.layout.heads ≤ l.node;
-  going : Going (columns_of l.layout) l.fn.links l.item l.links l.fn.counts l.counts l.node;
+  going : Going (columns_of l.layout) l.fn.links l.item 0 l.links l.fn.counts l.counts l.node;
 }
 
 abbrev pub decreases-loop-node : goal.decreases-loop-node

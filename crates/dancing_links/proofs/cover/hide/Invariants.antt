@@ -1,14 +1,18 @@
-use Rattle.std.proofs.Common.{◌≡◌, ◌<◌, ◌≤◌, ◌+◌, ◌-◌}
-use Rattle.dancing_links.specs.Columns.{IsLinked, columns_of}
+use Rattle.std.proofs.Common.{◌≡◌}
+use Rattle.dancing_links.specs.Columns.{IsLinked, columns_of, begin_of, end_of}
 use Rattle.dancing_links.specs.Counting.{fewer}
-use Rattle.dancing_links.specs.Covering.{node_after, in_turn}
+use Rattle.dancing_links.specs.Covering.{others}
 use Rattle.dancing_links.specs.Linking.{unlinks}
+use Rattle.dancing_links.proofs.Others.{ahead, to_come, IsRound}
 use Rattle.dancing_links.proofs.cover.hide.Given as goal
 
-abbrev pub invariant-loop-place : goal.invariant-loop-place
-invariant-loop-place l = record {
+abbrev pub invariant-loop-other : goal.invariant-loop-other
+invariant-loop-other l = record {
   linked : IsLinked (columns_of l.layout) l.links;
-  row : l.begin < l.end → (l.begin ≤ l.other) × (l.other < l.end);
-  links : unlinks l.links (in_turn l.begin l.end (node_after l.begin l.end l.other) (l.end - l._place)) ≡ unlinks l.fn.links (in_turn l.begin l.end (node_after l.begin l.end l.node) (l.end - (l.begin + 1)));
-  counts : fewer (columns_of l.layout) l.counts (in_turn l.begin l.end (node_after l.begin l.end l.other) (l.end - l._place)) ≡ fewer (columns_of l.layout) l.fn.counts (in_turn l.begin l.end (node_after l.begin l.end l.node) (l.end - (l.begin + 1)));
+  round : IsRound (columns_of l.layout) l.node l.other;
+  links : unlinks l.links (to_come (columns_of l.layout) l.node l.other) ≡ unlinks l.fn.links (others (columns_of l.layout) l.node);
+  counts : fewer (columns_of l.layout) l.counts (to_come (columns_of l.layout) l.node l.other) ≡ fewer (columns_of l.layout) l.fn.counts (others (columns_of l.layout) l.node);
 }
+
+abbrev pub decreases-loop-other : goal.decreases-loop-other
+decreases-loop-other l = ahead (begin_of (columns_of l.layout) l.node) (end_of (columns_of l.layout) l.node) l.node l.other

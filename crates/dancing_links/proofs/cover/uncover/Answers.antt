@@ -1,5 +1,8 @@
-use Rattle.std.proofs.Common.{◌≤◌, ◌+◌, arith}
+use Rattle.std.proofs.Common.{◌≤◌, ◌+◌, arith, ap, sym, ◌∙◌}
 use Rattle.dancing_links.specs.Columns.{columns_of}
+use Rattle.dancing_links.specs.Counting.{more_in_order}
+use Rattle.dancing_links.specs.Linking.{relinks_in_order}
+use Rattle.dancing_links.proofs.Walk.{hidden_plain}
 use Rattle.dancing_links.proofs.Chain.{uncover_start, uncover_step, uncover_end}
 use Rattle.dancing_links.proofs.Counts.{uncover_counts}
 use Rattle.dancing_links.proofs.cover.uncover.Goals as goal
@@ -12,7 +15,7 @@ loop-node-init c =
     record {
       linked = linked;
       high = (at.falls (omega (arith, t.order))).1;
-      back = uncover_start (columns_of c.args.layout.now) c.args.links.now c.args.counts.now c.args.item t;
+      back = uncover_start (columns_of c.args.layout.now) c.args.links.now c.args.counts.now c.args.item 0 t;
     }
 
 pub loop-node-preserved : goal.loop-node-preserved
@@ -21,14 +24,15 @@ loop-node-preserved c =
     let linked = c.unhide.ensures.linked in
     let low : c.args.layout.now.heads ≤ c.loop-node.node = c.loop-node-test.true in
     let at = linked.1 c.loop-node.node (omega (arith, c.loop-node.invariant.high, linked.0, t.ends)) in
+    let same = sym (hidden_plain (columns_of c.args.layout.now) c.loop-node.node) in
     record {
       linked = linked;
       high = (at.falls low).1;
-      back = uncover_step (columns_of c.args.layout.now) c.args.links.now c.loop-node.links c.unhide.new.links c.args.counts.now c.loop-node.counts c.unhide.new.counts c.args.item c.loop-node.node t low c.unhide.ensures.links c.unhide.ensures.counts c.loop-node.invariant.back;
+      back = uncover_step (columns_of c.args.layout.now) c.args.links.now c.loop-node.links c.unhide.new.links c.args.counts.now c.loop-node.counts c.unhide.new.counts c.args.item 0 c.loop-node.node t low (c.unhide.ensures.links ∙ ap (relinks_in_order c.loop-node.links) same) (c.unhide.ensures.counts ∙ ap (more_in_order (columns_of c.args.layout.now) c.loop-node.counts) same) c.loop-node.invariant.back;
     }
 
 pub returns-clause-links : goal.returns-clause-links
-returns-clause-links c = uncover_end (columns_of c.args.layout.now) c.args.links.now c.loop-node.links c.relink.new.links c.args.counts.now c.loop-node.counts c.args.item c.loop-node.node c.requires.table c.loop-node-test.false c.relink.ensures.links c.loop-node.invariant.back
+returns-clause-links c = uncover_end (columns_of c.args.layout.now) c.args.links.now c.loop-node.links c.relink.new.links c.args.counts.now c.loop-node.counts c.args.item 0 c.loop-node.node c.requires.table c.loop-node-test.false c.relink.ensures.links c.loop-node.invariant.back
 
 pub returns-clause-counts : goal.returns-clause-counts
-returns-clause-counts c = uncover_counts (columns_of c.args.layout.now) c.args.links.now c.loop-node.links c.args.counts.now c.loop-node.counts c.args.item c.loop-node.node c.requires.table c.loop-node-test.false c.loop-node.invariant.back
+returns-clause-counts c = uncover_counts (columns_of c.args.layout.now) c.args.links.now c.loop-node.links c.args.counts.now c.loop-node.counts c.args.item 0 c.loop-node.node c.requires.table c.loop-node-test.false c.loop-node.invariant.back

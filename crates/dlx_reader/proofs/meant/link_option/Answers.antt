@@ -1,22 +1,24 @@
 use Rattle.std.proofs.Common.{◌≡◌, ℕ, ◌∙◌, sym, ap, subst, length}
 use Rattle.std.specs.Option.{unwrap_or}
-use Rattle.cover_problem.specs.Problem.{items_of}
-use Rattle.dlx_reader.specs.Meant.{IsNext, entry_at}
+use Rattle.dlx_reader.specs.Meant.{IsNext, entry_at, key_of}
+use Rattle.dlx_reader.proofs.Keys.{key_at}
 use Rattle.dlx_reader.proofs.Meanings.{changed, index_more}
 use Rattle.dlx_reader.proofs.meant.link_option.Goals as goal
 
 pub returns-clause-next : goal.returns-clause-next
 returns-clause-next c =
     let p = c.args.problem.now in
-    let found = rw c.option.ensures.items at c.in_ok-next.ensures.old in
-    let entry : entry_at p c.args.lowest.now (items_of p c.args.option) ≡ c.unwrap_or.result =
+    let key : c.as_slice.result.now ≡ key_of p c.args.option = c.as_slice.ensures ∙ key_at p (length p.options) c.args.option c.args.keys.now _ c.requires.keys c.requires.option c.index-keys-option.is in
+    let found = rw key at c.in_ok-next.ensures.old in
+    let entry : entry_at p c.args.lowest.now (key_of p c.args.option) ≡ c.unwrap_or.result =
     ap (λ next. unwrap_or next (length p.options)) (sym found) ∙ ap (unwrap_or c.in_ok-next.next) (sym c.options-none.ensures.count) ∙ sym c.unwrap_or.ensures in
     let P : ℕ → Type 0 = λ next. IsNext p c.args.option next in
-    subst P entry (c.requires.behind (items_of p c.args.option))
+    subst P entry (c.requires.behind (key_of p c.args.option))
 
 pub returns-clause-index : goal.returns-clause-index
 returns-clause-index c =
     let p = c.args.problem.now in
-    let updates = rw c.option.ensures.items at c.in_ok-next.ensures.updates in
+    let key : c.as_slice.result.now ≡ key_of p c.args.option = c.as_slice.ensures ∙ key_at p (length p.options) c.args.option c.args.keys.now _ c.requires.keys c.requires.option c.index-keys-option.is in
+    let updates = rw key at c.in_ok-next.ensures.updates in
     index_more p c.args.lowest.now c.insert.new.self c.args.option c.requires.option c.requires.behind
-    (changed p c.args.lowest.now c.insert.new.self (items_of p c.args.option) c.args.option updates)
+    (changed p c.args.lowest.now c.insert.new.self (key_of p c.args.option) c.args.option updates)

@@ -1,14 +1,14 @@
 use Rattle.std.proofs.Common.{[], ◌∷◌}
 use Rattle.std.proofs.lemmas.Result.{err_from_is_err_and}
-use Rattle.cover_problem.specs.Problem.{items_of}
-use Rattle.dlx_reader.specs.Writing.{items_text}
+use Rattle.dlx_reader.specs.Writing.{words_text, occurrences_of}
 use Rattle.dlx_reader.proofs.Passed.{passed_both, passed_front}
 use Rattle.dlx_reader.proofs.passing.pass_option.Goals as goal
 
-pub returns-in_err-pass_items-clause-bytes : goal.returns-in_err-pass_items-clause-bytes
-returns-in_err-pass_items-clause-bytes g c =
+pub returns-in_err-pass_words-clause-bytes : goal.returns-in_err-pass_words-clause-bytes
+returns-in_err-pass_words-clause-bytes g c =
     let returned = err_from_is_err_and c.from_residual.result c.from_residual.ensures.1 in
-    rw returned.1 (passed_front _ _ _ (items_text c.args.problem.now (items_of c.args.problem.now c.args.option)) (10 ∷ []) (rw (← c.option.ensures.items) c.in_err-pass_items.ensures.bytes))
+    rw returned.1 (passed_front _ _ _ (words_text c.args.problem.now (occurrences_of c.args.problem.now c.args.option)) (10 ∷ []) (rw (c.option-items.ensures.items, c.colours-colours.ensures.colours) at c.in_err-pass_words.ensures.bytes))
 
 pub returns-clause-bytes : goal.returns-clause-bytes
-returns-clause-bytes g c = passed_both _ _ _ _ _ _ (items_text c.args.problem.now (items_of c.args.problem.now c.args.option)) (10 ∷ []) c.pass_bytes.result (rw (← c.option.ensures.items) c.in_ok-pass_items.ensures.bytes) c.pass_bytes.ensures.bytes
+returns-clause-bytes g c =
+    passed_both _ _ _ _ _ _ (words_text c.args.problem.now (occurrences_of c.args.problem.now c.args.option)) (10 ∷ []) c.pass_bytes.result (rw (c.option-items.ensures.items, c.colours-colours.ensures.colours) at c.in_ok-pass_words.ensures.bytes) c.pass_bytes.ensures.bytes

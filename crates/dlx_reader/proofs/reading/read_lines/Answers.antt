@@ -4,7 +4,10 @@ use Rattle.dlx_reader.proofs.Words.{first_words}
 use Rattle.dlx_reader.proofs.reading.read_lines.Goals as goal
 
 pub read_content-requires-clause-content : goal.read_content-requires-clause-content
-read_content-requires-clause-content c = (first_words c.args.text.now (lines_of c.args.text.now) _ _ _ refl (rw c.of-lines.ensures at c.in-Some.ensures.some.lines)).0
+read_content-requires-clause-content c = (first_words c.args.text.now (lines_of c.args.text.now) _ _ _ refl (rw c.of-lines.ensures at c.in-Some.ensures.some.lines)).content
 
 pub read_content-requires-clause-words : goal.read_content-requires-clause-words
-read_content-requires-clause-words c = (first_words c.args.text.now (lines_of c.args.text.now) _ _ _ refl (rw c.of-lines.ensures at c.in-Some.ensures.some.lines)).1
+read_content-requires-clause-words c = (first_words c.args.text.now (lines_of c.args.text.now) _ _ _ refl (rw c.of-lines.ensures at c.in-Some.ensures.some.lines)).words_are
+
+pub read_content-requires-clause-others : goal.read_content-requires-clause-others
+read_content-requires-clause-others c = (first_words c.args.text.now (lines_of c.args.text.now) _ _ _ refl (rw c.of-lines.ensures at c.in-Some.ensures.some.lines)).others_are

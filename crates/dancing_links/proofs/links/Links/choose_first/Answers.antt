@@ -1,10 +1,10 @@
 use Rattle.std.proofs.Common.{◌≡◌, ◌<◌, length, false, arith, ap, sym, refl, ◌∙◌, [], ◌∷◌, ◌++◌, vec_capacity, slice_get, subst}
 use Rattle.cover_problem.specs.Onward.{live_options_from}
 use Rattle.cover_problem.specs.Prefix.{is_covered}
-use Rattle.dancing_links.specs.Choices.{Choices, IsChild}
+use Rattle.dancing_links.specs.Choices.{Choices, IsChild, commits_of}
 use Rattle.dancing_links.specs.Columns.{columns_of}
 use Rattle.dancing_links.proofs.Ranges.{table_of}
-use Rattle.dancing_links.proofs.Chosen.{room_left, same_length, links_push, put_back, same_links_of, view_push}
+use Rattle.dancing_links.proofs.Chosen.{room_left, same_length, held_kept, commits_pushed, links_push, put_back, same_links_of, view_push}
 use Rattle.dancing_links.proofs.Next.{below_head, choice_of}
 use Rattle.dancing_links.proofs.links.Links.choose_first.Goals as goal
 
@@ -59,6 +59,9 @@ cover_from-requires-clause-table c =
     let t = table_of p cs c.self.invariant.0.is_problem c.self.invariant.0.layout in
     t
 
+pub cover_from-requires-clause-commits : goal.cover_from-requires-clause-commits
+cover_from-requires-clause-commits c = held_kept c.self.inside.problem.now (columns_of c.self.inside.layout) c.self.inside.chosen.items c.self.inside.entries.items c.self.inside.links.items c.self.inside.counts.items (vec_capacity c.self.inside.chosen) c.deref_mut-3.result.now c.self.invariant.0 (c.deref_mut-3.ensures.value ∙ c.self.invariant.2)
+
 pub push_reserved-requires : goal.push_reserved-requires
 push_reserved-requires c =
     let p = c.self.inside.problem.now in
@@ -105,8 +108,10 @@ invariant_of-self c =
     let option = c.index-option.result.now in
     let node = c.index.result.now.down in
     let before = same_links_of p cs os os es es c.self.inside.links.items c.deref_mut.result.now c.self.inside.counts.items c.deref_mut-2.result.now room room refl refl c.deref_mut.ensures.value c.deref_mut-2.ensures.value refl c.self.invariant.0 in
-    let after = links_push p cs os es c.deref_mut.result.now c.cover_from.new.links c.deref_mut-2.result.now c.cover_from.new.counts room option node before choice.child.inside choice.child.live choice.node choice.option c.cover_from.ensures.linked c.cover_from.ensures.links c.cover_from.ensures.counts in
-    (same_links_of p cs (os ++ option ∷ []) c.push_reserved-2.new.self.items (es ++ node ∷ []) c.push_reserved.new.self.items c.cover_from.new.links _ c.cover_from.new.counts _ room _ c.push_reserved-2.ensures.items c.push_reserved.ensures.items (put_back c.cover_from.new.links _ c.self.inside.links.len (omega (arith, c.cover_from.ensures.linked.0, c.self.invariant.0.linked.0, c.self.inside.links.ok.0))) (put_back c.cover_from.new.counts _ c.self.inside.counts.len (omega (arith, c.cover_from.auto.counts, c.deref_mut-2.ensures.len, c.self.inside.counts.ok.0))) c.push_reserved-2.ensures.capacity after, omega (arith, c.self.invariant.1, c.push_reserved.ensures.capacity))
+    let held : c.deref_mut-3.result.now ≡ commits_of (columns_of c.self.inside.layout) c.self.inside.entries.items = c.deref_mut-3.ensures.value ∙ c.self.invariant.2 in
+    let commits = commits_pushed cs es node c.deref_mut-3.result.now c.cover_from.new.commits held c.cover_from.ensures.commits in
+    let after = links_push p cs os es c.deref_mut.result.now c.cover_from.new.links c.deref_mut-2.result.now c.cover_from.new.counts c.deref_mut-3.result.now room option node before held choice.child.inside choice.child.live (ap (is_covered p os) choice.column ∙ free) choice.node choice.option c.cover_from.ensures.linked c.cover_from.ensures.links c.cover_from.ensures.counts in
+    (same_links_of p cs (os ++ option ∷ []) c.push_reserved-2.new.self.items (es ++ node ∷ []) c.push_reserved.new.self.items c.cover_from.new.links _ c.cover_from.new.counts _ room _ c.push_reserved-2.ensures.items c.push_reserved.ensures.items (put_back c.cover_from.new.links _ c.self.inside.links.len (omega (arith, c.cover_from.ensures.linked.0, c.self.invariant.0.linked.0, c.self.inside.links.ok.0))) (put_back c.cover_from.new.counts _ c.self.inside.counts.len (omega (arith, c.cover_from.auto.counts, c.deref_mut-2.ensures.len, c.self.inside.counts.ok.0))) c.push_reserved-2.ensures.capacity after, omega (arith, c.self.invariant.1, c.push_reserved.ensures.capacity), put_back c.cover_from.new.commits _ c.self.inside.commits.len (omega (arith, c.cover_from.auto.commits, c.deref_mut-3.ensures.len, c.self.inside.commits.ok.0)) ∙ commits ∙ ap (commits_of cs) (sym c.push_reserved.ensures.items))
 
 pub returns-clause-first : goal.returns-clause-first
 returns-clause-first c =

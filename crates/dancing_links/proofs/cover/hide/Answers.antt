@@ -1,0 +1,45 @@
+use Rattle.std.proofs.Common.{List, ℕ, arith, ap, sym, ◌∙◌}
+use Rattle.dancing_links.specs.declared.link.Link.{Link}
+use Rattle.dancing_links.specs.Columns.{columns_of}
+use Rattle.dancing_links.specs.Counting.{fewer}
+use Rattle.dancing_links.specs.Linking.{unlinks}
+use Rattle.dancing_links.proofs.Others.{to_come, round_start, round_step, round_end}
+use Rattle.dancing_links.proofs.cover.hide.Goals as goal
+
+pub loop-other-init : goal.loop-other-init
+loop-other-init c =
+    let cs = columns_of c.args.layout.now in
+    let start = round_start cs c.args.node c.right_among-other.result c.requires.table c.requires.node.0 c.requires.node.1 c.right_among-other.ensures in
+    record {
+      linked = c.requires.linked;
+      round = start.0;
+      links = ap (unlinks c.args.links.now) start.1;
+      counts = ap (fewer cs c.args.counts.now) start.1;
+    }
+
+pub loop-other-smaller : goal.loop-other-smaller
+loop-other-smaller c =
+    let step = round_step (columns_of c.args.layout.now) c.args.node c.loop-other.other c.right_among-other-in-loop-other.result c.requires.table c.loop-other.invariant.round c.loop-other-test.true c.right_among-other-in-loop-other.ensures in
+    omega (arith, step.fewer)
+
+pub loop-other-preserved : goal.loop-other-preserved
+loop-other-preserved c =
+    let cs = columns_of c.args.layout.now in
+    let next : ℕ = c.right_among-other-in-loop-other.result in
+    let step = round_step (columns_of c.args.layout.now) c.args.node c.loop-other.other c.right_among-other-in-loop-other.result c.requires.table c.loop-other.invariant.round c.loop-other-test.true c.right_among-other-in-loop-other.ensures in
+    record {
+      linked = c.unlink.ensures.linked;
+      round = step.round;
+      links = ap (λ (m : List Link). unlinks m (to_come cs c.args.node next)) c.unlink.ensures.links ∙ sym (ap (unlinks c.loop-other.links) step.come) ∙ c.loop-other.invariant.links;
+      counts = ap (λ (k : List ℕ). fewer cs k (to_come cs c.args.node next)) c.count_less.ensures ∙ sym (ap (fewer cs c.loop-other.counts) step.come) ∙ c.loop-other.invariant.counts;
+    }
+
+pub returns-clause-links : goal.returns-clause-links
+returns-clause-links c =
+    let none = round_end (columns_of c.args.layout.now) c.args.node c.loop-other.other c.loop-other-test.false in
+    sym (ap (unlinks c.loop-other.links) none) ∙ c.loop-other.invariant.links
+
+pub returns-clause-counts : goal.returns-clause-counts
+returns-clause-counts c =
+    let none = round_end (columns_of c.args.layout.now) c.args.node c.loop-other.other c.loop-other-test.false in
+    sym (ap (fewer (columns_of c.args.layout.now) c.loop-other.counts) none) ∙ c.loop-other.invariant.counts

@@ -1,0 +1,34 @@
+use Rattle.std.proofs.Common.{◌≤◌, ◌+◌, arith}
+use Rattle.dancing_links.specs.Columns.{columns_of}
+use Rattle.dancing_links.proofs.Chain.{uncover_start, uncover_step, uncover_end}
+use Rattle.dancing_links.proofs.Counts.{uncover_counts}
+use Rattle.dancing_links.proofs.cover.unpurify.Goals as goal
+
+pub loop-node-init : goal.loop-node-init
+loop-node-init c =
+    let t = c.requires.table in
+    let linked = c.requires.linked in
+    let at = linked.1 (c.args.layout.now.tails + c.args.item) (omega (arith, c.requires.item, linked.0, t.ends)) in
+    record {
+      linked = linked;
+      high = (at.falls (omega (arith, t.order))).1;
+      back = uncover_start (columns_of c.args.layout.now) c.args.links.now c.args.counts.now c.args.item c.args.colour t;
+    }
+
+pub loop-node-preserved : goal.loop-node-preserved
+loop-node-preserved c =
+    let t = c.requires.table in
+    let linked = c.unhide_unless.ensures.linked in
+    let low : c.args.layout.now.heads ≤ c.loop-node.node = c.loop-node-test.true in
+    let at = linked.1 c.loop-node.node (omega (arith, c.loop-node.invariant.high, linked.0, t.ends)) in
+    record {
+      linked = linked;
+      high = (at.falls low).1;
+      back = uncover_step (columns_of c.args.layout.now) c.args.links.now c.loop-node.links c.unhide_unless.new.links c.args.counts.now c.loop-node.counts c.unhide_unless.new.counts c.args.item c.args.colour c.loop-node.node t low c.unhide_unless.ensures.links c.unhide_unless.ensures.counts c.loop-node.invariant.back;
+    }
+
+pub returns-clause-links : goal.returns-clause-links
+returns-clause-links c = uncover_end (columns_of c.args.layout.now) c.args.links.now c.loop-node.links c.relink.new.links c.args.counts.now c.loop-node.counts c.args.item c.args.colour c.loop-node.node c.requires.table c.loop-node-test.false c.relink.ensures.links c.loop-node.invariant.back
+
+pub returns-clause-counts : goal.returns-clause-counts
+returns-clause-counts c = uncover_counts (columns_of c.args.layout.now) c.args.links.now c.loop-node.links c.args.counts.now c.loop-node.counts c.args.item c.args.colour c.loop-node.node c.requires.table c.loop-node-test.false c.loop-node.invariant.back

@@ -1,0 +1,333 @@
+//! The nodes of an option cover their items one after the other; an item that has its colour already is not covered again.
+
+ghost use Rattle.std.specs.Prelude.{◌≡◌, ◌<◌, ◌≤◌, ◌+◌, ◌∷◌, [], ℕ, List, length};
+ghost use Rattle.dancing_links.specs.Columns.{columns_of, column_of, colour_at, IsLinked, IsTable};
+ghost use Rattle.dancing_links.specs.Committing.{IsCommits, IsFirst, Recovers, commit, uncommit, committed, covering};
+ghost use Rattle.dancing_links.specs.Counting.{CountsCoveredAll, CountsUncoveredAll};
+ghost use Rattle.dancing_links.specs.Covering.{nodes_in_turn, nodes_by, others, CoversAll, UncoversAll};
+
+use crate::cover::{cover, node_after, node_before, purify, uncover, unpurify};
+use crate::layout::{Layout, colour_at, item_at, row_of};
+use crate::link::Link;
+
+/// A node gives its item its colour: where none did before, the item is covered.
+#[inline(never)]
+fn give(
+    layout: &Layout,
+    links: &mut [Link],
+    counts: &mut [u16],
+    commits: &mut [u32],
+    node: usize,
+    colour: u16,
+)
+    requires node { (layout.now.heads + layout.now.heads ≤ node + 1) × (node < layout.now.tails) }
+    requires colour { (0 < colour) × (colour ≡ colour_at (columns_of layout.now) node) }
+    requires table { IsTable (columns_of layout.now) }
+    requires linked { IsLinked (columns_of layout.now) links.old }
+    requires counts { length counts.old + 1 ≡ layout.now.heads }
+    requires commits { IsCommits (columns_of layout.now) commits.old }
+    ensures linked { IsLinked (columns_of layout.now) links.new }
+    ensures links { CoversAll (columns_of layout.now) links.old
+        (covering (columns_of layout.now) commits.old (node ∷ [])) links.new }
+    ensures counts { CountsCoveredAll (columns_of layout.now) links.old
+        (covering (columns_of layout.now) commits.old (node ∷ [])) counts.old counts.new }
+    ensures commits { commits.new ≡ commit (columns_of layout.now) commits.old node }
+{
+    let item = item_at(layout, node);
+    if commits[item] == 0 {
+        purify(layout, links, counts, item, colour);
+    }
+    commits[item] = commits[item].wrapping_add(1);
+}
+
+/// Takes back that a node gave its item its colour: where none did before, the item is uncovered.
+#[inline(never)]
+fn take(
+    layout: &Layout,
+    links: &mut [Link],
+    counts: &mut [u16],
+    commits: &mut [u32],
+    node: usize,
+    colour: u16,
+)
+    requires node { (layout.now.heads + layout.now.heads ≤ node + 1) × (node < layout.now.tails) }
+    requires colour { (0 < colour) × (colour ≡ colour_at (columns_of layout.now) node) }
+    requires table { IsTable (columns_of layout.now) }
+    requires linked { IsLinked (columns_of layout.now) links.old }
+    requires counts { length counts.old + 1 ≡ layout.now.heads }
+    requires commits { IsCommits (columns_of layout.now) commits.old }
+    ensures linked { IsLinked (columns_of layout.now) links.new }
+    ensures links { UncoversAll (columns_of layout.now) links.old
+        (covering (columns_of layout.now) commits.new (node ∷ [])) links.new }
+    ensures counts { CountsUncoveredAll (columns_of layout.now) links.old
+        (covering (columns_of layout.now) commits.new (node ∷ [])) counts.old counts.new }
+    ensures commits { commits.new ≡ uncommit (columns_of layout.now) commits.old node }
+{
+    let item = item_at(layout, node);
+    commits[item] = commits[item].wrapping_sub(1);
+    if commits[item] == 0 {
+        unpurify(layout, links, counts, item, colour);
+    }
+}
+
+/// Lets a node cover its item. One with a colour gives it to the item, and covers nothing where that was done before.
+pub fn commit(
+    layout: &Layout,
+    links: &mut [Link],
+    counts: &mut [u16],
+    commits: &mut [u32],
+    node: usize,
+)
+    requires node { (layout.now.heads + layout.now.heads ≤ node + 1) × (node < layout.now.tails) }
+    requires table { IsTable (columns_of layout.now) }
+    requires linked { IsLinked (columns_of layout.now) links.old }
+    requires counts { length counts.old + 1 ≡ layout.now.heads }
+    requires commits { IsCommits (columns_of layout.now) commits.old }
+    ensures linked { IsLinked (columns_of layout.now) links.new }
+    ensures links { CoversAll (columns_of layout.now) links.old
+        (covering (columns_of layout.now) commits.old (node ∷ [])) links.new }
+    ensures counts { CountsCoveredAll (columns_of layout.now) links.old
+        (covering (columns_of layout.now) commits.old (node ∷ [])) counts.old counts.new }
+    ensures commits { commits.new ≡ commit (columns_of layout.now) commits.old node }
+{
+    let colour = colour_at(layout, node);
+    if colour == 0 {
+        cover(layout, links, counts, item_at(layout, node));
+    } else {
+        give(layout, links, counts, commits, node, colour);
+    }
+}
+
+/// Takes that back: all links are as before.
+pub fn uncommit(
+    layout: &Layout,
+    links: &mut [Link],
+    counts: &mut [u16],
+    commits: &mut [u32],
+    node: usize,
+)
+    requires node { (layout.now.heads + layout.now.heads ≤ node + 1) × (node < layout.now.tails) }
+    requires table { IsTable (columns_of layout.now) }
+    requires linked { IsLinked (columns_of layout.now) links.old }
+    requires counts { length counts.old + 1 ≡ layout.now.heads }
+    requires commits { IsCommits (columns_of layout.now) commits.old }
+    ensures linked { IsLinked (columns_of layout.now) links.new }
+    ensures links { UncoversAll (columns_of layout.now) links.old
+        (covering (columns_of layout.now) commits.new (node ∷ [])) links.new }
+    ensures counts { CountsUncoveredAll (columns_of layout.now) links.old
+        (covering (columns_of layout.now) commits.new (node ∷ [])) counts.old counts.new }
+    ensures commits { commits.new ≡ uncommit (columns_of layout.now) commits.old node }
+{
+    let colour = colour_at(layout, node);
+    if colour == 0 {
+        uncover(layout, links, counts, item_at(layout, node));
+    } else {
+        take(layout, links, counts, commits, node, colour);
+    }
+}
+
+/// Lets a node cover its item in place of another one of its column, which covered it last. Where neither has a colour, nothing
+/// changes.
+pub fn recommit(
+    layout: &Layout,
+    links: &mut [Link],
+    counts: &mut [u16],
+    commits: &mut [u32],
+    last: usize,
+    next: usize,
+)
+    requires last { (layout.now.heads + layout.now.heads ≤ last + 1) × (last < layout.now.tails) }
+    requires next { (layout.now.heads + layout.now.heads ≤ next + 1) × (next < layout.now.tails) }
+    requires column { column_of (columns_of layout.now) next
+        ≡ column_of (columns_of layout.now) last }
+    requires table { IsTable (columns_of layout.now) }
+    requires linked { IsLinked (columns_of layout.now) links.old }
+    requires counts { length counts.old + 1 ≡ layout.now.heads }
+    requires commits { IsCommits (columns_of layout.now) commits.old }
+    ensures linked { IsLinked (columns_of layout.now) links.new }
+    ensures recovers { (front : List ℕ) → IsFirst (columns_of layout.now) front commits.old last →
+        Recovers (columns_of layout.now) front links.old counts.old last next
+        links.new counts.new commits.new }
+{
+    if colour_at(layout, last) != 0 || colour_at(layout, next) != 0 {
+        uncommit(layout, links, counts, commits, last);
+        commit(layout, links, counts, commits, next);
+    }
+}
+
+/// Lets the other nodes of a row cover their items, the one after the node first.
+fn commit_row(
+    layout: &Layout,
+    links: &mut [Link],
+    counts: &mut [u16],
+    commits: &mut [u32],
+    node: usize,
+    begin: usize,
+    end: usize,
+)
+    requires range { (layout.now.heads + layout.now.heads ≤ begin + 1) × (end ≤ layout.now.tails) }
+    requires row { (begin ≤ node) × (node < end) }
+    requires table { IsTable (columns_of layout.now) }
+    requires linked { IsLinked (columns_of layout.now) links.old }
+    requires counts { length counts.old + 1 ≡ layout.now.heads }
+    requires commits { IsCommits (columns_of layout.now) commits.old }
+    ensures linked { IsLinked (columns_of layout.now) links.new }
+    ensures links { CoversAll (columns_of layout.now) links.old
+        (covering (columns_of layout.now) commits.old (nodes_in_turn begin end node)) links.new }
+    ensures counts { CountsCoveredAll (columns_of layout.now) links.old
+        (covering (columns_of layout.now) commits.old (nodes_in_turn begin end node))
+        counts.old counts.new }
+    ensures commits { commits.new
+        ≡ committed (columns_of layout.now) commits.old (nodes_in_turn begin end node) }
+{
+    let mut other = node;
+    for _place in begin + 1..end {
+        other = node_after(begin, end, other);
+        commit(layout, links, counts, commits, other);
+    }
+}
+
+/// Lets the other nodes of a node's option cover their items, the next one first.
+#[tactic(auto, unfolding(crate::specs::Covering::others))]
+pub fn cover_others(
+    layout: &Layout,
+    links: &mut [Link],
+    counts: &mut [u16],
+    commits: &mut [u32],
+    node: usize,
+)
+    requires node { (layout.now.heads + layout.now.heads ≤ node + 1) × (node < layout.now.tails) }
+    requires table { IsTable (columns_of layout.now) }
+    requires linked { IsLinked (columns_of layout.now) links.old }
+    requires counts { length counts.old + 1 ≡ layout.now.heads }
+    requires commits { IsCommits (columns_of layout.now) commits.old }
+    ensures linked { IsLinked (columns_of layout.now) links.new }
+    ensures links { CoversAll (columns_of layout.now) links.old
+        (covering (columns_of layout.now) commits.old (others (columns_of layout.now) node))
+        links.new }
+    ensures counts { CountsCoveredAll (columns_of layout.now) links.old
+        (covering (columns_of layout.now) commits.old (others (columns_of layout.now) node))
+        counts.old counts.new }
+    ensures commits { commits.new
+        ≡ committed (columns_of layout.now) commits.old (others (columns_of layout.now) node) }
+{
+    let (begin, end) = row_of(layout, node);
+    commit_row(layout, links, counts, commits, node, begin, end);
+}
+
+/// Takes that back, the one before the node first.
+fn uncommit_row(
+    layout: &Layout,
+    links: &mut [Link],
+    counts: &mut [u16],
+    commits: &mut [u32],
+    node: usize,
+    begin: usize,
+    end: usize,
+)
+    requires range { (layout.now.heads + layout.now.heads ≤ begin + 1) × (end ≤ layout.now.tails) }
+    requires row { (begin ≤ node) × (node < end) }
+    requires table { IsTable (columns_of layout.now) }
+    requires linked { IsLinked (columns_of layout.now) links.old }
+    requires counts { length counts.old + 1 ≡ layout.now.heads }
+    requires commits { IsCommits (columns_of layout.now) commits.old }
+    ensures linked { IsLinked (columns_of layout.now) links.new }
+    ensures links { UncoversAll (columns_of layout.now) links.old
+        (covering (columns_of layout.now) commits.new (nodes_in_turn begin end node)) links.new }
+    ensures counts { CountsUncoveredAll (columns_of layout.now) links.old
+        (covering (columns_of layout.now) commits.new (nodes_in_turn begin end node))
+        counts.old counts.new }
+    ensures kept { IsCommits (columns_of layout.now) commits.new }
+    ensures commits { committed (columns_of layout.now) commits.new (nodes_in_turn begin end node)
+        ≡ commits.old }
+{
+    let mut other = node;
+    for _place in begin + 1..end {
+        other = node_before(begin, end, other);
+        uncommit(layout, links, counts, commits, other);
+    }
+}
+
+/// Takes that back, in the reverse order.
+#[tactic(auto, unfolding(crate::specs::Covering::others))]
+pub fn uncover_others(
+    layout: &Layout,
+    links: &mut [Link],
+    counts: &mut [u16],
+    commits: &mut [u32],
+    node: usize,
+)
+    requires node { (layout.now.heads + layout.now.heads ≤ node + 1) × (node < layout.now.tails) }
+    requires table { IsTable (columns_of layout.now) }
+    requires linked { IsLinked (columns_of layout.now) links.old }
+    requires counts { length counts.old + 1 ≡ layout.now.heads }
+    requires commits { IsCommits (columns_of layout.now) commits.old }
+    ensures linked { IsLinked (columns_of layout.now) links.new }
+    ensures links { UncoversAll (columns_of layout.now) links.old
+        (covering (columns_of layout.now) commits.new (others (columns_of layout.now) node))
+        links.new }
+    ensures counts { CountsUncoveredAll (columns_of layout.now) links.old
+        (covering (columns_of layout.now) commits.new (others (columns_of layout.now) node))
+        counts.old counts.new }
+    ensures kept { IsCommits (columns_of layout.now) commits.new }
+    ensures commits { committed (columns_of layout.now) commits.new
+        (others (columns_of layout.now) node) ≡ commits.old }
+{
+    let (begin, end) = row_of(layout, node);
+    uncommit_row(layout, links, counts, commits, node, begin, end);
+}
+
+/// Lets the nodes of a node's option cover their items: itself first, then the others from the next one on.
+pub fn cover_from(
+    layout: &Layout,
+    links: &mut [Link],
+    counts: &mut [u16],
+    commits: &mut [u32],
+    node: usize,
+)
+    requires node { (layout.now.heads + layout.now.heads ≤ node + 1) × (node < layout.now.tails) }
+    requires table { IsTable (columns_of layout.now) }
+    requires linked { IsLinked (columns_of layout.now) links.old }
+    requires counts { length counts.old + 1 ≡ layout.now.heads }
+    requires commits { IsCommits (columns_of layout.now) commits.old }
+    ensures linked { IsLinked (columns_of layout.now) links.new }
+    ensures links { CoversAll (columns_of layout.now) links.old
+        (covering (columns_of layout.now) commits.old (nodes_by (columns_of layout.now) node))
+        links.new }
+    ensures counts { CountsCoveredAll (columns_of layout.now) links.old
+        (covering (columns_of layout.now) commits.old (nodes_by (columns_of layout.now) node))
+        counts.old counts.new }
+    ensures commits { commits.new
+        ≡ committed (columns_of layout.now) commits.old (nodes_by (columns_of layout.now) node) }
+{
+    commit(layout, links, counts, commits, node);
+    cover_others(layout, links, counts, commits, node);
+}
+
+/// Takes that back, in the reverse order.
+pub fn uncover_from(
+    layout: &Layout,
+    links: &mut [Link],
+    counts: &mut [u16],
+    commits: &mut [u32],
+    node: usize,
+)
+    requires node { (layout.now.heads + layout.now.heads ≤ node + 1) × (node < layout.now.tails) }
+    requires table { IsTable (columns_of layout.now) }
+    requires linked { IsLinked (columns_of layout.now) links.old }
+    requires counts { length counts.old + 1 ≡ layout.now.heads }
+    requires commits { IsCommits (columns_of layout.now) commits.old }
+    ensures linked { IsLinked (columns_of layout.now) links.new }
+    ensures links { UncoversAll (columns_of layout.now) links.old
+        (covering (columns_of layout.now) commits.new (nodes_by (columns_of layout.now) node))
+        links.new }
+    ensures counts { CountsUncoveredAll (columns_of layout.now) links.old
+        (covering (columns_of layout.now) commits.new (nodes_by (columns_of layout.now) node))
+        counts.old counts.new }
+    ensures kept { IsCommits (columns_of layout.now) commits.new }
+    ensures commits { committed (columns_of layout.now) commits.new
+        (nodes_by (columns_of layout.now) node) ≡ commits.old }
+{
+    uncover_others(layout, links, counts, commits, node);
+    uncommit(layout, links, counts, commits, node);
+}
