@@ -1,6 +1,4 @@
 pub mod Aborting
-pub mod Gaps
-pub mod Lists
+pub mod Marks
 pub mod Reaching
-pub mod Steps
-pub mod Walking
+pub mod Starting

@@ -1,5 +1,4 @@
 pub mod Sames
-pub mod Parents
 pub mod Briefs
 pub mod Lookups
 pub mod Frames
