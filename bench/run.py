@@ -7,7 +7,7 @@ Each file, or where none is named each instance of the benchmark, is searched by
 the whole process counts, reading included. It prints a table, in which the ratio is to the better one of the two others, and
 the geometric mean of the ratios over the instances with more than 100,000 visits.
 
-FOLDER is where the file dancing_links_c.h of SageMath lies; without it that of Debian's package python3-sage is used, if it is
+SageMath is not timed on files with colours, which it doesn't know. FOLDER is where its file dancing_links_c.h lies; without it that of Debian's package python3-sage is used, if it is
 installed, and else SageMath isn't timed. To have the file alone, `apt-get download python3-sage` and then
 `dpkg-deb -x python3-sage_*.deb HERE` put it into HERE/usr/lib/python3/dist-packages/sage/combinat/matrices.
 
@@ -51,6 +51,12 @@ def compare(programs, file, times):
     return outcome, int(visits), best
 
 
+def has_colours(file):
+    """Whether an option gives an item a colour, which SageMath's header doesn't know."""
+    with open(file, "rb") as opened:
+        return any(b":" in line for line in opened if not line.lstrip().startswith(b"|"))
+
+
 def build(folder, sage):
     """Builds what the program is compared with, and answers how each is run."""
     baseline = os.path.join(folder, "baseline")
@@ -89,7 +95,8 @@ def main():
         print("| Instance | Outcome | Visits | Baseline, s | SageMath, s | Ours, s | Ratio |")
         print("|---|---|---|---|---|---|---|")
         for file in given.files or sorted(glob.glob(os.path.join(folder, "*.dlx"))):
-            outcome, visits, (ours, baseline, *sage) = compare([[SOLVE_CLI, "alone"], *others], file, given.times)
+            peers = others[:1] if has_colours(file) else others
+            outcome, visits, (ours, baseline, *sage) = compare([[SOLVE_CLI, "alone"], *peers], file, given.times)
             name = os.path.basename(file).removesuffix(".dlx")
             theirs = min(baseline, *sage) if sage else baseline
             ratio = ours / theirs if theirs > 0.01 else None

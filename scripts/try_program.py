@@ -40,8 +40,10 @@ def is_exact(file, answer):
     primary = set(lines[0][: bar[0]] if bar else lines[0])
     chosen = [line.split() for line in answer.split(b"\n")[1:-1]]
     places = [place for option in chosen for place, words in enumerate(lines[1:]) if words == option]
-    used = [name for option in chosen for name in option]
-    return len(used) == len(set(used)) and primary <= set(used) and places == sorted(places)
+    used = [word.partition(b":") for option in chosen for word in option]
+    names = [name for name, _, _ in used]
+    shared = all(names.count(name) == 1 or colour and used.count((name, colon, colour)) == names.count(name) for name, colon, colour in used)
+    return shared and primary <= set(names) and places == sorted(places)
 
 
 def examples(folder):
