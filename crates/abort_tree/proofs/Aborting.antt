@@ -1,5 +1,5 @@
 -- The own children when the marked ones up to a serial are aborted, and what that reaches.
-use Rattle.std.proofs.Common.{◌≡◌, ℕ, zero, suc, ◌+◌, Bool, true, false, ◌&&◌, if◌then◌else◌, List, [], ◌∷◌, ◌++◌, length, drop, Some, slice_get, refl, sym, ap, ◌∙◌, ◌≤◌, arith, length-append, subst}
+use Rattle.std.proofs.Common.{◌≡◌, Option, None, ℕ, zero, suc, Bool, true, false, ◌&&◌, if◌then◌else◌, List, [], ◌∷◌, ◌++◌, length, drop, Some, slice_get, refl, sym, ap, ◌∙◌, ◌≤◌, arith, length-append}
 use Rattle.std.proofs.lemmas.Option.{same_Some, none-some}
 use Rattle.spawn_frame.specs.Aborts.{is_open, reached, reached_one}
 use Rattle.spawn_frame.specs.Tables.{has_status}
@@ -21,11 +21,6 @@ far_step zero (n ∷ ns) [] m at = refl
 far_step zero (n ∷ ns) (c ∷ cs) m at = ap (λ b. abort_if b c ∷ cs) (sym (same_Some n m at))
 far_step (suc k) (n ∷ ns) [] m at = refl
 far_step (suc k) (n ∷ ns) (c ∷ cs) m at = ap (λ own. abort_if n c ∷ own) (far_step k ns cs m at)
-
-pub far_plus : (k : ℕ) (marks : List Bool) (own : List Entry) (m : Bool) → slice_get marks k ≡ Some m → change_at (abort_if m) (so_far k marks own) k ≡ so_far (k + 1) marks own
-far_plus k marks own m at =
-    let plus : suc k ≡ k + 1 = omega arith in
-    subst (λ n. change_at (abort_if m) (so_far k marks own) k ≡ so_far n marks own) plus (far_step k marks own m at)
 
 pub far_all : (marks : List Bool) (own : List Entry) → length marks ≡ length own → so_far (length own) marks own ≡ aborted marks own
 far_all [] [] even = refl
@@ -70,16 +65,17 @@ outs_step zero serial (n ∷ ns) (c ∷ cs) m even at =
     ∙ ap (λ outs. outs ++ reached (suc serial) cs (aborted ns cs)) (one_out serial m c)
 outs_step (suc k) serial (n ∷ ns) (c ∷ cs) m even at = outs_step k serial ns cs m (omega (arith, even)) at
 
-pub outs_plus : (k : ℕ) (marks : List Bool) (own : List Entry) (m : Bool) → length marks ≡ length own → slice_get marks k ≡ Some m → outs_from k (drop k marks) (drop k own) ≡ out_of m k (slice_get own k) ++ outs_from (k + 1) (drop (k + 1) marks) (drop (k + 1) own)
-outs_plus k marks own m even at =
-    let plus : suc k ≡ k + 1 = omega arith in
-    subst (λ n. outs_from k (drop k marks) (drop k own) ≡ out_of m k (slice_get own k) ++ outs_from n (drop n marks) (drop n own)) plus (outs_step k k marks own m even at)
-
 -- one reaches one at most
 one_fewer : (serial attempt : ℕ) (old new : Status) → length (reached_one serial attempt old new) ≤ 1
 one_fewer serial attempt (Out thief) Aborted = omega arith
 one_fewer serial attempt (Out thief) _ = omega arith
 one_fewer serial attempt _ _ = omega arith
+
+pub out_fewer : (serial : ℕ) (m : Bool) (o : Option Entry) → length (out_of m serial o) ≤ 1
+out_fewer serial true None = omega arith
+out_fewer serial false None = omega arith
+out_fewer serial true (Some c) = one_fewer serial c.attempt c.status (abort_if true c).status
+out_fewer serial false (Some c) = omega arith
 
 pub outs_fewer : (serial : ℕ) (marks : List Bool) (own : List Entry) → length (outs_from serial marks own) ≤ length own
 outs_fewer serial [] [] = omega arith

@@ -1,4 +1,6 @@
 pub mod Aborting
-pub mod Marks
+pub mod Gaps
+pub mod Lists
 pub mod Reaching
-pub mod Starting
+pub mod Steps
+pub mod Walking

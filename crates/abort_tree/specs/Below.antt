@@ -1,13 +1,14 @@
 -- Which own children are below some units, and what an abort makes of them (abort of the Cilk 5.4 manual).
-use Rattle.std.specs.Prelude.{◌≡◌, ℕ, suc, ◌<◌, ◌≤◌, Bool, true, false, ◌&&◌, ◌||◌, if◌then◌else◌, List, [], ◌∷◌, ◌++◌, length, Option, Some, None, nat_lt, replicate, slice_get, unwrap_or}
-use Rattle.std.specs.List.{list_any}
+use Rattle.std.specs.Prelude.{◌≡◌, ℕ, ◌<◌, ◌≤◌, Bool, true, false, ◌&&◌, if◌then◌else◌, List, [], ◌∷◌, ◌++◌, length, map, get_or, Option, Some, None, slice_get, ◌==◌}
+use Rattle.std.specs.List.{Contains, list_any, range_with_len}
+use Rattle.std.specs.List.Sorted.{IsStrictlyIncreasing}
 use Rattle.spawn_frame.specs.Aborts.{IsBelow, Reached, is_open, reached, reached_one}
 use Rattle.spawn_frame.specs.Names.{same_unit}
 use Rattle.spawn_frame.specs.Tables.{parent_in}
 use Rattle.spawn_frame.specs.Units.{Entry, with_status}
 use Rattle.spawn_frame.specs.declared.status.Status.TheVariants.{Aborted}
 use Rattle.spawn_frame.specs.declared.unit.Unit.{Unit as WorkUnit}
-use Rattle.spawn_frame.specs.declared.unit.Unit.TheVariants.{Guest, Own}
+use Rattle.spawn_frame.specs.declared.unit.Unit.TheVariants.{Own}
 
 -- it is one of the units
 abbrev pub is_among : List WorkUnit → WorkUnit → Bool
@@ -33,34 +34,34 @@ aborted (m ∷ ms) (c ∷ cs) = abort_if m c ∷ aborted ms cs
 abbrev pub outs_from : ℕ → List Bool → List Entry → List Reached
 outs_from serial marks own = reached serial own (aborted marks own)
 
+-- the marks of so many own children: whether each serial is one of these
+abbrev pub marks_of : ℕ → List ℕ → List Bool
+marks_of count serials = map (λ k. list_any (λ s. s == k) serials) (range_with_len 0 count)
+
+-- The serials of some of so many own children, ascending.
+pub record AreSerials (count : ℕ) (serials : List ℕ) : Type 0 where
+  pub ascending : IsStrictlyIncreasing serials
+  pub within : (k : ℕ) → Contains serials k → k < count
+
+-- The serials are those of the own children below the units.
+pub record AreBelow (top : WorkUnit → Bool) (own : List Entry) (serials : List ℕ) : Type 0 where
+  pub all : (k : ℕ) → IsBelow top own k → Contains serials k
+  pub only : (k : ℕ) → Contains serials k → IsBelow top own k
+
 -- ---- parts of it, for the steps of the code
 
--- one of the units, or below one by the marks of the children made before
-abbrev pub is_marked : (WorkUnit → Bool) → List Bool → Option WorkUnit → Bool
-is_marked top marks None = false
-is_marked top marks (Some (Own serial)) = top (Own serial) || unwrap_or (slice_get marks serial) false
-is_marked top marks (Some (Guest name attempt)) = top (Guest name attempt)
+-- The serials that follow the old ones are those of the children of such units.
+pub record Adds (IsParent : WorkUnit → Type 0) (own : List Entry) (old new : List ℕ) : Type 0 where
+  pub more : List ℕ
+  pub is : new ≡ old ++ more
+  pub all : (k : ℕ) (unit : WorkUnit) → IsParent unit → parent_in (slice_get own k) ≡ Some unit → Contains more k
+  pub only : (k : ℕ) → Contains more k → (unit : WorkUnit) × IsParent unit × (parent_in (slice_get own k) ≡ Some unit)
+
+-- an own child whose serial stands in the list, from the first place up to the end
+abbrev pub IsListed : ℕ → ℕ → List ℕ → WorkUnit → Type 0
+IsListed first end serials unit = (i : ℕ) × (first ≤ i) × (i < end) × (unit ≡ Own (get_or serials i 0))
 
 -- what the abort of one child reaches, if it is marked
 abbrev pub out_of : Bool → ℕ → Option Entry → List Reached
 out_of marked serial None = []
 out_of marked serial (Some c) = if marked then reached_one serial c.attempt c.status (abort_if true c).status else []
-
--- the marks of all own children, of which those before the first one that has a mark are not below
-abbrev pub padded : ℕ → List Bool → List Bool
-padded first marks = replicate first false ++ marks
-
--- from which serial on an own child can be a child of the unit, or the given one, if that is less
-abbrev pub first_behind : ℕ → WorkUnit → ℕ
-first_behind first (Own serial) = if nat_lt serial first then suc serial else first
-first_behind first (Guest name attempt) = 0
-
--- a child of one of the units, by its parent
-abbrev pub is_child : (WorkUnit → Bool) → Option WorkUnit → Bool
-is_child top None = false
-is_child top (Some unit) = top unit
-
--- No own child before this serial is a child of one of the units.
-pub record StartsAt (top : WorkUnit → Bool) (own : List Entry) (first : ℕ) : Type 0 where
-  pub within : first ≤ length own
-  pub none_before : (k : ℕ) → k < first → is_child top (parent_in (slice_get own k)) ≡ false

@@ -6,9 +6,10 @@ ghost use Rattle.dancing_links.specs.Committing.{IsCommits, IsFirst, Recovers, c
 ghost use Rattle.dancing_links.specs.Counting.{CountsCoveredAll, CountsUncoveredAll};
 ghost use Rattle.dancing_links.specs.Covering.{nodes_in_turn, nodes_by, others, CoversAll, UncoversAll};
 
-use crate::cover::{cover, node_after, node_before, purify, uncover, unpurify};
-use crate::layout::{Layout, colour_at, item_at, row_of};
+use crate::cover::{cover, node_before, purify, uncover, unpurify};
+use crate::layout::{Layout, colour_at, item_at, right_among, row_of};
 use crate::link::Link;
+use crate::place::Place;
 
 /// A node gives its item its colour: where none did before, the item is covered.
 #[inline(never)]
@@ -155,40 +156,8 @@ pub fn recommit(
     }
 }
 
-/// Lets the other nodes of a row cover their items, the one after the node first.
-fn commit_row(
-    layout: &Layout,
-    links: &mut [Link],
-    counts: &mut [u16],
-    commits: &mut [u32],
-    node: usize,
-    begin: usize,
-    end: usize,
-)
-    requires range { (layout.now.heads + layout.now.heads ≤ begin + 1) × (end ≤ layout.now.tails) }
-    requires row { (begin ≤ node) × (node < end) }
-    requires table { IsTable (columns_of layout.now) }
-    requires linked { IsLinked (columns_of layout.now) links.old }
-    requires counts { length counts.old + 1 ≡ layout.now.heads }
-    requires commits { IsCommits (columns_of layout.now) commits.old }
-    ensures linked { IsLinked (columns_of layout.now) links.new }
-    ensures links { CoversAll (columns_of layout.now) links.old
-        (covering (columns_of layout.now) commits.old (nodes_in_turn begin end node)) links.new }
-    ensures counts { CountsCoveredAll (columns_of layout.now) links.old
-        (covering (columns_of layout.now) commits.old (nodes_in_turn begin end node))
-        counts.old counts.new }
-    ensures commits { commits.new
-        ≡ committed (columns_of layout.now) commits.old (nodes_in_turn begin end node) }
-{
-    let mut other = node;
-    for _place in begin + 1..end {
-        other = node_after(begin, end, other);
-        commit(layout, links, counts, commits, other);
-    }
-}
-
 /// Lets the other nodes of a node's option cover their items, the next one first.
-#[tactic(auto, unfolding(crate::specs::Covering::others))]
+#[inline(always)]
 pub fn cover_others(
     layout: &Layout,
     links: &mut [Link],
@@ -211,11 +180,16 @@ pub fn cover_others(
     ensures commits { commits.new
         ≡ committed (columns_of layout.now) commits.old (others (columns_of layout.now) node) }
 {
-    let (begin, end) = row_of(layout, node);
-    commit_row(layout, links, counts, commits, node, begin, end);
+    let places: &[Place] = &layout.places;
+    let mut other = right_among(layout, places, node);
+    while other != node {
+        commit(layout, links, counts, commits, other);
+        other = right_among(layout, places, other);
+    }
 }
 
-/// Takes that back, the one before the node first.
+/// Takes back that the other nodes of a row covered their items, the one before the node first.
+#[inline(always)]
 fn uncommit_row(
     layout: &Layout,
     links: &mut [Link],
@@ -250,6 +224,7 @@ fn uncommit_row(
 
 /// Takes that back, in the reverse order.
 #[tactic(auto, unfolding(crate::specs::Covering::others))]
+#[inline(always)]
 pub fn uncover_others(
     layout: &Layout,
     links: &mut [Link],

@@ -37,16 +37,6 @@ fn count_more(layout: &Layout, places: &[Place], counts: &mut [u16], node: usize
     counts[item] = counts[item].wrapping_add(1);
 }
 
-/// The node after one in its row; behind the last comes the first.
-pub fn node_after(begin: usize, end: usize, node: usize) -> usize
-    requires row { (begin ≤ node) × (node < end) }
-    requires end { end < 4294967296 }
-    ensures node { result ≡ node_after begin end node }
-    ensures row { (begin ≤ result) × (result < end) }
-{
-    if node + 1 == end { begin } else { node + 1 }
-}
-
 /// The node before one in its row; in front of the first comes the last.
 pub fn node_before(begin: usize, end: usize, node: usize) -> usize
     requires { (begin ≤ node) × (node < end) }
@@ -112,9 +102,10 @@ pub fn cover(layout: &Layout, links: &mut [Link], counts: &mut [u16], item: usiz
     ensures counts { CountsCovered (columns_of layout.now) links.old item 0 counts.old counts.new }
 {
     let places: &[Place] = &layout.places;
+    let tails = layout.tails;
     unlink(layout, links, layout.heads + item);
     let mut node = links[item].down as usize;
-    while node < layout.tails {
+    while node < tails {
         hide(layout, places, links, counts, node);
         node = links[node].down as usize;
     }
@@ -132,12 +123,13 @@ pub fn uncover(layout: &Layout, links: &mut [Link], counts: &mut [u16], item: us
         counts.old counts.new }
 {
     let places: &[Place] = &layout.places;
+    let heads = layout.heads;
     let mut node = links[layout.tails + item].up as usize;
-    while node >= layout.heads {
+    while node >= heads {
         unhide(layout, places, links, counts, node);
         node = links[node].up as usize;
     }
-    relink(layout, links, layout.heads + item);
+    relink(layout, links, heads + item);
 }
 
 /// Whether a node has this colour; one without a colour has none.
@@ -219,9 +211,10 @@ pub fn purify(layout: &Layout, links: &mut [Link], counts: &mut [u16], item: usi
         counts.old counts.new }
 {
     let places: &[Place] = &layout.places;
+    let tails = layout.tails;
     unlink(layout, links, layout.heads + item);
     let mut node = links[item].down as usize;
-    while node < layout.tails {
+    while node < tails {
         hide_unless(layout, places, links, counts, node, colour);
         node = links[node].down as usize;
     }
@@ -240,10 +233,11 @@ pub fn unpurify(layout: &Layout, links: &mut [Link], counts: &mut [u16], item: u
         counts.old counts.new }
 {
     let places: &[Place] = &layout.places;
+    let heads = layout.heads;
     let mut node = links[layout.tails + item].up as usize;
-    while node >= layout.heads {
+    while node >= heads {
         unhide_unless(layout, places, links, counts, node, colour);
         node = links[node].up as usize;
     }
-    relink(layout, links, layout.heads + item);
+    relink(layout, links, heads + item);
 }

@@ -14,6 +14,7 @@ use Rattle.spawn_frame.specs.declared.site.ChildName.{ChildName}
 use Rattle.spawn_frame.specs.declared.site.Site.{Site}
 use Rattle.spawn_frame.specs.declared.unit.Unit.{Unit as WorkUnit}
 use Rattle.spawn_frame.specs.declared.unit.Unit.TheVariants as units
+use Rattle.spawn_frame.proofs.Parents.{no_children}
 use Rattle.spawn_frame.proofs.Orders.{before_on, before_or_same}
 use Rattle.spawn_frame.proofs.Sames.{parent_path, same_name_self}
 
@@ -143,7 +144,7 @@ put_kept site limit own guests h name attempt prefix absent from =
       parents = record { lower = h.parents.lower; there = λ k c unit at p. there unit (h.parents.there k c unit at p) };
       own_units = h.own_units;
       guest_units = each_put (λ g. IsUnit (units.Guest g.name g.work.attempt) g.work (map child_entry own)) new guests
-          (record { attempt = from; status = refl; whole = λ t. none_there (table_of site limit own guests) (units.Guest name attempt) h.parents absent; split = λ s. absurd (cc) }) h.guest_units;
+          (record { attempt = from; status = refl; whole = λ t. none_there (table_of site limit own guests) (units.Guest name attempt) h.parents absent; split = λ s. absurd (cc); children = no_children (units.Guest name attempt) (map child_entry own) 0 (none_there (table_of site limit own guests) (units.Guest name attempt) h.parents absent) }) h.guest_units;
     }
   where
     there : (unit : WorkUnit) → IsSome (unit_of (table_of site limit own guests) unit) → IsSome (unit_of (table_of site limit own (put_guest (fresh_guest name attempt prefix) guests)) unit)

@@ -4,10 +4,12 @@ use Rattle.std.specs.List.{filter, list_any}
 use Rattle.std.proofs.lemmas.Option.{same_Some}
 use Rattle.spawn_frame.specs.Frames.{cover_of, is_unit}
 use Rattle.spawn_frame.specs.Inlets.{children_left, frame_hearing, frame_winner, is_done, winner_from}
+use Rattle.spawn_frame.specs.Tables.{parent_in}
 use Rattle.spawn_frame.specs.Units.{Entry, change_at}
 use Rattle.spawn_frame.specs.Works.{IsUnit, has_child}
 use Rattle.spawn_frame.specs.declared.unit.Unit.{Unit as WorkUnit}
 use Rattle.spawn_frame.specs.declared.work.Work.{Work}
+use Rattle.spawn_frame.proofs.Parents.{children_stay}
 
 pub record Brief : Type 0 where
   pub parent : Option WorkUnit
@@ -58,6 +60,13 @@ same_hearing unit old new e =
 pub same_child : (unit : WorkUnit) (old new : List Entry) → briefs new ≡ briefs old → has_child unit new ≡ has_child unit old
 same_child unit old new e = child_is unit new ∙ ap (child_by unit) e ∙ sym (child_is unit old)
 
+parents_by : (old new : List Entry) → briefs new ≡ briefs old → (k : ℕ) → parent_in (slice_get new k) ≡ parent_in (slice_get old k)
+parents_by [] [] e k = refl
+parents_by [] (y ∷ ys) e k = absurd (cc)
+parents_by (x ∷ xs) [] e k = absurd (cc)
+parents_by (x ∷ xs) (y ∷ ys) e zero = let same : brief y ≡ brief x = cc in ap (λ b. b.parent) same
+parents_by (x ∷ xs) (y ∷ ys) e (suc k) = let rest : briefs ys ≡ briefs xs = cc in parents_by xs ys rest k
+
 -- a frame stays in step where it sees the same
 pub same_frame : (unit : WorkUnit) (w : Work) (old new : List Entry) → briefs new ≡ briefs old → IsUnit unit w old → IsUnit unit w new
 same_frame unit w old new e h = record {
@@ -65,6 +74,7 @@ same_frame unit w old new e h = record {
   status = h.status;
   whole = λ t. same_child unit old new e ∙ h.whole t;
   split = λ s. h.split s ∙ ap Some (sym (same_hearing unit old new e));
+  children = children_stay unit old new w.children.first w.children.end (parents_by old new e) h.children;
 }
 
 -- a change of which frames see nothing

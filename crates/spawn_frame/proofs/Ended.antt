@@ -7,7 +7,7 @@ use Rattle.spawn_frame.specs.Frames.{frame, frame_result, is_unit}
 use Rattle.spawn_frame.specs.Inlets.{frame_hearing, heard_by, is_done}
 use Rattle.spawn_frame.specs.Names.{guest_before, same_name}
 use Rattle.spawn_frame.specs.Picks.{is_split}
-use Rattle.spawn_frame.specs.Tables.{HasParents, IsAscending, has_status, heard_at, may_end, parent_heard, parent_in}
+use Rattle.spawn_frame.specs.Tables.{AreChildren, HasParents, IsAscending, has_status, heard_at, may_end, parent_heard, parent_in}
 use Rattle.spawn_frame.specs.Units.{Entry, Table, change_at, is_guest, table_gets, unit_of, with_status}
 use Rattle.spawn_frame.specs.Works.{HearsFrom, IsUnit, IsTable, change_child, change_work, child_entry, frame_says, guest_entry, guests_told, has_child, heard_work, inlet_after, own_told, parent_work, table_of, with_heard, with_work_status, work_in}
 use Rattle.spawn_frame.specs.declared.child.Child.{Child}
@@ -25,6 +25,7 @@ use Rattle.spawn_frame.proofs.Found.{unit_none, unit_work}
 use Rattle.spawn_frame.proofs.Frames.{child_once_done, child_there, hearing_of_others, hearing_once_done, same_heard, some_left}
 use Rattle.spawn_frame.proofs.Kept.{each_weaker, length_changed}
 use Rattle.spawn_frame.proofs.Lookups.{child_before, child_view, guest_with, with_work}
+use Rattle.spawn_frame.proofs.Parents.{children_stay, same_parents}
 use Rattle.spawn_frame.proofs.Picked.{before_itself}
 use Rattle.spawn_frame.proofs.Places.{child_set}
 use Rattle.spawn_frame.proofs.Sames.{name_path, parent_self, same_name_self}
@@ -107,6 +108,9 @@ module _ (es : List Entry) (k : ℕ) (c : Entry) (at : slice_get es k ≡ Some c
   abbrev new : List Entry
   new = change_at (with_status (Done result)) es k
 
+  children_done : (unit : WorkUnit) (w : Work) → AreChildren unit es w.children.first w.children.end → AreChildren unit new w.children.first w.children.end
+  children_done unit w h = children_stay unit es new w.children.first w.children.end (same_parents (with_status (Done result)) (λ x. refl) es k) h
+
   frame_told : (unit : WorkUnit) (w : Work) → c.parent ≡ Some unit → IsUnit unit w es → IsUnit unit (with_heard k result w) new
   frame_told unit w p h =
       let child : is_unit c.parent unit ≡ true = parent_self c.parent unit p in
@@ -118,6 +122,7 @@ module _ (es : List Entry) (k : ℕ) (c : Entry) (at : slice_get es k ≡ Some c
             ap (λ b. cond b (inlet_after k result w.inlet) w.inlet) (ap is_split s)
             ∙ ap (inlet_after k result) (h.split s)
             ∙ ap Some (sym (hearing_once_done unit result es k c at child undone));
+        children = children_done unit (with_heard k result w) h.children;
       }
 
   frame_untold : (unit : WorkUnit) (w : Work) → is_unit c.parent unit ≡ false → IsUnit unit w es → IsUnit unit w new
@@ -126,11 +131,12 @@ module _ (es : List Entry) (k : ℕ) (c : Entry) (at : slice_get es k ≡ Some c
     status = h.status;
     whole = λ t. child_once_done unit (Done result) es k ∙ h.whole t;
     split = λ s. h.split s ∙ ap Some (sym (hearing_of_others unit result es k c at p));
+    children = children_done unit w h.children;
   }
 
   -- a child that is done is no frame
-  frame_done : (j : ℕ) (w : Work) → 1 ≤ w.attempt → IsUnit (units.Own j) (with_work_status (Done result) w) new
-  frame_done j w from = record { attempt = from; status = refl; whole = λ t. absurd (false≢true t); split = λ s. absurd (cc) }
+  frame_done : (j : ℕ) (w : Work) → IsUnit (units.Own j) w new → IsUnit (units.Own j) (with_work_status (Done result) w) new
+  frame_done j w h = record { attempt = h.attempt; status = refl; whole = λ t. absurd (false≢true t); split = λ s. absurd (cc); children = h.children }
 
 -- ---- guests, of which one hears
 
@@ -224,7 +230,7 @@ module _ (site : Site) (limit : ℕ) (own : List Child) (guests : List Guest) (i
       ⊎_elim
       (λ (h : (j ≡ k) × (d ≡ with_work (with_work_status (Done result)) b.child)).
       subst (λ x. IsUnit (units.Own j) x.work (change_at (with_status (Done result)) es k)) (sym h.1)
-      (frame_done es k (child_entry there.child) entry_at undone result j b.child.work (own_heard parent refl j b.child b.is).attempt))
+      (frame_done es k (child_entry there.child) entry_at undone result j b.child.work (own_heard parent refl j b.child b.is)))
       (λ (h : (j ≡ k → ⊥) × (d ≡ b.child)).
       subst (λ x. IsUnit (units.Own j) x.work (change_at (with_status (Done result)) es k)) (sym h.1) (own_heard parent refl j b.child b.is))
       b.became

@@ -1,4 +1,5 @@
 pub mod Sames
+pub mod Parents
 pub mod Briefs
 pub mod Lookups
 pub mod Frames

@@ -8,7 +8,7 @@ use Rattle.spawn_frame.specs.Frames.{cover_of}
 use Rattle.spawn_frame.specs.Inlets.{is_done}
 use Rattle.spawn_frame.specs.Names.{same_name, same_unit}
 use Rattle.spawn_frame.specs.Splits.{new_child, split_into}
-use Rattle.spawn_frame.specs.Tables.{HasParents, IsAscending, is_here, suits}
+use Rattle.spawn_frame.specs.Tables.{AreChildren, HasParents, IsAscending, is_here, suits}
 use Rattle.spawn_frame.specs.Units.{Entry, guest_in, is_guest, table_gets, table_own, unit_of, with_status}
 use Rattle.spawn_frame.specs.Works.{IsUnit, IsTable, IsWork, change_child, change_work, child_entry, child_work, fresh_child, guest_entry, guests_after, has_child, is_whole, new_work, own_after, split_work, table_of, work_in}
 use Rattle.spawn_frame.specs.declared.child.Child.{Child}
@@ -25,6 +25,7 @@ use Rattle.spawn_frame.proofs.Ended.{each_told}
 use Rattle.spawn_frame.proofs.Found.{unit_work}
 use Rattle.spawn_frame.proofs.Kept.{ascending_kept, child_briefs, each_weaker, guest_there, keys_kept, length_changed, still_there, was_there}
 use Rattle.spawn_frame.proofs.Lookups.{child_before, child_view, guest_view, with_work}
+use Rattle.spawn_frame.proofs.Parents.{children_new, children_of_others, no_children}
 use Rattle.spawn_frame.proofs.Sames.{name_path, parent_path, same_name_self}
 use Rattle.spawn_frame.proofs.Spawned.{child_append, child_of_other, entries_new, hearing_append, hearing_new, news}
 
@@ -89,7 +90,7 @@ module _ (site : Site) (limit : ℕ) (own : List Child) (guests : List Guest) (i
   es = map child_entry own
 
   abbrev becomes : Work → Work
-  becomes = split_work (length ps)
+  becomes = split_work (length own) (length ps)
 
   abbrev kids : List Child
   kids = map (fresh_child unit) ps
@@ -164,6 +165,7 @@ module _ (site : Site) (limit : ℕ) (own : List Child) (guests : List Guest) (i
         status = h.status;
         whole = λ t. child_append v (map child_entry front) (news unit ps) (f.whole t) other;
         split = λ s. f.split s ∙ ap Some (sym (hearing_append v (map child_entry front) (news unit ps) other));
+        children = children_of_others v (map child_entry front) (news unit ps) x.children.first x.children.end other f.children;
       }
 
   told : (x : Work) → 1 ≤ x.attempt → IsUnit unit (becomes x) entries
@@ -172,6 +174,8 @@ module _ (site : Site) (limit : ℕ) (own : List Child) (guests : List Guest) (i
     status = split_suits unit;
     whole = λ t. absurd (false≢true t);
     split = λ s. ap Some (sym (hearing_new unit (map child_entry front) ps (same_child unit es (map child_entry front) front_briefs ∙ childless)));
+    children = subst (λ n. AreChildren unit entries n (n + length ps)) (length-map front child_entry ∙ front_length)
+        (children_new unit (map child_entry front) ps (same_child unit es (map child_entry front) front_briefs ∙ childless));
   }
 
   -- a child that is made has no children yet
@@ -181,6 +185,7 @@ module _ (site : Site) (limit : ℕ) (own : List Child) (guests : List Guest) (i
     status = refl;
     whole = λ t. child_append (units.Own j) (map child_entry front) (news unit ps) (same_child (units.Own j) es (map child_entry front) front_briefs ∙ none) (child_of_other unit (units.Own j) ps (other unit refl));
     split = λ s. absurd (cc);
+    children = no_children (units.Own j) entries 0 (child_append (units.Own j) (map child_entry front) (news unit ps) (same_child (units.Own j) es (map child_entry front) front_briefs ∙ none) (child_of_other unit (units.Own j) ps (other unit refl)));
   }
     where
       none : has_child (units.Own j) es ≡ false

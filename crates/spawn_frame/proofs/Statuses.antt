@@ -57,6 +57,7 @@ frame_becomes status unit w own fits k h =
       status = fits;
       whole = λ t. h.whole (⊎_elim (λ (n : not (is_whole status) ≡ true). absurd (both_ways (is_whole status) (not-true (is_whole status) n) t)) (λ (o : is_whole w.status ≡ true). o) (or_cases (not (is_whole status)) (is_whole w.status) p.1));
       split = λ s. absurd (both_ways (is_split status) (not-true (is_split status) p.0) (ap is_split s));
+      children = h.children;
     }
 
 undone_brief : (parent : Option WorkUnit) (w : Work) (status : Status) → not (is_done status || is_done w.status) ≡ true → brief (entry_of parent (with_work_status status w)) ≡ brief (entry_of parent w)

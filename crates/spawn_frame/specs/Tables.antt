@@ -115,6 +115,11 @@ abbrev pub parent_in : Option Entry → Option WorkUnit
 parent_in None = None
 parent_in (Some entry) = entry.parent
 
+-- The children of a unit are the own children of serials from the first up to the end.
+pub record AreChildren (unit : WorkUnit) (own : List Entry) (first end : ℕ) : Type 0 where
+  pub each : (k : ℕ) → first ≤ k → k < end → parent_in (slice_get own k) ≡ Some unit
+  pub only : (k : ℕ) → parent_in (slice_get own k) ≡ Some unit → (first ≤ k) × (k < end)
+
 -- the prefix followed by each of the options
 abbrev pub longer_prefixes : List ℕ → List ℕ → List (List ℕ)
 longer_prefixes prefix options = map (λ o. prefix ++ o ∷ []) options

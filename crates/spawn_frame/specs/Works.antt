@@ -4,7 +4,7 @@ use Rattle.std.specs.List.{AllByRecursion, list_any}
 use Rattle.spawn_frame.specs.Frames.{is_unit}
 use Rattle.spawn_frame.specs.Inlets.{Hearing, frame_hearing, heard_of, hearing_of, is_done, new_hearing}
 use Rattle.spawn_frame.specs.Picks.{either_unit, is_ready, is_split, pick, ready_unit, ripe_unit}
-use Rattle.spawn_frame.specs.Tables.{HasParents, IsAscending, is_here, is_out, suits}
+use Rattle.spawn_frame.specs.Tables.{AreChildren, HasParents, IsAscending, is_here, is_out, suits}
 use Rattle.spawn_frame.specs.Units.{Entry, GuestEntry, Table, is_guest, unit_of}
 use Rattle.spawn_frame.specs.declared.child.Child.{Child}
 use Rattle.spawn_frame.specs.declared.child_result.ChildResult.{ChildResult}
@@ -48,13 +48,14 @@ is_whole _ = false
 abbrev pub has_child : WorkUnit → List Entry → Bool
 has_child unit own = list_any (λ c. is_unit c.parent unit) own
 
--- What is true of each unit: its attempt is at least 1, its status is of its kind, it has no children before it is split, and the
--- inlet of one that is split is in step with them.
+-- What is true of each unit: its attempt is at least 1, its status is of its kind, it has no children before it is split, the
+-- inlet of one that is split is in step with them, and their serials are kept.
 pub record IsUnit (unit : WorkUnit) (w : Work) (own : List Entry) : Type 0 where
   pub attempt : 1 ≤ w.attempt
   pub status : suits unit w.status ≡ true
   pub whole : is_whole w.status ≡ true → has_child unit own ≡ false
   pub split : w.status ≡ Split → w.inlet ≡ Some (frame_hearing unit own)
+  pub children : AreChildren unit own w.children.first w.children.end
 
 -- What is true of every table: no more names than the limit, guests in order, parents before their children, and what is true of
 -- each unit.
@@ -68,7 +69,7 @@ pub record IsTable (table : Table) (own : List Child) (guests : List Guest) : Ty
 
 -- work that nobody has taken up
 abbrev pub new_work : List ℕ → ℕ → Work
-new_work prefix attempt = record { prefix = prefix; attempt = attempt; status = Ready; inlet = None }
+new_work prefix attempt = record { prefix = prefix; attempt = attempt; status = Ready; inlet = None; children = record { first = 0; end = 0 } }
 
 -- what an inlet says, where there is one
 abbrev pub heard_work : Option Hearing → Heard
@@ -123,9 +124,9 @@ with_work_status status w = record w { status = status }
 abbrev pub redone_work : Work → Work
 redone_work w = record w { attempt = w.attempt + 1; status = Ready }
 
--- the work as a frame of so many children
-abbrev pub split_work : ℕ → Work → Work
-split_work children w = record w { status = Split; inlet = Some (new_hearing children) }
+-- the work as a frame of so many children, of serials from the first on
+abbrev pub split_work : ℕ → ℕ → Work → Work
+split_work first count w = record w { status = Split; inlet = Some (new_hearing count); children = record { first = first; end = first + count } }
 
 -- the list with the work of its child at k changed
 abbrev pub change_child : (Work → Work) → List Child → ℕ → List Child

@@ -118,14 +118,15 @@ impl Children {
         }
     }
 
-    /// Makes a child a frame of so many children, if it is there.
-    pub fn split(&mut self, serial: u32, children: u32)
-        requires { 0 < children }
-        ensures { self.new ≡ change_child (split_work children) self.old serial }
+    /// Makes a child a frame of so many children, whose serials begin at the first, if it is there.
+    pub fn split(&mut self, serial: u32, first: u32, count: u32)
+        requires some { 0 < count }
+        requires fits { first + count < 2 ^ 32 }
+        ensures { self.new ≡ change_child (split_work first count) self.old serial }
     {
         let index = serial as usize;
         if index < self.items.len() {
-            self.items[index].work.split(children);
+            self.items[index].work.split(first, count);
             tell_again(&self.items, &mut self.pages, index);
         }
     }
@@ -135,7 +136,8 @@ impl Children {
         requires { HearsFrom (child_work (slice_get self.old serial)) }
         ensures own { self.new ≡ change_child (with_heard child child_result.now) self.old serial }
         ensures heard { result ≡ frame_says
-            (option_map (with_heard child child_result.now) (child_work (slice_get self.old serial))) }
+            (option_map (with_heard child child_result.now) (child_work
+            (slice_get self.old serial))) }
     {
         let index = serial as usize;
         if index >= self.items.len() {

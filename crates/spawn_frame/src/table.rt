@@ -8,7 +8,7 @@ ghost use Rattle.spawn_frame.specs.Frames.{frame, frame_result};
 ghost use Rattle.spawn_frame.specs.Inlets.{frame_winner, heard_by};
 ghost use Rattle.spawn_frame.specs.Picks.{is_finished, is_ready, is_split, ready_unit, ripe_unit};
 ghost use Rattle.spawn_frame.specs.Splits.{split_into, with_result};
-ghost use Rattle.spawn_frame.specs.Tables.{attempt_in, empty_table, guest_key, has_status, is_after, is_at_work, is_here, is_out, longer_prefixes, may_end, new_guest, outs_of, parent_heard, parent_in, prefix_in, root_table, seen_guest, status_in, AllLawful, GivesResult, HasParents, IsAscending, IsAtWork, IsMadeBefore, IsSeen};
+ghost use Rattle.spawn_frame.specs.Tables.{attempt_in, empty_table, guest_key, has_status, is_after, is_at_work, is_here, is_out, longer_prefixes, may_end, new_guest, outs_of, parent_heard, parent_in, prefix_in, root_table, seen_guest, status_in, AllLawful, AreChildren, GivesResult, HasParents, IsAscending, IsAtWork, IsMadeBefore, IsSeen};
 ghost use Rattle.spawn_frame.specs.declared.site.ChildName.{ChildName};
 ghost use Rattle.spawn_frame.specs.declared.status.Status.{Status};
 ghost use Rattle.spawn_frame.specs.Units.{change_at, guest_in, insert_guest, last_attempt, redone, table_gets, table_guests, table_own, unit_of};
@@ -20,6 +20,7 @@ use crate::guest::Guest;
 use crate::guest_view::GuestView;
 use crate::heard::Heard;
 use crate::inlet::Inlet;
+use crate::serials::Serials;
 use crate::site::{Attempt, ChildName, Site};
 use crate::spawn_fault::SpawnFault;
 use crate::status::Status;
@@ -58,7 +59,8 @@ impl Model for Table {
 
     ghost view = { λ t. table_of t.site t.names_limit t.own t.guests.items };
 
-    ghost invariant = { λ t. IsTable (table_of t.site t.names_limit t.own t.guests.items) t.own t.guests.items };
+    ghost invariant = { λ t. IsTable (table_of t.site t.names_limit t.own t.guests.items) t.own
+        t.guests.items };
 }
 
 impl Table {
@@ -123,8 +125,10 @@ impl Table {
         self.prefix_into(unit, &mut prefix)?;
         let mut children = new_children(self.alloc, unit, &prefix, options)?;
         self.own.append(&mut children)?;
-        split_unit(&mut self.own, &mut self.guests, unit, options.len() as u32);
-        Ok(first as u32)
+        let first = first as u32;
+        let count = options.len() as u32;
+        split_unit(&mut self.own, &mut self.guests, unit, first, count);
+        Ok(first)
     }
 
     /// The site.
@@ -231,6 +235,20 @@ impl Table {
         ensures there { IfSome result (λ parent. IsSome (unit_of self.now parent)) }
     {
         self.own.as_slice()[serial as usize].parent
+    }
+
+    /// The serials of a unit's children, which follow one another. It costs a look for the unit.
+    pub fn children(&self, unit: Unit) -> Serials
+        ensures { AreChildren unit self.now.own result.first result.end }
+    {
+        let issued = self.issued();
+        match self.work(unit) {
+            Some(work) => work.children,
+            None => Serials {
+                first: issued,
+                end: issued,
+            },
+        }
     }
 
     /// The least guest, or the least behind the given one, in the order of guests. It is found by halving.

@@ -1,6 +1,6 @@
 //! Units among the own children and guests of a table.
 
-ghost use Rattle.std.specs.Prelude.{◌≡◌, ◌<◌, ◌≤◌, find, length, map, not, option_map, position, slice_get};
+ghost use Rattle.std.specs.Prelude.{◌≡◌, ◌+◌, ◌<◌, ◌≤◌, ◌^◌, find, length, map, not, option_map, position, slice_get};
 ghost use Rattle.std.specs.List.{position_or_len};
 ghost use Rattle.spawn_frame.specs.Names.{guest_before};
 ghost use Rattle.spawn_frame.specs.Tables.{guest_key, is_after, IsAscending};
@@ -102,18 +102,19 @@ pub fn set_unit(own: &mut Children, guests: &mut [Guest], unit: Unit, status: St
     }
 }
 
-/// Makes a unit a frame of so many children, if it is there.
-pub fn split_unit(own: &mut Children, guests: &mut [Guest], unit: Unit, children: u32)
-    requires some { 0 < children }
+/// Makes a unit a frame of so many children, whose serials begin at the first, if it is there.
+pub fn split_unit(own: &mut Children, guests: &mut [Guest], unit: Unit, first: u32, count: u32)
+    requires some { 0 < count }
+    requires fits { first + count < 2 ^ 32 }
     requires ascending { IsAscending (map guest_entry guests.old) }
-    ensures own { own.new ≡ own_after unit (split_work children) own.old }
-    ensures guests { guests.new ≡ guests_after unit (split_work children) guests.old }
+    ensures own { own.new ≡ own_after unit (split_work first count) own.old }
+    ensures guests { guests.new ≡ guests_after unit (split_work first count) guests.old }
 {
     match unit {
-        Unit::Own(serial) => own.split(serial, children),
+        Unit::Own(serial) => own.split(serial, first, count),
         Unit::Guest(name, attempt) => {
             if let Some(place) = place_of(guests, name, attempt) {
-                guests[place].work.split(children);
+                guests[place].work.split(first, count);
             }
         }
     }

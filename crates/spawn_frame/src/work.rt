@@ -1,4 +1,4 @@
-ghost use Rattle.std.specs.Prelude.{◌≡◌, ◌<◌, Option, Some};
+ghost use Rattle.std.specs.Prelude.{◌≡◌, ◌+◌, ◌<◌, ◌^◌, Option, Some};
 ghost use Rattle.spawn_frame.specs.Tables.{is_at_work};
 ghost use Rattle.spawn_frame.specs.declared.unit.Unit.{Unit as WorkUnit};
 
@@ -6,6 +6,7 @@ use crate::child_result::ChildResult;
 use crate::first_found::FirstFound;
 use crate::heard::Heard;
 use crate::inlet::Inlet;
+use crate::serials::Serials;
 use crate::site::Attempt;
 use crate::status::Status;
 use crate::wanted::Wanted;
@@ -22,6 +23,8 @@ pub struct Work {
     pub status: Status,
     /// What hears its children, once it was split.
     pub inlet: Option<FirstFound>,
+    /// The serials of its children.
+    pub children: Serials,
 }
 
 impl Work {
@@ -37,6 +40,7 @@ impl Work {
             attempt,
             status: Status::Ready,
             inlet: None,
+            children: Serials { first: 0, end: 0 },
         }
     }
 
@@ -81,13 +85,18 @@ impl Work {
         self.status = Status::Ready;
     }
 
-    /// Makes it a frame of so many children.
-    pub fn split(&mut self, children: u32)
-        requires { 0 < children }
-        ensures { self.new ≡ split_work children self.old }
+    /// Makes it a frame of so many children, whose serials begin at the first.
+    pub fn split(&mut self, first: u32, count: u32)
+        requires some { 0 < count }
+        requires fits { first + count < 2 ^ 32 }
+        ensures { self.new ≡ split_work first count self.old }
     {
         self.status = Status::Split;
-        self.inlet = Some(FirstFound::new(children));
+        self.inlet = Some(FirstFound::new(count));
+        self.children = Serials {
+            first,
+            end: first + count,
+        };
     }
 
     /// Tells a frame the result of a child of it, and says whether the frame is settled now. What is no frame doesn't

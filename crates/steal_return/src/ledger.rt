@@ -178,8 +178,8 @@ impl Ledger {
     /// below become Aborted, and each of them that was out is appended to the list, by serial. The only error is want of
     /// memory, which changes nothing.
     ///
-    /// It costs the copy of the cover, looks for the frame's first child, from behind the frame on or for a guest from the
-    /// beginning, passes through the own children from that child on, and the aborts.
+    /// It costs the copy of the cover, a walk down to what is below the frame, and the aborts, however many other units there
+    /// are.
     pub fn finish(&mut self, unit: Unit, list: &mut Vec<Out>) -> Result<(), AllocError>
         requires split { has_status is_split (unit_of self.old.table unit) ≡ true }
         requires settled { IsSome (frame_result (frame unit self.old.own)) }
@@ -433,8 +433,7 @@ impl Ledger {
     /// below become Aborted, and each of them that was out is appended to the list, by serial. True where it is dropped;
     /// a guest that isn't there or isn't open is left as it is. The only error is want of memory, which changes nothing.
     ///
-    /// It costs looks for the guest, and where it is dropped looks through the own children for its first child, passes
-    /// through those from that child on, and the aborts.
+    /// It costs looks for the guest, and where it is dropped a walk down to what is below it, and the aborts.
     pub fn receive_refuse(
         &mut self,
         from: Site,

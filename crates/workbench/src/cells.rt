@@ -53,7 +53,10 @@ fn greet_at_once<J: Run + Send + Sync, N: Room + Send + Sync, R: Threads + Wait 
     requires run { IsRun J.run }
     requires begins { MayBeginIn J.run N.site N.limit }
     requires node { 1 ≤ N.site.node }
-    requires core { core ≡ record { problem = J.run.problem; view = opening_of J.run N.site N.limit } }
+    requires core { core ≡ record {
+      problem = J.run.problem;
+      view = opening_of J.run N.site N.limit;
+    } }
 {
     cores_step_as_their_sites();
     let limit = times.saturating_mul(u64::from(threads));

@@ -3,7 +3,7 @@
 use crate::cycle::NODE;
 use crate::fault::BenchFault;
 use cover_problem::Numbers;
-use spawn_frame::{ChildResult, Heard, Job, Out, Site, Unit};
+use spawn_frame::{ChildName, ChildResult, Heard, Job, Out, Site, Unit};
 use std::alloc::Global;
 use std::time::{Clock, Duration, Instant};
 use steal_return::Ledger;
@@ -52,6 +52,7 @@ pub fn measure_children<C: Clock>(
     time_takes(clock, alloc, &mut ledger, &mut rows)?;
     time_gives(clock, &mut ledger, &mut rows)?;
     time_frames(clock, alloc, &mut ledger, &mut rows)?;
+    time_refusals(clock, alloc, &mut ledger, &mut rows)?;
     time_members(clock, alloc, &mut ledger, &mut rows)?;
     Ok(rows)
 }
@@ -287,6 +288,42 @@ fn cover_child(alloc: Global, ledger: &mut Ledger) -> Result<(), BenchFault> {
     };
     let cover = ChildResult::Cover(Numbers::from_vec(Vec::new(alloc)));
     end(ledger, job.unit, cover)
+}
+
+/// Times guests that are refused once they were split: their children are aborted.
+fn time_refusals<C: Clock>(
+    clock: &C,
+    alloc: Global,
+    ledger: &mut Ledger,
+    rows: &mut Vec<Row>,
+) -> Result<(), BenchFault> {
+    let options = vec![in alloc; 0u16; FRAME]?;
+    for serial in 1..CALLS + 1 {
+        ledger.receive_give(OTHER, serial, 1, &[])?;
+        split_other(ledger, serial, &options)?;
+    }
+    let mut outs = Vec::new(alloc);
+    let start = now(clock)?;
+    for serial in 1..CALLS + 1 {
+        ledger.receive_refuse(OTHER, serial, 1, &mut outs)?;
+    }
+    rows.push(timed(clock, "receive_refuse", CALLS, start)?)?;
+    Ok(())
+}
+
+/// Takes up a ready child of the other node, and splits it.
+fn split_other(ledger: &mut Ledger, serial: u32, options: &[u16]) -> Result<(), BenchFault> {
+    let name = ChildName {
+        site: OTHER,
+        serial,
+    };
+    let unit = Unit::Guest(name, 1);
+    let table = ledger.table();
+    if !table.status(unit).is_some_and(|status| status.is_ready()) {
+        return Err(BenchFault::Unexpected);
+    }
+    ledger.take_up(unit);
+    split(ledger, unit, options)
 }
 
 /// Times members that tell nothing new.

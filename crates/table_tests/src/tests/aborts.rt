@@ -1,10 +1,10 @@
 //! Aborts in small tables; what is expected is worked out by hand from the rules.
 
 use super::units::{HERE, ROOT, THIEF, is_here, is_ready, is_split, list};
-use abort_tree::abort_below;
+use abort_tree::{Reach, abort_below};
 use spawn_frame::Status::{Aborted, Ready, Split};
 use spawn_frame::Unit::{Guest, Own};
-use spawn_frame::{Out, Status, Table, Unit};
+use spawn_frame::{Out, Serials, Status, Table, Unit};
 use std::alloc::Global;
 use std::process::Abort;
 
@@ -82,4 +82,63 @@ fn aborts_reach_all_below_and_no_other(rt: HostRuntime) {
             "{unit:?}"
         );
     }
+}
+
+/// A guest with children 0 and 1, of which 1 was split before 0: below 1 are 2 and 3, below 0 are 4 and 5. 2 and 4 are out.
+fn split_backwards<R: Abort>(rt: &R, alloc: Global) -> Table {
+    let mut table = Table::start(alloc, HERE, 6);
+    assert!(rt; table.unit(Guest(ROOT, 1)).is_none());
+    table
+        .admit(ROOT, 1, list(rt, alloc, &[]))
+        .expect(rt, "memory");
+    split(rt, &mut table, Guest(ROOT, 1), &[0, 1]);
+    split(rt, &mut table, Own(1), &[2, 3]);
+    assert!(rt; is_ready(&table, Own(0)));
+    table.take_up(Own(0));
+    assert!(rt; is_here(&table, Own(0)));
+    table.spawn(Own(0), &[4, 5]).expect(rt, "memory");
+    assert!(rt; is_ready(&table, Own(4)));
+    table.give(4, THIEF);
+    assert!(rt; is_ready(&table, Own(2)));
+    table.give(2, THIEF);
+    table
+}
+
+#[test]
+fn an_abort_lists_by_serial_what_was_found_in_another_order(rt: HostRuntime) {
+    let mut table = split_backwards(&rt, rt.alloc());
+    let mut outs = Vec::new(rt.alloc());
+    abort_below(rt.alloc(), &mut table, Guest(ROOT, 1), &mut outs).expect(&rt, "memory");
+    assert!(rt;
+        shows_children(
+            &table,
+            &[Aborted, Aborted, Aborted, Aborted, Aborted, Aborted]
+        )
+    );
+    assert!(rt;
+        matches!(
+            outs.as_slice(),
+            [Out { serial: 2, .. }, Out { serial: 4, .. }]
+        )
+    );
+}
+
+#[test]
+fn a_table_tells_whose_children_stand_where(rt: HostRuntime) {
+    let table = split_backwards(&rt, rt.alloc());
+    assert!(rt; table.children(Guest(ROOT, 1)) == Serials { first: 0, end: 2 });
+    assert!(rt; table.children(Own(1)) == Serials { first: 2, end: 4 });
+    assert!(rt; table.children(Own(0)) == Serials { first: 4, end: 6 });
+    let none = table.children(Own(2));
+    assert!(rt; none.first == none.end);
+}
+
+#[test]
+fn what_is_below_two_units_is_reached_once(rt: HostRuntime) {
+    let table = split_backwards(&rt, rt.alloc());
+    let both = [Own(1), Guest(ROOT, 1), Own(1)];
+    let reach = Reach::below(rt.alloc(), &table, &both).expect(&rt, "memory");
+    assert!(rt; reach.outs(&table) == 2);
+    let reach = Reach::below(rt.alloc(), &table, &[Own(0)]).expect(&rt, "memory");
+    assert!(rt; reach.outs(&table) == 1);
 }

@@ -1,21 +1,21 @@
-use Rattle.std.proofs.Common.{◌≡◌, ◌∙◌, ◌+◌, ◌++◌, append-nil, append_assoc, ap, arith, drop, length, length-append, slice_get, subst, sym}
+use Rattle.std.proofs.Common.{◌≡◌, ◌∙◌, ◌+◌, ◌++◌, append-nil, append_assoc, ap, arith, drop, get_or, length, length-append, slice_get, subst, sym, true}
 use Rattle.spawn_frame.specs.Aborts.{AbortsBelow, reached}
 use Rattle.spawn_frame.specs.Units.{Table, change_at, table_own}
 use Rattle.abort_tree.specs.Below.{abort_if, aborted, out_of, outs_from}
-use Rattle.abort_tree.proofs.Aborting.{far_all, far_next, far_plus, outs_end, outs_plus, so_far}
+use Rattle.abort_tree.proofs.Lists.{has_marks, next_serial}
 use Rattle.abort_tree.proofs.Reaching.{aborts_marked}
-use Rattle.abort_tree.proofs.Starting.{far_start, outs_start, padded_length}
+use Rattle.abort_tree.proofs.Steps.{far_first, far_last, far_later, far_there, outs_first, outs_last, outs_later}
 use Rattle.abort_tree.proofs.reach.Reach.abort.Goals as goal
 
 pub loop-serial-init : goal.loop-serial-init
 loop-serial-init c =
-    let first = c.self.inside.first in
-    let kept = c.self.inside.marks.items in
+    let marks = c.args.self.now in
     let own = c.args.table.now.own in
-    let outs = subst (λ marks. outs_from first (drop first marks) (drop first own) ≡ outs_from 0 marks own) c.self.view_is (outs_start first kept own) in
-    let far = subst (λ marks. so_far first marks own ≡ own) c.self.view_is (far_start first kept own) in
+    let serials = c.deref-serial-items.result.now in
+    let has = has_marks c.self.inside.issued c.self.inside.serials.items serials marks c.self.invariant c.self.view_is c.deref-serial-items.ensures.value in
+    let outs = outs_first marks serials has own c.requires.marks in
     record {
-      own = ap (table_own c.args.table.now) (sym far);
+      own = ap (table_own c.args.table.now) (far_first marks serials has own c.requires.marks);
       list = ap (λ outs. c.args.list.now.items ++ outs) outs;
       room = omega (arith, ap length outs, c.requires.room);
     }
@@ -24,26 +24,33 @@ pub abort_at-requires : goal.abort_at-requires
 abort_at-requires c =
     let marks = c.args.self.now in
     let own = c.args.table.now.own in
-    let k = c.loop-serial.serial in
-    let m = c.is_below.result in
-    let step = outs_plus k marks own m c.requires.marks c.is_below.ensures in
-    let same : slice_get c.loop-serial.table.own k ≡ slice_get own k = ap (λ t. slice_get t.own k) c.loop-serial.invariant.own ∙ far_next k marks own in
-    omega (arith, c.loop-serial.invariant.room, ap length step, ap (λ e. length (out_of m k e)) same, length-append (out_of m k (slice_get own k)) (outs_from (k + 1) (drop (k + 1) marks) (drop (k + 1) own)))
+    let serials = c.deref-serial-items.result.now in
+    let i = c.loop-serial.serial-index in
+    let k = get_or serials i 0 in
+    let next = next_serial (length marks) serials (i + 1) in
+    let has = has_marks c.self.inside.issued c.self.inside.serials.items serials marks c.self.invariant c.self.view_is c.deref-serial-items.ensures.value in
+    let step = outs_later marks serials has own c.requires.marks i c.loop-serial-test.true in
+    let same : slice_get c.loop-serial.table.own k ≡ slice_get own k = ap (λ t. slice_get t.own k) c.loop-serial.invariant.own ∙ far_there marks serials has own c.requires.marks i c.loop-serial-test.true in
+    omega (arith, c.loop-serial.invariant.room, ap length step, ap (λ e. length (out_of true k e)) same, length-append (out_of true k (slice_get own k)) (outs_from next (drop next marks) (drop next own)))
 
 pub loop-serial-preserved : goal.loop-serial-preserved
 loop-serial-preserved c =
     let marks = c.args.self.now in
     let own = c.args.table.now.own in
-    let k = c.loop-serial.serial in
-    let m = c.is_below.result in
-    let rest = outs_from (k + 1) (drop (k + 1) marks) (drop (k + 1) own) in
-    let step = outs_plus k marks own m c.requires.marks c.is_below.ensures in
-    let same : slice_get c.loop-serial.table.own k ≡ slice_get own k = ap (λ t. slice_get t.own k) c.loop-serial.invariant.own ∙ far_next k marks own in
+    let serials = c.deref-serial-items.result.now in
+    let i = c.loop-serial.serial-index in
+    let k = get_or serials i 0 in
+    let next = next_serial (length marks) serials (i + 1) in
+    let rest = outs_from next (drop next marks) (drop next own) in
+    let has = has_marks c.self.inside.issued c.self.inside.serials.items serials marks c.self.invariant c.self.view_is c.deref-serial-items.ensures.value in
+    let step = outs_later marks serials has own c.requires.marks i c.loop-serial-test.true in
+    let same : slice_get c.loop-serial.table.own k ≡ slice_get own k = ap (λ t. slice_get t.own k) c.loop-serial.invariant.own ∙ far_there marks serials has own c.requires.marks i c.loop-serial-test.true in
     record {
-      own = c.abort_at.ensures.table ∙ ap (λ (t : Table). table_own t (change_at (abort_if m) t.own k)) c.loop-serial.invariant.own ∙ ap (table_own c.args.table.now) (far_plus k marks own m c.is_below.ensures);
-      list = ap (λ outs. outs ++ rest) c.abort_at.ensures.list ∙ append_assoc c.loop-serial.list.items (out_of m k (slice_get c.loop-serial.table.own k)) rest
-          ∙ ap (λ e. c.loop-serial.list.items ++ (out_of m k e ++ rest)) same ∙ ap (λ outs. c.loop-serial.list.items ++ outs) (sym step) ∙ c.loop-serial.invariant.list;
-      room = omega (arith, c.loop-serial.invariant.room, ap length step, ap (λ e. length (out_of m k e)) same, length-append (out_of m k (slice_get own k)) rest, c.abort_at.ensures.len, c.abort_at.ensures.room);
+      own = c.abort_at.ensures.table ∙ ap (λ (t : Table). table_own t (change_at (abort_if true) t.own k)) c.loop-serial.invariant.own
+          ∙ ap (table_own c.args.table.now) (far_later marks serials has own c.requires.marks i c.loop-serial-test.true);
+      list = ap (λ outs. outs ++ rest) c.abort_at.ensures.list ∙ append_assoc c.loop-serial.list.items (out_of true k (slice_get c.loop-serial.table.own k)) rest
+          ∙ ap (λ e. c.loop-serial.list.items ++ (out_of true k e ++ rest)) same ∙ ap (λ outs. c.loop-serial.list.items ++ outs) (sym step) ∙ c.loop-serial.invariant.list;
+      room = omega (arith, c.loop-serial.invariant.room, ap length step, ap (λ e. length (out_of true k e)) same, length-append (out_of true k (slice_get own k)) rest, c.abort_at.ensures.len, c.abort_at.ensures.room);
     }
 
 -- the table when all are done
@@ -51,8 +58,9 @@ done : (g : goal.After-loop-serial) → g.loop-serial.table ≡ table_own g.args
 done c =
     let marks = c.args.self.now in
     let own = c.args.table.now.own in
-    let end : length own ≡ c.loop-serial.serial = omega (arith, c.loop-serial-test.false, c.loop-serial.auto.serial-end, c.issued-serial-end.ensures.issued, ap length c.self.view_is, padded_length c.self.inside.first c.self.inside.marks.items, c.requires.marks) in
-    c.loop-serial.invariant.own ∙ ap (table_own c.args.table.now) (subst (λ n. so_far n marks own ≡ aborted marks own) end (far_all marks own c.requires.marks))
+    let serials = c.deref-serial-items.result.now in
+    let has = has_marks c.self.inside.issued c.self.inside.serials.items serials marks c.self.invariant c.self.view_is c.deref-serial-items.ensures.value in
+    c.loop-serial.invariant.own ∙ ap (table_own c.args.table.now) (far_last marks serials has own c.requires.marks c.loop-serial.serial-index (omega (arith, c.loop-serial-test.false)))
 
 pub returns-clause-table : goal.returns-clause-table
 returns-clause-table c = done c
@@ -64,8 +72,9 @@ pub returns-clause-list : goal.returns-clause-list
 returns-clause-list c =
     let marks = c.args.self.now in
     let own = c.args.table.now.own in
-    let end : c.loop-serial.serial ≡ length own = omega (arith, c.loop-serial-test.false, c.loop-serial.auto.serial-end, c.issued-serial-end.ensures.issued, ap length c.self.view_is, padded_length c.self.inside.first c.self.inside.marks.items, c.requires.marks) in
+    let serials = c.deref-serial-items.result.now in
+    let has = has_marks c.self.inside.issued c.self.inside.serials.items serials marks c.self.invariant c.self.view_is c.deref-serial-items.ensures.value in
     sym (append-nil c.loop-serial.list.items)
-    ∙ ap (λ outs. c.loop-serial.list.items ++ outs) (sym (outs_end c.loop-serial.serial marks own c.loop-serial.serial c.requires.marks end))
+    ∙ ap (λ outs. c.loop-serial.list.items ++ outs) (sym (outs_last marks serials has own c.requires.marks c.loop-serial.serial-index (omega (arith, c.loop-serial-test.false))))
     ∙ c.loop-serial.invariant.list
     ∙ ap (λ (t : Table). c.args.list.now.items ++ reached 0 own t.own) (sym (done c))

@@ -8,15 +8,15 @@ pub tell_again-requires-clause-others : goal.tell_again-requires-clause-others
 tell_again-requires-clause-others c =
     let own = c.self.inside.items.items in
     let within : c.args.serial < length own = omega arith in
-    others_told (split_work c.args.children) own _ c.args.serial c.self.inside.pages.items _ c.self.invariant
-    (c.deref.ensures.value ∙ work_written (split_work c.args.children) own c.args.serial c.index_mut.result.now _ within c.index_mut.ensures.value c.split.ensures) c.deref_mut.ensures.value
+    others_told (split_work c.args.first c.args.count) own _ c.args.serial c.self.inside.pages.items _ c.self.invariant
+    (c.deref.ensures.value ∙ work_written (split_work c.args.first c.args.count) own c.args.serial c.index_mut.result.now _ within c.index_mut.ensures.value c.split.ensures) c.deref_mut.ensures.value
 
 pub returns-then-index-len : goal.returns-then-index-len
 returns-then-index-len c =
     let own = c.self.inside.items.items in
     let within : c.args.serial < length own = omega arith in
-    work_written (split_work c.args.children) own c.args.serial c.index_mut.result.now _ within c.index_mut.ensures.value c.split.ensures
-    ∙ ap (λ l. change_child (split_work c.args.children) l c.args.serial) c.self.view_is
+    work_written (split_work c.args.first c.args.count) own c.args.serial c.index_mut.result.now _ within c.index_mut.ensures.value c.split.ensures
+    ∙ ap (λ l. change_child (split_work c.args.first c.args.count) l c.args.serial) c.self.view_is
 
 pub returns-else-index-len : goal.returns-else-index-len
-returns-else-index-len c = child_past (split_work c.args.children) c.args.self.now c.args.serial (omega (arith, ap length c.self.view_is))
+returns-else-index-len c = child_past (split_work c.args.first c.args.count) c.args.self.now c.args.serial (omega (arith, ap length c.self.view_is))

@@ -24,10 +24,10 @@ invariant_of-self-2 c =
     let count = sym (length-map options (λ o. prefix ++ o ∷ [])) in
     let fits : length t.own + length ps ≤ t.names_limit = omega (arith, count, c.if-options-self.false, c.len-first.ensures, c.self.invariant.names) in
     let e = c.split_unit.ensures.own in
-    let g = items_after t.guests c.deref_mut.result.now c.split_unit.new.guests (guests_after u (split_work (length options))) c.split_unit.auto.guests c.deref_mut.ensures.len c.split_unit.ensures.guests c.deref_mut.ensures.value in
+    let g = items_after t.guests c.deref_mut.result.now c.split_unit.new.guests (guests_after u (split_work c.len-first.result (length options))) c.split_unit.auto.guests c.deref_mut.ensures.len c.split_unit.ensures.guests c.deref_mut.ensures.value in
     let appended = c.in_ok-append.ensures.ok ∙ ap (λ l. t.own ++ l) kids in
-    let own = e ∙ (λ i. own_after u (split_work (count i)) (appended i)) in
-    let guests = g ∙ (λ i. guests_after u (split_work (count i)) t.guests.items) in
+    let own = e ∙ (λ i. own_after u (split_work (c.len-first.ensures i) (count i)) (appended i)) in
+    let guests = g ∙ (λ i. guests_after u (split_work (c.len-first.ensures i) (count i)) t.guests.items) in
     subst (λ (p : List Child × List Guest). IsTable (table_of t.site t.names_limit p.0 p.1) p.0 p.1) (λ i. (sym own i, sym guests i))
     (split_kept t.site t.names_limit t.own t.guests.items c.self.invariant u there.work there.is there.passes ps fits)
 
@@ -44,10 +44,10 @@ returns-clause-split c =
     let count = sym (length-map options (λ o. prefix ++ o ∷ [])) in
     let fits : length t.own + length ps ≤ t.names_limit = omega (arith, count, c.if-options-self.false, c.len-first.ensures, c.self.invariant.names) in
     let e = c.split_unit.ensures.own in
-    let g = items_after t.guests c.deref_mut.result.now c.split_unit.new.guests (guests_after u (split_work (length options))) c.split_unit.auto.guests c.deref_mut.ensures.len c.split_unit.ensures.guests c.deref_mut.ensures.value in
+    let g = items_after t.guests c.deref_mut.result.now c.split_unit.new.guests (guests_after u (split_work c.len-first.result (length options))) c.split_unit.auto.guests c.deref_mut.ensures.len c.split_unit.ensures.guests c.deref_mut.ensures.value in
     let appended = c.in_ok-append.ensures.ok ∙ ap (λ l. t.own ++ l) kids in
-    let own = e ∙ (λ i. own_after u (split_work (count i)) (appended i)) in
-    let guests = g ∙ (λ i. guests_after u (split_work (count i)) t.guests.items) in
+    let own = e ∙ (λ i. own_after u (split_work (c.len-first.ensures i) (count i)) (appended i)) in
+    let guests = g ∙ (λ i. guests_after u (split_work (c.len-first.ensures i) (count i)) t.guests.items) in
     (λ i. table_of t.site t.names_limit (own i) (guests i))
     ∙ split_view t.site t.names_limit t.own t.guests.items c.self.invariant u there.work there.is there.passes ps fits
     ∙ ap (λ v. split_into v u ps) c.self.view_is
