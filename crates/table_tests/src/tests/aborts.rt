@@ -104,6 +104,25 @@ fn split_backwards<R: Abort>(rt: &R, alloc: Global) -> Table {
     table
 }
 
+/// The two that are out there, by serial.
+const BOTH: [Out; 2] = [
+    Out {
+        serial: 2,
+        attempt: 1,
+        thief: THIEF,
+    },
+    Out {
+        serial: 4,
+        attempt: 1,
+        thief: THIEF,
+    },
+];
+
+/// Whether a list is this one.
+fn is_list(list: &[Out], outs: &[Out]) -> bool {
+    list == outs
+}
+
 #[test]
 fn an_abort_lists_by_serial_what_was_found_in_another_order(rt: HostRuntime) {
     let mut table = split_backwards(&rt, rt.alloc());
@@ -115,12 +134,7 @@ fn an_abort_lists_by_serial_what_was_found_in_another_order(rt: HostRuntime) {
             &[Aborted, Aborted, Aborted, Aborted, Aborted, Aborted]
         )
     );
-    assert!(rt;
-        matches!(
-            outs.as_slice(),
-            [Out { serial: 2, .. }, Out { serial: 4, .. }]
-        )
-    );
+    assert!(rt; is_list(&outs, &BOTH));
 }
 
 #[test]
