@@ -4,6 +4,7 @@ use Rattle.std.proofs.lemmas.Bool.Decides.{nat_tests}
 use Rattle.std.proofs.lemmas.Bool.{both_ways, cases_Bool, cases_lt, lt-ltb, ltb-true, lt-leb, leb-false, and_left, and_right, and_cases, and_parts, not-false, not_from_true}
 use Rattle.std.proofs.lemmas.List.Sums.{list_all-from_AllPass}
 use Rattle.std.specs.List.{range_with_len}
+use Rattle.std.proofs.Math.Bool.{and-false}
 use Rattle.cover_problem.specs.ExactCover.{uses, IsInOneColour, IsExactCover}
 use Rattle.cover_problem.specs.Numbers.{is_in, is_distinct}
 use Rattle.cover_problem.specs.Prefix.{are_options, AreOptions}
@@ -31,10 +32,6 @@ uses_counted p options item each distinct =
 
 -- ---- items that no option names
 
-and_none : (b : Bool) → (b && false) ≡ false
-and_none true = refl
-and_none false = refl
-
 unnamed : (p : Problem) (o item : ℕ) → IsProblem p → o < length p.options → length p.names ≤ item → names_item p o item ≡ false
 unnamed p o item problem within beyond =
     elim (cases_Bool (names_item p o item)) [
@@ -48,7 +45,7 @@ uses_unnamed p chosen item problem beyond =
     count_none (λ o. chosen o && names_item p o item) (option_numbers p)
     (λ o here.
     let high = range_high 0 (length p.options) o here in
-    ap (λ b. chosen o && b) (unnamed p o item problem (omega (arith, high)) beyond) ∙ and_none (chosen o))
+    ap (λ b. chosen o && b) (unnamed p o item problem (omega (arith, high)) beyond) ∙ and-false (chosen o))
 
 -- ---- the verdict
 
@@ -59,7 +56,7 @@ pub record Passes (p : Problem) (options : List ℕ) : Type 0 where
   pub covered : first_uncovered p options ≡ None
   pub once : first_twice p options ≡ None
 
-passes_exact : (p : Problem) (options : List ℕ) → Passes p options → verdict_of p options ≡ verdicts.Exact
+pub passes_exact : (p : Problem) (options : List ℕ) → Passes p options → verdict_of p options ≡ verdicts.Exact
 passes_exact p options passes = rw (passes.within, passes.distinct, passes.covered, passes.once) refl
 
 exact_passes : (p : Problem) (options : List ℕ) → verdict_of p options ≡ verdicts.Exact → Passes p options

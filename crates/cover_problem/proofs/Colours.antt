@@ -17,7 +17,7 @@ beside_below bound (i ∷ is) (c ∷ cs) item some below =
       | inr there ↦ rw there (beside_below bound is cs item some parts.1)
     ]
 
-get_in : (xs : List ℕ) (k : ℕ) → k < length xs → is_in xs (get_or xs k 0) ≡ true
+pub get_in : (xs : List ℕ) (k : ℕ) → k < length xs → is_in xs (get_or xs k 0) ≡ true
 get_in [] k h = absurd (omega arith)
 get_in (x ∷ xs) zero h = or_left (x == x) (is_in xs x) (eq-eqb x x refl)
 get_in (x ∷ xs) (suc k) h = or_right (x == get_or xs k 0) (is_in xs (get_or xs k 0)) (get_in xs k (omega arith))

@@ -19,7 +19,7 @@ past_covers true o x e = absurd (cc)
 past_covers false None x e = absurd (cc)
 past_covers false (Some y) x e = cc
 
-past_spent : (b : Bool) (o : Option (List ℕ)) → cond b Spent (found_outcome o) ≡ Spent → b ≡ true
+pub past_spent : (b : Bool) (o : Option (List ℕ)) → cond b Spent (found_outcome o) ≡ Spent → b ≡ true
 past_spent true o e = refl
 past_spent false None e = absurd (cc)
 past_spent false (Some x) e = absurd (cc)

@@ -4,7 +4,9 @@ use Rattle.std.proofs.lemmas.List.{get_or-set_other, get_or-set_same, take_more,
 use Rattle.std.proofs.Math.ListN.{replicate}
 use Rattle.std.proofs.lemmas.List.Folds.{list_any-append}
 use Rattle.std.proofs.lemmas.Bool.{cases_eq, both_ways, or_left, or_right, or_cases, or_parts, or_from, and_parts, and_from, not-true, not_from_false, eq-eqb, ne_eqb, eqb-true, eqb-false}
+use Rattle.std.proofs.Math.Bool.{and-false}
 use Rattle.cover_problem.specs.Numbers.{is_in, is_distinct}
+use Rattle.cover_problem.proofs.Colours.{get_in}
 
 -- each number's mark says whether it stands in the list
 abbrev pub AreMarks : List Bool → List ℕ → Type 0
@@ -65,15 +67,6 @@ seen_more marks numbers place n seen inside here small unmarked =
       distinct = rw front (is_distinct-push (take place numbers) n seen.distinct (sym (seen.marked n within) ∙ unmarked));
     }
 
-get_in : (xs : List ℕ) (k : ℕ) → k < length xs → is_in xs (get_or xs k 0) ≡ true
-get_in [] k h = absurd (omega arith)
-get_in (x ∷ xs) zero h = or_left (x == x) (is_in xs x) (eq-eqb x x refl)
-get_in (x ∷ xs) (suc k) h = or_right (x == get_or xs k 0) (is_in xs (get_or xs k 0)) (get_in xs k (omega arith))
-
-and_false : (b : Bool) → (b && false) ≡ false
-and_false true = refl
-and_false false = refl
-
 repeated : (xs : List ℕ) (k : ℕ) → k < length xs → is_in (take k xs) (get_or xs k 0) ≡ true → is_distinct xs ≡ false
 repeated [] k h twice = absurd (omega arith)
 repeated (x ∷ xs) zero h twice = absurd (both_ways false refl twice)
@@ -83,7 +76,7 @@ repeated (x ∷ xs) (suc k) h twice =
       | inl same ↦
           let again : is_in xs x ≡ true = ap (is_in xs) (eqb-true x (get_or xs k 0) same) ∙ get_in xs k inside in
           ap (λ b. not b && is_distinct xs) again
-      | inr later ↦ ap (λ b. not (is_in xs x) && b) (repeated xs k inside later) ∙ and_false (not (is_in xs x))
+      | inr later ↦ ap (λ b. not (is_in xs x) && b) (repeated xs k inside later) ∙ and-false (not (is_in xs x))
     ]
 
 -- a number that was seen stands in the list twice

@@ -2,14 +2,11 @@
 use Rattle.std.proofs.Common.{◌≡◌, ℕ, suc, ◌+◌, ◌<◌, ◌≤◌, Bool, true, false, ◌&&◌, ◌||◌, cond, ◌==◌, List, [], ◌∷◌, map, filter, length, count_by, Some, slice_get, refl, sym, ap, ◌∙◌, ⊎_elim, arith}
 use Rattle.std.proofs.lemmas.Bool.{eqb-true, eq-eqb, or_cases, or_left, or_right, true≢false}
 use Rattle.std.proofs.lemmas.List.Sums.{sum_by-cons}
+use Rattle.std.proofs.Math.Bool.{and-false}
 use Rattle.cover_problem.specs.Problem.{Problem, option_numbers}
 use Rattle.cover_problem.specs.Numbers.{is_in}
 use Rattle.cover_problem.specs.ExactCover.{in_order}
 use Rattle.cover_problem.proofs.Among.{range_in}
-
-and_false : (t : Bool) → (t && false) ≡ false
-and_false true = refl
-and_false false = refl
 
 -- at one element that passes, and at one that does not
 kept_cell : (t q r f : Bool) → (q ≡ true → true ≡ t) → f ≡ (t && r) → (q || f) ≡ (t && (q || r))
@@ -26,7 +23,7 @@ left_cell false true r f h e = e
 left_cell t false r f h e = e
 
 pub in_filtered : (test : ℕ → Bool) (xs : List ℕ) (o : ℕ) → is_in (filter test xs) o ≡ (test o && is_in xs o)
-in_filtered test [] o = sym (and_false (test o))
+in_filtered test [] o = sym (and-false (test o))
 in_filtered test (x ∷ xs) o = go (test x) refl (in_filtered test xs o)
   where
     go : (b : Bool) → test x ≡ b → is_in (filter test xs) o ≡ (test o && is_in xs o) → is_in (cond b (x ∷ filter test xs) (filter test xs)) o ≡ (test o && (x == o || is_in xs o))

@@ -1,7 +1,6 @@
 -- Packets that are refused.
 use Rattle.std.proofs.Common.{◌≡◌, ◌≢◌, ℕ, ◌<◌, ◌≤◌, Bool, true, false, ◌==◌, ◌&&◌, if◌then◌else◌, List, Some, None, is_some, slice_get, nat_lt, refl, sym, ap, subst, ◌∙◌, ⊎_elim, arith, true≢false}
 use Rattle.std.proofs.lemmas.Bool.{le-ltb, ne_eqb}
-use Rattle.cover_world.proofs.Guests.{site_path}
 use Rattle.cover_world.specs.Refusals.{Refused}
 use Rattle.cover_problem.specs.Prefix.{is_prefix}
 use Rattle.cover_problem.specs.Problem.{Problem}
@@ -24,6 +23,7 @@ use Rattle.spawn_frame.specs.declared.status.Status.{Status}
 use Rattle.spawn_frame.specs.declared.status.Status.TheVariants.{Aborted, Done, Dropped, Finished, Here, Out, Ready, Settled, Split}
 use Rattle.steal_return.specs.Returns.{Enters, Refuses, if_out, judged, judged_by}
 use Rattle.steal_return.specs.Steals.{is_older}
+use Rattle.spawn_frame.proofs.Sames.{site_path}
 
 pub give_refused : (problem : Problem) (old : View) (from : Site) (serial attempt : ℕ) (prefix : List ℕ) (reply : Reply) (out : List Packet) (new : View)
     → is_older old.known from ≡ false → guest_in old.guests (record { site = from; serial = serial }) attempt ≡ None → is_prefix problem prefix ≡ false

@@ -14,9 +14,10 @@ use Rattle.spawn_frame.specs.Names.{same_unit, same_name, guest_before}
 use Rattle.spawn_frame.specs.Aborts.{is_open}
 use Rattle.spawn_frame.specs.Splits.{new_child}
 use Rattle.cover_world.proofs.Grows.{get_changed}
-use Rattle.cover_world.proofs.Guests.{name_path, same_name_self, same_unit_self, changed_guest}
+use Rattle.cover_world.proofs.Guests.{changed_guest}
 use Rattle.steal_return.specs.Members.{drop_if, drop_lost}
 use Rattle.steal_return.specs.Steals.{is_older}
+use Rattle.spawn_frame.proofs.Sames.{parent_self, name_path, same_name_self}
 
 -- ---- shapes
 
@@ -93,9 +94,6 @@ prefixes_of_others parent unit (p ∷ ps) e =
     ap (λ b. map (λ c. c.prefix) (cond b (new_child parent p ∷ frame unit (map (λ p. new_child parent p) ps)) (frame unit (map (λ p. new_child parent p) ps)))) e
     ∙ prefixes_of_others parent unit ps e
 
-parent_is : (parent : Option WorkUnit) (unit : WorkUnit) → parent ≡ Some unit → is_unit parent unit ≡ true
-parent_is parent unit e = ap (λ p. is_unit p unit) e ∙ same_unit_self unit
-
 -- a unit without children is no one's parent
 pub no_child : (unit : WorkUnit) (own : List Entry) → prefixes unit own ≡ [] → (k : ℕ) (c : Entry) → slice_get own k ≡ Some c → c.parent ≡ Some unit → ⊥
 no_child unit [] e k c at p = none-some c at
@@ -104,7 +102,7 @@ no_child unit (d ∷ ds) e k c at p = go (is_unit d.parent unit) refl e k at (λ
     go : (b : Bool) → is_unit d.parent unit ≡ b → map (λ c. c.prefix) (cond b (d ∷ frame unit ds) (frame unit ds)) ≡ [] → (k : ℕ) → slice_get (d ∷ ds) k ≡ Some c
         → (prefixes unit ds ≡ [] → (j : ℕ) → slice_get ds j ≡ Some c → ⊥) → ⊥
     go true t e' k at' later = cc
-    go false t e' zero at' later = true≢false (sym (parent_is d.parent unit (ap (λ x. x.parent) (same_Some d c at') ∙ p)) ∙ t)
+    go false t e' zero at' later = true≢false (sym (parent_self d.parent unit (ap (λ x. x.parent) (same_Some d c at') ∙ p)) ∙ t)
     go false t e' (suc j) at' later = later e' j at'
 
 -- an element of a frame stands among the own children

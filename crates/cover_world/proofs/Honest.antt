@@ -34,8 +34,9 @@ use Rattle.node_core.specs.Taking.{TakeStep}
 use Rattle.cover_world.specs.Worlds.{SiteStep}
 use Rattle.cover_world.proofs.Grows.{get_changed}
 use Rattle.cover_world.proofs.Steps.{judged_enters, judged_holds}
-use Rattle.cover_world.proofs.Guests.{Every, every_append, name_path}
+use Rattle.cover_world.proofs.Guests.{Every, every_append}
 use Rattle.steal_return.specs.Returns.{Enters, Holds, Judgement, Refuses, judged}
+use Rattle.spawn_frame.proofs.Sames.{name_path}
 
 -- the site has this child
 pub record HasOwn (view : View) (serial : ℕ) (P : Entry → Type 0) : Type 0 where

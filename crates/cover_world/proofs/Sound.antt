@@ -17,10 +17,11 @@ use Rattle.spawn_frame.specs.Names.{same_unit}
 use Rattle.spawn_frame.specs.Frames.{frame, frame_result, first_result, cover_of, is_empty_handed}
 use Rattle.spawn_frame.specs.Aborts.{AbortsBelow, IsBelow, child, deeper, is_open}
 use Rattle.cover_world.proofs.Published.{changed_back}
-use Rattle.cover_world.proofs.Guests.{Every, every_changed, unit_path}
+use Rattle.cover_world.proofs.Guests.{Every, every_changed}
 use Rattle.cover_problem.proofs.Extending.{split_count}
 use Rattle.cover_problem.proofs.Sets.{count_witness}
 use Rattle.cover_world.proofs.Frames.{shapes, prefixes, same_prefixes, changed_shapes, placed_shapes, frame_at, gets_same, gets_other}
+use Rattle.spawn_frame.proofs.Sames.{unit_path}
 
 pub record IsSplitUp (problem : Problem) (own : List Entry) (unit : WorkUnit) (prefix : List ℕ) : Type 0 where
   pub item : ℕ

@@ -15,11 +15,12 @@ use Rattle.spawn_frame.specs.Names.{same_unit}
 use Rattle.spawn_frame.specs.Aborts.{is_open}
 use Rattle.node_core.specs.Results.{split_up}
 use Rattle.spawn_frame.specs.Splits.{new_child}
-use Rattle.cover_world.proofs.Guests.{every_inserted, every_dropped, unit_path}
+use Rattle.cover_world.proofs.Guests.{every_inserted, every_dropped}
 use Rattle.cover_world.proofs.Frames.{shapes, prefixes, same_prefixes, prefixes-append, prefixes_of_new, prefixes_of_others, no_child, gets_same, gets_other, inserted_guest, inserted_none, if_lost, lost_entry, dropped_guest}
 use Rattle.cover_world.proofs.Sound.{Sound, IsSplitUp, IsWhole, FrameOf, Hopes, whole_moves, gets_moves, own_hopeless, guest_hopes}
 use Rattle.steal_return.specs.Members.{drop_lost}
 use Rattle.steal_return.specs.Steals.{is_older}
+use Rattle.spawn_frame.proofs.Sames.{unit_path}
 
 -- ---- lists with more at the end
 

@@ -38,7 +38,6 @@ use Rattle.cover_world.specs.Worlds.{SiteStep}
 use Rattle.cover_world.proofs.Grows.{get_changed, get_mapped}
 use Rattle.cover_world.proofs.Steps.{judged_enters}
 use Rattle.cover_world.proofs.Published.{changed_back, mapped_back}
-use Rattle.cover_world.proofs.Guests.{unit_path}
 use Rattle.cover_problem.proofs.Outcomes.{barren_is_barren, spent_branches}
 use Rattle.cover_world.proofs.Frames.{shape, changed_shapes, mapped_shapes, gets_same, if_lost, dropped_guest}
 use Rattle.cover_world.proofs.Sound.{Sound, FrameOf, Barrens, Redoes, sound_gets, sound_alike, sound_redoes, sound_aborts, finish_barren}
@@ -46,6 +45,7 @@ use Rattle.cover_world.proofs.Splitting.{sound_splits, sound_admits, sound_drops
 use Rattle.steal_return.specs.Members.{drop_lost, is_lost_guest, redo_if, redo_lost}
 use Rattle.steal_return.specs.Returns.{Enters, Holds, Judgement, Refuses, judged}
 use Rattle.steal_return.specs.Steals.{is_older}
+use Rattle.spawn_frame.proofs.Sames.{unit_path}
 
 -- a result that is returned empty-handed is of a barren prefix
 abbrev pub ResultHopes : Problem → List Entry → ℕ → ChildResult → Type 0

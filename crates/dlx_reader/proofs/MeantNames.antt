@@ -18,9 +18,10 @@ use Rattle.dlx_reader.specs.Occurrences.{has_colon, item_part, colour_part}
 use Rattle.dlx_reader.specs.Writing.{name_text, colour_behind, word_text, occurrences_of, option_words}
 use Rattle.dlx_reader.proofs.Differing.{same_name, among_first}
 use Rattle.dlx_reader.proofs.Keys.{same_halves}
-use Rattle.dlx_reader.proofs.NameBytes.{name_no_colon, items_named, option_coloured}
+use Rattle.dlx_reader.proofs.NameBytes.{name_no_colon, option_coloured}
 use Rattle.dlx_reader.proofs.Naming.{named_at, is_some-named}
 use Rattle.dlx_reader.proofs.Parts.{no_colon, joined, word_parts}
+use Rattle.cover_problem.proofs.Named.{option_named}
 
 -- ---- names in their order
 
@@ -133,7 +134,7 @@ words_again p (word ∷ words) below under =
 option_key : (p : Problem) (o : ℕ) → IsProblem p → o < length p.options → key_named p.names p.colour_names (option_words p o) ≡ key_of p o
 option_key p o problem inside =
     let long = colours_long p o problem in
-    let named = items_named p o problem inside in
+    let named = option_named p o problem inside in
     let coloured = option_coloured p o problem inside in
     rw (items_again p (items_of p o) (colours_of p o) problem long named coloured, colours_again p (items_of p o) (colours_of p o) problem long named coloured) refl
 

@@ -11,6 +11,7 @@ use Rattle.cover_problem.specs.Numbers.{is_in, some_below}
 use Rattle.dlx_reader.specs.Lines.{is_white}
 use Rattle.dlx_reader.specs.Occurrences.{has_colon}
 use Rattle.dlx_reader.specs.Writing.{name_text, colour_behind, word_text, occurrences_of, option_words}
+use Rattle.cover_problem.proofs.Named.{option_named}
 
 -- a byte that is neither white space nor the end of a line
 pub record IsPlain (byte : ℕ) : Type 0 where
@@ -52,11 +53,6 @@ word_from_name name is =
       some = leb-true 1 (length name) long.0;
       plain = All-weaker (λ b. not (is_in forbidden b) ≡ true) IsPlain plain_lawful name (All-from_test (λ byte. not (is_in forbidden byte)) name parts.1);
     }
-
--- the items of an option are items of the problem
-pub items_named : (p : Problem) (o : ℕ) → IsProblem p → o < length p.options → All (λ i. i < length p.names) (items_of p o)
-items_named p o is inside =
-    All-weaker (λ i. nat_lt i (length p.names) ≡ true) (λ i. i < length p.names) (λ i. ltb-true i (length p.names)) (items_of p o) (All-from_test (λ i. nat_lt i (length p.names)) (items_of p o) (is.each_named o [] inside))
 
 -- the colours of an option are colours of the problem, or none
 pub option_coloured : (p : Problem) (o : ℕ) → IsProblem p → o < length p.options → All (λ c. c ≤ length p.colour_names) (colours_of p o)
@@ -111,7 +107,7 @@ both_occur p (i ∷ is) (c ∷ cs) all_items all_colours =
 pub words_words : (p : Problem) (o : ℕ) → IsProblem p → o < length p.options → All IsWord (option_words p o)
 words_words p o is inside =
     All-map IsWord (word_text p) (occurrences_of p o)
-    (All-weaker (IsOccurrence p) (λ occurrence. IsWord (word_text p occurrence)) (λ occurrence here. occurrence_word p occurrence is here) (occurrences_of p o) (both_occur p (items_of p o) (colours_of p o) (items_named p o is inside) (option_coloured p o is inside)))
+    (All-weaker (IsOccurrence p) (λ occurrence. IsWord (word_text p occurrence)) (λ occurrence here. occurrence_word p occurrence is here) (occurrences_of p o) (both_occur p (items_of p o) (colours_of p o) (option_named p o is inside) (option_coloured p o is inside)))
 
 some_items : (n : ℕ) (items : List ℕ) → some_below n items ≡ true → 0 < length items
 some_items n [] some = absurd (both_ways false refl some)

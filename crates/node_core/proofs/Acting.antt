@@ -10,8 +10,8 @@ use Rattle.cover_problem.specs.Prefix.{is_prefix}
 use Rattle.cover_problem.specs.Problem.{Problem}
 use Rattle.cover_problem.specs.Search.{Barren, Covers, Outcome, Spent}
 use Rattle.node_core.proofs.Alike.{view_told}
-use Rattle.node_core.proofs.Picking.{ready_is_there, ready_status, same_sites}
-use Rattle.node_core.proofs.Reaching.{Either, an_abort, parents, parents_changed, parents_first, parents_redone}
+use Rattle.node_core.proofs.Picking.{ready_is_there}
+use Rattle.node_core.proofs.Reaching.{Either, an_abort, parents, parents_changed, parents_first}
 use Rattle.node_core.proofs.Spending.{all_redoable}
 use Rattle.node_core.proofs.Stepping.{split_length}
 use Rattle.node_core.specs.Arrivals.{Denies, Gives, RefuseStep, answer_packet, reply_body}
@@ -42,7 +42,7 @@ use Rattle.spawn_frame.specs.declared.child_result.ChildResult.TheVariants.{Cove
 use Rattle.spawn_frame.specs.declared.site.ChildName.{ChildName}
 use Rattle.spawn_frame.specs.declared.site.Site.{Site}
 use Rattle.spawn_frame.specs.declared.status.Status.{Status}
-use Rattle.spawn_frame.specs.declared.status.Status.TheVariants.{Dropped, Here, Out, Ready, Settled, Split}
+use Rattle.spawn_frame.specs.declared.status.Status.TheVariants.{Dropped, Here, Out, Ready, Settled}
 use Rattle.spawn_frame.specs.declared.unit.Job.{Job}
 use Rattle.spawn_frame.specs.declared.unit.Unit.{Unit as WorkUnit}
 use Rattle.spawn_frame.specs.declared.unit.Unit.TheVariants.{Guest, Own}
@@ -50,6 +50,11 @@ use Rattle.steal_return.specs.Ledger.{Ledger, ledger_gets, ledger_guests, ledger
 use Rattle.steal_return.specs.Members.{drop_lost, is_lost_guest, now_known, redo_lost}
 use Rattle.steal_return.specs.Returns.{judged, reply_to, returned}
 use Rattle.steal_return.specs.Steals.{is_older}
+use Rattle.spawn_frame.proofs.Sames.{site_path}
+use Rattle.spawn_frame.proofs.Working.{here_status}
+use Rattle.spawn_frame.proofs.Winners.{split_path}
+use Rattle.steal_return.proofs.Scans.{ready_status}
+use Rattle.steal_return.proofs.Learns.{parents_redo}
 
 -- ---- tests that refuse nothing
 
@@ -89,16 +94,6 @@ status_told test (Some c) = by (test c.status) refl
     by : (b : Bool) → test c.status ≡ b → HasStatus test (Some c) ⊎ ((entry : Entry) → Some c ≡ Some entry → test entry.status ≡ false)
     by true t = inl (c, refl, t)
     by false f = inr (λ entry at. ap (λ x. test x.status) (sym (same_Some c entry at)) ∙ f)
-
-here_status : (s : Status) → is_here s ≡ true → s ≡ Here
-here_status Here is = refl
-here_status Ready is = absurd (true≢false (sym is))
-here_status _ is = absurd (true≢false (sym is))
-
-split_status : (s : Status) → is_split s ≡ true → s ≡ Split
-split_status Split is = refl
-split_status Ready is = absurd (true≢false (sym is))
-split_status _ is = absurd (true≢false (sym is))
 
 out_status : (s : Status) → is_out s ≡ true → (thief : Site) × (s ≡ Out thief)
 out_status (Out thief) is = (thief, refl)
@@ -200,7 +195,7 @@ finish_acts problem view unit is passes =
           finishes = record {
             entry = there.0;
             is = there.1;
-            split = split_status there.0.status there.2;
+            split = split_path there.0.status there.2;
             result = result.0;
             settled = result.1;
             own = abort.0;
@@ -275,7 +270,7 @@ members_act problem view from incarnations is passes =
     let known : List ℕ = now_known view.site.node view.known incarnations in
     let none = unless (any_spent (is_older known) view.own) _ _ passes in
     let mid : List Entry = redo_lost (is_older known) view.own in
-    let abort = an_abort (is_lost_guest known view.guests) mid (parents_first view.own mid (parents_redone (is_older known) view.own) is.parents.lower) in
+    let abort = an_abort (is_lost_guest known view.guests) mid (parents_first view.own mid (parents_redo (is_older known) view.own) is.parents.lower) in
     let outs : List Reached = reached 0 mid abort.0 in
     let after : Ledger = record { table = table_guests (table_own view.table abort.0) (drop_lost known view.guests); nodes = view.nodes; known = known } in
     let out : List Packet = abort_packets view.site outs in
@@ -449,7 +444,7 @@ pub directed : (view : View) (packet : Packet) → is_misdirected view packet �
 directed view packet is =
     let tests = or_parts (not (same_site packet.to view.site)) (is_beyond view packet.from.node) is in
     record {
-      here = same_sites packet.to view.site (not-false (same_site packet.to view.site) tests.0);
+      here = site_path packet.to view.site (not-false (same_site packet.to view.site) tests.0);
       there = ltb-false view.nodes packet.from.node tests.1;
     }
 

@@ -1,15 +1,11 @@
 -- A prefix that is too much for some fuel has children.
-use Rattle.std.proofs.Common.{◌≡◌, ℕ, ◌+◌, ◌<◌, ◌≤◌, Bool, true, false, cond, List, [], ◌∷◌, length, Option, Some, None, refl, arith}
+use Rattle.std.proofs.Common.{◌≡◌, ℕ, ◌+◌, ◌<◌, ◌≤◌, List, [], ◌∷◌, length, arith}
 use Rattle.std.proofs.lemmas.Bool.{ltb-true}
 use Rattle.cover_problem.proofs.Unbounded.{visits_children}
 use Rattle.cover_problem.specs.Branching.{children}
 use Rattle.cover_problem.specs.Problem.{Problem}
-use Rattle.cover_problem.specs.Search.{Spent, first, found_outcome, outcome, visits, visits_until}
-
-past_spent : (b : Bool) (o : Option (List ℕ)) → cond b Spent (found_outcome o) ≡ Spent → b ≡ true
-past_spent true o e = refl
-past_spent false None e = absurd (cc)
-past_spent false (Some x) e = absurd (cc)
+use Rattle.cover_problem.specs.Search.{Spent, first, outcome, visits, visits_until}
+use Rattle.cover_problem.proofs.Outcomes.{past_spent}
 
 pub spent_has_children : (problem : Problem) (prefix : List ℕ) (fuel : ℕ) → 1 ≤ fuel → outcome problem prefix fuel ≡ Spent → 0 < length (children problem prefix)
 spent_has_children problem prefix fuel l e = go (children problem prefix) (visits_children problem prefix)

@@ -5,9 +5,9 @@ use Rattle.std.proofs.lemmas.Bool.{and_parts, eqb-true}
 use Rattle.std.proofs.lemmas.Option.{none-some, same_Some}
 use Rattle.spawn_frame.proofs.Sames.{name_path}
 use Rattle.spawn_frame.specs.Aborts.{AbortsBelow, is_open}
-use Rattle.spawn_frame.specs.Names.{guest_before, same_name}
+use Rattle.spawn_frame.specs.Names.{same_name}
 use Rattle.spawn_frame.specs.Tables.{guest_key}
-use Rattle.spawn_frame.specs.Units.{Entry, GuestEntry, change_at, change_guest, guest_in, insert_guest, is_guest, with_status}
+use Rattle.spawn_frame.specs.Units.{Entry, GuestEntry, change_at, change_guest, guest_in, is_guest, with_status}
 use Rattle.spawn_frame.specs.declared.site.ChildName.{ChildName}
 use Rattle.spawn_frame.specs.declared.status.Status.{Status}
 use Rattle.spawn_frame.specs.declared.status.Status.TheVariants.{Aborted, Dropped}
@@ -104,14 +104,6 @@ guests_changed P s f (g ∷ gs) name attempt h = go (is_guest name attempt g) (g
   where
     go : (b : Bool) → AllByRecursion P (change_guest (with_status s) gs name attempt) → AllByRecursion P (cond b (guest_with s g ∷ gs) (g ∷ change_guest (with_status s) gs name attempt))
     go true later = (f g h.0, h.1)
-    go false later = (h.0, later)
-
-pub guests_inserted : (P : GuestEntry → Type 0) (new : GuestEntry) (gs : List GuestEntry) → P new → AllByRecursion P gs → AllByRecursion P (insert_guest new gs)
-guests_inserted P new [] p h = (p, tt)
-guests_inserted P new (g ∷ gs) p h = go (guest_before new.name new.entry.attempt g.name g.entry.attempt) (guests_inserted P new gs p h.1)
-  where
-    go : (b : Bool) → AllByRecursion P (insert_guest new gs) → AllByRecursion P (cond b (new ∷ g ∷ gs) (g ∷ insert_guest new gs))
-    go true later = (p, h)
     go false later = (h.0, later)
 
 pub guests_dropped : (P : GuestEntry → Type 0) (known : List ℕ) → ((g : GuestEntry) → P g → P (guest_with Dropped g)) → (gs : List GuestEntry) → AllByRecursion P gs → AllByRecursion P (drop_lost known gs)

@@ -1,8 +1,8 @@
 -- What a site knows of the nodes, and stays known.
-use Rattle.std.proofs.Common.{◌≡◌, ◌≢◌, ℕ, zero, suc, ◌<◌, ◌≤◌, max, Bool, true, false, ◌||◌, not, cond, ◌==◌, nat_lt, List, [], ◌∷◌, length, refl, sym, ap, ◌∙◌, arith}
+use Rattle.std.proofs.Common.{◌≡◌, ◌≢◌, ℕ, zero, suc, ◌<◌, ◌≤◌, max, Bool, true, false, ◌||◌, not, cond, ◌==◌, List, [], ◌∷◌, length, refl, sym, ap, ◌∙◌, arith}
 use Rattle.std.specs.Prelude.{replicate, slice_index}
 use Rattle.std.specs.List.{list_all}
-use Rattle.std.proofs.lemmas.Bool.{and_from, and_parts, lt-ltb, ltb-true, ne_eqb, not_from_false, or_left}
+use Rattle.std.proofs.lemmas.Bool.{and_from, and_parts, lt-ltb, ne_eqb, not_from_false, or_left}
 use Rattle.std.proofs.lemmas.List.{length-replicate}
 use Rattle.node_core.proofs.Telling.{counted_some, counted_told, not_registry}
 use Rattle.node_core.specs.Formed.{IsKnown, is_another}
@@ -11,11 +11,9 @@ use Rattle.node_core.specs.SiteView.{View}
 use Rattle.packet_wire.specs.WellFormed.{are_incarnations, is_counted, is_incarnation_of, is_node, is_node_count, is_site}
 use Rattle.steal_return.proofs.Learning.{known_length}
 use Rattle.steal_return.specs.Members.{learnt, now_known}
+use Rattle.packet_wire.proofs.Forms.{counted_below}
 
 -- ---- sites
-
-pub counted_below : (n : ℕ) → is_counted n ≡ true → n < 4294967296
-counted_below n h = ltb-true n 4294967296 (and_parts (nat_lt 0 n) (nat_lt n 4294967296) h).1
 
 pub node_site : (node incarnation : ℕ) → 1 ≤ node → node ≤ 16 → is_counted incarnation ≡ true → is_site (record { node = node; incarnation = incarnation }) ≡ true
 node_site node incarnation some most h =

@@ -3,13 +3,15 @@ use Rattle.std.proofs.Common.{◌≡◌, ◌⊎◌, ℕ, zero, suc, ◌<◌, ◌
 use Rattle.std.proofs.lemmas.Bool.{false≢true}
 use Rattle.std.proofs.lemmas.Option.{none-some, same_Some, slice_get-map, slice_get_within}
 use Rattle.node_core.proofs.Reaching.{parents, parents_first}
-use Rattle.spawn_frame.specs.Names.{guest_before, same_name}
+use Rattle.spawn_frame.specs.Names.{same_name}
 use Rattle.spawn_frame.specs.Splits.{new_child}
 use Rattle.spawn_frame.specs.Tables.{HasParents, guest_key}
 use Rattle.spawn_frame.specs.Units.{Entry, GuestEntry, Table, guest_in, insert_guest, is_guest, table_guests, table_own, unit_of}
 use Rattle.spawn_frame.specs.declared.site.ChildName.{ChildName}
 use Rattle.spawn_frame.specs.declared.unit.Unit.{Unit as WorkUnit}
 use Rattle.spawn_frame.specs.declared.unit.Unit.TheVariants.{Guest, Own}
+use Rattle.spawn_frame.proofs.Split.{front_there}
+use Rattle.spawn_frame.proofs.Admitted.{there_inserted}
 
 -- ---- tables with the same parents and guests
 
@@ -74,11 +76,6 @@ front_or_behind (x ∷ xs) ys (suc j) d at =
     (λ (h : (i : ℕ) × (length xs ≤ j) × (slice_get ys i ≡ Some d)). let l : length xs ≤ j = h.1 in inr (h.0, omega (arith, l), h.2))
     (front_or_behind xs ys j d at)
 
-front_there : (xs ys : List Entry) (j : ℕ) → IsSome (slice_get xs j) → IsSome (slice_get (xs ++ ys) j)
-front_there [] ys j h = absurd (false≢true h)
-front_there (x ∷ xs) ys zero h = refl
-front_there (x ∷ xs) ys (suc j) h = front_there xs ys j h
-
 new_parent : (unit : WorkUnit) (ps : List (List ℕ)) (i : ℕ) (d : Entry) → slice_get (map (λ p. new_child unit p) ps) i ≡ Some d → d.parent ≡ Some unit
 new_parent unit [] i d at = absurd (none-some d at)
 new_parent unit (p ∷ ps) zero d at = ap (λ x. x.parent) (sym (same_Some (new_child unit p) d at))
@@ -118,25 +115,9 @@ module _ (table : Table) (unit : WorkUnit) (ps : List (List ℕ)) where
 
 -- ---- a table with one guest more
 
-inserted_there : (new : GuestEntry) (gs : List GuestEntry) (m : ChildName) (b : ℕ) → IsSome (guest_in gs m b) → IsSome (guest_in (insert_guest new gs) m b)
-inserted_there new [] m b h = absurd (false≢true h)
-inserted_there new (g ∷ gs) m b h = go (guest_before new.name new.entry.attempt g.name g.entry.attempt) (λ i. inserted_there new gs m b i)
-  where
-    either : (t : Bool) (x : Entry) (o : Option Entry) → IsSome o → IsSome (cond t (Some x) o)
-    either true x o i = refl
-    either false x o i = i
-
-    behind : (t : Bool) (x : Entry) → IsSome (cond t (Some x) (guest_in gs m b)) → (IsSome (guest_in gs m b) → IsSome (guest_in (insert_guest new gs) m b)) → IsSome (cond t (Some x) (guest_in (insert_guest new gs) m b))
-    behind true x i f = refl
-    behind false x i f = f i
-
-    go : (t : Bool) → (IsSome (guest_in gs m b) → IsSome (guest_in (insert_guest new gs) m b)) → IsSome (guest_in (cond t (new ∷ g ∷ gs) (g ∷ insert_guest new gs)) m b)
-    go true later = either (is_guest m b new) new.entry (guest_in (g ∷ gs) m b) h
-    go false later = behind (is_guest m b g) g.entry h later
-
 unit_inserted : (table : Table) (new : GuestEntry) (u : WorkUnit) → IsSome (unit_of table u) → IsSome (unit_of (table_guests table (insert_guest new table.guests)) u)
 unit_inserted table new (Own k) h = h
-unit_inserted table new (Guest name attempt) h = inserted_there new table.guests name attempt h
+unit_inserted table new (Guest name attempt) h = there_inserted new table.guests name attempt h
 
 pub parents_inserted : (table : Table) (new : GuestEntry) → HasParents table → HasParents (table_guests table (insert_guest new table.guests))
 parents_inserted table new h = record {

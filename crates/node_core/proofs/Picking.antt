@@ -1,8 +1,8 @@
 -- The unit that is taken up next is there, and ready.
 use Rattle.std.proofs.Common.{◌≡◌, ℕ, suc, ◌+◌, Bool, true, false, cond, List, [], ◌∷◌, Option, Some, None, slice_get, refl, sym, ap, subst, ◌∙◌, arith, true≢false}
-use Rattle.std.specs.Prelude.{nat_lt, ◌==◌}
+use Rattle.std.specs.Prelude.{◌==◌}
 use Rattle.std.specs.List.{AllByRecursion}
-use Rattle.std.proofs.lemmas.Bool.{and_parts, and_from, eq-eqb, eqb-true, false_from_ne_true, le-ltb, or_from, and_right}
+use Rattle.std.proofs.lemmas.Bool.{and_parts, and_from, eq-eqb, eqb-true, false_from_ne_true}
 use Rattle.std.proofs.lemmas.Option.{none-some, same_Some}
 use Rattle.node_core.specs.SiteView.{View, unit_in}
 use Rattle.spawn_frame.specs.Names.{guest_before, same_name, same_site}
@@ -11,41 +11,18 @@ use Rattle.spawn_frame.specs.Tables.{IsAscending}
 use Rattle.spawn_frame.specs.Units.{Entry, GuestEntry, guest_in, is_guest}
 use Rattle.spawn_frame.specs.declared.site.ChildName.{ChildName}
 use Rattle.spawn_frame.specs.declared.site.Site.{Site}
-use Rattle.spawn_frame.specs.declared.status.Status.{Status}
-use Rattle.spawn_frame.specs.declared.status.Status.TheVariants.{Here, Ready}
+use Rattle.spawn_frame.specs.declared.status.Status.TheVariants.{Ready}
 use Rattle.spawn_frame.specs.declared.unit.Unit.{Unit as WorkUnit}
 use Rattle.spawn_frame.specs.declared.unit.Unit.TheVariants.{Guest, Own}
+use Rattle.spawn_frame.proofs.Sames.{name_path}
+use Rattle.steal_return.proofs.Order.{is_itself}
+use Rattle.spawn_frame.proofs.Picked.{before_itself}
+use Rattle.steal_return.proofs.Scans.{ready_status}
 
 -- ---- names that are the same
 
-pub same_sites : (s t : Site) → same_site s t ≡ true → s ≡ t
-same_sites s t same =
-    let both = and_parts (s.node == t.node) (s.incarnation == t.incarnation) same in
-    λ i. record { node = eqb-true s.node t.node both.0 i; incarnation = eqb-true s.incarnation t.incarnation both.1 i }
-
 pub site_itself : (s t : Site) → s ≡ t → same_site s t ≡ true
 site_itself s t e = and_from (s.node == t.node) (s.incarnation == t.incarnation) (eq-eqb s.node t.node (ap (λ x. x.node) e)) (eq-eqb s.incarnation t.incarnation (ap (λ x. x.incarnation) e))
-
-same_names : (m n : ChildName) → same_name m n ≡ true → m ≡ n
-same_names m n same =
-    let both = and_parts (same_site m.site n.site) (m.serial == n.serial) same in
-    λ i. record { site = same_sites m.site n.site both.0 i; serial = eqb-true m.serial n.serial both.1 i }
-
-name_itself : (n : ChildName) → same_name n n ≡ true
-name_itself n = and_from (same_site n.site n.site) (n.serial == n.serial) (site_itself n.site n.site refl) (eq-eqb n.serial n.serial refl)
-
-pub guest_itself : (g : GuestEntry) → is_guest g.name g.entry.attempt g ≡ true
-guest_itself g = and_from (same_name g.name g.name) (g.entry.attempt == g.entry.attempt) (name_itself g.name) (eq-eqb g.entry.attempt g.entry.attempt refl)
-
--- nothing comes before itself
-not_below : (n : ℕ) → nat_lt n n ≡ false
-not_below n = le-ltb n n (omega arith)
-
-not_before : (n : ChildName) (a : ℕ) → guest_before n a n a ≡ false
-not_before n a =
-    or_from _ _ (not_below n.site.node)
-    (and_right _ _ (or_from _ _ (not_below n.site.incarnation)
-    (and_right _ _ (or_from _ _ (not_below n.serial) (and_right _ _ (not_below a))))))
 
 -- ---- own children
 
@@ -114,7 +91,7 @@ behind_other g (h ∷ hs) name attempt entry all found = by (is_guest name attem
     by true same e later =
         let both = and_parts (same_name h.name name) (h.entry.attempt == attempt) same in
         let path : guest_before g.name g.entry.attempt h.name h.entry.attempt ≡ guest_before g.name g.entry.attempt name attempt =
-        λ i. guest_before g.name g.entry.attempt (same_names h.name name both.0 i) (eqb-true h.entry.attempt attempt both.1 i) in
+        λ i. guest_before g.name g.entry.attempt (name_path h.name name both.0 i) (eqb-true h.entry.attempt attempt both.1 i) in
         sym path ∙ all.0
     by false differs e later = later e
 
@@ -125,8 +102,8 @@ other_guest g name attempt before = false_from_ne_true (is_guest name attempt g)
     itself same =
         let both = and_parts (same_name g.name name) (g.entry.attempt == attempt) same in
         let path : guest_before g.name g.entry.attempt name attempt ≡ guest_before name attempt name attempt =
-        λ i. guest_before (same_names g.name name both.0 i) (eqb-true g.entry.attempt attempt both.1 i) name attempt in
-        true≢false (sym before ∙ path ∙ not_before name attempt)
+        λ i. guest_before (name_path g.name name both.0 i) (eqb-true g.entry.attempt attempt both.1 i) name attempt in
+        true≢false (sym before ∙ path ∙ before_itself name attempt)
 
 picked_guest : (test : WorkUnit → Entry → Bool) (guests : List GuestEntry) → IsAscending guests → (unit : WorkUnit) → first_guest test guests ≡ Some unit → IsFirst test guests unit
 picked_guest test [] ascending unit found = absurd (none-some unit found)
@@ -153,17 +130,12 @@ picked_guest test (g ∷ gs) ascending unit found = by (test (Guest g.name g.ent
           attempt = g.entry.attempt;
           entry = g.entry;
           is = sym same;
-          at = ap (λ b. cond b (Some g.entry) (guest_in gs g.name g.entry.attempt)) (guest_itself g);
+          at = ap (λ b. cond b (Some g.entry) (guest_in gs g.name g.entry.attempt)) (is_itself g);
           passes = subst (λ u. test u g.entry ≡ true) same passes;
         }
     by false passes e picked = behind (picked e)
 
 -- ---- the unit that is taken up
-
-pub ready_status : (s : Status) → is_ready s ≡ true → s ≡ Ready
-ready_status Ready is = refl
-ready_status Here is = absurd (true≢false (sym is))
-ready_status _ is = absurd (true≢false (sym is))
 
 -- A unit that is there, and ready.
 pub record IsReady (view : View) (unit : WorkUnit) : Type 0 where

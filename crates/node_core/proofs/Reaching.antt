@@ -3,13 +3,10 @@ use Rattle.std.proofs.Common.{◌≡◌, ◌⊎◌, ℕ, zero, suc, ◌+◌, ◌
 use Rattle.std.proofs.lemmas.Option.{none-some, same_Some, slice_get-map}
 use Rattle.std.specs.Option.{option_map}
 use Rattle.spawn_frame.specs.Aborts.{AbortsBelow, IsBelow, child, deeper, is_open}
-use Rattle.spawn_frame.specs.Units.{Entry, change_at, redone, with_status}
-use Rattle.spawn_frame.specs.declared.site.Site.{Site}
-use Rattle.spawn_frame.specs.declared.status.Status.{Status}
-use Rattle.spawn_frame.specs.declared.status.Status.TheVariants.{Aborted, Out, Ready}
+use Rattle.spawn_frame.specs.Units.{Entry, change_at, with_status}
+use Rattle.spawn_frame.specs.declared.status.Status.TheVariants.{Aborted}
 use Rattle.spawn_frame.specs.declared.unit.Unit.{Unit as WorkUnit}
 use Rattle.spawn_frame.specs.declared.unit.Unit.TheVariants.{Guest, Own}
-use Rattle.steal_return.specs.Members.{redo_if, redo_lost}
 
 -- an own parent was made before its child
 abbrev pub ParentsFirst : List Entry → Type 0
@@ -35,19 +32,6 @@ pub parents_changed : (f : Entry → Entry) → ((c : Entry) → c.parent ≡ (f
 parents_changed f same [] k = refl
 parents_changed f same (c ∷ cs) zero = λ i. same c i ∷ parents cs
 parents_changed f same (c ∷ cs) (suc k) = λ i. c.parent ∷ parents_changed f same cs k i
-
-redo_parent : (lost : Site → Bool) (c : Entry) (s : Status) → c.parent ≡ (redo_if lost c s).parent
-redo_parent lost c (Out thief) = by (lost thief)
-  where
-    by : (b : Bool) → c.parent ≡ (cond b (redone c) c).parent
-    by true = refl
-    by false = refl
-redo_parent lost c Ready = refl
-redo_parent lost c _ = refl
-
-pub parents_redone : (lost : Site → Bool) (own : List Entry) → parents own ≡ parents (redo_lost lost own)
-parents_redone lost [] = refl
-parents_redone lost (c ∷ cs) = λ i. redo_parent lost c c.status i ∷ parents_redone lost cs i
 
 -- ---- what is below can be told
 

@@ -6,13 +6,13 @@ use Rattle.std.proofs.lemmas.Option.{none-some, same_Some}
 use Rattle.cover_problem.proofs.Firsts.{ArePrefixes}
 use Rattle.cover_problem.specs.Prefix.{is_prefix}
 use Rattle.cover_problem.specs.Problem.{Problem}
-use Rattle.node_core.proofs.Each.{each_aborted, each_append, each_changed, each_mapped, guest_with, guests_changed, guests_dropped, guests_inserted, kept_aborted, kept_changed, keys_changed, keys_dropped, may_abort}
+use Rattle.node_core.proofs.Each.{each_aborted, each_append, each_changed, each_mapped, guest_with, guests_changed, guests_dropped, kept_aborted, kept_changed, keys_changed, keys_dropped, may_abort}
 use Rattle.node_core.proofs.Parents.{parents_added, parents_inserted, parents_same, unit_there}
-use Rattle.node_core.proofs.Reaching.{parents, parents_redone}
+use Rattle.node_core.proofs.Reaching.{parents}
 use Rattle.node_core.proofs.Telling.{counted_more}
 use Rattle.node_core.specs.Formed.{IsFormedChild, IsFormedGuest, IsFormedTable, is_child_status, is_guest_status}
 use Rattle.packet_wire.specs.WellFormed.{is_result}
-use Rattle.spawn_frame.proofs.Admitted.{ascending_inserted}
+use Rattle.spawn_frame.proofs.Admitted.{ascending_inserted, each_inserted}
 use Rattle.spawn_frame.proofs.Kept.{ascending_kept}
 use Rattle.spawn_frame.specs.Aborts.{AbortsBelow}
 use Rattle.spawn_frame.specs.Frames.{cover_of, first_result, frame, frame_result, is_empty_handed, is_unit}
@@ -27,6 +27,7 @@ use Rattle.spawn_frame.specs.declared.status.Status.TheVariants.{Aborted, Done, 
 use Rattle.spawn_frame.specs.declared.unit.Unit.{Unit as WorkUnit}
 use Rattle.spawn_frame.specs.declared.unit.Unit.TheVariants.{Guest, Own}
 use Rattle.steal_return.specs.Members.{IsRedoable, drop_lost, redo_if, redo_lost}
+use Rattle.steal_return.proofs.Learns.{parents_redo}
 
 -- ---- one unit
 
@@ -120,7 +121,7 @@ module _ (problem : Problem) where
 
   pub redo_formed : (table : Table) (lost : Site → Bool) → IsRedoable lost table.own → IsFormedTable problem table → IsFormedTable problem (table_own table (redo_lost lost table.own))
   redo_formed table lost r t =
-      own_formed table (redo_lost lost table.own) (sym (parents_redone lost table.own)) (each_redone table.site lost table.own r t.own) t
+      own_formed table (redo_lost lost table.own) (sym (parents_redo lost table.own)) (each_redone table.site lost table.own r t.own) t
 
   pub aborts_formed : (table : Table) (top : WorkUnit → Bool) (own : List Entry) → AbortsBelow top table.own own → IsFormedTable problem table → IsFormedTable problem (table_own table own)
   aborts_formed table top own a t =
@@ -169,7 +170,7 @@ module _ (problem : Problem) where
     parents = parents_inserted table new t.parents;
     ascending = ascending_inserted new table.guests none t.ascending;
     own = t.own;
-    guests = guests_inserted (IsFormedGuest problem table.site) new table.guests formed t.guests;
+    guests = each_inserted (IsFormedGuest problem table.site) new table.guests formed t.guests;
   }
 
 -- ---- results

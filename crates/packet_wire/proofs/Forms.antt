@@ -73,7 +73,7 @@ followed_again first second {text} {more} f g a b rest p q =
 serial_below : (n : ℕ) → is_serial n ≡ true → n < 4294967296
 serial_below n h = ltb-true _ _ h
 
-counted_below : (n : ℕ) → is_counted n ≡ true → n < 4294967296
+pub counted_below : (n : ℕ) → is_counted n ≡ true → n < 4294967296
 counted_below n h = ltb-true _ _ (and_both (nat_lt 0 n) (nat_lt n 4294967296) h).1
 
 incarnation_below : (node n : ℕ) → is_incarnation_of node n ≡ true → n < 4294967296

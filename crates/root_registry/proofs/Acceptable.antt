@@ -1,6 +1,6 @@
 -- The test of a result that enters, and what it says.
-use Rattle.std.proofs.Common.{◌≡◌, ℕ, true, List, refl, sym, ap, true≢false}
-use Rattle.cover_problem.proofs.Checks.{Passes, passes_of_exact, verdict_exact}
+use Rattle.std.proofs.Common.{◌≡◌, true, refl, sym, ap, true≢false}
+use Rattle.cover_problem.proofs.Checks.{passes_of_exact, verdict_exact, passes_exact}
 use Rattle.cover_problem.specs.Problem.{IsProblem, Problem}
 use Rattle.cover_problem.specs.Verdict.{verdict_of}
 use Rattle.cover_problem.specs.declared.verdict.Verdict.{Verdict}
@@ -9,9 +9,6 @@ use Rattle.root_registry.specs.Refusal.{is_acceptable, is_exact}
 use Rattle.root_registry.specs.RegistryStep.{IsAcceptable}
 use Rattle.spawn_frame.specs.declared.child_result.ChildResult.{ChildResult}
 use Rattle.spawn_frame.specs.declared.child_result.ChildResult.TheVariants.{Cover, Empty}
-
-passes_exact : (problem : Problem) (options : List ℕ) → Passes problem options → verdict_of problem options ≡ verdicts.Exact
-passes_exact problem options passes = rw (passes.within, passes.distinct, passes.covered, passes.once) refl
 
 exact_verdict : (verdict : Verdict) → is_exact verdict ≡ true → verdict ≡ verdicts.Exact
 exact_verdict verdicts.Exact is = refl

@@ -1,5 +1,5 @@
 -- What the registry knows of the nodes, once one of them greets.
-use Rattle.std.proofs.Common.{◌≡◌, ℕ, zero, suc, ◌≤◌, max, true, List, [], ◌∷◌, length, drop, refl, ap, ◌∙◌, arith}
+use Rattle.std.proofs.Common.{◌≡◌, ℕ, zero, suc, ◌≤◌, max, true, List, [], ◌∷◌, length, drop, refl, ◌∙◌, arith}
 use Rattle.std.specs.Prelude.{slice_index}
 use Rattle.std.specs.List.{list_all}
 use Rattle.std.proofs.lemmas.Bool.{and_from, and_parts, lt-ltb}
@@ -7,11 +7,7 @@ use Rattle.node_core.proofs.Knowing.{counted_max}
 use Rattle.node_core.specs.Formed.{IsKnown}
 use Rattle.packet_wire.specs.WellFormed.{are_incarnations, is_counted, is_node_count}
 use Rattle.root_registry.specs.RegistryStep.{raised}
-
-raised_length : (known : List ℕ) (node incarnation : ℕ) → length (raised known node incarnation) ≡ length known
-raised_length [] node incarnation = refl
-raised_length (k ∷ ks) zero incarnation = refl
-raised_length (k ∷ ks) (suc node) incarnation = ap suc (raised_length ks node incarnation)
+use Rattle.steal_return.proofs.Learning.{raised_length}
 
 raised_counted : (known : List ℕ) (node incarnation : ℕ) → is_counted incarnation ≡ true → list_all is_counted known ≡ true → list_all is_counted (raised known node incarnation) ≡ true
 raised_counted [] node incarnation h i = refl

@@ -54,7 +54,7 @@ each_put P new (g ∷ gs) p h = go (guest_before new.name new.work.attempt g.nam
 
 -- ---- the order
 
-each_inserted : (P : GuestEntry → Type 0) (new : GuestEntry) (gs : List GuestEntry) → P new → AllByRecursion P gs → AllByRecursion P (insert_guest new gs)
+pub each_inserted : (P : GuestEntry → Type 0) (new : GuestEntry) (gs : List GuestEntry) → P new → AllByRecursion P gs → AllByRecursion P (insert_guest new gs)
 each_inserted P new [] p h = (p, tt)
 each_inserted P new (g ∷ gs) p h = go (guest_before new.name new.entry.attempt g.name g.entry.attempt) (each_inserted P new gs p h.1)
   where
@@ -94,7 +94,7 @@ ascending_inserted new (g ∷ gs) e h =
             (and_from (same_name g.name new.name) (g.entry.attempt == new.entry.attempt) (ap (same_name g.name) s.0 ∙ same_name_self g.name) (eq-eqb g.entry.attempt new.entry.attempt (sym s.1)))))
             (before_or_same new.name g.name new.entry.attempt g.entry.attempt t)
 
-there_inserted : (new : GuestEntry) (gs : List GuestEntry) (m : ChildName) (b : ℕ) → IsSome (guest_in gs m b) → IsSome (guest_in (insert_guest new gs) m b)
+pub there_inserted : (new : GuestEntry) (gs : List GuestEntry) (m : ChildName) (b : ℕ) → IsSome (guest_in gs m b) → IsSome (guest_in (insert_guest new gs) m b)
 there_inserted new [] m b h = absurd (false≢true h)
 there_inserted new (g ∷ gs) m b h = go (guest_before new.name new.entry.attempt g.name g.entry.attempt) (λ i. there_inserted new gs m b i)
   where

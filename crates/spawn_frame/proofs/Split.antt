@@ -49,7 +49,7 @@ front_or_behind {X} (x ∷ xs) ys (suc j) d at = ⊎_elim
     (λ (h : (i : ℕ) × (length xs ≤ j) × (slice_get ys i ≡ Some d)). let l : length xs ≤ j = h.1 in inr (h.0, omega arith, h.2))
     (front_or_behind xs ys j d at)
 
-front_there : (xs ys : List Entry) (j : ℕ) → IsSome (slice_get xs j) → IsSome (slice_get (xs ++ ys) j)
+pub front_there : (xs ys : List Entry) (j : ℕ) → IsSome (slice_get xs j) → IsSome (slice_get (xs ++ ys) j)
 front_there [] ys j h = absurd (false≢true h)
 front_there (x ∷ xs) ys zero h = refl
 front_there (x ∷ xs) ys (suc j) h = front_there xs ys j h

@@ -11,7 +11,7 @@ use Rattle.spawn_frame.specs.declared.status.Status.TheVariants.{Aborted, Done, 
 use Rattle.spawn_frame.specs.declared.unit.Unit.{Unit as WorkUnit}
 use Rattle.spawn_frame.specs.declared.work.Work.{Work}
 
-here_status : (status : Status) → is_here status ≡ true → status ≡ Here
+pub here_status : (status : Status) → is_here status ≡ true → status ≡ Here
 here_status Here h = refl
 here_status Ready h = absurd (false≢true h)
 here_status Split h = absurd (false≢true h)

@@ -3,6 +3,7 @@ use Rattle.std.proofs.Common.{◌≡◌, ℕ, zero, suc, ◌+◌, drop, slice_ge
 use Rattle.std.specs.List.{AllByRecursion}
 use Rattle.std.proofs.lemmas.Bool.{and_parts}
 use Rattle.std.proofs.lemmas.Option.{none-some, same_Some}
+use Rattle.std.proofs.Math.Bool.{and-false}
 use Rattle.abort_tree.specs.Below.{is_among}
 use Rattle.spawn_frame.specs.Aborts.{is_open}
 use Rattle.spawn_frame.specs.Tables.{IsAscending, has_status}
@@ -74,14 +75,6 @@ lost_dropped known (g ∷ hs) o = go (is_lost known g) (lost_dropped known hs o.
 
 -- ---- the lost guests are those that an abort goes out from
 
-or_false : (b : Bool) → (b || false) ≡ b
-or_false true = refl
-or_false false = refl
-
-and_false : (b : Bool) → (b && false) ≡ false
-and_false true = refl
-and_false false = refl
-
 none_own : (known : List ℕ) (gs : List GuestEntry) (k : ℕ) → is_among (lost_units known gs) (Own k) ≡ false
 none_own known [] k = refl
 none_own known (g ∷ hs) k = go (is_lost known g) (none_own known hs k)
@@ -103,7 +96,7 @@ none_other known (g ∷ hs) n a o = go (is_lost known g) (none_other known hs n 
 
 lost_one : (known : List ℕ) (gs : List GuestEntry) → IsAscending gs → (n : ChildName) (a : ℕ)
     → is_among (lost_units known gs) (Guest n a) ≡ (is_older known n.site && has_status is_open (guest_in gs n a))
-lost_one known [] o n a = sym (and_false (is_older known n.site))
+lost_one known [] o n a = sym (and-false (is_older known n.site))
 lost_one known (g ∷ hs) o n a = go (is_guest n a g) refl (is_lost known g) refl (lost_one known hs o.1 n a)
   where
     others : is_guest n a g ≡ true → AllByRecursion (λ h. is_guest n a h ≡ false) hs

@@ -11,17 +11,14 @@ use Rattle.spawn_frame.specs.Units.{Entry, Table, guest_in, table_gets, table_ow
 use Rattle.spawn_frame.specs.declared.child_result.ChildResult.{ChildResult}
 use Rattle.spawn_frame.specs.declared.site.ChildName.{ChildName}
 use Rattle.spawn_frame.specs.declared.status.Status.{Status}
-use Rattle.spawn_frame.specs.declared.status.Status.TheVariants.{Dropped, Split}
+use Rattle.spawn_frame.specs.declared.status.Status.TheVariants.{Dropped}
 use Rattle.spawn_frame.specs.declared.unit.Unit.{Unit as WorkUnit}
 use Rattle.spawn_frame.specs.declared.unit.Unit.TheVariants.{Guest}
 use Rattle.steal_return.proofs.Marking.{one_top}
 use Rattle.steal_return.specs.Finishing.{FinishesFrame}
 use Rattle.steal_return.specs.Guests.{DropsGuest}
 use Rattle.steal_return.specs.Ledger.{Ledger, ledger_table}
-
-split_status : (s : Status) → is_split s ≡ true → s ≡ Split
-split_status Split h = refl
-split_status _ h = absurd (true≢false (sym h))
+use Rattle.spawn_frame.proofs.Winners.{split_path}
 
 -- a unit with a status that passes is there
 pub unit_there : (test : Status → Bool) (o : Option Entry) → has_status test o ≡ true → (entry : Entry) × (o ≡ Some entry) × (test entry.status ≡ true)
@@ -45,7 +42,7 @@ finishes_frame was now same unit result mid end split settled gets ends aborts =
         record {
           entry = u.0;
           is = u.1;
-          split = split_status u.0.status u.2;
+          split = split_path u.0.status u.2;
           result = result;
           settled = r;
           own = end.own;

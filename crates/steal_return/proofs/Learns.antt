@@ -4,7 +4,7 @@ use Rattle.std.proofs.lemmas.Bool.{eqb-true}
 use Rattle.std.specs.Bool.{OnFalse, OnTrue}
 use Rattle.std.specs.List.{position_from}
 use Rattle.abort_tree.specs.Below.{aborted, is_among}
-use Rattle.spawn_frame.specs.Aborts.{AbortsBelow, IsBelow, child, deeper, is_open, reached, reached_one}
+use Rattle.spawn_frame.specs.Aborts.{AbortsBelow, IsBelow, child, deeper, is_open, reached}
 use Rattle.spawn_frame.specs.Tables.{IsAscending, has_status}
 use Rattle.spawn_frame.specs.Units.{Entry, GuestEntry, Table, redone, table_guests, table_own, with_status}
 use Rattle.spawn_frame.specs.declared.site.Site.{Site}
@@ -18,9 +18,10 @@ use Rattle.steal_return.proofs.Scans.{found_first, found_none}
 use Rattle.steal_return.specs.Ledger.{Ledger}
 use Rattle.steal_return.specs.Members.{Differs, IsAlike, IsRedoable, LearnsMembers, drop_lost, dropped, is_lost_guest, is_out_to, lost_units, now_known, redo_if, redo_lost}
 use Rattle.steal_return.specs.Steals.{is_older}
+use Rattle.abort_tree.proofs.Aborting.{unreached}
 
 -- a redo keeps the parent
-same_parent : (lost : Site → Bool) (c : Entry) (s : Status) → c.parent ≡ (redo_if lost c s).parent
+pub same_parent : (lost : Site → Bool) (c : Entry) (s : Status) → c.parent ≡ (redo_if lost c s).parent
 same_parent lost c (Out thief) = by (lost thief)
   where
     by : (b : Bool) → c.parent ≡ (cond b (redone c) c).parent
@@ -162,14 +163,9 @@ not_false false h = absurd (true≢false (sym h))
 none_aborted : (own : List Entry) → AbortsBelow (is_among []) own own
 none_aborted own = record { each = λ k entry at. inr ((λ below still. below_none own k below), at); ends = refl }
 
-same_unreached : (k a : ℕ) (s : Status) → reached_one k a s s ≡ []
-same_unreached k a (Out thief) = refl
-same_unreached k a Ready = refl
-same_unreached k a _ = refl
-
 none_reached : (k : ℕ) (own : List Entry) → [] ≡ reached k own own
 none_reached k [] = refl
-none_reached k (c ∷ cs) = none_reached (suc k) cs ∙ ap (λ l. l ++ reached (suc k) cs cs) (sym (same_unreached k c.attempt c.status))
+none_reached k (c ∷ cs) = none_reached (suc k) cs ∙ ap (λ l. l ++ reached (suc k) cs cs) (sym (unreached k c.attempt c.status))
 
 -- where nothing differs, nothing changes and no thief is told
 pub learns_nothing : (now : Ledger) (known incarnations : List ℕ) (lost : List WorkUnit) → IsAscending now.guests

@@ -5,7 +5,7 @@ use Rattle.std.proofs.lemmas.Bool.{and_from, and_parts, eq-eqb, eqb-true, ltb-tr
 use Rattle.spawn_frame.specs.Names.{guest_before, same_name, same_site}
 use Rattle.spawn_frame.specs.Units.{GuestEntry, is_guest}
 use Rattle.spawn_frame.specs.declared.site.ChildName.{ChildName}
-use Rattle.spawn_frame.specs.declared.site.Site.{Site}
+use Rattle.spawn_frame.proofs.Sames.{site_path}
 
 -- by a first number, and where it is the same by the rest
 abbrev lex : ℕ → ℕ → Bool → Bool
@@ -30,13 +30,6 @@ not_before_itself m a h =
     let l : a < a = ltb-true a a (lex_self m.serial _ (lex_self m.site.incarnation _ (lex_self m.site.node _ h))) in omega (arith, l)
 
 -- ---- names
-
-site_path : (s t : Site) → same_site s t ≡ true → s ≡ t
-site_path s t h =
-    let p = and_parts (s.node == t.node) (s.incarnation == t.incarnation) h in
-    let n : s.node ≡ t.node = eqb-true s.node t.node p.0 in
-    let i : s.incarnation ≡ t.incarnation = eqb-true s.incarnation t.incarnation p.1 in
-    λ j. record { node = n j; incarnation = i j }
 
 pub key_path : (name : ChildName) (attempt : ℕ) (g : GuestEntry) → is_guest name attempt g ≡ true → (g.name ≡ name) × (g.entry.attempt ≡ attempt)
 key_path name attempt g h =
