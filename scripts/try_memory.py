@@ -1,78 +1,147 @@
 #!/usr/bin/env python3
-"""Refuses one growth of memory in each test of a crate, another one in each run, and tells which tests fail then.
+"""Refuses each growth of memory that an event asks a core for, another one in each run, and tells what came of it.
 
-    python3 scripts/try_memory.py FIRST [LAST] [--step N] [--crate CRATE]
+    python3 scripts/try_memory.py [--list]
 
-For each N from FIRST to LAST, in steps of N where --step is given, it runs `rt try --test --fail-alloc N` in the crate, by default
-core_tests: in each test the Nth growth is refused. Nothing is proved, and each N builds the tests anew, in half a minute or so.
-A row of the table tells N and each test that failed, with what it told first. A test that takes fewer growths passes.
+The tests of core_tests whose names begin with `refused_memory` play the scripts of node and registry with one list of packets and
+with two. They mark where an event begins and ends. `refuse_growth.c`, which is built here and loaded before the C library, counts the
+growths between these marks and refuses one: then the event has to be answered by want of memory, the core and the lists have to be
+as they were, and the same event, given again, has to come to what the script says. Each growth of each event is refused once.
 
-Most tests take no care of refused memory, so they fail wherever it is refused. A test whose name begins with `refused_memory` does:
-in it an event happens again after its memory was refused, and has to come to the same. It may fail only where the growth was one of
-its own, and then tells of memory; where it tells anything else, the row is marked. It wants the toolchain's command `rt` on the path.
-The exit status is 1 if a row is marked, else 2 if a run ended without a result of its tests, else 0.
+For each kind of event the table has how many growths it takes with one list (`act`) and with two (`act_both`), the least and the
+most, how many were refused, how many of these the event answered by want of memory, and how many runs went wrong. --list only
+lists the kinds of events with their growths, and refuses none.
+
+It wants cc and the built tests: (cd crates/core_tests && rt test) builds them, and so does rt ci. The exit status is 0, 1 where a run
+went wrong, 2 for a fault of the command line or where something is missing.
 """
+import collections
 import os
-import re
 import subprocess
 import sys
+import tempfile
 
-from built import parser_of, stop, TOP, want_command
+from built import parser_of, program_of, stop, TOP, want_command, want_program
 
-CAREFUL, OWN = "refused_memory", ("Memory", "AllocError")
+TESTS = program_of("core_tests") + "_tests"
+CAREFUL = "refused_memory"
+KINDS = (
+    "Take", "Post", "Finish", "Ask", "Redo", "Again", "Greet", "Hello", "Members", "Steal", "Give", "NoWork", "Return", "Accept",
+    "Refuse", "Abort", "Over",
+)
 
-
-def failures(told):
-    """The tests that failed by what `rt try --test` told, each with the first line that it told; None if no test is named."""
-    tests = re.findall(r"^test (\S+) \.\.\. (\w+)((?:\n    .*)*)", told, re.MULTILINE)
-    failed = [(name.rpartition("::")[2], (why.split("\n") + ["", ""])[1].strip()) for name, end, why in tests if end == "FAILED"]
-    return failed if tests else None
-
-
-def is_marked(name, why):
-    """Whether a test that takes care of refused memory failed by something else than a growth of its own."""
-    return name.startswith(CAREFUL) and not any(word in why for word in OWN)
+# What is told of an event: its kind, whether the registry had it, whether packets went to two lists, the growths that it asked for,
+# which of them was refused, or 0, and whether it was answered by want of memory.
+Told = collections.namedtuple("Told", "kind registry both growths refused memory")
 
 
-def run(folder, number):
-    """The tests that fail where this growth is refused, or None."""
-    ran = subprocess.run(
-        ["rt", "try", "--test", "--fail-alloc", str(number)], cwd=folder, stdout=subprocess.PIPE, stderr=subprocess.STDOUT,
-        text=True, errors="replace",
-    )
-    return failures(ran.stdout)
+def told(line):
+    """What a line of refuse_growth.c tells."""
+    number, growths, refused, memory = map(int, line.split())
+    return Told(number // 4, number // 2 % 2 == 1, number % 2 == 1, growths, refused, memory == 1)
 
 
-def row(number, failed):
-    """A row of the table."""
-    if failed is None:
-        return f"| {number} | no result | |"
-    names = [f"{name}: {why}{' **wrong**' if is_marked(name, why) else ''}" for name, why in failed]
-    return f"| {number} | {len(names)} | {'; '.join(names)} |"
+def build(folder):
+    """Builds what is loaded before the C library."""
+    library = os.path.join(folder, "refuse_growth.so")
+    source = os.path.join(TOP, "scripts", "refuse_growth.c")
+    subprocess.run(["cc", "-O2", "-shared", "-fPIC", "-o", library, source, "-ldl"], check=True)
+    return library
+
+
+def play(library, test, number):
+    """Runs a test with this growth refused, none with 0: whether it passed, and what is told of its events."""
+    with tempfile.TemporaryDirectory() as folder:
+        file = os.path.join(folder, "growths")
+        words = {"LD_PRELOAD": library, "REFUSE_GROWTH": str(number), "GROWTHS_FILE": file}
+        ran = subprocess.run([TESTS, test], env=words, stdout=subprocess.DEVNULL, stderr=subprocess.DEVNULL)
+        if not os.path.isfile(file):
+            stop(f"{test} told of no event")
+        with open(file, encoding="ascii") as opened:
+            return ran.returncode == 0, [told(line) for line in opened]
+
+
+def careful_tests():
+    """The names of the tests that take care of refused memory."""
+    listed = subprocess.run([TESTS, "--list"], stdout=subprocess.PIPE, text=True).stdout
+    names = [line.removesuffix(": test").strip() for line in listed.splitlines()]
+    return [name for name in names if name.rpartition("::")[2].startswith(CAREFUL)]
+
+
+def span(numbers):
+    """The least and the most of some numbers."""
+    if not numbers:
+        return "-"
+    return f"{min(numbers)}" if min(numbers) == max(numbers) else f"{min(numbers)} to {max(numbers)}"
+
+
+class Kind:
+    """What was seen of one kind of events at a node or at the registry."""
+
+    def __init__(self):
+        self.growths = {False: [], True: []}
+        self.refused = self.memory = self.wrong = 0
+
+    def take(self, event, passed):
+        """Counts an event one of whose growths was refused."""
+        self.refused += 1
+        self.memory += event.memory
+        self.wrong += not passed
+
+
+def refuse_each(library, test, kinds):
+    """Refuses each growth of a test's events, one in each run; how many runs went wrong."""
+    _, before = play(library, test, 0)
+    wrong = 0
+    for number in range(1, sum(event.growths for event in before) + 1):
+        passed, events = play(library, test, number)
+        refused = [event for event in events if event.refused]
+        if len(refused) != 1:
+            print(f"{test}, growth {number}: it was refused in {len(refused)} events")
+            wrong += 1
+            continue
+        if not passed:
+            print(f"{test}, growth {number}: wrong")
+            wrong += 1
+        kinds[refused[0].kind, refused[0].registry].take(refused[0], passed)
+    return wrong
+
+
+def count(library, test, kinds):
+    """Takes down the growths of each event of a test, of which none is refused; whether it passed."""
+    passed, events = play(library, test, 0)
+    for event in events:
+        kinds[event.kind, event.registry].growths[event.both].append(event.growths)
+    return passed
+
+
+def table(kinds):
+    """The rows of the table."""
+    yield "| Event | At | `act` | `act_both` | Refused | Answered Memory | Wrong |\n|---|---|---|---|---|---|---|"
+    for (kind, registry), seen in sorted(kinds.items()):
+        cells = [KINDS[kind], "registry" if registry else "node", span(seen.growths[False]), span(seen.growths[True])]
+        yield f"| {' | '.join(cells)} | {seen.refused} | {seen.memory} | {seen.wrong} |"
 
 
 def main():
     parser = parser_of(__doc__)
-    parser.add_argument("first", metavar="FIRST", type=int, help="the first number of a growth, counted from 1")
-    parser.add_argument("last", metavar="LAST", type=int, nargs="?", help="the last number; FIRST where it is left out")
-    parser.add_argument("--step", metavar="N", type=int, default=1, help="how far apart the numbers are (default 1)")
-    parser.add_argument("--crate", metavar="CRATE", default="core_tests", help="whose tests are run (default core_tests)")
+    parser.add_argument("--list", action="store_true", help="list the events with their growths, and refuse none")
     given = parser.parse_args()
-    folder = os.path.join(TOP, "crates", given.crate)
-    if given.first < 1 or given.step < 1:
-        stop("FIRST and the step are at least 1")
-    if not os.path.isdir(folder):
-        stop(f"there is no crate {given.crate}")
-    want_command("rt")
-    print("| N | Failed | Tests, and what they told |\n|---|---|---|")
-    runs = []
-    for number in range(given.first, (given.last or given.first) + 1, given.step):
-        runs.append(run(folder, number))
-        print(row(number, runs[-1]), flush=True)
-    marked = sum(is_marked(*one) for failed in runs for one in failed or [])
-    careful = sum(name.startswith(CAREFUL) for failed in runs for name, _ in failed or [])
-    print(f"{len(runs)} runs; a test that takes care of refused memory failed in {careful}, wrongly in {marked}")
-    return 1 if marked else 2 if None in runs else 0
+    want_command("cc")
+    want_program(TESTS, "core_tests")
+    kinds = collections.defaultdict(Kind)
+    with tempfile.TemporaryDirectory() as folder:
+        library = build(folder)
+        tests = careful_tests()
+        if not tests:
+            stop(f"no test has a name that begins with {CAREFUL}")
+        wrong = sum(not count(library, test, kinds) for test in tests)
+        if not given.list:
+            wrong += sum(refuse_each(library, test, kinds) for test in tests)
+    print("\n".join(table(kinds)))
+    refused, memory = (sum(getattr(seen, what) for seen in kinds.values()) for what in ("refused", "memory"))
+    print(f"{refused} growths refused, {memory} answered by want of memory, {wrong} wrong")
+    return 1 if wrong else 0
 
 
 if __name__ == "__main__":

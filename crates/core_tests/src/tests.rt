@@ -1,7 +1,10 @@
 //! Cores as scripts of events, and the values of events and replies.
 
+mod alike;
 mod copies;
 mod handed;
+mod lists;
 mod node;
+mod refused;
 mod registry;
 mod said;

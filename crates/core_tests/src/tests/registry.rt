@@ -3,14 +3,17 @@
 ghost use Rattle.std.specs.Prelude.{◌≡◌};
 
 use self::Does::{Again, Ask, Finish, Greet, Hears, Overhears, Post, Redo, Take};
+use super::alike::is_alike;
+use super::lists::{Lists, act_into};
+use super::refused::Played;
 use super::said::Comes::{Fault, Ignored, Moved};
-use super::said::{Comes, LETTERS, Said, are_sent, has_come, packet_of};
+use super::said::{Comes, LETTERS, Said, has_come, packet_of};
 use brancher::Searcher;
 use cover_problem::{Answer, Problem};
 use dlx_reader::read_problem;
 use node_core::ActFault::{BadCover, NotOut, OtherSite};
-use node_core::{ActFault, Core, Event, Reply};
-use packet_wire::{Packet, is_well_formed};
+use node_core::{ActFault, Event, Reply};
+use packet_wire::is_well_formed;
 use root_registry::Registry;
 use spawn_frame::{Cause, Job, Site, Unit};
 use std::alloc::Global;
@@ -56,7 +59,7 @@ const ROOT_JOB: Job = Job {
 
 /// What happens at the registry.
 #[derive(Clone, Copy)]
-enum Does {
+pub enum Does {
     Take,
     /// The root's prefix is searched, and posted.
     Post,
@@ -72,14 +75,14 @@ enum Does {
 }
 
 /// An event, what it comes to, and the packets that it puts out, with their receivers.
-type Row = (Does, Comes, &'static [(Site, Said)]);
+pub type Row = (Does, Comes, &'static [(Site, Said)]);
 
 /// From which row on an answer is published, and the options of its cover, if it is one.
 type Publishes = (usize, Option<&'static [u16]>);
 
 /// The registry with all that a script needs.
 #[derive(Drop)]
-struct Stage<'a> {
+pub struct Stage<'a> {
     core: Registry<'a>,
     searcher: Searcher<'a>,
     alloc: Global,
@@ -88,7 +91,7 @@ struct Stage<'a> {
 
 impl<'a> Stage<'a> {
     /// The registry of two nodes before its first event.
-    fn new<R: Abort>(rt: &R, alloc: Global, problem: &'a Problem) -> Stage<'a> {
+    pub fn new<R: Abort>(rt: &R, alloc: Global, problem: &'a Problem) -> Stage<'a> {
         Stage {
             core: Registry::start(alloc, problem, 2).expect(rt, "memory"),
             searcher: Searcher::new(alloc, problem).expect(rt, "memory"),
@@ -103,46 +106,58 @@ impl<'a> Stage<'a> {
         from: Site,
         to: Site,
         said: Said,
-        out: &mut Vec<Packet>,
+        lists: &mut Lists,
     ) -> Result<Reply, ActFault> {
         let packet = packet_of(self.alloc, from, to, said).expect(rt, "memory");
         assert!(rt; is_well_formed(&packet));
-        self.core.act(Event::Deliver(packet), out)
+        act_into(rt, &mut self.core, Event::Deliver(packet), lists)
     }
 
     /// The root's prefix is searched, and posted.
-    fn post<R: Abort>(&mut self, rt: &R, out: &mut Vec<Packet>) -> Result<Reply, ActFault> {
+    fn post<R: Abort>(&mut self, rt: &R, lists: &mut Lists) -> Result<Reply, ActFault> {
         let found = self.searcher.find(Vec::new(self.alloc), 6);
         let finding = found.expect(rt, "memory");
-        self.core.act(Event::Post(ROOT_JOB, finding), out)
-    }
-
-    /// Lets the event happen that the row names.
-    fn act<R: Abort>(
-        &mut self,
-        rt: &R,
-        does: Does,
-        out: &mut Vec<Packet>,
-    ) -> Result<Reply, ActFault> {
-        match does {
-            Take => self.core.act(Event::Take, out),
-            Post => self.post(rt, out),
-            Finish => self.core.act(Event::Finish(ROOT_JOB.unit), out),
-            Ask => self.core.act(Event::Ask(1), out),
-            Redo(serial) => self.core.act(Event::Redo(serial), out),
-            Hears(from, said) => self.hear(rt, from, REGISTRY, said, out),
-            Overhears(from, said) => self.hear(rt, from, ANOTHER, said, out),
-            Again => self.core.act(Event::Again, out),
-            Greet => self.core.act(Event::Greet, out),
-        }
+        act_into(rt, &mut self.core, Event::Post(ROOT_JOB, finding), lists)
     }
 
     /// Lets one row of a script happen; whether all is as it says.
-    fn plays<R: Abort>(&mut self, rt: &R, row: Row) -> bool {
-        let (does, comes, sent) = row;
-        let mut out = Vec::new(self.alloc);
-        let answer = self.act(rt, does, &mut out);
-        has_come(&answer, comes) && are_sent(rt, self.alloc, REGISTRY, &out, sent)
+    fn plays<R: Abort>(&mut self, rt: &R, (does, comes, sent): Row) -> bool {
+        let mut lists = Lists::new(rt, self.alloc, false);
+        let answer = self.does(rt, &does, &mut lists);
+        has_come(&answer, comes) && lists.have(rt, self.alloc, REGISTRY, sent)
+    }
+}
+
+impl<'a> Played for Stage<'a> {
+    type Does = Does;
+
+    fn site(&self) -> Site {
+        REGISTRY
+    }
+
+    fn does<R: Abort>(
+        &mut self,
+        rt: &R,
+        does: &Does,
+        lists: &mut Lists,
+    ) -> Result<Reply, ActFault> {
+        let core = &mut self.core;
+        match *does {
+            Take => act_into(rt, core, Event::Take, lists),
+            Post => self.post(rt, lists),
+            Finish => act_into(rt, core, Event::Finish(ROOT_JOB.unit), lists),
+            Ask => act_into(rt, core, Event::Ask(1), lists),
+            Redo(serial) => act_into(rt, core, Event::Redo(serial), lists),
+            Hears(from, said) => self.hear(rt, from, REGISTRY, said, lists),
+            Overhears(from, said) => self.hear(rt, from, ANOTHER, said, lists),
+            Again => act_into(rt, core, Event::Again, lists),
+            Greet => act_into(rt, core, Event::Greet, lists),
+        }
+    }
+
+    fn is_alike<R: Abort>(&self, rt: &R, other: &Self) -> bool {
+        self.core.published() == other.core.published()
+            && is_alike(rt, self.alloc, self.core.state(), other.core.state())
     }
 }
 
@@ -172,7 +187,7 @@ fn play<R: Abort>(rt: &R, alloc: Global, rows: &[Row], publishes: Publishes) {
 
 /// A cover that doesn't count right enters nothing; one that does is accepted, all nodes are told that it is over, and it
 /// is published, its options in the order of the file, whatever comes later.
-static COVERED: [Row; 17] = [
+pub static COVERED: [Row; 17] = [
     (Again, Ignored, &[]),
     (
         Hears(NODE_1, Said::Steal),
@@ -248,7 +263,7 @@ static COVERED: [Row; 17] = [
 ];
 
 /// The root is given out anew, by a call and since its thief begins anew; it comes to nothing.
-static GIVEN_ANEW: [Row; 17] = [
+pub static GIVEN_ANEW: [Row; 17] = [
     (Take, Fault(OtherSite), &[]),
     (Post, Fault(OtherSite), &[]),
     (Finish, Fault(OtherSite), &[]),
