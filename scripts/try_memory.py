@@ -21,7 +21,7 @@ import subprocess
 import sys
 import tempfile
 
-from built import parser_of, program_of, stop, TOP, want_command, want_program
+from built import parser_of, program_of, stop, TOP, want_command
 
 TESTS = program_of("core_tests") + "_tests"
 CAREFUL = "refused_memory"
@@ -128,7 +128,8 @@ def main():
     parser.add_argument("--list", action="store_true", help="list the events with their growths, and refuse none")
     given = parser.parse_args()
     want_command("cc")
-    want_program(TESTS, "core_tests")
+    if not os.access(TESTS, os.X_OK):
+        stop("core_tests has no built tests; at the top of the repository (cd crates/core_tests && rt test) builds them")
     kinds = collections.defaultdict(Kind)
     with tempfile.TemporaryDirectory() as folder:
         library = build(folder)
