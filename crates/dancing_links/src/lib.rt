@@ -10,7 +10,6 @@
 mod build;
 mod commit;
 mod cover;
-mod keys;
 mod laws;
 mod layout;
 mod link;
