@@ -1,10 +1,11 @@
 -- A new guest at its place in the order.
-use Rattle.std.proofs.Common.{◌≡◌, ℕ, suc, ◌+◌, ◌≤◌, Bool, true, false, cond, not, ◌==◌, List, [], ◌∷◌, map, insert, Option, Some, None, is_some, IsSome, slice_get, refl, sym, ap, subst, ◌∙◌, ⊎_elim, arith}
+use Rattle.std.proofs.Common.{◌≡◌, ℕ, suc, ◌+◌, ◌≤◌, Bool, true, false, cond, not, ◌==◌, List, [], ◌∷◌, ◌++◌, map, insert, option_map, Option, Some, None, is_some, IsSome, slice_get, refl, sym, ap, subst, ◌∙◌, ⊎_elim, arith}
 use Rattle.std.specs.List.{AllByRecursion, position_or_len}
-use Rattle.std.proofs.lemmas.Option.{none-some}
-use Rattle.std.proofs.lemmas.Bool.{and_from, both_ways, eq-eqb, false≢true, false_from_ne_true, or_cases, true≢false}
+use Rattle.std.proofs.lemmas.Option.{none-some, slice_get-map}
+use Rattle.std.proofs.lemmas.Bool.{and_from, and_parts, both_ways, cond-false, eq-eqb, eqb-true, false≢true, false_from_ne_true, or_cases, true≢false}
 use Rattle.spawn_frame.specs.Frames.{is_unit}
 use Rattle.spawn_frame.specs.Names.{guest_before, same_name}
+use Rattle.spawn_frame.specs.Prefixes.{AreGrown, Link, link_of, origin_of, origin_path, path_among}
 use Rattle.spawn_frame.specs.Tables.{HasParents, IsAscending}
 use Rattle.spawn_frame.specs.Units.{Entry, GuestEntry, Table, guest_in, insert_guest, is_guest, unit_of}
 use Rattle.spawn_frame.specs.Works.{IsUnit, IsTable, child_entry, fresh_guest, guest_entry, has_child, table_of}
@@ -14,9 +15,10 @@ use Rattle.spawn_frame.specs.declared.site.ChildName.{ChildName}
 use Rattle.spawn_frame.specs.declared.site.Site.{Site}
 use Rattle.spawn_frame.specs.declared.unit.Unit.{Unit as WorkUnit}
 use Rattle.spawn_frame.specs.declared.unit.Unit.TheVariants as units
+use Rattle.spawn_frame.proofs.Grown.{each_guest, each_origin, link_at}
 use Rattle.spawn_frame.proofs.Parents.{no_children}
 use Rattle.spawn_frame.proofs.Orders.{before_on, before_or_same}
-use Rattle.spawn_frame.proofs.Sames.{parent_path, same_name_self}
+use Rattle.spawn_frame.proofs.Sames.{name_path, parent_path, same_name_self}
 
 -- the list with a new guest before the first that stands behind it
 abbrev pub put_guest : Guest → List Guest → List Guest
@@ -130,6 +132,43 @@ none_there table unit h e = false_from_ne_true (has_child unit table.own) (λ t.
     let f = find_child unit table.own t in
     true≢false (sym (h.there f.place f.entry unit f.is (parent_path f.entry.parent unit f.child)) ∙ ap is_some e))
 
+-- ---- prefixes
+
+-- a guest of another name or attempt than the new one keeps its path
+put_path : (new : Guest) (gs : List Guest) (n : ChildName) (a : ℕ) → is_guest n a (guest_entry new) ≡ false → origin_path (map origin_of (put_guest new gs)) n a ≡ origin_path (map origin_of gs) n a
+put_path new [] n a other = cond-false (is_guest n a (guest_entry new)) new.work.path.options [] other
+put_path new (g ∷ gs) n a other = go (guest_before new.name new.work.attempt g.name g.work.attempt) (put_path new gs n a other)
+  where
+    go : (b : Bool) → origin_path (map origin_of (put_guest new gs)) n a ≡ origin_path (map origin_of gs) n a
+        → origin_path (map origin_of (cond b (new ∷ g ∷ gs) (g ∷ put_guest new gs))) n a ≡ origin_path (map origin_of (g ∷ gs)) n a
+    go true e = cond-false (is_guest n a (guest_entry new)) new.work.path.options (origin_path (map origin_of (g ∷ gs)) n a) other
+    go false e = ap (cond (is_guest n a (guest_entry g)) g.work.path.options) e
+
+-- a guest that is there is another than the new one
+there_other : (new : Guest) (gs : List Guest) (n : ChildName) (a : ℕ) → guest_in (map guest_entry gs) new.name new.work.attempt ≡ None → IsSome (guest_in (map guest_entry gs) n a) → is_guest n a (guest_entry new) ≡ false
+there_other new gs n a absent there = false_from_ne_true (is_guest n a (guest_entry new)) (λ t.
+    let parts = and_parts (same_name new.name n) (new.work.attempt == a) t in
+    let name : new.name ≡ n = name_path new.name n parts.0 in
+    let attempt : new.work.attempt ≡ a = eqb-true new.work.attempt a parts.1 in
+    true≢false (sym there ∙ ap is_some ((λ i. guest_in (map guest_entry gs) (sym name i) (sym attempt i)) ∙ absent)))
+
+put_grown : (site : Site) (limit : ℕ) (own : List Child) (guests : List Guest) → IsTable (table_of site limit own guests) own guests → (new : Guest)
+    → guest_in (map guest_entry guests) new.name new.work.attempt ≡ None → new.prefix ≡ new.work.path.options → AreGrown (map link_of own) (map origin_of (put_guest new guests))
+put_grown site limit own guests h new absent is = record {
+  root = h.grown.root;
+  grown = λ k link unit at p. h.grown.grown k link unit at p ∙ ap (λ l. l ++ link.option ∷ []) (sym (path k link unit at p));
+  lower = h.grown.lower;
+  whole = each_origin (put_guest new guests) (each_put (λ g. g.prefix ≡ g.work.path.options) new guests is (each_guest guests h.grown.whole));
+}
+  where
+    path : (k : ℕ) (link : Link) (unit : WorkUnit) → slice_get (map link_of own) k ≡ Some link → link.parent ≡ Some unit
+        → path_among (map link_of own) (map origin_of (put_guest new guests)) unit ≡ path_among (map link_of own) (map origin_of guests) unit
+    path k link (units.Own j) at p = refl
+    path k link (units.Guest n a) at p =
+        let c = link_at own k link at in
+        put_path new guests n a (there_other new guests n a absent
+        (h.parents.there k (child_entry c.child) (units.Guest n a) (slice_get-map child_entry own k ∙ ap (option_map child_entry) c.is) (ap (λ l. l.parent) c.same ∙ p)))
+
 -- ---- the table
 
 pub put_kept : (site : Site) (limit : ℕ) (own : List Child) (guests : List Guest) → IsTable (table_of site limit own guests) own guests → (name : ChildName) (attempt : ℕ) (prefix : List ℕ)
@@ -141,6 +180,7 @@ put_kept site limit own guests h name attempt prefix absent from =
       small = h.small;
       names = h.names;
       ascending = subst IsAscending (sym view) (ascending_inserted (guest_entry new) (map guest_entry guests) absent h.ascending);
+      grown = put_grown site limit own guests h new absent refl;
       parents = record { lower = h.parents.lower; there = λ k c unit at p. there unit (h.parents.there k c unit at p) };
       own_units = h.own_units;
       guest_units = each_put (λ g. IsUnit (units.Guest g.name g.work.attempt) g.work (map child_entry own)) new guests

@@ -7,6 +7,7 @@ use Rattle.spawn_frame.specs.Frames.{frame, frame_result, is_unit}
 use Rattle.spawn_frame.specs.Inlets.{frame_hearing, heard_by, is_done}
 use Rattle.spawn_frame.specs.Names.{guest_before, same_name}
 use Rattle.spawn_frame.specs.Picks.{is_split}
+use Rattle.spawn_frame.specs.Prefixes.{AreGrown, Link, Origin, link_of}
 use Rattle.spawn_frame.specs.Tables.{AreChildren, HasParents, IsAscending, has_status, heard_at, may_end, parent_heard, parent_in}
 use Rattle.spawn_frame.specs.Units.{Entry, Table, change_at, is_guest, table_gets, unit_of, with_status}
 use Rattle.spawn_frame.specs.Works.{HearsFrom, IsUnit, IsTable, change_child, change_work, child_entry, frame_says, guest_entry, guests_told, has_child, heard_work, inlet_after, own_told, parent_work, table_of, with_heard, with_work_status, work_in}
@@ -21,6 +22,7 @@ use Rattle.spawn_frame.specs.declared.status.Status.TheVariants.{Aborted, Done, 
 use Rattle.spawn_frame.specs.declared.unit.Unit.{Unit as WorkUnit}
 use Rattle.spawn_frame.specs.declared.unit.Unit.TheVariants as units
 use Rattle.spawn_frame.specs.declared.work.Work.{Work}
+use Rattle.spawn_frame.proofs.Grown.{links_kept, links_told, origins_told}
 use Rattle.spawn_frame.proofs.Found.{unit_none, unit_work}
 use Rattle.spawn_frame.proofs.Frames.{child_once_done, child_there, hearing_of_others, hearing_once_done, same_heard, some_left}
 use Rattle.spawn_frame.proofs.Kept.{each_weaker, length_changed}
@@ -271,12 +273,16 @@ module _ (site : Site) (limit : ℕ) (own : List Child) (guests : List Guest) (i
     there = λ i d unit at p. let b = status_before (Done result) es k i d at in unit_there unit (is_table.parents.there i b.0 unit b.1 (sym b.2 ∙ p));
   }
 
+  links_ended : map link_of own_ended ≡ map link_of own
+  links_ended = links_kept (with_work_status (Done result)) (λ w. refl) (own_told parent hears own) k ∙ links_told hears (λ w. refl) own parent
+
   pub ended_kept : IsTable (table_of site limit own_ended guests_ended) own_ended guests_ended
   ended_kept = record {
     small = is_table.small;
     names = subst (λ n. n ≤ limit) (sym (length_changed (with_work_status (Done result)) (own_told parent hears own) k ∙ told_length hears own parent)) is_table.names;
     ascending = subst IsAscending (sym guests_same) is_table.ascending;
     parents = subst HasParents (sym ended_view) parents_ended;
+    grown = subst (λ (p : List Link × List Origin). AreGrown p.0 p.1) (λ i. (sym links_ended i, sym (origins_told hears (λ w. refl) (λ w. refl) guests parent) i)) is_table.grown;
     own_units = λ j d at. subst (λ l. IsUnit (units.Own j) d.work l) (sym entries_ended) (own_frame j d at);
     guest_units = subst (λ l. AllByRecursion (λ g. IsUnit (units.Guest g.name g.work.attempt) g.work l) guests_ended) (sym entries_ended) (guest_heard parent refl);
   }
@@ -324,7 +330,7 @@ module _ (site : Site) (limit : ℕ) (own : List Child) (guests : List Guest) (i
 
 -- the write of a status, once the frame has heard
 pub ended_write : (own heard : List Child) (parent : Option WorkUnit) (f g : Work → Work) (k : ℕ) (c : Child) (w : Work) → w ≡ g c.work → heard ≡ own_told parent f own → k < length own → c ≡ get_or heard k c
-    → slice_set heard k (record { parent = c.parent; work = w }) ≡ change_child g (own_told parent f own) k
+    → slice_set heard k (record { parent = c.parent; option = c.option; work = w }) ≡ change_child g (own_told parent f own) k
 ended_write own heard parent f g k c w done e h at =
     let within : k < length heard = subst (λ n. k < n) (sym (ap length e ∙ told_length f own parent)) h in
-    ap (λ v. slice_set heard k (record { parent = c.parent; work = v })) done ∙ child_set g heard k c within at ∙ ap (λ l. change_child g l k) e
+    ap (λ v. slice_set heard k (record { parent = c.parent; option = c.option; work = v })) done ∙ child_set g heard k c within at ∙ ap (λ l. change_child g l k) e

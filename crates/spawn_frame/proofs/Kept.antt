@@ -3,6 +3,7 @@ use Rattle.std.proofs.Common.{◌≡◌, ℕ, zero, suc, ◌≤◌, Bool, true, 
 use Rattle.std.specs.List.{AllByRecursion}
 use Rattle.std.proofs.lemmas.Option.{same_Some, none-some}
 use Rattle.spawn_frame.specs.Names.{guest_before, same_name}
+use Rattle.spawn_frame.specs.Prefixes.{AreGrown, link_of, origin_of}
 use Rattle.spawn_frame.specs.Tables.{HasParents, IsAscending, guest_key}
 use Rattle.spawn_frame.specs.Units.{Entry, GuestEntry, Table, guest_in, is_guest, unit_of}
 use Rattle.spawn_frame.specs.Works.{IsUnit, IsTable, change_child, change_work, child_entry, entry_of, guest_entry, guest_work, table_of}
@@ -14,6 +15,7 @@ use Rattle.spawn_frame.specs.declared.unit.Unit.{Unit as WorkUnit}
 use Rattle.spawn_frame.specs.declared.unit.Unit.TheVariants as units
 use Rattle.spawn_frame.specs.declared.work.Work.{Work}
 use Rattle.spawn_frame.proofs.Briefs.{brief, briefs, same_frame}
+use Rattle.spawn_frame.proofs.Grown.{links_kept, origins_kept}
 use Rattle.spawn_frame.proofs.Lookups.{child_before, guest_with, with_work}
 
 -- ---- own children of which frames see the same
@@ -127,9 +129,9 @@ each_weaker P Q f (g ∷ gs) p = (f g p.0, each_weaker P Q f gs p.1)
 -- ---- tables
 
 module _ (site : Site) (limit : ℕ) (own : List Child) (guests : List Guest) (is_table : IsTable (table_of site limit own guests) own guests) where
-  pub own_kept : (f : Work → Work) (k : ℕ) (c : Child) → slice_get own k ≡ Some c → (IsUnit (units.Own k) c.work (map child_entry own) → IsUnit (units.Own k) (f c.work) (map child_entry own))
+  pub own_kept : (f : Work → Work) → ((w : Work) → (f w).path ≡ w.path) → (k : ℕ) (c : Child) → slice_get own k ≡ Some c → (IsUnit (units.Own k) c.work (map child_entry own) → IsUnit (units.Own k) (f c.work) (map child_entry own))
       → brief (entry_of c.parent (f c.work)) ≡ brief (child_entry c) → IsTable (table_of site limit (change_child f own k) guests) (change_child f own k) guests
-  own_kept f k c at frame same =
+  own_kept f path k c at frame same =
       let e : briefs (map child_entry (change_child f own k)) ≡ briefs (map child_entry own) = child_briefs f own k c at same in
       let old = map child_entry own in
       let new = map child_entry (change_child f own k) in
@@ -138,6 +140,7 @@ module _ (site : Site) (limit : ℕ) (own : List Child) (guests : List Guest) (i
         names = subst (λ n. n ≤ limit) (sym (length_changed f own k)) is_table.names;
         ascending = is_table.ascending;
         parents = parents_kept (table_of site limit own guests) (table_of site limit (change_child f own k) guests) is_table.parents e there;
+        grown = subst (λ l. AreGrown l (map origin_of guests)) (sym (links_kept f path own k)) is_table.grown;
         own_units = λ j d at'. let b = child_before f own k j d at' in
             ⊎_elim
             (λ (h : (j ≡ k) × (d ≡ with_work f b.child)).
@@ -157,13 +160,14 @@ module _ (site : Site) (limit : ℕ) (own : List Child) (guests : List Guest) (i
       there (units.Own j) h = still_there (map child_entry own) (map child_entry (change_child f own k)) (child_briefs f own k c at same) j ∙ h
       there (units.Guest n a) h = h
 
-  pub guests_kept : (f : Work → Work) → ((w : Work) → (f w).attempt ≡ w.attempt) → (n : ChildName) (a : ℕ) (w : Work) → guest_work guests n a ≡ Some w
+  pub guests_kept : (f : Work → Work) → ((w : Work) → (f w).attempt ≡ w.attempt) → ((w : Work) → (f w).path ≡ w.path) → (n : ChildName) (a : ℕ) (w : Work) → guest_work guests n a ≡ Some w
       → ((m : ChildName) (b : ℕ) → IsUnit (units.Guest m b) w (map child_entry own) → IsUnit (units.Guest m b) (f w) (map child_entry own)) → IsTable (table_of site limit own (change_work f guests n a)) own (change_work f guests n a)
-  guests_kept f same n a w at frame = record {
+  guests_kept f same path n a w at frame = record {
     small = is_table.small;
     names = is_table.names;
     ascending = ascending_kept (map guest_entry guests) (map guest_entry (change_work f guests n a)) (keys_kept f same guests n a) is_table.ascending;
     parents = parents_kept (table_of site limit own guests) (table_of site limit own (change_work f guests n a)) is_table.parents refl there;
+    grown = subst (λ l. AreGrown (map link_of own) l) (sym (origins_kept f path same guests n a)) is_table.grown;
     own_units = is_table.own_units;
     guest_units = each_changed (λ g. IsUnit (units.Guest g.name g.work.attempt) g.work (map child_entry own)) f guests n a w at changed is_table.guest_units;
   }

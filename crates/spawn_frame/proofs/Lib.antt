@@ -4,6 +4,8 @@ pub mod Briefs
 pub mod Lookups
 pub mod Frames
 pub mod Places
+pub mod Grown
+pub mod Compared
 pub mod Kept
 pub mod Statuses
 pub mod Working
@@ -20,3 +22,4 @@ pub mod Spawned
 pub mod Split
 pub mod Paged
 pub mod Ahead
+pub mod Walks

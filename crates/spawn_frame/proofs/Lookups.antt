@@ -12,11 +12,11 @@ use Rattle.spawn_frame.specs.declared.work.Work.{Work}
 
 -- the child with other work
 abbrev pub with_work : (Work → Work) → Child → Child
-with_work f c = record { parent = c.parent; work = f c.work }
+with_work f c = record { parent = c.parent; option = c.option; work = f c.work }
 
 -- the guest with other work
 abbrev pub guest_with : (Work → Work) → Guest → Guest
-guest_with f g = record { name = g.name; work = f g.work }
+guest_with f g = record { name = g.name; prefix = g.prefix; work = f g.work }
 
 -- a change of work as the site sees it
 pub child_view : (f : Work → Work) (g : Entry → Entry) → ((parent : Option WorkUnit) (w : Work) → entry_of parent (f w) ≡ g (entry_of parent w))

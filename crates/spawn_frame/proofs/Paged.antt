@@ -186,8 +186,8 @@ grown_stay own more end pages new h fits room kept = record { begun = omega (ari
 -- ---- one child written
 
 pub work_written : (f : Work → Work) (own : List Child) (k : ℕ) (c : Child) (w : Work) → k < length own → c ≡ get_or own k c → w ≡ f c.work
-    → slice_set own k (record { parent = c.parent; work = w }) ≡ change_child f own k
-work_written f own k c w within at is = ap (λ (v : Work). slice_set own k (record { parent = c.parent; work = v })) is ∙ child_set f own k c within at
+    → slice_set own k (record { parent = c.parent; option = c.option; work = w }) ≡ change_child f own k
+work_written f own k c w within at is = ap (λ (v : Work). slice_set own k (record { parent = c.parent; option = c.option; work = v })) is ∙ child_set f own k c within at
 
 pub others_told : (f : Work → Work) (own seen : List Child) (k : ℕ) (pages lent : List Kinds) → TellsPages own pages → seen ≡ change_child f own k → lent ≡ pages
     → TellsOthers (k / 256) (k / 256 + 1) seen lent

@@ -38,7 +38,7 @@ pub redone_kept : (site : Site) (limit : ℕ) (own : List Child) (guests : List 
     → IsTable (table_of site limit (change_child redone_work own k) guests) (change_child redone_work own k) guests
 redone_kept site limit own guests h k c =
     let away = out_is_away c.child.work.status c.passes in
-    own_kept site limit own guests h redone_work k c.child c.is (λ f. record { attempt = omega arith; status = refl; whole = λ t. f.whole away.whole; split = λ s. absurd (cc); children = f.children })
+    own_kept site limit own guests h redone_work (λ w. refl) k c.child c.is (λ f. record { attempt = omega arith; status = refl; whole = λ t. f.whole away.whole; split = λ s. absurd (cc); children = f.children })
     (λ i. record { parent = c.child.parent; done = sym away.undone i; covered = sym away.uncovered i })
 
 pub redone_view : (site : Site) (limit : ℕ) (own : List Child) (guests : List Guest) (k : ℕ)
@@ -47,4 +47,4 @@ redone_view site limit own guests k =
     ap (table_own (table_of site limit own guests)) (child_view redone_work redone (λ parent w. next parent w) own k)
   where
     next : (parent : Option WorkUnit) (w : Work) → entry_of parent (redone_work w) ≡ redone (entry_of parent w)
-    next parent w = let e : w.attempt + 1 ≡ suc w.attempt = omega arith in λ i. record { parent = parent; prefix = w.prefix; attempt = e i; status = Ready }
+    next parent w = let e : w.attempt + 1 ≡ suc w.attempt = omega arith in λ i. record { parent = parent; prefix = w.path.options; attempt = e i; status = Ready }

@@ -7,6 +7,7 @@ use Rattle.std.proofs.lemmas.Bool.{and_from, and_parts, both_ways, eqb-true, eq-
 use Rattle.spawn_frame.specs.Frames.{cover_of}
 use Rattle.spawn_frame.specs.Inlets.{is_done}
 use Rattle.spawn_frame.specs.Names.{same_name, same_unit}
+use Rattle.spawn_frame.specs.Prefixes.{AreGrown, Link, Origin, last_of, link_of, link_path, origin_of, path_among, path_of}
 use Rattle.spawn_frame.specs.Splits.{new_child, split_into}
 use Rattle.spawn_frame.specs.Tables.{AreChildren, HasParents, IsAscending, is_here, suits}
 use Rattle.spawn_frame.specs.Units.{Entry, guest_in, is_guest, table_gets, table_own, unit_of, with_status}
@@ -23,6 +24,7 @@ use Rattle.spawn_frame.proofs.Admitted.{find_child}
 use Rattle.spawn_frame.proofs.Briefs.{briefs, same_child, same_frame}
 use Rattle.spawn_frame.proofs.Ended.{each_told}
 use Rattle.spawn_frame.proofs.Found.{unit_work}
+use Rattle.spawn_frame.proofs.Grown.{links_kept, origins_kept, path_in, path_work}
 use Rattle.spawn_frame.proofs.Kept.{ascending_kept, child_briefs, each_weaker, guest_there, keys_kept, length_changed, still_there, was_there}
 use Rattle.spawn_frame.proofs.Lookups.{child_before, child_view, guest_view, with_work}
 use Rattle.spawn_frame.proofs.Parents.{children_new, children_of_others, no_children}
@@ -64,6 +66,23 @@ new_entry_at unit [] i d at = absurd (none-some d at)
 new_entry_at unit (p ∷ ps) zero d at = ap (λ x. x.parent) (sym (same_Some (new_child unit p) d at))
 new_entry_at unit (p ∷ ps) (suc i) d at = new_entry_at unit ps i d at
 
+front_get : {X : Type 0} (xs ys : List X) (j : ℕ) → j < length xs → slice_get (xs ++ ys) j ≡ slice_get xs j
+front_get [] ys j h = absurd (omega (arith, h))
+front_get (x ∷ xs) ys zero h = refl
+front_get (x ∷ xs) ys (suc j) h = front_get xs ys j (omega (arith, h))
+
+-- what a new child tells of its prefix
+pub record IsNewLink (unit : WorkUnit) (before : List ℕ) (link : Link) : Type 0 where
+  pub parent : link.parent ≡ Some unit
+  pub path : link.path ≡ before ++ link.option ∷ []
+
+new_link : (unit : WorkUnit) (path : List ℕ) (ps : List (List ℕ)) → AllByRecursion (λ p. p ≡ path ++ last_of p ∷ []) ps → (i : ℕ) (link : Link) → slice_get (map link_of (map (fresh_child unit) ps)) i ≡ Some link
+    → IsNewLink unit path link
+new_link unit path [] h i link at = absurd (none-some link at)
+new_link unit path (p ∷ ps) h zero link at =
+    subst (IsNewLink unit path) (same_Some (link_of (fresh_child unit p)) link at) (record { parent = refl; path = h.0 })
+new_link unit path (p ∷ ps) h (suc i) link at = new_link unit path ps h.1 i link at
+
 -- what frames see of a unit that is here
 pub record IsBegun (status : Status) : Type 0 where
   pub whole : is_whole status ≡ true
@@ -85,7 +104,7 @@ here_is_begun Dropped h = absurd (false≢true h)
 
 module _ (site : Site) (limit : ℕ) (own : List Child) (guests : List Guest) (is_table : IsTable (table_of site limit own guests) own guests)
     (unit : WorkUnit) (w : Work) (found : work_in own guests unit ≡ Some w) (here : is_here w.status ≡ true)
-    (ps : List (List ℕ)) (fits : length own + length ps ≤ limit) where
+    (ps : List (List ℕ)) (fits : length own + length ps ≤ limit) (grows : AllByRecursion (λ p. p ≡ w.path.options ++ last_of p ∷ []) ps) where
   abbrev es : List Entry
   es = map child_entry own
 
@@ -290,12 +309,61 @@ module _ (site : Site) (limit : ℕ) (own : List Child) (guests : List Guest) (i
   ascending_split (units.Own k) = is_table.ascending
   ascending_split (units.Guest n a) = ascending_kept (map guest_entry guests) (map guest_entry (change_work becomes guests n a)) (keys_kept becomes (λ x. refl) guests n a) is_table.ascending
 
+  -- ---- prefixes
+
+  links_are : map link_of own_split ≡ map link_of own ++ map link_of kids
+  links_are = ap (map link_of) own_is ∙ map-append link_of front kids ∙ ap (λ l. l ++ map link_of kids) (go unit)
+    where
+      go : (u : WorkUnit) → map link_of (own_after u becomes own) ≡ map link_of own
+      go (units.Own k) = links_kept becomes (λ x. refl) own k
+      go (units.Guest n a) = refl
+
+  origins_are : (u : WorkUnit) → map origin_of (guests_after u becomes guests) ≡ map origin_of guests
+  origins_are (units.Own k) = refl
+  origins_are (units.Guest n a) = origins_kept becomes (λ x. refl) (λ x. refl) guests n a
+
+  -- a unit of the table keeps its path
+  path_stays : (v : WorkUnit) → ((j : ℕ) → v ≡ units.Own j → j < length own) → path_among (map link_of own ++ map link_of kids) (map origin_of guests) v ≡ path_of own guests v
+  path_stays (units.Own j) below = ap link_path (front_get (map link_of own) (map link_of kids) j (omega (arith, length-map own link_of, below j refl)))
+  path_stays (units.Guest n a) below = refl
+
+  path_here : path_among (map link_of own ++ map link_of kids) (map origin_of guests) unit ≡ w.path.options
+  path_here = path_stays unit (λ j e. own_below j e) ∙ path_work own guests unit ∙ ap path_in found
+
+  grown_split : AreGrown (map link_of own ++ map link_of kids) (map origin_of guests)
+  grown_split = record {
+    root = λ k link at p. ⊎_elim
+        (λ (h : slice_get (map link_of own) k ≡ Some link). is_table.grown.root k link h p)
+        (λ (h : (i : ℕ) × (length (map link_of own) ≤ k) × (slice_get (map link_of kids) i ≡ Some link)).
+        let n = new_link unit w.path.options ps grows h.0 link h.2 in absurd (none-some unit (sym p ∙ n.parent)))
+        (front_or_behind (map link_of own) (map link_of kids) k link at);
+    grown = λ k link v at p. ⊎_elim
+        (λ (h : slice_get (map link_of own) k ≡ Some link).
+        let within : k < length own = omega (arith, slice_get_within (map link_of own) k link h, length-map own link_of) in
+        is_table.grown.grown k link v h p ∙ ap (λ l. l ++ link.option ∷ []) (sym (path_stays v (λ j e. let below = is_table.grown.lower k j link h (p ∙ ap Some e) in omega (arith, below, within)))))
+        (λ (h : (i : ℕ) × (length (map link_of own) ≤ k) × (slice_get (map link_of kids) i ≡ Some link)).
+        let n = new_link unit w.path.options ps grows h.0 link h.2 in
+        let is : unit ≡ v = same_Some unit v (sym n.parent ∙ p) in
+        n.path ∙ ap (λ l. l ++ link.option ∷ []) (sym path_here ∙ ap (path_among (map link_of own ++ map link_of kids) (map origin_of guests)) is))
+        (front_or_behind (map link_of own) (map link_of kids) k link at);
+    lower = λ k j link at p. ⊎_elim
+        (λ (h : slice_get (map link_of own) k ≡ Some link). is_table.grown.lower k j link h p)
+        (λ (h : (i : ℕ) × (length (map link_of own) ≤ k) × (slice_get (map link_of kids) i ≡ Some link)).
+        let n = new_link unit w.path.options ps grows h.0 link h.2 in
+        let below = own_below j (same_Some unit (units.Own j) (sym n.parent ∙ p)) in
+        let behind : length (map link_of own) ≤ k = h.1 in
+        omega (arith, below, behind, length-map own link_of))
+        (front_or_behind (map link_of own) (map link_of kids) k link at);
+    whole = is_table.grown.whole;
+  }
+
   pub split_kept : IsTable (table_of site limit own_split guests_split) own_split guests_split
   split_kept = record {
     small = is_table.small;
     names = subst (λ n. n ≤ limit) (sym (ap length own_is ∙ length-append front kids ∙ (λ i. front_length i + length-map ps (fresh_child unit) i))) fits;
     ascending = ascending_split unit;
     parents = parents_split;
+    grown = subst (λ (p : List Link × List Origin). AreGrown p.0 p.1) (λ i. (sym links_are i, sym (origins_are unit) i)) grown_split;
     own_units = λ j d at. subst (λ l. IsUnit (units.Own j) d.work l) (sym entries_are) (own_frame j d (ap (λ l. slice_get l j) (sym own_is) ∙ at));
     guest_units = subst (λ l. AllByRecursion (λ g. IsUnit (units.Guest g.name g.work.attempt) g.work l) guests_split) (sym entries_are) (guest_frame unit refl);
   }

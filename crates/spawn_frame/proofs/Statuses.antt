@@ -74,11 +74,11 @@ status_kept site limit own guests h (units.Own k) status t =
     let c = child_with (may_become (units.Own k) status) own k t in
     let fits = and_parts (suits (units.Own k) status) (not (is_done status || is_done c.child.work.status) && keeps_frame status c.child.work.status) c.passes in
     let p = and_parts (not (is_done status || is_done c.child.work.status)) (keeps_frame status c.child.work.status) fits.1 in
-    own_kept site limit own guests h (with_work_status status) k c.child c.is (frame_becomes status (units.Own k) c.child.work (map child_entry own) fits.0 p.1) (undone_brief c.child.parent c.child.work status p.0)
+    own_kept site limit own guests h (with_work_status status) (λ w. refl) k c.child c.is (frame_becomes status (units.Own k) c.child.work (map child_entry own) fits.0 p.1) (undone_brief c.child.parent c.child.work status p.0)
 status_kept site limit own guests h (units.Guest name attempt) status t =
     let g = guest_with_status (may_become (units.Guest name attempt) status) guests name attempt t in
     let fits = and_parts (suits (units.Guest name attempt) status) (keeps_frame status g.work.status) g.passes in
-    guests_kept site limit own guests h (with_work_status status) (λ w. refl) name attempt g.work g.is (λ m b. frame_becomes status (units.Guest m b) g.work (map child_entry own) fits.0 fits.1)
+    guests_kept site limit own guests h (with_work_status status) (λ w. refl) (λ w. refl) name attempt g.work g.is (λ m b. frame_becomes status (units.Guest m b) g.work (map child_entry own) fits.0 fits.1)
 
 pub status_view : (site : Site) (limit : ℕ) (own : List Child) (guests : List Guest) (unit : WorkUnit) (status : Status)
     → table_of site limit (own_after unit (with_work_status status) own) (guests_after unit (with_work_status status) guests) ≡ table_gets (table_of site limit own guests) unit status

@@ -3,9 +3,9 @@ use Rattle.std.proofs.Common.{◌≡◌, ℕ, Bool, true, false, ◌&&◌, ◌==
 use Rattle.std.specs.Cmp.Lexicographic.{same_text}
 use Rattle.std.specs.Bool.{OnTrue}
 use Rattle.std.proofs.lemmas.Bool.{and_parts, eqb-true, false≢true}
-use Rattle.spawn_frame.specs.Tables.{IsAtWork, is_at_work, is_here}
+use Rattle.spawn_frame.specs.Tables.{IsAtWork, is_at_work, is_here, prefix_in}
 use Rattle.spawn_frame.specs.Units.{Entry, Table, unit_of}
-use Rattle.spawn_frame.specs.Works.{IsWork, entry_of}
+use Rattle.spawn_frame.specs.Works.{IsWork}
 use Rattle.spawn_frame.specs.declared.status.Status.{Status}
 use Rattle.spawn_frame.specs.declared.status.Status.TheVariants.{Aborted, Done, Dropped, Finished, Here, Out, Ready, Settled, Split}
 use Rattle.spawn_frame.specs.declared.unit.Unit.{Unit as WorkUnit}
@@ -36,11 +36,15 @@ at_work_entry attempt prefix (Some e) h =
     }
 
 -- what is kept of the unit decides
-pub job_tested : (table : Table) (unit : WorkUnit) (w : Work) (attempt : ℕ) (prefix : List ℕ) (b : Bool) → IsWork table unit w
-    → ((parent : Option WorkUnit) → b ≡ is_at_work attempt prefix (Some (entry_of parent w))) → b ≡ is_at_work attempt prefix (unit_of table unit)
-job_tested table unit w attempt prefix b h e = e h.parent ∙ ap (is_at_work attempt prefix) (sym h.is)
+-- a unit that is here at the attempt is at work with the prefix that it has
+pub job_tested : (table : Table) (unit : WorkUnit) (w : Work) (attempt : ℕ) (prefix : List ℕ) (here same : Bool) → IsWork table unit w → here ≡ (is_here w.status && w.attempt == attempt) → here ≡ true
+    → same ≡ bytes_eq (prefix_in (unit_of table unit)) prefix → same ≡ is_at_work attempt prefix (unit_of table unit)
+job_tested table unit w attempt prefix here same h e t s =
+    let parts = and_parts (is_here w.status) (w.attempt == attempt) (sym e ∙ t) in
+    s ∙ ap (λ o. bytes_eq (prefix_in o) prefix) h.is
+    ∙ (λ i. sym parts.0 i && (sym parts.1 i && bytes_eq w.path.options prefix))
+    ∙ ap (is_at_work attempt prefix) (sym h.is)
 
-pub at_work : (table : Table) (unit : WorkUnit) (w : Work) (attempt : ℕ) (prefix : List ℕ) (b : Bool) → IsWork table unit w
-    → ((parent : Option WorkUnit) → b ≡ is_at_work attempt prefix (Some (entry_of parent w))) → OnTrue b (IsAtWork attempt prefix (unit_of table unit))
-at_work table unit w attempt prefix true h e = at_work_entry attempt prefix (unit_of table unit) (sym (job_tested table unit w attempt prefix true h e))
-at_work table unit w attempt prefix false h e = tt
+pub at_work : (attempt : ℕ) (prefix : List ℕ) (unit : Option Entry) (b : Bool) → b ≡ is_at_work attempt prefix unit → OnTrue b (IsAtWork attempt prefix unit)
+at_work attempt prefix unit true e = at_work_entry attempt prefix unit (sym e)
+at_work attempt prefix unit false e = tt

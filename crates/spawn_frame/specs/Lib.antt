@@ -4,6 +4,7 @@ pub mod Inlets
 pub mod Names
 pub mod Pages
 pub mod Picks
+pub mod Prefixes
 pub mod Splits
 pub mod Tables
 pub mod Units

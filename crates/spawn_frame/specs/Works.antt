@@ -4,6 +4,7 @@ use Rattle.std.specs.List.{AllByRecursion, list_any}
 use Rattle.spawn_frame.specs.Frames.{is_unit}
 use Rattle.spawn_frame.specs.Inlets.{Hearing, frame_hearing, heard_of, hearing_of, is_done, new_hearing}
 use Rattle.spawn_frame.specs.Picks.{either_unit, is_ready, is_split, pick, ready_unit, ripe_unit}
+use Rattle.spawn_frame.specs.Prefixes.{AreGrown, last_of, link_of, origin_of}
 use Rattle.spawn_frame.specs.Tables.{AreChildren, HasParents, IsAscending, is_here, is_out, suits}
 use Rattle.spawn_frame.specs.Units.{Entry, GuestEntry, Table, is_guest, unit_of}
 use Rattle.spawn_frame.specs.declared.child.Child.{Child}
@@ -23,7 +24,7 @@ use Rattle.spawn_frame.specs.declared.work.Work.{Work}
 
 -- a unit with this parent, as its site sees it
 abbrev pub entry_of : Option WorkUnit → Work → Entry
-entry_of parent w = record { parent = parent; prefix = w.prefix; attempt = w.attempt; status = w.status }
+entry_of parent w = record { parent = parent; prefix = w.path.options; attempt = w.attempt; status = w.status }
 
 -- an own child as its site sees it
 abbrev pub child_entry : Child → Entry
@@ -57,19 +58,20 @@ pub record IsUnit (unit : WorkUnit) (w : Work) (own : List Entry) : Type 0 where
   pub split : w.status ≡ Split → w.inlet ≡ Some (frame_hearing unit own)
   pub children : AreChildren unit own w.children.first w.children.end
 
--- What is true of every table: no more names than the limit, guests in order, parents before their children, and what is true of
--- each unit.
+-- What is true of every table: no more names than the limit, guests in order, parents before their children, prefixes that grow from
+-- parent to child, and what is true of each unit.
 pub record IsTable (table : Table) (own : List Child) (guests : List Guest) : Type 0 where
   pub small : table.limit < 2 ^ 32
   pub names : length own ≤ table.limit
   pub ascending : IsAscending table.guests
   pub parents : HasParents table
+  pub grown : AreGrown (map link_of own) (map origin_of guests)
   pub own_units : (k : ℕ) (c : Child) → slice_get own k ≡ Some c → IsUnit (units.Own k) c.work table.own
   pub guest_units : AllByRecursion (λ g. IsUnit (units.Guest g.name g.work.attempt) g.work table.own) guests
 
 -- work that nobody has taken up
 abbrev pub new_work : List ℕ → ℕ → Work
-new_work prefix attempt = record { prefix = prefix; attempt = attempt; status = Ready; inlet = None; children = record { first = 0; end = 0 } }
+new_work path attempt = record { path = record { options = path }; attempt = attempt; status = Ready; inlet = None; children = record { first = 0; end = 0 } }
 
 -- what an inlet says, where there is one
 abbrev pub heard_work : Option Hearing → Heard
@@ -207,15 +209,15 @@ pub record IsWork (table : Table) (unit : WorkUnit) (w : Work) : Type 0 where
 
 -- the root of the search
 abbrev pub root_child : Child
-root_child = record { parent = None; work = new_work [] 1 }
+root_child = record { parent = None; option = 0; work = new_work [] 1 }
 
 -- a child of a unit when it is made
 abbrev pub fresh_child : WorkUnit → List ℕ → Child
-fresh_child unit prefix = record { parent = Some unit; work = new_work prefix 1 }
+fresh_child unit prefix = record { parent = Some unit; option = last_of prefix; work = new_work prefix 1 }
 
 -- a guest when it is admitted
 abbrev pub fresh_guest : ChildName → ℕ → List ℕ → Guest
-fresh_guest name attempt prefix = record { name = name; work = new_work prefix attempt }
+fresh_guest name attempt prefix = record { name = name; prefix = prefix; work = new_work prefix attempt }
 
 -- a status that makes no frame, nor a unit whole that was split
 abbrev pub keeps_frame : Status → Status → Bool

@@ -1,63 +1,62 @@
 //! Units that a table makes.
 
-ghost use Rattle.std.specs.Prelude.{◌≡◌, ◌++◌, ◌∷◌, [], map, IfOk};
+ghost use Rattle.std.specs.Prelude.{◌≡◌, ◌+◌, ◌≤◌, ◌++◌, ◌∷◌, [], map, length, vec_len, vec_capacity};
 ghost use Rattle.spawn_frame.specs.Works.{fresh_child, fresh_guest, root_child};
 ghost use Rattle.spawn_frame.specs.Tables.{longer_prefixes};
 
 use crate::child::Child;
 use crate::guest::Guest;
+use crate::path::Path;
 use crate::site::{Attempt, ChildName};
 use crate::unit::Unit;
 use crate::work::Work;
 use cover_problem::Numbers;
-use std::alloc::{AllocError, Global};
+use std::alloc::Global;
 
 /// The root of the search.
 pub fn new_root(alloc: Global) -> Child
     ensures { result ≡ root_child }
 {
+    let empty = Numbers::from_vec(Vec::new(alloc));
     Child {
         parent: None,
-        work: Work::new(Numbers::from_vec(Vec::new(alloc)), 1),
+        option: 0,
+        work: Work::new(Path::of(&empty), 1),
     }
 }
 
-/// The children of a unit: for each option one with this prefix and the option.
-pub fn new_children(
-    alloc: Global,
-    unit: Unit,
-    prefix: &[u16],
-    options: &[u16],
-) -> Result<Vec<Child>, AllocError>
-    ensures { IfOk result (λ children.
-        children.items ≡ map (fresh_child unit) (longer_prefixes prefix.now options.now)) }
+/// Puts the children of a unit behind the others: for each option one with this prefix and the option. There is room for
+/// them.
+pub fn push_children(children: &mut Vec<Child>, unit: Unit, path: &Path, options: &[u16])
+    requires { vec_len children.old + length options.now ≤ vec_capacity children.old }
+    ensures items { children.new.items ≡ children.old.items
+        ++ map (fresh_child unit) (longer_prefixes path.now.options options.now) }
+    ensures room { vec_capacity children.new ≡ vec_capacity children.old }
 {
-    let mut children = Vec::with_capacity(alloc, options.len())?;
     for option in options {
-        children.push(new_child(alloc, unit, prefix, *option)?)?;
+        children.push_reserved(new_child(unit, path, *option));
     }
-    Ok(children)
 }
 
 /// A child of a unit, with this prefix and the option.
-fn new_child(alloc: Global, unit: Unit, prefix: &[u16], option: u16) -> Result<Child, AllocError>
-    ensures { IfOk result (λ child. child ≡ fresh_child unit (prefix.now ++ option ∷ [])) }
+fn new_child(unit: Unit, path: &Path, option: u16) -> Child
+    ensures { result ≡ fresh_child unit (path.now.options ++ option ∷ []) }
 {
-    let mut longer = Vec::with_capacity(alloc, prefix.len() + 1)?;
-    longer.extend_from_slice(prefix)?;
-    longer.push(option)?;
-    Ok(Child {
+    Child {
         parent: Some(unit),
-        work: Work::new(Numbers::from_vec(longer), 1),
-    })
+        option,
+        work: Work::new(path.with(&option), 1),
+    }
 }
 
 /// A guest with this prefix.
 pub fn new_guest(name: ChildName, attempt: Attempt, prefix: Numbers) -> Guest
     ensures { result ≡ fresh_guest name attempt prefix }
 {
+    let path = Path::of(&prefix);
     Guest {
         name,
-        work: Work::new(prefix, attempt),
+        prefix,
+        work: Work::new(path, attempt),
     }
 }

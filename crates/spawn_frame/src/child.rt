@@ -1,11 +1,16 @@
 use crate::unit::Unit;
 use crate::work::Work;
 
-/// An own child of a site.
+/// An own child of a site. Its prefix is the one of its parent, and its own option behind it.
 #[derive(Drop)]
 pub struct Child {
     /// The unit that was split; the root has none.
     pub parent: Option<Unit>,
+    /// The last option of its prefix; 0 at the root, whose prefix is empty.
+    pub option: u16,
     /// The rest.
     pub work: Work,
 }
+
+// What a child takes: its parent 24, its option with its place 8, its work 72.
+const _: () = prove!(size_of::<Child>() == 104);

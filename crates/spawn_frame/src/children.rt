@@ -1,15 +1,18 @@
 //! The own children of a site.
 
-ghost use Rattle.std.specs.Prelude.{◌≡◌, ℕ, ◌+◌, ◌/◌, ◌<◌, ◌≤◌, ◌++◌, ◌^◌, drop, get_or, [], length, option_map, slice_get, OnErr, OnOk, Some};
+ghost use Rattle.std.specs.Prelude.{◌≡◌, ℕ, ◌+◌, ◌/◌, ◌<◌, ◌≤◌, ◌++◌, ◌^◌, drop, get_or, [], length, map, option_map, slice_get, ◌∷◌, IfOk, OnErr, OnOk, Some};
 ghost use Rattle.std.specs.List.{count_by};
-ghost use Rattle.spawn_frame.specs.Works.{change_child, child_work, frame_says, is_wanted, last_wanted, redone_work, split_work, with_heard, with_work_status, HearsFrom};
+ghost use Rattle.spawn_frame.specs.Tables.{longer_prefixes};
+ghost use Rattle.spawn_frame.specs.Works.{change_child, child_work, fresh_child, frame_says, is_wanted, last_wanted, redone_work, root_child, split_work, with_heard, with_work_status, HearsFrom};
 
+use crate::building::{new_root, push_children};
 use crate::child::Child;
 use crate::child_result::ChildResult;
 use crate::heard::Heard;
 use crate::kinds::Kinds;
 use crate::next::next_in_pages;
 use crate::pages::{PAGE, count_in_pages, last_in_pages, tell_pages};
+use crate::path::Path;
 use crate::status::Status;
 use crate::unit::Unit;
 use crate::wanted::Wanted;
@@ -52,6 +55,17 @@ impl Children {
         }
     }
 
+    /// The root alone; the only error is want of memory.
+    pub fn with_root(alloc: Global) -> Result<Children, AllocError>
+        ensures { IfOk result (λ children. children ≡ root_child ∷ []) }
+    {
+        let mut items = Vec::new(alloc);
+        items.push(new_root(alloc))?;
+        let mut pages = Vec::new(alloc);
+        pages.push(Kinds::of(&items))?;
+        Ok(Children { items, pages })
+    }
+
     /// The children, by serial.
     pub fn as_slice(&self) -> &[Child]
         ensures { result.now ≡ self.now }
@@ -66,17 +80,20 @@ impl Children {
         self.items.len()
     }
 
-    /// Moves the children behind those that are there. The only error is want of memory, which changes nothing; with room
-    /// for them in the last page it takes none beyond what the list of children itself wants.
-    pub fn append(&mut self, children: &mut Vec<Child>) -> Result<(), AllocError>
-        requires { length self.old + length children.old.items < 2 ^ 32 }
-        ensures ok { OnOk result (self.new ≡ self.old ++ children.old.items) }
+    /// Puts the children of a unit behind those that are there: for each option one with this prefix and the option. The
+    /// only error is want of memory, which changes nothing. It takes memory for whole pages, before any change, and none
+    /// where the last page has room.
+    pub fn append(&mut self, unit: Unit, path: &Path, options: &[u16]) -> Result<(), AllocError>
+        requires { length self.old + length options.now < 2 ^ 32 }
+        ensures ok { OnOk result (self.new
+            ≡ self.old ++ map (fresh_child unit) (longer_prefixes path.now.options options.now)) }
         ensures err { OnErr result (self.new ≡ self.old) }
     {
         let first = self.items.len() / PAGE;
-        let end = (self.items.len() + children.len()).div_ceil(PAGE);
+        let end = (self.items.len() + options.len()).div_ceil(PAGE);
+        self.items.reserve(end * PAGE - self.items.len())?;
         make_room(&mut self.pages, end)?;
-        self.items.append(children)?;
+        push_children(&mut self.items, unit, path, options);
         if first < end {
             tell_pages(&self.items, &mut self.pages, first, end);
         }

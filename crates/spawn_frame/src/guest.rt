@@ -5,12 +5,15 @@ ghost use Rattle.spawn_frame.specs.Units.{is_guest};
 
 use crate::site::{Attempt, ChildName};
 use crate::work::Work;
+use cover_problem::Numbers;
 
 /// Another site's child that this site works on.
 #[derive(Drop)]
 pub struct Guest {
     /// Its name.
     pub name: ChildName,
+    /// The options that are chosen.
+    pub prefix: Numbers,
     /// The rest.
     pub work: Work,
 }

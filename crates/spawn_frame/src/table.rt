@@ -13,13 +13,15 @@ ghost use Rattle.spawn_frame.specs.declared.site.ChildName.{ChildName};
 ghost use Rattle.spawn_frame.specs.declared.status.Status.{Status};
 ghost use Rattle.spawn_frame.specs.Units.{change_at, guest_in, insert_guest, last_attempt, redone, table_gets, table_guests, table_own, unit_of};
 
-use crate::building::{new_children, new_guest, new_root};
+use crate::building::new_guest;
 use crate::child_result::ChildResult;
 use crate::children::Children;
 use crate::guest::Guest;
 use crate::guest_view::GuestView;
 use crate::heard::Heard;
 use crate::inlet::Inlet;
+use crate::path::Path;
+use crate::prefixes::{has_prefix, prefix_into};
 use crate::serials::Serials;
 use crate::site::{Attempt, ChildName, Site};
 use crate::spawn_fault::SpawnFault;
@@ -83,10 +85,7 @@ impl Table {
     pub fn with_root(alloc: Global) -> Result<Table, AllocError>
         ensures { IfOk result (λ table. table ≡ root_table) }
     {
-        let mut root = Vec::new(alloc);
-        root.push(new_root(alloc))?;
-        let mut own = Children::new(alloc);
-        own.append(&mut root)?;
+        let own = Children::with_root(alloc)?;
         let site = Site {
             node: 0,
             incarnation: 1,
@@ -104,8 +103,9 @@ impl Table {
     /// have the next serials, in order; the answer is the first.
     ///
     /// `NamesSpent` comes exactly where the site may not name so many, `Memory` only where memory ran out; a fault
-    /// changes nothing. It costs a look for the unit, the making of the children, and passes through their pages; where
-    /// the list of all children is full, it is moved to one twice as long.
+    /// changes nothing. It costs a look for the unit, the making of the children, and passes through their pages. Memory
+    /// is taken for whole pages, before any change, and none where the last page has room for the children; where the
+    /// list of all children is full, it is moved to one twice as long.
     pub fn spawn(&mut self, unit: Unit, options: &[u16]) -> Result<u32, SpawnFault>
         requires here { has_status is_here (unit_of self.old unit) ≡ true }
         requires some { 0 < length options.now }
@@ -121,10 +121,8 @@ impl Table {
         if options.len() > self.names_limit as usize - first {
             return Err(SpawnFault::NamesSpent);
         }
-        let mut prefix = Vec::new(self.alloc);
-        self.prefix_into(unit, &mut prefix)?;
-        let mut children = new_children(self.alloc, unit, &prefix, options)?;
-        self.own.append(&mut children)?;
+        let path = self.path(unit);
+        self.own.append(unit, &path, options)?;
         let first = first as u32;
         let count = options.len() as u32;
         split_unit(&mut self.own, &mut self.guests, unit, first, count);
@@ -214,17 +212,14 @@ impl Table {
     }
 
     /// Appends a unit's prefix to the list; the only error is want of memory, and the list is then as it was. It costs
-    /// a look for the unit, and the prefix.
+    /// a step for each option of own children, a look for the guest above them, and its prefix.
     pub fn prefix_into(&self, unit: Unit, list: &mut Vec<u16>) -> Result<(), AllocError>
         requires { IsSome (unit_of self.now unit) }
         ensures ok { OnOk result (list.new.items ≡ list.old.items
             ++ prefix_in (unit_of self.now unit)) }
         ensures err { OnErr result (list.new.items ≡ list.old.items) }
     {
-        match self.work(unit) {
-            Some(work) => list.extend_from_slice(work.prefix.as_slice()),
-            None => unreachable!(),
-        }
+        prefix_into(self.own.as_slice(), &self.guests, unit, list)
     }
 
     /// The unit that an own child is a child of; none for the root. It costs nothing.
@@ -275,7 +270,7 @@ impl Table {
         let guest = &self.guests[place];
         GuestView {
             name: guest.name,
-            prefix: guest.work.prefix.as_slice(),
+            prefix: guest.prefix.as_slice(),
             attempt: guest.work.attempt,
             status: &guest.work.status,
         }
@@ -356,14 +351,17 @@ impl Table {
     }
 
     /// Whether a job is still worked on: its unit is here, at that attempt and with this prefix. It takes no memory, and
-    /// costs a look for the unit, and the prefix.
+    /// costs a look for the unit, and steps upwards from its last option until two options differ.
     pub fn has_job(&self, job: Job, prefix: &[u16]) -> bool
         ensures tested { result ≡ is_at_work job.attempt prefix.now (unit_of self.now job.unit) }
         ensures at_work { OnTrue result
             (IsAtWork job.attempt prefix.now (unit_of self.now job.unit)) }
     {
         match self.work(job.unit) {
-            Some(work) => work.is_at_work(job.attempt, prefix),
+            Some(work) => {
+                work.is_here_at(job.attempt)
+                    && has_prefix(self.own.as_slice(), &self.guests, job.unit, prefix)
+            }
             None => false,
         }
     }
@@ -492,6 +490,17 @@ impl Table {
                 let place = place_of(&self.guests, name, attempt)?;
                 Some(&self.guests[place].work)
             }
+        }
+    }
+
+    /// The prefix of a unit that is there, for proofs alone.
+    fn path(&self, unit: Unit) -> Path
+        requires { IsSome (unit_of self.now unit) }
+        ensures { result.options ≡ prefix_in (unit_of self.now unit) }
+    {
+        match self.work(unit) {
+            Some(work) => work.path.copy(),
+            None => unreachable!(),
         }
     }
 

@@ -1,22 +1,21 @@
-ghost use Rattle.std.specs.Prelude.{◌≡◌, ◌+◌, ◌<◌, ◌^◌, Option, Some};
-ghost use Rattle.spawn_frame.specs.Tables.{is_at_work};
-ghost use Rattle.spawn_frame.specs.declared.unit.Unit.{Unit as WorkUnit};
+ghost use Rattle.std.specs.Prelude.{◌≡◌, ◌+◌, ◌<◌, ◌^◌, ◌&&◌, ◌==◌, Some};
+ghost use Rattle.spawn_frame.specs.Tables.{is_here};
 
 use crate::child_result::ChildResult;
 use crate::first_found::FirstFound;
 use crate::heard::Heard;
 use crate::inlet::Inlet;
+use crate::path::Path;
 use crate::serials::Serials;
 use crate::site::Attempt;
 use crate::status::Status;
 use crate::wanted::Wanted;
-use cover_problem::Numbers;
 
 /// What a table keeps of a unit, own child or guest.
 #[derive(Drop)]
 pub struct Work {
-    /// The options that are chosen.
-    pub prefix: Numbers,
+    /// The options that are chosen, for proofs alone.
+    pub path: Path,
     /// How often it was given out, from 1.
     pub attempt: Attempt,
     /// How far it is.
@@ -29,14 +28,14 @@ pub struct Work {
 
 impl Work {
     ghost use Rattle.spawn_frame.specs.Units.{last_attempt};
-    ghost use Rattle.spawn_frame.specs.Works.{entry_of, frame_says, heard_work, is_wanted, new_work, redone_work, split_work, with_heard, HearsChildren};
+    ghost use Rattle.spawn_frame.specs.Works.{frame_says, heard_work, is_wanted, new_work, redone_work, split_work, with_heard, HearsChildren};
 
     /// Work that nobody has taken up.
-    pub fn new(prefix: Numbers, attempt: Attempt) -> Work
-        ensures { result ≡ new_work prefix attempt }
+    pub fn new(path: Path, attempt: Attempt) -> Work
+        ensures { result ≡ new_work path.options attempt }
     {
         Work {
-            prefix,
+            path,
             attempt,
             status: Status::Ready,
             inlet: None,
@@ -56,14 +55,11 @@ impl Work {
         }
     }
 
-    /// Whether a worker of this site has it, at this attempt and with this prefix.
-    pub fn is_at_work(&self, attempt: Attempt, prefix: &[u16]) -> bool
-        ensures { (parent : Option WorkUnit) →
-            result ≡ is_at_work attempt prefix.now (Some (entry_of parent self.now)) }
+    /// Whether a worker of this site has it, at this attempt.
+    pub fn is_here_at(&self, attempt: Attempt) -> bool
+        ensures { result ≡ (is_here self.now.status && self.now.attempt == attempt) }
     {
-        matches!(self.status, Status::Here)
-            && self.attempt == attempt
-            && self.prefix.as_slice() == prefix
+        self.status.is_here() && self.attempt == attempt
     }
 
     /// What its inlet says; `Open` where it was never split.

@@ -9,7 +9,7 @@ pub returns-in-Some-clause-guests : goal.returns-in-Some-clause-guests
 returns-in-Some-clause-guests c =
     let guests = c.args.guests.now in
     let at : Guest = get_or guests c.in-Some.place c.index-guests-place.result in
-    ap (λ (w : Work). slice_set guests c.in-Some.place (record { name = at.name; work = w })) c.split-in-Some.ensures
+    ap (λ (w : Work). slice_set guests c.in-Some.place (record { name = at.name; prefix = at.prefix; work = w })) c.split-in-Some.ensures
     ∙ guest_write (split_work c.args.first c.args.count) guests c.in-Guest.name c.in-Guest.attempt c.in-Some.place _ (sym c.in-Some.is ∙ c.place_of.ensures)
     ∙ ap (λ u. guests_after u (split_work c.args.first c.args.count) guests) (sym c.in-Guest.is)
 

@@ -14,7 +14,7 @@ pub returns-in-Some-clause-guests : goal.returns-in-Some-clause-guests
 returns-in-Some-clause-guests c =
     let guests = c.args.guests.now in
     let at : Guest = get_or guests c.in-Some.place c.index-guests-place.result in
-    ap (λ (w : Work). slice_set guests c.in-Some.place (record { name = at.name; work = w })) c.hear-in-Some.ensures.hears
+    ap (λ (w : Work). slice_set guests c.in-Some.place (record { name = at.name; prefix = at.prefix; work = w })) c.hear-in-Some.ensures.hears
     ∙ guest_write (with_heard c.args.child c.args.child_result.now) guests c.in-Guest.name c.in-Guest.attempt c.in-Some.place _ (sym c.in-Some.is ∙ c.place_of.ensures)
     ∙ ap (λ u. guests_after u (with_heard c.args.child c.args.child_result.now) guests) (sym c.in-Guest.is)
 
