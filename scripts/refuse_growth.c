@@ -1,5 +1,5 @@
 /* Counts the growths of memory in the events of a test, and refuses one of them. It is loaded before the C library, by
-   LD_PRELOAD. No script builds it yet.
+   LD_PRELOAD; try_memory.py builds it and runs the tests.
 
    A test tells where an event begins and ends by a mark: it asks for MARK bytes and a number more. A number below END is that of
    an event that begins; END is the end of one that was answered, and the number behind it the end of one without memory.

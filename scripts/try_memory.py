@@ -8,12 +8,15 @@ with two. They mark where an event begins and ends. `refuse_growth.c`, which is 
 growths between these marks and refuses one: then the event has to be answered by want of memory, the core and the lists have to be
 as they were, and the same event, given again, has to come to what the script says. Each growth of each event is refused once.
 
-For each kind of event the table has how many growths it takes with one list (`act`) and with two (`act_both`), the least and the
-most, how many were refused, how many of these the event answered by want of memory, and how many runs went wrong. --list only
+That of table_tests splits units of a table, and each `spawn` is such an event. One whose children fit into the last page has to
+go well whatever is refused: it asks for no memory, or the run goes wrong.
+
+For each kind of event the table has how many growths it takes with one list (`act`, and `spawn`) and with two (`act_both`), the least
+and the most, how many were refused, how many of these the event answered by want of memory, and how many runs went wrong. --list only
 lists the kinds of events with their growths, and refuses none.
 
-It wants cc and the built tests: (cd crates/core_tests && rt test) builds them, and so does rt ci. The exit status is 0, 1 where a run
-went wrong, 2 for a fault of the command line or where something is missing.
+It wants cc and the built tests: rt test in crates/core_tests and in crates/table_tests builds them, and so does rt ci. The exit
+status is 0, 1 where a run went wrong, 2 for a fault of the command line or where something is missing.
 """
 import collections
 import os
@@ -23,22 +26,30 @@ import tempfile
 
 from built import parser_of, program_of, stop, TOP, want_command
 
-TESTS = program_of("core_tests") + "_tests"
+CRATES = ("core_tests", "table_tests")
 CAREFUL = "refused_memory"
 KINDS = (
     "Take", "Post", "Finish", "Ask", "Redo", "Again", "Greet", "Hello", "Members", "Steal", "Give", "NoWork", "Return", "Accept",
-    "Refuse", "Abort", "Over",
+    "Refuse", "Abort", "Over", "spawn", "spawn within a page",
 )
+FIRST_OF_TABLE = KINDS.index("spawn")
 
-# What is told of an event: its kind, whether the registry had it, whether packets went to two lists, the growths that it asked for,
-# which of them was refused, or 0, and whether it was answered by want of memory.
-Told = collections.namedtuple("Told", "kind registry both growths refused memory")
+# What is told of an event: its kind, where it was, whether packets went to two lists, the growths that it asked for, which of them
+# was refused, or 0, and whether it was answered by want of memory.
+Told = collections.namedtuple("Told", "kind place both growths refused memory")
 
 
 def told(line):
     """What a line of refuse_growth.c tells."""
     number, growths, refused, memory = map(int, line.split())
-    return Told(number // 4, number // 2 % 2 == 1, number % 2 == 1, growths, refused, memory == 1)
+    kind = number // 4
+    place = "table" if kind >= FIRST_OF_TABLE else "registry" if number // 2 % 2 == 1 else "node"
+    return Told(kind, place, number % 2 == 1, growths, refused, memory == 1)
+
+
+def tests_of(crate):
+    """The built tests of a crate."""
+    return program_of(crate) + "_tests"
 
 
 def build(folder):
@@ -54,18 +65,22 @@ def play(library, test, number):
     with tempfile.TemporaryDirectory() as folder:
         file = os.path.join(folder, "growths")
         words = {"LD_PRELOAD": library, "REFUSE_GROWTH": str(number), "GROWTHS_FILE": file}
-        ran = subprocess.run([TESTS, test], env=words, stdout=subprocess.DEVNULL, stderr=subprocess.DEVNULL)
+        ran = subprocess.run(test, env=words, stdout=subprocess.DEVNULL, stderr=subprocess.DEVNULL)
         if not os.path.isfile(file):
-            stop(f"{test} told of no event")
+            stop(f"{test[-1]} told of no event")
         with open(file, encoding="ascii") as opened:
             return ran.returncode == 0, [told(line) for line in opened]
 
 
-def careful_tests():
-    """The names of the tests that take care of refused memory."""
-    listed = subprocess.run([TESTS, "--list"], stdout=subprocess.PIPE, text=True).stdout
+def careful_tests(crate):
+    """The tests of a crate that take care of refused memory, each as the words that run it."""
+    program = tests_of(crate)
+    listed = subprocess.run([program, "--list"], stdout=subprocess.PIPE, text=True).stdout
     names = [line.removesuffix(": test").strip() for line in listed.splitlines()]
-    return [name for name in names if name.rpartition("::")[2].startswith(CAREFUL)]
+    tests = [(program, name) for name in names if name.rpartition("::")[2].startswith(CAREFUL)]
+    if not tests:
+        stop(f"no test of {crate} has a name that begins with {CAREFUL}")
+    return tests
 
 
 def span(numbers):
@@ -76,7 +91,7 @@ def span(numbers):
 
 
 class Kind:
-    """What was seen of one kind of events at a node or at the registry."""
+    """What was seen of one kind of events at a node, at the registry or at a table."""
 
     def __init__(self):
         self.growths = {False: [], True: []}
@@ -97,13 +112,13 @@ def refuse_each(library, test, kinds):
         passed, events = play(library, test, number)
         refused = [event for event in events if event.refused]
         if len(refused) != 1:
-            print(f"{test}, growth {number}: it was refused in {len(refused)} events")
+            print(f"{test[-1]}, growth {number}: it was refused in {len(refused)} events")
             wrong += 1
             continue
         if not passed:
-            print(f"{test}, growth {number}: wrong")
+            print(f"{test[-1]}, growth {number}: wrong")
             wrong += 1
-        kinds[refused[0].kind, refused[0].registry].take(refused[0], passed)
+        kinds[refused[0].kind, refused[0].place].take(refused[0], passed)
     return wrong
 
 
@@ -111,15 +126,15 @@ def count(library, test, kinds):
     """Takes down the growths of each event of a test, of which none is refused; whether it passed."""
     passed, events = play(library, test, 0)
     for event in events:
-        kinds[event.kind, event.registry].growths[event.both].append(event.growths)
+        kinds[event.kind, event.place].growths[event.both].append(event.growths)
     return passed
 
 
 def table(kinds):
     """The rows of the table."""
-    yield "| Event | At | `act` | `act_both` | Refused | Answered Memory | Wrong |\n|---|---|---|---|---|---|---|"
-    for (kind, registry), seen in sorted(kinds.items()):
-        cells = [KINDS[kind], "registry" if registry else "node", span(seen.growths[False]), span(seen.growths[True])]
+    yield "| Event | At | `act`, `spawn` | `act_both` | Refused | Answered Memory | Wrong |\n|---|---|---|---|---|---|---|"
+    for (kind, place), seen in sorted(kinds.items()):
+        cells = [KINDS[kind], place, span(seen.growths[False]), span(seen.growths[True])]
         yield f"| {' | '.join(cells)} | {seen.refused} | {seen.memory} | {seen.wrong} |"
 
 
@@ -128,14 +143,13 @@ def main():
     parser.add_argument("--list", action="store_true", help="list the events with their growths, and refuse none")
     given = parser.parse_args()
     want_command("cc")
-    if not os.access(TESTS, os.X_OK):
-        stop("core_tests has no built tests; at the top of the repository (cd crates/core_tests && rt test) builds them")
+    for crate in CRATES:
+        if not os.access(tests_of(crate), os.X_OK):
+            stop(f"{crate} has no built tests; at the top of the repository (cd crates/{crate} && rt test) builds them")
     kinds = collections.defaultdict(Kind)
     with tempfile.TemporaryDirectory() as folder:
         library = build(folder)
-        tests = careful_tests()
-        if not tests:
-            stop(f"no test has a name that begins with {CAREFUL}")
+        tests = [test for crate in CRATES for test in careful_tests(crate)]
         wrong = sum(not count(library, test, kinds) for test in tests)
         if not given.list:
             wrong += sum(refuse_each(library, test, kinds) for test in tests)

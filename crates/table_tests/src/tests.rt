@@ -4,5 +4,6 @@ mod aborts;
 mod copies;
 mod ledgers;
 mod pages;
+mod refused;
 mod tables;
 mod units;
