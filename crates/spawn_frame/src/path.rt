@@ -5,6 +5,10 @@ use cover_problem::Numbers;
 use std::marker::Model;
 
 /// A prefix that only proofs read. It takes no memory, and its functions do nothing at run time.
+///
+/// By itself it is tied to nothing that is stored. The invariant of a table ties it: a guest's path is its stored prefix, an
+/// own child's is its parent's with its stored option behind it, and the root's is empty. So the prefixes that contracts
+/// see are those that the fields spell, and `prefix_into` is proved to read them from there.
 #[derive(Drop)]
 pub struct Path {
     pub ghost options: { List ℕ },
@@ -14,10 +18,10 @@ impl Model for Path {
     ghost also_owns = { λ _. ftrue };
 }
 
-// It owns nothing.
+// The check doesn't find this by itself of a struct with ghost data. It is proved in `Send.antt`: a path owns nothing.
 unsafe impl Send for Path {}
 
-// It has nothing that could be shared.
+// The same; `Sync.antt` proves that what is shared of a path is nothing either.
 unsafe impl Sync for Path {}
 
 impl Path {
