@@ -1,7 +1,6 @@
 //! Where a search goes on from the chosen options.
 
-ghost use Rattle.std.specs.Prelude.{◌≡◌, ◌<◌, ◌++◌, [], length, nat_lt, OnOk, OnErr, true, false};
-ghost use Rattle.std.specs.Option.{option_map_or};
+ghost use Rattle.std.specs.Prelude.{◌≡◌, ◌<◌, ◌++◌, [], length, OnOk, OnErr, true, false};
 ghost use Rattle.cover_problem.specs.Prefix.{is_covered, is_prefix};
 ghost use Rattle.cover_problem.specs.Branching.{live_options, branch_item};
 ghost use Rattle.brancher.specs.Branch.{branch_told, IsOpenBranch};
@@ -10,36 +9,13 @@ use crate::ways::Branch;
 use dancing_links::Links;
 use std::alloc::AllocError;
 
-/// Whether an item with so many live options has fewer than the best item so far; so where there is none.
-fn is_fewer(count: usize, best: Option<(u16, usize)>) -> bool
-    ensures { result ≡ option_map_or (λ b. nat_lt count b.1) best true }
-{
-    match best {
-        Some((_, least)) => count < least,
-        None => true,
-    }
-}
-
 /// The branch item of the chosen options.
 pub fn branch(links: &Links) -> Branch
     ensures item { branch_told result ≡ branch_item links.now.problem links.now.chosen }
     ensures uncovered { IsOpenBranch links.now.problem links.now.chosen result }
 {
-    let mut best: Option<(u16, usize)> = None;
-    let mut next = links.first_item();
-    while let Some(item) = next {
-        let count = links.count(item);
-        if is_fewer(count, best) {
-            // No other item can have fewer.
-            if count == 0 {
-                return Branch::Item(item);
-            }
-            best = Some((item, count));
-        }
-        next = links.next_item(item);
-    }
-    match best {
-        Some((item, _)) => Branch::Item(item),
+    match links.branch_item() {
+        Some(item) => Branch::Item(item),
         None => Branch::Complete,
     }
 }

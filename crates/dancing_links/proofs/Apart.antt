@@ -4,7 +4,7 @@ use Rattle.std.proofs.lemmas.Bool.{cases_eq, eq-eqb, eqb-true, both_ways, or_cas
 use Rattle.std.proofs.lemmas.List.{get_or-set_other}
 use Rattle.dancing_links.specs.declared.link.Link.{Link}
 use Rattle.dancing_links.specs.Columns.{among, Columns, column_of, IsSpelled}
-use Rattle.dancing_links.specs.Counting.{with_more, more_in_order}
+use Rattle.dancing_links.specs.Keys.{with_more, more_in_order}
 use Rattle.dancing_links.specs.Linking.{up_of, down_of, unlinked, relinked, unlinks, relinks_in_order}
 use Rattle.dancing_links.proofs.Law.{IsBetween, between, same_links, length-unlinked, up-unlinked_at, up-unlinked_other, down-unlinked_at, down-unlinked_other, relink_unlink, spelled_unlink, in_other, out_other}
 use Rattle.dancing_links.proofs.Walk.{AreIn, more}
@@ -125,7 +125,7 @@ relinks_in_order_unlinks c out m (x ∷ xs) s are one =
     ap (λ (links : List Link). relinks_in_order links xs) (first_back c out m x xs s are.0 less ne)
     ∙ relinks_in_order_unlinks c out m xs s less (λ y z h g. one y z (or_right (x == y) (among xs y) h) (or_right (x == z) (among xs z) g))
 
--- ---- counts
+-- ---- keys
 
 set_apart : (xs : List ℕ) (i j a b : ℕ) → (i ≡ j → ⊥) → set (set xs i a) j b ≡ set (set xs j b) i a
 set_apart [] i j a b ne = refl
@@ -135,24 +135,24 @@ set_apart (x ∷ xs) (suc i) zero a b ne = refl
 set_apart (x ∷ xs) (suc i) (suc j) a b ne = ap (λ ys. x ∷ ys) (set_apart xs i j a b (λ e. ne (ap suc e)))
 
 -- two nodes are counted in either order
-more_twice : (c : Columns) (counts : List ℕ) (x y : ℕ) → with_more c (with_more c counts x) y ≡ with_more c (with_more c counts y) x
+more_twice : (c : Columns) (keys : List ℕ) (x y : ℕ) → with_more c (with_more c keys x) y ≡ with_more c (with_more c keys y) x
 unfolding with_more
-more_twice c counts x y = elim (cases_eq (column_of c x) (column_of c y)) [
+more_twice c keys x y = elim (cases_eq (column_of c x) (column_of c y)) [
   | inl e ↦ rw e refl
   | inr ne ↦
       let i : ℕ = column_of c x in
       let j : ℕ = column_of c y in
-      let a : ℕ = (get_or counts i 0 + 1) % 65536 in
-      let b : ℕ = (get_or counts j 0 + 1) % 65536 in
-      ap (λ n. set (set counts i a) j ((n + 1) % 65536)) (get_or-set_other counts i j a 0 (λ e. ne (sym e)))
-      ∙ set_apart counts i j a b ne
-      ∙ sym (ap (λ n. set (set counts j b) i ((n + 1) % 65536)) (get_or-set_other counts j i b 0 ne))
+      let a : ℕ = (get_or keys i 0 + 65536) % 4294967296 in
+      let b : ℕ = (get_or keys j 0 + 65536) % 4294967296 in
+      ap (λ n. set (set keys i a) j ((n + 65536) % 4294967296)) (get_or-set_other keys i j a 0 (λ e. ne (sym e)))
+      ∙ set_apart keys i j a b ne
+      ∙ sym (ap (λ n. set (set keys j b) i ((n + 65536) % 4294967296)) (get_or-set_other keys j i b 0 ne))
 ]
 
-more_first : (c : Columns) (counts : List ℕ) (x : ℕ) (xs : List ℕ) → more c (with_more c counts x) xs ≡ with_more c (more c counts xs) x
-more_first c counts x [] = refl
-more_first c counts x (y ∷ ys) = ap (λ (k : List ℕ). with_more c k y) (more_first c counts x ys) ∙ more_twice c (more c counts ys) x y
+more_first : (c : Columns) (keys : List ℕ) (x : ℕ) (xs : List ℕ) → more c (with_more c keys x) xs ≡ with_more c (more c keys xs) x
+more_first c keys x [] = refl
+more_first c keys x (y ∷ ys) = ap (λ (k : List ℕ). with_more c k y) (more_first c keys x ys) ∙ more_twice c (more c keys ys) x y
 
-pub more_in_order_is : (c : Columns) (counts xs : List ℕ) → more_in_order c counts xs ≡ more c counts xs
-more_in_order_is c counts [] = refl
-more_in_order_is c counts (x ∷ xs) = more_in_order_is c (with_more c counts x) xs ∙ more_first c counts x xs
+pub more_in_order_is : (c : Columns) (keys xs : List ℕ) → more_in_order c keys xs ≡ more c keys xs
+more_in_order_is c keys [] = refl
+more_in_order_is c keys (x ∷ xs) = more_in_order_is c (with_more c keys x) xs ∙ more_first c keys x xs

@@ -3,7 +3,7 @@ use Rattle.std.proofs.Common.{◌≡◌, ℕ, zero, suc, ◌+◌, ◌<◌, ◌�
 use Rattle.std.proofs.lemmas.Bool.{cases_lt}
 use Rattle.dancing_links.specs.declared.link.Link.{Link}
 use Rattle.dancing_links.specs.Columns.{among, Columns, column_of, IsSpelled, IsTable}
-use Rattle.dancing_links.specs.Counting.{more_in_order}
+use Rattle.dancing_links.specs.Keys.{more_in_order}
 use Rattle.dancing_links.specs.Covering.{outs, hidden_at, hidden_from, covered, AreWhole, IsOpen, Uncovers}
 use Rattle.dancing_links.specs.Linking.{up_of, down_of, unlinked, relinked, unlinks, relinks_in_order}
 use Rattle.dancing_links.proofs.Apart.{relinks_in_order_unlinks, more_in_order_is}
@@ -91,7 +91,7 @@ pub record IsBack (c : Columns) (out : List ℕ) (m : List Link) (i a : ℕ) (no
   pub last : node ≡ top i ks
   pub back : List ℕ
   pub rest : flat c a ks ++ back ≡ hidden_from c out i a c.heads
-  pub counts : is ≡ more c was back
+  pub keys : is ≡ more c was back
 
 top_high : (c : Columns) (m : List Link) (i a : ℕ) (ks : List ℕ) → i + 1 < c.heads → c.heads ≤ c.tails → IsChain c a m i ks → top i ks < c.tails
 top_high c m i a [] item order chain = omega (arith, item, order)
@@ -123,7 +123,7 @@ back_start c out i a m now was t item s whole e =
       last = ap (λ (links : List Link). up_of links (c.tails + i)) same ∙ ap (up_of (state c a m ks)) tail ∙ from_down c (outs (flat c a ks) out) (state c a m ks) (top i ks) s' high (top_in c out i a m ks t item s whole found.1.chain g);
       back = [];
       rest = append-nil (flat c a ks) ∙ going_done c out i a m (state c a m ks) d (flat c a ks) found.1.past g;
-      counts = refl;
+      keys = refl;
     }
 
 -- one step up: the options of the last node of a chain are put back
@@ -141,8 +141,8 @@ back_pop c out i a m k ks t item s whole chain =
     )
 
 back_step_at : (c : Columns) (out : List ℕ) (i a : ℕ) (m now new : List Link) (was is grown : List ℕ) (node : ℕ) (ks back : List ℕ) → IsTable c → i + 1 < c.heads → IsSpelled c out m → AreWhole c out i → c.heads ≤ node → new ≡ relinks_in_order now (hidden_at c a node) → grown ≡ more_in_order c is (hidden_at c a node) → IsChain c a m i ks → now ≡ state c a m ks → node ≡ top i ks → flat c a ks ++ back ≡ hidden_from c out i a c.heads → is ≡ more c was back → IsBack c out m i a new was grown (up_of new node)
-back_step_at c out i a m now new was is grown node [] back t item s whole low e f chain links last rest counts = absurd (omega (arith, last, low, item))
-back_step_at c out i a m now new was is grown node (k ∷ ks) back t item s whole low e f chain links last rest counts =
+back_step_at c out i a m now new was is grown node [] back t item s whole low e f chain links last rest keys = absurd (omega (arith, last, low, item))
+back_step_at c out i a m now new was is grown node (k ∷ ks) back t item s whole low e f chain links last rest keys =
     let pop = back_pop c out i a m k ks t item s whole chain in
     let same : new ≡ state c a m ks = e ∙ ap (λ (links : List Link). relinks_in_order links (hidden_at c a node)) links ∙ ap (λ n. relinks_in_order (unlinks (state c a m ks) (hidden_at c a k)) (hidden_at c a n)) last ∙ pop.0 in
     record {
@@ -152,7 +152,7 @@ back_step_at c out i a m now new was is grown node (k ∷ ks) back t item s whol
       last = ap (λ (links : List Link). up_of links node) same ∙ ap (up_of (state c a m ks)) last ∙ pop.1;
       back = hidden_at c a k ++ back;
       rest = sym (append_assoc (flat c a ks) (hidden_at c a k) back) ∙ rest;
-      counts = f ∙ more_in_order_is c is (hidden_at c a node) ∙ ap (λ (n : List ℕ). more c n (hidden_at c a node)) counts ∙ ap (λ n. more c (more c was back) (hidden_at c a n)) last ∙ sym (more-append c was (hidden_at c a k) back);
+      keys = f ∙ more_in_order_is c is (hidden_at c a node) ∙ ap (λ (n : List ℕ). more c n (hidden_at c a node)) keys ∙ ap (λ n. more c (more c was back) (hidden_at c a n)) last ∙ sym (more-append c was (hidden_at c a k) back);
     }
 
 back_end_at : (c : Columns) (m now : List Link) (i a node : ℕ) (ks : List ℕ) → node < c.heads → IsChain c a m i ks → now ≡ state c a m ks → node ≡ top i ks → now ≡ m
@@ -170,7 +170,7 @@ uncover_start c old was i a t = λ out before s can e. back_start c ((c.heads + 
 pub uncover_step : (c : Columns) (old now new : List Link) (was is grown : List ℕ) (i a node : ℕ) → IsTable c → c.heads ≤ node → new ≡ relinks_in_order now (hidden_at c a node) → grown ≡ more_in_order c is (hidden_at c a node) → Back c old i a now was is node → Back c old i a new was grown (up_of new node)
 uncover_step c old now new was is grown i a node t low e f back = λ out before s can covers.
     let b = back out before s can covers in
-    back_step_at c ((c.heads + i) ∷ out) i a (unlinked before (c.heads + i)) now new was is grown node b.ks b.back t can.item (item_out c out i before t can s) (whole_item c out i t can) low e f b.chain b.links b.last b.rest b.counts
+    back_step_at c ((c.heads + i) ∷ out) i a (unlinked before (c.heads + i)) now new was is grown node b.ks b.back t can.item (item_out c out i before t can s) (whole_item c out i t can) low e f b.chain b.links b.last b.rest b.keys
 
 pub uncover_end : (c : Columns) (old now new : List Link) (was is : List ℕ) (i a node : ℕ) → IsTable c → node < c.heads → new ≡ relinked now (c.heads + i) → Back c old i a now was is node → Uncovers c old i a new
 uncover_end c old now new was is i a node t low e back = λ out before s can covers.
@@ -185,7 +185,7 @@ back_all_at c m i a node (k ∷ ks) back low chain last = absurd (omega (arith, 
 
 -- at the top all that was hidden is back
 pub back_all : (c : Columns) (out : List ℕ) (m : List Link) (i a : ℕ) (now : List Link) (was is : List ℕ) (node : ℕ) → node < c.heads → IsBack c out m i a now was is node → is ≡ more c was (hidden_from c out i a c.heads)
-back_all c out m i a now was is node low b = b.counts ∙ ap (more c was) (sym (back_all_at c m i a node b.ks b.back low b.chain b.last) ∙ b.rest)
+back_all c out m i a now was is node low b = b.keys ∙ ap (more c was) (sym (back_all_at c m i a node b.ks b.back low b.chain b.last) ∙ b.rest)
 
 -- all that is hidden can be taken out in turn
 pub going_all : (c : Columns) (out : List ℕ) (i a : ℕ) (m : List Link) → IsTable c → i + 1 < c.heads → IsSpelled c out m → AreWhole c out i → AreIn c out (hidden_from c out i a c.heads)

@@ -11,7 +11,7 @@ use Rattle.cover_problem.proofs.Prefixes.{prefix_short}
 use Rattle.dancing_links.specs.declared.link.Link.{Link}
 use Rattle.dancing_links.specs.Columns.{Columns, among, column_of, option_of, IsTable, IsLinked, IsSpelled, IsOptionNode}
 use Rattle.dancing_links.specs.Committing.{IsCommits, IsFirst, Recovers, commit, uncommit, committed, covering}
-use Rattle.dancing_links.specs.Counting.{IsCounted, CountsCoveredAll, CountsUncoveredAll}
+use Rattle.dancing_links.specs.Keys.{IsKeyed, KeysCoveredAll, KeysUncoveredAll}
 use Rattle.dancing_links.specs.Covering.{outs, outs_all, links_all, covered_by, others, nodes_by, AreOpen, CoversAll, UncoversAll}
 use Rattle.dancing_links.specs.Linking.{unlinks}
 use Rattle.dancing_links.specs.Table.{table}
@@ -39,11 +39,11 @@ pub record IsFrame (p : Problem) (c : Columns) (os es : List ℕ) (room : ℕ) :
   pub options : map (option_of c) es ≡ os
   pub fresh : AreFresh p c [] es
 
-pub frame_of : (p : Problem) (c : Columns) (os es : List ℕ) (m : List Link) (counts : List ℕ) (room : ℕ) → IsLinks p c os es m counts room → IsFrame p c os es room
-frame_of p c os es m counts room is = record { is_problem = is.is_problem; layout = is.layout; enough = is.enough; prefix = is.prefix; each_node = is.each_node; options = is.options; fresh = is.fresh }
+pub frame_of : (p : Problem) (c : Columns) (os es : List ℕ) (m : List Link) (keys : List ℕ) (room : ℕ) → IsLinks p c os es m keys room → IsFrame p c os es room
+frame_of p c os es m keys room is = record { is_problem = is.is_problem; layout = is.layout; enough = is.enough; prefix = is.prefix; each_node = is.each_node; options = is.options; fresh = is.fresh }
 
-pub links_of : (p : Problem) (c : Columns) (os es : List ℕ) (m : List Link) (counts : List ℕ) (room : ℕ) → IsFrame p c os es room → IsLinked c m → IsHistory c (covering_nodes c es) m counts → IsLinks p c os es m counts room
-links_of p c os es m counts room f linked history = record { is_problem = f.is_problem; layout = f.layout; enough = f.enough; prefix = f.prefix; linked = linked; each_node = f.each_node; options = f.options; fresh = f.fresh; history = history }
+pub links_of : (p : Problem) (c : Columns) (os es : List ℕ) (m : List Link) (keys : List ℕ) (room : ℕ) → IsFrame p c os es room → IsLinked c m → IsHistory c (covering_nodes c es) m keys → IsLinks p c os es m keys room
+links_of p c os es m keys room f linked history = record { is_problem = f.is_problem; layout = f.layout; enough = f.enough; prefix = f.prefix; linked = linked; each_node = f.each_node; options = f.options; fresh = f.fresh; history = history }
 
 pub frame_table : (p : Problem) (c : Columns) (os es : List ℕ) (room : ℕ) → IsFrame p c os es room → IsTable c
 frame_table p c os es room f = table_of p c f.is_problem f.layout
@@ -154,10 +154,10 @@ push_open p c os es room o k f =
 pub commits_kept : (p : Problem) (c : Columns) (os es : List ℕ) (room : ℕ) → IsFrame p c os es room → IsCommits c (commits_of c es)
 commits_kept p c os es room f = committed_kept c (no_commits c) (chosen_nodes c es) (no_commits_kept c (frame_table p c os es room f))
 
-pub held_kept : (p : Problem) (c : Columns) (os es : List ℕ) (m : List Link) (counts : List ℕ) (room : ℕ) (held : List ℕ) → IsLinks p c os es m counts room → held ≡ commits_of c es → IsCommits c held
-held_kept p c os es m counts room held is e =
+pub held_kept : (p : Problem) (c : Columns) (os es : List ℕ) (m : List Link) (keys : List ℕ) (room : ℕ) (held : List ℕ) → IsLinks p c os es m keys room → held ≡ commits_of c es → IsCommits c held
+held_kept p c os es m keys room held is e =
     let P : List ℕ → Type 0 = λ commits. IsCommits c commits in
-    subst P (sym e) (commits_kept p c os es room (frame_of p c os es m counts room is))
+    subst P (sym e) (commits_kept p c os es room (frame_of p c os es m keys room is))
 
 -- what is kept of the colours with one more choice
 pub commits_pushed : (c : Columns) (es : List ℕ) (k : ℕ) (held now : List ℕ) → held ≡ commits_of c es → now ≡ committed c held (nodes_by c k) → now ≡ commits_of c (es ++ k ∷ [])
@@ -197,62 +197,62 @@ first_of p c os es room o k held f e =
 -- ---- the links
 
 -- once the others of a node's option cover their items as well
-pub others_pushed : (p : Problem) (c : Columns) (os es : List ℕ) (mid new : List Link) (half now held : List ℕ) (room o k : ℕ) → IsFrame p c (os ++ o ∷ []) (es ++ k ∷ []) room → IsHistory c (covering_nodes c es ++ k ∷ []) mid half → held ≡ commit c (commits_of c es) k → IsLinked c new → CoversAll c mid (covering c held (others c k)) new → CountsCoveredAll c mid (covering c held (others c k)) half now → IsLinks p c (os ++ o ∷ []) (es ++ k ∷ []) new now room
-others_pushed p c os es mid new half now held room o k f history e linked covers counts =
+pub others_pushed : (p : Problem) (c : Columns) (os es : List ℕ) (mid new : List Link) (half now held : List ℕ) (room o k : ℕ) → IsFrame p c (os ++ o ∷ []) (es ++ k ∷ []) room → IsHistory c (covering_nodes c es ++ k ∷ []) mid half → held ≡ commit c (commits_of c es) k → IsLinked c new → CoversAll c mid (covering c held (others c k)) new → KeysCoveredAll c mid (covering c held (others c k)) half now → IsLinks p c (os ++ o ∷ []) (es ++ k ∷ []) new now room
+others_pushed p c os es mid new half now held room o k f history e linked covers keys =
     let t = frame_table p c (os ++ o ∷ []) (es ++ k ∷ []) room f in
     let H : List ℕ → Type 0 = λ ks. IsHistory c ks new now in
     let P : List ℕ → Type 0 = λ commits. CoversAll c mid (covering c commits (others c k)) new in
-    let Q : List ℕ → Type 0 = λ commits. CountsCoveredAll c mid (covering c commits (others c k)) half now in
+    let Q : List ℕ → Type 0 = λ commits. KeysCoveredAll c mid (covering c commits (others c k)) half now in
     let push = covering_push p c os es room k (frame_front p c os es room o k f).0 (last_free p c os es room o k f) in
-    let more = history_more c (covering_nodes c es ++ k ∷ []) (covering c (commit c (commits_of c es) k) (others c k)) mid new half now t (push_open p c os es room o k f) history (subst P e covers) (subst Q e counts) in
+    let more = history_more c (covering_nodes c es ++ k ∷ []) (covering c (commit c (commits_of c es) k) (others c k)) mid new half now t (push_open p c os es room o k f) history (subst P e covers) (subst Q e keys) in
     links_of p c (os ++ o ∷ []) (es ++ k ∷ []) new now room f linked (subst H (sym push) more)
 
 -- with one more option chosen, by a node
-pub links_push : (p : Problem) (c : Columns) (os es : List ℕ) (old new : List Link) (was now held : List ℕ) (room o k : ℕ) → IsLinks p c os es old was room → held ≡ commits_of c es → o < length p.options → is_live p os o ≡ true → is_covered p os (column_of c k) ≡ false → IsOptionNode c k → option_of c k ≡ o → IsLinked c new → CoversAll c old (covering c held (nodes_by c k)) new → CountsCoveredAll c old (covering c held (nodes_by c k)) was now → IsLinks p c (os ++ o ∷ []) (es ++ k ∷ []) new now room
-links_push p c os es old new was now held room o k is e inside live free node own linked covers counts =
+pub links_push : (p : Problem) (c : Columns) (os es : List ℕ) (old new : List Link) (was now held : List ℕ) (room o k : ℕ) → IsLinks p c os es old was room → held ≡ commits_of c es → o < length p.options → is_live p os o ≡ true → is_covered p os (column_of c k) ≡ false → IsOptionNode c k → option_of c k ≡ o → IsLinked c new → CoversAll c old (covering c held (nodes_by c k)) new → KeysCoveredAll c old (covering c held (nodes_by c k)) was now → IsLinks p c (os ++ o ∷ []) (es ++ k ∷ []) new now room
+links_push p c os es old new was now held room o k is e inside live free node own linked covers keys =
     let f = frame_push p c os es room o k (frame_of p c os es old was room is) inside live free node own in
     let t = frame_table p c (os ++ o ∷ []) (es ++ k ∷ []) room f in
     let all = covering_more c es k in
     let O : List ℕ → Type 0 = λ ks. AreOpen c [] ks in
     let H : List ℕ → Type 0 = λ ks. IsHistory c ks new now in
     let P : List ℕ → Type 0 = λ commits. CoversAll c old (covering c commits (nodes_by c k)) new in
-    let Q : List ℕ → Type 0 = λ commits. CountsCoveredAll c old (covering c commits (nodes_by c k)) was now in
-    let more = history_more c (covering_nodes c es) (covering c (commits_of c es) (nodes_by c k)) old new was now t (subst O all (frame_open p c (os ++ o ∷ []) (es ++ k ∷ []) room f)) is.history (subst P e covers) (subst Q e counts) in
+    let Q : List ℕ → Type 0 = λ commits. KeysCoveredAll c old (covering c commits (nodes_by c k)) was now in
+    let more = history_more c (covering_nodes c es) (covering c (commits_of c es) (nodes_by c k)) old new was now t (subst O all (frame_open p c (os ++ o ∷ []) (es ++ k ∷ []) room f)) is.history (subst P e covers) (subst Q e keys) in
     links_of p c (os ++ o ∷ []) (es ++ k ∷ []) new now room f linked (subst H (sym all) more)
 
 -- without the last one
-pub links_pop : (p : Problem) (c : Columns) (os es : List ℕ) (old new : List Link) (was now held : List ℕ) (room o k : ℕ) → IsLinks p c (os ++ o ∷ []) (es ++ k ∷ []) old was room → held ≡ commits_of c es → IsLinked c new → UncoversAll c old (covering c held (nodes_by c k)) new → CountsUncoveredAll c old (covering c held (nodes_by c k)) was now → IsLinks p c os es new now room
-links_pop p c os es old new was now held room o k is e linked uncovers counts =
+pub links_pop : (p : Problem) (c : Columns) (os es : List ℕ) (old new : List Link) (was now held : List ℕ) (room o k : ℕ) → IsLinks p c (os ++ o ∷ []) (es ++ k ∷ []) old was room → held ≡ commits_of c es → IsLinked c new → UncoversAll c old (covering c held (nodes_by c k)) new → KeysUncoveredAll c old (covering c held (nodes_by c k)) was now → IsLinks p c os es new now room
+links_pop p c os es old new was now held room o k is e linked uncovers keys =
     let f = frame_of p c (os ++ o ∷ []) (es ++ k ∷ []) old was room is in
     let all = covering_more c es k in
     let O : List ℕ → Type 0 = λ ks. AreOpen c [] ks in
     let H : List ℕ → Type 0 = λ ks. IsHistory c ks old was in
     let P : List ℕ → Type 0 = λ commits. UncoversAll c old (covering c commits (nodes_by c k)) new in
-    let Q : List ℕ → Type 0 = λ commits. CountsUncoveredAll c old (covering c commits (nodes_by c k)) was now in
-    let less = history_less c (covering_nodes c es) (covering c (commits_of c es) (nodes_by c k)) old new was now (frame_table p c (os ++ o ∷ []) (es ++ k ∷ []) room f) (subst O all (frame_open p c (os ++ o ∷ []) (es ++ k ∷ []) room f)) (subst H all is.history) (subst P e uncovers) (subst Q e counts) in
+    let Q : List ℕ → Type 0 = λ commits. KeysUncoveredAll c old (covering c commits (nodes_by c k)) was now in
+    let less = history_less c (covering_nodes c es) (covering c (commits_of c es) (nodes_by c k)) old new was now (frame_table p c (os ++ o ∷ []) (es ++ k ∷ []) room f) (subst O all (frame_open p c (os ++ o ∷ []) (es ++ k ∷ []) room f)) (subst H all is.history) (subst P e uncovers) (subst Q e keys) in
     links_of p c os es new now room (frame_front p c os es room o k f).0 linked less
 
 -- once the others of the last node's option are taken back
-pub others_popped : (p : Problem) (c : Columns) (os es : List ℕ) (old mid : List Link) (was half held : List ℕ) (room o k : ℕ) → IsLinks p c (os ++ o ∷ []) (es ++ k ∷ []) old was room → held ≡ commit c (commits_of c es) k → UncoversAll c old (covering c held (others c k)) mid → CountsUncoveredAll c old (covering c held (others c k)) was half → IsHistory c (covering_nodes c es ++ k ∷ []) mid half
-others_popped p c os es old mid was half held room o k is e uncovers counts =
+pub others_popped : (p : Problem) (c : Columns) (os es : List ℕ) (old mid : List Link) (was half held : List ℕ) (room o k : ℕ) → IsLinks p c (os ++ o ∷ []) (es ++ k ∷ []) old was room → held ≡ commit c (commits_of c es) k → UncoversAll c old (covering c held (others c k)) mid → KeysUncoveredAll c old (covering c held (others c k)) was half → IsHistory c (covering_nodes c es ++ k ∷ []) mid half
+others_popped p c os es old mid was half held room o k is e uncovers keys =
     let f = frame_of p c (os ++ o ∷ []) (es ++ k ∷ []) old was room is in
     let H : List ℕ → Type 0 = λ ks. IsHistory c ks old was in
     let P : List ℕ → Type 0 = λ commits. UncoversAll c old (covering c commits (others c k)) mid in
-    let Q : List ℕ → Type 0 = λ commits. CountsUncoveredAll c old (covering c commits (others c k)) was half in
+    let Q : List ℕ → Type 0 = λ commits. KeysUncoveredAll c old (covering c commits (others c k)) was half in
     let push = covering_push p c os es room k (frame_front p c os es room o k f).0 (last_free p c os es room o k f) in
-    history_less c (covering_nodes c es ++ k ∷ []) (covering c (commit c (commits_of c es) k) (others c k)) old mid was half (frame_table p c (os ++ o ∷ []) (es ++ k ∷ []) room f) (push_open p c os es room o k f) (subst H push is.history) (subst P e uncovers) (subst Q e counts)
+    history_less c (covering_nodes c es ++ k ∷ []) (covering c (commit c (commits_of c es) k) (others c k)) old mid was half (frame_table p c (os ++ o ∷ []) (es ++ k ∷ []) room f) (push_open p c os es room o k f) (subst H push is.history) (subst P e uncovers) (subst Q e keys)
 
 -- and its own
-pub item_popped : (p : Problem) (c : Columns) (os es : List ℕ) (mid new : List Link) (half now held : List ℕ) (room o k : ℕ) → IsFrame p c (os ++ o ∷ []) (es ++ k ∷ []) room → IsHistory c (covering_nodes c es ++ k ∷ []) mid half → held ≡ commits_of c es → IsLinked c new → UncoversAll c mid (covering c held (k ∷ [])) new → CountsUncoveredAll c mid (covering c held (k ∷ [])) half now → IsLinks p c os es new now room
-item_popped p c os es mid new half now held room o k f history e linked uncovers counts =
+pub item_popped : (p : Problem) (c : Columns) (os es : List ℕ) (mid new : List Link) (half now held : List ℕ) (room o k : ℕ) → IsFrame p c (os ++ o ∷ []) (es ++ k ∷ []) room → IsHistory c (covering_nodes c es ++ k ∷ []) mid half → held ≡ commits_of c es → IsLinked c new → UncoversAll c mid (covering c held (k ∷ [])) new → KeysUncoveredAll c mid (covering c held (k ∷ [])) half now → IsLinks p c os es new now room
+item_popped p c os es mid new half now held room o k f history e linked uncovers keys =
     let t = frame_table p c (os ++ o ∷ []) (es ++ k ∷ []) room f in
     let front = (frame_front p c os es room o k f).0 in
     let one : covering c held (k ∷ []) ≡ k ∷ [] = ap (λ (commits : List ℕ). covering c commits (k ∷ [])) e ∙ covering_new c (commits_of c es) k [] (repeated_none c (commits_of c es) k (frame_free p c os es room (column_of c k) front (last_free p c os es room o k f))) in
     let P : List ℕ → Type 0 = λ ks. UncoversAll c mid ks new in
-    let Q : List ℕ → Type 0 = λ ks. CountsUncoveredAll c mid ks half now in
+    let Q : List ℕ → Type 0 = λ ks. KeysUncoveredAll c mid ks half now in
     let are = (open_parts c [] (covering_nodes c es ++ k ∷ []) (covering c (commit c (commits_of c es) k) (others c k)) (push_open p c os es room o k f)).0 in
     links_of p c os es new now room front linked
-    (history_less c (covering_nodes c es) (k ∷ []) mid new half now t are history (subst P one uncovers) (subst Q one counts))
+    (history_less c (covering_nodes c es) (k ∷ []) mid new half now t are history (subst P one uncovers) (subst Q one keys))
 
 -- another node in the place of the last one
 pub recovered : (p : Problem) (c : Columns) (os es : List ℕ) (mid new : List Link) (half now held : List ℕ) (room o k next : ℕ) → IsFrame p c (os ++ o ∷ []) (es ++ k ∷ []) room → IsHistory c (covering_nodes c es ++ k ∷ []) mid half → Recovers c (commits_of c es) mid half k next new now held → IsHistory c (covering_nodes c es ++ next ∷ []) new now
@@ -265,14 +265,14 @@ recovered p c os es mid new half now held room o k next f h r =
     let m : List Link = links_all c [] before (covering_nodes c es) in
     let spelled : IsSpelled c (outs_all c [] (covering_nodes c es)) (links_all c [] before (covering_nodes c es)) = spelled_all c [] before xs t h.built.spelled parts.0 in
     let was : mid ≡ unlinks (links_all c [] before (covering_nodes c es)) (covered_by c (outs_all c [] (covering_nodes c es)) k) = h.links_are ∙ links_append c [] before xs (k ∷ []) in
-    let P : List ℕ → Type 0 = λ gone. IsCounted c gone half in
-    let Q : List ℕ → Type 0 = λ gone. IsCounted c gone now in
-    let counted : IsCounted c (outs (covered_by c (outs_all c [] (covering_nodes c es)) k) (outs_all c [] (covering_nodes c es))) half = subst P (out_append c [] xs (k ∷ [])) h.counted in
+    let P : List ℕ → Type 0 = λ gone. IsKeyed c gone half in
+    let Q : List ℕ → Type 0 = λ gone. IsKeyed c gone now in
+    let keyed : IsKeyed c (outs (covered_by c (outs_all c [] (covering_nodes c es)) k) (outs_all c [] (covering_nodes c es))) half = subst P (out_append c [] xs (k ∷ [])) h.keyed in
     record {
       before = before;
       built = h.built;
       links_are = r.links out m spelled parts.1.0 was ∙ sym (links_append c [] before xs (next ∷ []));
-      counted = subst Q (sym (out_append c [] xs (next ∷ []))) (r.counts out m spelled parts.1.0 was counted);
+      keyed = subst Q (sym (out_append c [] xs (next ∷ []))) (r.keys out m spelled parts.1.0 was keyed);
     }
 
 -- there is room for one more
@@ -306,8 +306,8 @@ view_push v p c os es xs ks o k i view chosen entries item =
     ∙ ap (λ (w : Choices). with_child w i o) view
 
 -- as many nodes as options are chosen
-pub same_length : (p : Problem) (c : Columns) (os es : List ℕ) (m : List Link) (counts : List ℕ) (room : ℕ) → IsLinks p c os es m counts room → length es ≡ length os
-same_length p c os es m counts room is = sym (length-map es (option_of c)) ∙ ap length is.options
+pub same_length : (p : Problem) (c : Columns) (os es : List ℕ) (m : List Link) (keys : List ℕ) (room : ℕ) → IsLinks p c os es m keys room → length es ≡ length os
+same_length p c os es m keys room is = sym (length-map es (option_of c)) ∙ ap length is.options
 
 -- a node that the code reads is one of an option
 pub entry_node : (c : Columns) (es : List ℕ) (n k : ℕ) → All (IsOptionNode c) es → n < length es → k ≡ get_or es n k → IsOptionNode c k
@@ -333,7 +333,7 @@ next_choice a b i j o q next after e is =
 pub same_history_of : (c : Columns) (is : List ℕ) (m n : List Link) (was now : List ℕ) → n ≡ m → now ≡ was → IsHistory c is m was → IsHistory c is n now
 same_history_of c is m n was now e f h =
     let P : List Link → Type 0 = λ links. IsHistory c is links now in
-    let Q : List ℕ → Type 0 = λ counts. IsHistory c is m counts in
+    let Q : List ℕ → Type 0 = λ keys. IsHistory c is m keys in
     subst P (sym e) (subst Q (sym f) h)
 
 pub same_linked : (c : Columns) (m n : List Link) → n ≡ m → IsLinked c m → IsLinked c n

@@ -4,7 +4,7 @@ pub mod Round
 pub mod Walk
 pub mod Apart
 pub mod Chain
-pub mod Counts
+pub mod Keyed
 pub mod Commits
 pub mod Choose
 pub mod Present
@@ -26,3 +26,5 @@ pub mod Primary
 pub mod Views
 pub mod Columned
 pub mod Next
+pub mod Least
+pub mod Branching

@@ -56,9 +56,9 @@ below_by p c os out i start d t item low own here rest = record {
 }
 
 -- below the head of an uncovered item
-pub below_head : (p : Problem) (c : Columns) (os es : List ℕ) (m : List Link) (counts : List ℕ) (room i : ℕ) (head : Link) → IsLinks p c os es m counts room → i < length p.names → is_covered p os i ≡ false → head ≡ get_or m i head → IsBelow p c os i 0 head.down
-below_head p c os es m counts room i head is h free e =
-    let s = state_of p c os es m counts room is in
+pub below_head : (p : Problem) (c : Columns) (os es : List ℕ) (m : List Link) (keys : List ℕ) (room i : ℕ) (head : Link) → IsLinks p c os es m keys room → i < length p.names → is_covered p os i ≡ false → head ≡ get_or m i head → IsBelow p c os i 0 head.down
+below_head p c os es m keys room i head is h free e =
+    let s = state_of p c os es m keys room is in
     let heads : c.heads ≡ heads_of p = ap (λ (t : Columns). t.heads) is.layout in
     let lt : i < c.heads = omega (arith, heads, h) in
     let item : i + 1 < c.heads = omega (arith, heads, h) in
@@ -66,7 +66,7 @@ below_head p c os es m counts room i head is h free e =
     let next = s.spelled.down i (omega (arith, lt, s.spelled.order)) (s.spelled.heads_in i lt) in
     let d : ℕ = down_of m i in
     let skip = column_skip_to c (out_of c es) i (d - c.heads) c.heads d (omega (arith, next.low)) (λ y above below same. next.nearest y (omega (arith, above, lt)) below (same ∙ sym own)) in
-    let rest : live_options_from p os i 0 ≡ map (option_of c) (column_from c (out_of c es) i (down_of m i)) = live_options_start p os i ∙ sym (column_is p c os es m counts room i is h free) ∙ ap (map (option_of c)) skip in
+    let rest : live_options_from p os i 0 ≡ map (option_of c) (column_from c (out_of c es) i (down_of m i)) = live_options_start p os i ∙ sym (column_is p c os es m keys room i is h free) ∙ ap (map (option_of c)) skip in
     let D : Link → ℕ = λ l. l.down in
     let inside : i < length m = omega (arith, s.spelled.count, s.table_is.ends, heads, h) in
     let read : down_of m i ≡ head.down = sym (ap D (e ∙ get_or_default m i head (record { up = 0; down = 0 }) inside)) in

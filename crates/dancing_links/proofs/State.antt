@@ -74,9 +74,9 @@ frame_names p c os es room i f =
     let P : Columns → Type 0 = λ t. IsCastBy p t os es → covers t (with_all [] (covering_nodes t es)) i ≡ is_covered p os i in
     subst P (sym f.layout) (λ at. cast_names p os (with_all [] (chosen_nodes (table p) es)) (with_all [] (covering_nodes (table p) es)) (commits_of (table p) es) i at.cast) (frame_cast p c os es room f)
 
-pub state_of : (p : Problem) (c : Columns) (os es : List ℕ) (m : List Link) (counts : List ℕ) (room : ℕ) → IsLinks p c os es m counts room → IsState p c os es m
-state_of p c os es m counts room is =
-    let f = frame_of p c os es m counts room is in
+pub state_of : (p : Problem) (c : Columns) (os es : List ℕ) (m : List Link) (keys : List ℕ) (room : ℕ) → IsLinks p c os es m keys room → IsState p c os es m
+state_of p c os es m keys room is =
+    let f = frame_of p c os es m keys room is in
     let t = frame_table p c os es room f in
     let are = frame_open p c os es room f in
     let P : List Link → Type 0 = λ links. IsSpelled c (out_of c es) links in
@@ -121,8 +121,8 @@ covered_test p c os es m i s h =
     not_not false = refl
 
 -- links are known by the problem, what is chosen and by which item each
-pub one_links : (p : Problem) (c d : Columns) (os es ks : List ℕ) (m n : List Link) (counts tallies : List ℕ) (room more : ℕ) → IsLinks p c os es m counts room → IsLinks p d os ks n tallies more → map (column_of c) es ≡ map (column_of d) ks → m ≡ n
-one_links p c d os es ks m n counts tallies room more a b branches =
+pub one_links : (p : Problem) (c d : Columns) (os es ks : List ℕ) (m n : List Link) (keys tallies : List ℕ) (room more : ℕ) → IsLinks p c os es m keys room → IsLinks p d os ks n tallies more → map (column_of c) es ≡ map (column_of d) ks → m ≡ n
+one_links p c d os es ks m n keys tallies room more a b branches =
     let e : d ≡ c = b.layout ∙ sym a.layout in
     let P : Columns → Type 0 = λ t. IsLinks p t os ks n tallies more in
     let b' = subst P e b in

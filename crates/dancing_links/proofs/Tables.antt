@@ -141,7 +141,7 @@ no_option p k own =
     omega (arith, begin, end)
 
 -- no column has more nodes than there are options
-few_nodes : (p : Problem) (i : ℕ) → IsProblem p → i < length p.names → length (column_from (table p) [] i (heads_of p)) < 65536
+few_nodes : (p : Problem) (i : ℕ) → IsProblem p → i < length p.names → length (column_from (table p) [] i (heads_of p)) < 32768
 unfolding column_from
 few_nodes p i is h =
     let c : Columns = table p in
@@ -211,6 +211,7 @@ table_is p is =
           let at = (node_at p k (omega (arith, low)) high) in
           let by = node_by p j at.option (j - start_of p at.option) at.at.option_in (omega (arith, at.at.end, at.at.begin, above, below)) (omega (arith, at.at.begin, above)) in
           (by.begin ∙ sym at.at.begin, by.end ∙ sym at.at.end);
+      few_heads = omega (arith, is.names);
       each_few = λ i h. few_nodes p i is (omega (arith, h));
       apart = λ k j low high above below own.
           let at = (node_at p k (omega (arith, low)) high) in

@@ -3,7 +3,7 @@ use Rattle.std.proofs.Common.{◌≡◌, ℕ, List, [], ◌++◌, sym, ap, ◌�
 use Rattle.dancing_links.specs.declared.link.Link.{Link}
 use Rattle.dancing_links.specs.Columns.{Columns, IsSpelled, IsTable}
 use Rattle.dancing_links.specs.Choices.{IsHistory}
-use Rattle.dancing_links.specs.Counting.{IsCounted, CountsCoveredAll, CountsUncoveredAll}
+use Rattle.dancing_links.specs.Keys.{IsKeyed, KeysCoveredAll, KeysUncoveredAll}
 use Rattle.dancing_links.specs.Covering.{outs_all, links_all, AreOpen, CoversAll, UncoversAll}
 use Rattle.dancing_links.proofs.Choose.{spelled_all, links_append, out_append, open_parts}
 
@@ -21,27 +21,27 @@ chosen_less c before now new xs ys t s are e uncovers =
     uncovers (outs_all c [] xs) (links_all c [] before xs) (spelled_all c [] before xs t s parts.0) parts.1 (e ∙ links_append c [] before xs ys)
 
 -- more nodes cover
-pub history_more : (c : Columns) (xs ys : List ℕ) (old new : List Link) (was now : List ℕ) → IsTable c → AreOpen c [] (xs ++ ys) → IsHistory c xs old was → CoversAll c old ys new → CountsCoveredAll c old ys was now → IsHistory c (xs ++ ys) new now
-history_more c xs ys old new was now t are h covers counts =
+pub history_more : (c : Columns) (xs ys : List ℕ) (old new : List Link) (was now : List ℕ) → IsTable c → AreOpen c [] (xs ++ ys) → IsHistory c xs old was → CoversAll c old ys new → KeysCoveredAll c old ys was now → IsHistory c (xs ++ ys) new now
+history_more c xs ys old new was now t are h covers keys =
     let parts = open_parts c [] xs ys are in
     let S : List Link → Type 0 = λ links. IsSpelled c (outs_all c [] xs) links in
     let spelled = subst S (sym h.links_are) (spelled_all c [] h.before xs t h.built.spelled parts.0) in
-    let R : List ℕ → Type 0 = λ gone. IsCounted c gone now in
+    let R : List ℕ → Type 0 = λ gone. IsKeyed c gone now in
     record {
       before = h.before;
       built = h.built;
       links_are = chosen_more c h.before old new xs ys t h.built.spelled are h.links_are covers;
-      counted = subst R (sym (out_append c [] xs ys)) (counts (outs_all c [] xs) spelled parts.1 h.counted);
+      keyed = subst R (sym (out_append c [] xs ys)) (keys (outs_all c [] xs) spelled parts.1 h.keyed);
     }
 
 -- the last of them taken back
-pub history_less : (c : Columns) (xs ys : List ℕ) (old new : List Link) (was now : List ℕ) → IsTable c → AreOpen c [] (xs ++ ys) → IsHistory c (xs ++ ys) old was → UncoversAll c old ys new → CountsUncoveredAll c old ys was now → IsHistory c xs new now
-history_less c xs ys old new was now t are h uncovers counts =
+pub history_less : (c : Columns) (xs ys : List ℕ) (old new : List Link) (was now : List ℕ) → IsTable c → AreOpen c [] (xs ++ ys) → IsHistory c (xs ++ ys) old was → UncoversAll c old ys new → KeysUncoveredAll c old ys was now → IsHistory c xs new now
+history_less c xs ys old new was now t are h uncovers keys =
     let parts = open_parts c [] xs ys are in
-    let R : List ℕ → Type 0 = λ gone. IsCounted c gone was in
+    let R : List ℕ → Type 0 = λ gone. IsKeyed c gone was in
     record {
       before = h.before;
       built = h.built;
       links_are = chosen_less c h.before old new xs ys t h.built.spelled are h.links_are uncovers;
-      counted = counts (outs_all c [] xs) (links_all c [] h.before xs) (spelled_all c [] h.before xs t h.built.spelled parts.0) parts.1 (h.links_are ∙ links_append c [] h.before xs ys) (subst R (out_append c [] xs ys) h.counted);
+      keyed = keys (outs_all c [] xs) (links_all c [] h.before xs) (spelled_all c [] h.before xs t h.built.spelled parts.0) parts.1 (h.links_are ∙ links_append c [] h.before xs ys) (subst R (out_append c [] xs ys) h.keyed);
     }

@@ -1,5 +1,5 @@
 -- What the views of the links answer.
-use Rattle.std.proofs.Common.{◌≡◌, ℕ, zero, suc, ◌+◌, ◌-◌, ◌<◌, ◌≤◌, List, [], ◌∷◌, length, not, ◌==◌, true, false, get_or, map, refl, arith, sym, ap, ◌∙◌, inl, inr, subst, slice_get, Some, None, Option, MatchOption, IfSome}
+use Rattle.std.proofs.Common.{◌≡◌, ℕ, zero, suc, ◌+◌, ◌-◌, ◌*◌, Bool, ◌<◌, ◌≤◌, List, [], ◌∷◌, length, not, ◌==◌, true, false, get_or, map, refl, arith, sym, ap, ◌∙◌, inl, inr, subst, slice_get, Some, None, Option, MatchOption, IfSome}
 use Rattle.std.proofs.lemmas.Bool.{cases_lt, lt-ltb, le-ltb, not-true, both_ways, and_parts, cases_Bool}
 use Rattle.std.proofs.lemmas.List.{length-map, get_or_default}
 use Rattle.std.proofs.lemmas.Grind.{get_or_default_zero}
@@ -11,9 +11,11 @@ use Rattle.cover_problem.proofs.Remaining.{open_items_from_take, open_items_from
 use Rattle.dancing_links.specs.declared.link.Link.{Link}
 use Rattle.dancing_links.specs.Choices.{IsLinks, IsChild, IsPrimary, out_of, chosen_nodes, covering_nodes, commits_of}
 use Rattle.dancing_links.specs.Columns.{Columns, among, column_of, column_from, option_of, IsTable, IsLinked, IsSpelled}
+use Rattle.dancing_links.specs.Keys.{mark_of}
 use Rattle.dancing_links.specs.Linking.{up_of, down_of}
 use Rattle.dancing_links.specs.Walking.{walk, options_left, IsNaming}
 use Rattle.dancing_links.specs.Table.{table, heads_of, base_of, first_list}
+use Rattle.dancing_links.proofs.Keyed.{few}
 use Rattle.dancing_links.proofs.Walk.{column_skip_to, column_from_take, column_from_end}
 use Rattle.dancing_links.proofs.Nodes.{starts_next, first_at}
 use Rattle.dancing_links.proofs.Tables.{IsNodeAt, start_of, node_by, table_is, place_of}
@@ -25,18 +27,33 @@ use Rattle.dancing_links.proofs.Prefixed.{primary_uncovered}
 use Rattle.dancing_links.proofs.Columned.{column_options, column_options_from}
 
 -- an item's column, by options
-pub column_is : (p : Problem) (c : Columns) (os es : List ℕ) (m : List Link) (counts : List ℕ) (room i : ℕ) → IsLinks p c os es m counts room → i < length p.names → is_covered p os i ≡ false → map (option_of c) (column_from c (out_of c es) i c.heads) ≡ live_options p os i
-column_is p c os es m counts room i is h free =
-    let P : Columns → Type 0 = λ t. IsLinks p t os es m counts room in
-    let s = state_of p (table p) os es m counts room (subst P is.layout is) in
+pub column_is : (p : Problem) (c : Columns) (os es : List ℕ) (m : List Link) (keys : List ℕ) (room i : ℕ) → IsLinks p c os es m keys room → i < length p.names → is_covered p os i ≡ false → map (option_of c) (column_from c (out_of c es) i c.heads) ≡ live_options p os i
+column_is p c os es m keys room i is h free =
+    let P : Columns → Type 0 = λ t. IsLinks p t os es m keys room in
+    let s = state_of p (table p) os es m keys room (subst P is.layout is) in
     let Q : Columns → Type 0 = λ t. map (option_of t) (column_from t (out_of t es) i t.heads) ≡ live_options p os i in
     subst Q (sym is.layout) (column_options p os (with_all [] (chosen_nodes (table p) es)) (with_all [] (covering_nodes (table p) es)) (commits_of (table p) es) (out_of (table p) es) i s.cast s.out h free)
 
--- the count of an item is that of the live options that name it
-pub count_is : (p : Problem) (c : Columns) (os es : List ℕ) (m : List Link) (counts : List ℕ) (room i : ℕ) → IsLinks p c os es m counts room → i < length p.names → is_covered p os i ≡ false → get_or counts i 0 ≡ length (live_options p os i)
-count_is p c os es m counts room i is h free =
+-- the key of an item has the mark where it is covered
+pub key_is : (p : Problem) (c : Columns) (os es : List ℕ) (m : List Link) (keys : List ℕ) (room i : ℕ) → IsLinks p c os es m keys room → i < length p.names → get_or keys i 0 ≡ i + 65536 * length (column_from c (out_of c es) i c.heads) + mark_of (is_covered p os i)
+key_is p c os es m keys room i is h =
     let heads : c.heads ≡ heads_of p = ap (λ (t : Columns). t.heads) is.layout in
-    is.history.counted.count i (omega (arith, heads, h)) ∙ sym (length-map (column_from c (out_of c es) i c.heads) (option_of c)) ∙ ap length (column_is p c os es m counts room i is h free)
+    is.history.keyed.key i (omega (arith, heads, h)) ∙ ap (λ (b : Bool). i + 65536 * length (column_from c (out_of c es) i c.heads) + mark_of b) (item_gone p c os es m i (state_of p c os es m keys room is) h)
+
+-- that of an uncovered one counts the live options that name it
+pub open_key : (p : Problem) (c : Columns) (os es : List ℕ) (m : List Link) (keys : List ℕ) (room i : ℕ) → IsLinks p c os es m keys room → i < length p.names → is_covered p os i ≡ false → get_or keys i 0 ≡ i + 65536 * length (live_options p os i)
+open_key p c os es m keys room i is h free =
+    let marked = ap mark_of free in
+    let live = sym (length-map (column_from c (out_of c es) i c.heads) (option_of c)) ∙ ap length (column_is p c os es m keys room i is h free) in
+    omega (arith, key_is p c os es m keys room i is h, marked, live)
+
+-- and has no mark
+pub open_key_small : (p : Problem) (c : Columns) (os es : List ℕ) (m : List Link) (keys : List ℕ) (room i : ℕ) → IsLinks p c os es m keys room → i < length p.names → is_covered p os i ≡ false → get_or keys i 0 < 2147483648
+open_key_small p c os es m keys room i is h free =
+    let s = state_of p c os es m keys room is in
+    let heads : c.heads ≡ heads_of p = ap (λ (t : Columns). t.heads) is.layout in
+    let marked = ap mark_of free in
+    omega (arith, key_is p c os es m keys room i is h, marked, few c (out_of c es) i s.table_is (omega (arith, heads, h)), heads, h, is.is_problem.names)
 
 -- ---- the next uncovered item
 
@@ -81,17 +98,17 @@ onward p c os es m start x s at own high here =
     }
 
 -- the first uncovered item
-pub onward_first : (p : Problem) (c : Columns) (os es : List ℕ) (m : List Link) (counts : List ℕ) (room : ℕ) → IsLinks p c os es m counts room → IsOnward p c os 0 (down_of m (c.heads - 1))
-onward_first p c os es m counts room is =
-    let s = state_of p c os es m counts room is in
+pub onward_first : (p : Problem) (c : Columns) (os es : List ℕ) (m : List Link) (keys : List ℕ) (room : ℕ) → IsLinks p c os es m keys room → IsOnward p c os 0 (down_of m (c.heads - 1))
+onward_first p c os es m keys room is =
+    let s = state_of p c os es m keys room is in
     let x : ℕ = c.heads - 1 in
     let lt : x < c.heads = omega (arith, s.table_is.some) in
     onward p c os es m 0 x s (omega (arith, s.table_is.some)) (omega (arith, s.table_is.head_columns x lt, s.table_is.some)) (omega (arith, lt, s.spelled.order)) (s.spelled.heads_in x lt)
 
 -- the uncovered item after an uncovered one
-pub onward_next : (p : Problem) (c : Columns) (os es : List ℕ) (m : List Link) (counts : List ℕ) (room i : ℕ) → IsLinks p c os es m counts room → i < length p.names → is_covered p os i ≡ false → IsOnward p c os (i + 1) (down_of m (c.heads + i))
-onward_next p c os es m counts room i is h free =
-    let s = state_of p c os es m counts room is in
+pub onward_next : (p : Problem) (c : Columns) (os es : List ℕ) (m : List Link) (keys : List ℕ) (room i : ℕ) → IsLinks p c os es m keys room → i < length p.names → is_covered p os i ≡ false → IsOnward p c os (i + 1) (down_of m (c.heads + i))
+onward_next p c os es m keys room i is h free =
+    let s = state_of p c os es m keys room is in
     let heads : c.heads ≡ heads_of p = ap (λ (t : Columns). t.heads) s.layout in
     onward p c os es m (i + 1) (c.heads + i) s (omega arith) (s.table_is.item_columns i (omega (arith, heads, h))) (omega (arith, s.table_is.order, heads, h)) (item_gone p c os es m i s h ∙ free)
 
@@ -104,8 +121,8 @@ pub answer_open : (p : Problem) (c : Columns) (os : List ℕ) (start d primary :
 answer_open p c os start d primary None e o h = tt
 answer_open p c os start d primary (Some x) e o h = let P : ℕ → Type 0 = λ k. IsOpen p os k in subst P (sym h.1) (o.some (omega (arith, e, h.0))).1
 
-pub item_counted_in : (p : Problem) (c : Columns) (os es : List ℕ) (m : List Link) (counts : List ℕ) (room i : ℕ) → IsLinks p c os es m counts room → i < length p.names → i < length counts
-item_counted_in p c os es m counts room i is h = omega (arith, is.history.counted.columns, ap (λ (t : Columns). t.heads) is.layout, h)
+pub item_keyed_in : (p : Problem) (c : Columns) (os es : List ℕ) (m : List Link) (keys : List ℕ) (room i : ℕ) → IsLinks p c os es m keys room → i < length p.names → i < length keys
+item_keyed_in p c os es m keys room i is h = omega (arith, is.history.keyed.columns, ap (λ (t : Columns). t.heads) is.layout, h)
 
 -- ---- down the column of an item
 
@@ -147,9 +164,9 @@ walk_column c out m i (suc n) node s low own here enough = elim (cases_lt node c
 ]
 
 -- what is left from the head of an uncovered item on
-pub left_all : (p : Problem) (c : Columns) (os es : List ℕ) (m : List Link) (counts : List ℕ) (room i : ℕ) → IsLinks p c os es m counts room → i < length p.names → is_covered p os i ≡ false → options_left c m (down_of m i) ≡ live_options p os i
-left_all p c os es m counts room i is h free =
-    let s = state_of p c os es m counts room is in
+pub left_all : (p : Problem) (c : Columns) (os es : List ℕ) (m : List Link) (keys : List ℕ) (room i : ℕ) → IsLinks p c os es m keys room → i < length p.names → is_covered p os i ≡ false → options_left c m (down_of m i) ≡ live_options p os i
+left_all p c os es m keys room i is h free =
+    let s = state_of p c os es m keys room is in
     let heads : c.heads ≡ heads_of p = ap (λ (t : Columns). t.heads) is.layout in
     let head : i < c.heads = omega (arith, heads, h) in
     let own = s.table_is.head_columns i head in
@@ -157,7 +174,7 @@ left_all p c os es m counts room i is h free =
     let d : ℕ = down_of m i in
     let skip = column_skip_to c (out_of c es) i (d - c.heads) c.heads d (omega (arith, next.low)) (λ y above below same. next.nearest y (omega (arith, above, head)) below (same ∙ sym own)) in
     walk_column c (out_of c es) m i (c.tails - d) d s.spelled next.low (next.column ∙ own) next.in_down (omega arith)
-    ∙ ap (map (option_of c)) (sym skip) ∙ column_is p c os es m counts room i is h free
+    ∙ ap (map (option_of c)) (sym skip) ∙ column_is p c os es m keys room i is h free
 
 -- what a step of the iterator takes
 pub left_step : (c : Columns) (m : List Link) (node option : ℕ) (left : List ℕ) → IsTable c → IsLinked c m → node < c.tails → option ≡ get_or c.option node option → options_left c m node ≡ left → left ≡ option ∷ options_left c m (down_of m node)
@@ -166,14 +183,14 @@ left_step c m node option left t l high e f =
     sym f ∙ left_take c m node t l high ∙ ap (λ o. o ∷ options_left c m (down_of m node)) (sym (e ∙ get_or_default_zero c.option node option inside))
 
 -- the same, as the code reads the head
-pub left_read : (p : Problem) (c : Columns) (os es : List ℕ) (m : List Link) (counts : List ℕ) (room i : ℕ) (head : Link) → IsLinks p c os es m counts room → i < length p.names → is_covered p os i ≡ false → head ≡ get_or m i head → options_left c m head.down ≡ live_options p os i
-left_read p c os es m counts room i head is h free e =
+pub left_read : (p : Problem) (c : Columns) (os es : List ℕ) (m : List Link) (keys : List ℕ) (room i : ℕ) (head : Link) → IsLinks p c os es m keys room → i < length p.names → is_covered p os i ≡ false → head ≡ get_or m i head → options_left c m head.down ≡ live_options p os i
+left_read p c os es m keys room i head is h free e =
     let heads : c.heads ≡ heads_of p = ap (λ (t : Columns). t.heads) is.layout in
-    let s = state_of p c os es m counts room is in
+    let s = state_of p c os es m keys room is in
     let inside : i < length m = omega (arith, s.spelled.count, s.table_is.ends, heads, h) in
     let D : Link → ℕ = λ l. l.down in
     let down : head.down ≡ down_of m i = ap D (e ∙ get_or_default m i head (record { up = 0; down = 0 }) inside) in
-    ap (options_left c m) down ∙ left_all p c os es m counts room i is h free
+    ap (options_left c m) down ∙ left_all p c os es m keys room i is h free
 
 -- ---- the next option of an item
 
@@ -197,9 +214,9 @@ live_test p os seen nodes commits out node o j cast gone at free =
     ∙ node_live p os seen nodes commits node o j cast at
 
 -- an option is live where its first primary item is uncovered, and its node there is known from above
-pub live_known : (p : Problem) (c : Columns) (os es : List ℕ) (m : List Link) (counts : List ℕ) (room o k : ℕ) → IsLinks p c os es m counts room → IsPrimary p c o k → is_covered p os (column_of c k) ≡ false → (down_of m (up_of m k) == k) ≡ is_live p os o
-live_known p c os es m counts room o k is at free =
-    let s = state_of p c os es m counts room is in
+pub live_known : (p : Problem) (c : Columns) (os es : List ℕ) (m : List Link) (keys : List ℕ) (room o k : ℕ) → IsLinks p c os es m keys room → IsPrimary p c o k → is_covered p os (column_of c k) ≡ false → (down_of m (up_of m k) == k) ≡ is_live p os o
+live_known p c os es m keys room o k is at free =
+    let s = state_of p c os es m keys room is in
     let P : Columns → Type 0 = λ t. IsCast p t os (with_all [] (chosen_nodes t es)) (with_all [] (covering_nodes t es)) (commits_of t es) → IsOut t (with_all [] (covering_nodes t es)) (out_of t es) → IsPrimary p t o k → is_covered p os (column_of t k) ≡ false → not (among (out_of t es) k) ≡ is_live p os o in
     known_test p c os es m k s (omega (arith, at.in_option.0, s.table_is.some)) at.in_option.1
     ∙ subst P (sym is.layout) (λ cast gone at free.
@@ -250,10 +267,10 @@ next_at p os es m i o node s h free inside live named at =
     ∙ rest_at p os seen nodes commits out i node o j s.cast s.out h free by own
 
 -- the options after an option in the column of an uncovered item
-pub left_after : (p : Problem) (c : Columns) (os es : List ℕ) (m : List Link) (counts : List ℕ) (room i o node : ℕ) → IsLinks p c os es m counts room → i < length p.names → is_covered p os i ≡ false → o < length p.options → is_live p os o ≡ true → names_item p o i ≡ true → IsNaming c i (get_or c.first o 0) (get_or c.first (o + 1) 0) node → options_left c m (down_of m node) ≡ live_options_from p os i (o + 1)
-left_after p c os es m counts room i o node is h free inside live named at =
-    let P : Columns → Type 0 = λ t. IsLinks p t os es m counts room in
-    let s = state_of p (table p) os es m counts room (subst P is.layout is) in
+pub left_after : (p : Problem) (c : Columns) (os es : List ℕ) (m : List Link) (keys : List ℕ) (room i o node : ℕ) → IsLinks p c os es m keys room → i < length p.names → is_covered p os i ≡ false → o < length p.options → is_live p os o ≡ true → names_item p o i ≡ true → IsNaming c i (get_or c.first o 0) (get_or c.first (o + 1) 0) node → options_left c m (down_of m node) ≡ live_options_from p os i (o + 1)
+left_after p c os es m keys room i o node is h free inside live named at =
+    let P : Columns → Type 0 = λ t. IsLinks p t os es m keys room in
+    let s = state_of p (table p) os es m keys room (subst P is.layout is) in
     let Q : Columns → Type 0 = λ t. IsNaming t i (get_or t.first o 0) (get_or t.first (o + 1) 0) node in
     let at_table = subst Q is.layout at in
     let begin : get_or (first_list p) o 0 ≡ start_of p o = first_at p o (omega (arith, inside)) in

@@ -4,7 +4,7 @@ use Rattle.std.specs.List.{range_with_len, flat_map}
 use Rattle.std.proofs.lemmas.Bool.{eq-eqb, ne_eqb, cases_Bool, cases_eq, cases_lt, both_ways}
 use Rattle.dancing_links.specs.declared.link.Link.{Link}
 use Rattle.dancing_links.specs.Columns.{among, Columns, column_of, begin_of, end_of, IsSpelled, column_from, IsTable}
-use Rattle.dancing_links.specs.Counting.{fewer, with_less, with_more}
+use Rattle.dancing_links.specs.Keys.{fewer, with_less, with_more}
 use Rattle.dancing_links.specs.Covering.{outs, others, has_colour, hidden_at, hidden_from, covered, AreWhole, IsOpen, Covers}
 use Rattle.dancing_links.specs.Linking.{down_of, unlinked, unlinks}
 use Rattle.dancing_links.proofs.Law.{spelled_unlink, in_other, out_other}
@@ -228,33 +228,33 @@ whole_item c out i t can = λ k j low high own here above below.
 pub item_out : (c : Columns) (out : List ℕ) (i : ℕ) (m : List Link) → IsTable c → IsOpen c out i → IsSpelled c out m → IsSpelled c ((c.heads + i) ∷ out) (unlinked m (c.heads + i))
 item_out c out i m t can s = spelled_unlink c out m (c.heads + i) s (omega arith) (omega (arith, can.item, t.order)) can.here
 
--- on the way down: what was done, to the links and to the counts
+-- on the way down: what was done, to the links and to the keys
 pub record IsWalk (c : Columns) (out : List ℕ) (i a : ℕ) (old now : List Link) (was is : List ℕ) (node : ℕ) : Type 0 where
   pub done : List ℕ
   pub going : IsGoing c out i a old now node done
-  pub counts : is ≡ fewer c was done
+  pub keys : is ≡ fewer c was done
 
 abbrev pub Going : Columns → List Link → ℕ → ℕ → List Link → List ℕ → List ℕ → ℕ → Type 0
 Going c old i a now was is node = (out : List ℕ) → IsSpelled c out old → IsOpen c out i → IsWalk c ((c.heads + i) ∷ out) i a (unlinked old (c.heads + i)) now was is node
 
--- the counts once nodes came back, the last one first
+-- the keys once nodes came back, the last one first
 abbrev pub more : Columns → List ℕ → List ℕ → List ℕ
-more c counts [] = counts
-more c counts (x ∷ xs) = with_more c (more c counts xs) x
+more c keys [] = keys
+more c keys (x ∷ xs) = with_more c (more c keys xs) x
 
-pub fewer-append : (c : Columns) (counts xs ys : List ℕ) → fewer c counts (xs ++ ys) ≡ fewer c (fewer c counts xs) ys
-fewer-append c counts [] ys = refl
-fewer-append c counts (x ∷ xs) ys = fewer-append c (with_less c counts x) xs ys
+pub fewer-append : (c : Columns) (keys xs ys : List ℕ) → fewer c keys (xs ++ ys) ≡ fewer c (fewer c keys xs) ys
+fewer-append c keys [] ys = refl
+fewer-append c keys (x ∷ xs) ys = fewer-append c (with_less c keys x) xs ys
 
-pub more-append : (c : Columns) (counts xs ys : List ℕ) → more c counts (xs ++ ys) ≡ more c (more c counts ys) xs
-more-append c counts [] ys = refl
-more-append c counts (x ∷ xs) ys = ap (λ (k : List ℕ). with_more c k x) (more-append c counts xs ys)
+pub more-append : (c : Columns) (keys xs ys : List ℕ) → more c keys (xs ++ ys) ≡ more c (more c keys ys) xs
+more-append c keys [] ys = refl
+more-append c keys (x ∷ xs) ys = ap (λ (k : List ℕ). with_more c k x) (more-append c keys xs ys)
 
 pub cover_start : (c : Columns) (old now : List Link) (was : List ℕ) (i a : ℕ) → IsTable c → now ≡ unlinked old (c.heads + i) → Going c old i a now was was (down_of now i)
 cover_start c old now was i a t e = λ out s can. record {
   done = [];
   going = rw e (going_start c ((c.heads + i) ∷ out) i a (unlinked old (c.heads + i)) t can.item (item_out c out i old t can s));
-  counts = refl;
+  keys = refl;
 }
 
 pub cover_step : (c : Columns) (old now new : List Link) (was is less : List ℕ) (i a node : ℕ) → IsTable c → c.heads ≤ node → node < c.tails → new ≡ unlinks now (hidden_at c a node) → less ≡ fewer c is (hidden_at c a node) → Going c old i a now was is node → Going c old i a new was less (down_of new node)
@@ -263,7 +263,7 @@ cover_step c old now new was is less i a node t low high e f going = λ out s ca
     record {
       done = w.done ++ hidden_at c a node;
       going = rw e (going_step c ((c.heads + i) ∷ out) i a (unlinked old (c.heads + i)) now node w.done t can.item (item_out c out i old t can s) (whole_item c out i t can) low high w.going);
-      counts = f ∙ ap (λ (k : List ℕ). fewer c k (hidden_at c a node)) w.counts ∙ sym (fewer-append c was w.done (hidden_at c a node));
+      keys = f ∙ ap (λ (k : List ℕ). fewer c k (hidden_at c a node)) w.keys ∙ sym (fewer-append c was w.done (hidden_at c a node));
     }
 
 pub cover_end : (c : Columns) (old now : List Link) (was is : List ℕ) (i a node : ℕ) → c.tails ≤ node → Going c old i a now was is node → Covers c old i a now

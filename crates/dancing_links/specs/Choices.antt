@@ -8,7 +8,7 @@ use Rattle.dancing_links.specs.declared.link.Link.{Link}
 use Rattle.dancing_links.specs.Building.{IsBuilt}
 use Rattle.dancing_links.specs.Columns.{Columns, column_of, option_of, IsLinked, IsOptionNode}
 use Rattle.dancing_links.specs.Committing.{committed, covering}
-use Rattle.dancing_links.specs.Counting.{IsCounted}
+use Rattle.dancing_links.specs.Keys.{IsKeyed}
 use Rattle.dancing_links.specs.Covering.{links_all, outs_all, nodes_by}
 use Rattle.dancing_links.specs.Table.{table}
 
@@ -63,12 +63,12 @@ covering_nodes c entries = covering c (no_commits c) (chosen_nodes c entries)
 abbrev pub out_of : Columns → List ℕ → List ℕ
 out_of c entries = outs_all c [] (covering_nodes c entries)
 
--- links and counts are as built once nodes cover their items one after the other
-pub record IsHistory (c : Columns) (nodes : List ℕ) (links : List Link) (counts : List ℕ) : Type 0 where
+-- links and keys are as built once nodes cover their items one after the other
+pub record IsHistory (c : Columns) (nodes : List ℕ) (links : List Link) (keys : List ℕ) : Type 0 where
   pub before : List Link
   pub built : IsBuilt c before
   pub links_are : links ≡ links_all c [] before nodes
-  pub counted : IsCounted c (outs_all c [] nodes) counts
+  pub keyed : IsKeyed c (outs_all c [] nodes) keys
 
 -- each choice was by an item that no option chosen before it names
 abbrev pub AreFresh : Problem → Columns → List ℕ → List ℕ → Type 0
@@ -76,7 +76,7 @@ AreFresh problem c chosen [] = Unit {0}
 AreFresh problem c chosen (k ∷ entries) = (is_covered problem chosen (column_of c k) ≡ false) × AreFresh problem c (chosen ++ option_of c k ∷ []) entries
 
 -- The links are those of the problem's columns once the nodes of the chosen options cover their items, from the node on by which each was chosen (TAOCP 7.2.2.1).
-pub record IsLinks (problem : Problem) (c : Columns) (chosen entries : List ℕ) (links : List Link) (counts : List ℕ) (room : ℕ) : Type 0 where
+pub record IsLinks (problem : Problem) (c : Columns) (chosen entries : List ℕ) (links : List Link) (keys : List ℕ) (room : ℕ) : Type 0 where
   pub is_problem : IsProblem problem
   pub layout : c ≡ table problem
   pub enough : problem.primary ≤ room
@@ -85,7 +85,7 @@ pub record IsLinks (problem : Problem) (c : Columns) (chosen entries : List ℕ)
   pub each_node : All (IsOptionNode c) entries
   pub options : map (option_of c) entries ≡ chosen
   pub fresh : AreFresh problem c [] entries
-  pub history : IsHistory c (covering_nodes c entries) links counts
+  pub history : IsHistory c (covering_nodes c entries) links keys
 
 -- a live option that names the item
 pub record IsChild (problem : Problem) (chosen : List ℕ) (item option : ℕ) : Type 0 where

@@ -119,7 +119,8 @@ pub record IsTable (c : Columns) : Type 0 where
   pub item_columns : (i : ℕ) → i + 1 < c.heads → column_of c (c.heads + i) + 1 ≡ c.heads
   pub within : (k : ℕ) → c.heads + c.heads ≤ k + 1 → k < c.tails → (begin_of c k ≤ k) × (k < end_of c k) × (c.heads + c.heads ≤ begin_of c k + 1) × (end_of c k ≤ c.tails)
   pub same : (k j : ℕ) → c.heads + c.heads ≤ k + 1 → k < c.tails → begin_of c k ≤ j → j < end_of c k → (begin_of c j ≡ begin_of c k) × (end_of c j ≡ end_of c k)
-  pub each_few : (i : ℕ) → i + 1 < c.heads → length (column_from c [] i c.heads) < 65536
+  pub few_heads : c.heads < 65536
+  pub each_few : (i : ℕ) → i + 1 < c.heads → length (column_from c [] i c.heads) < 32768
   pub apart : (k j : ℕ) → c.heads + c.heads ≤ k + 1 → k < c.tails → begin_of c k ≤ j → j < end_of c k → column_of c j ≡ column_of c k → j ≡ k
 
 -- a node of an option

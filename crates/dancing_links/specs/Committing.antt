@@ -3,7 +3,7 @@ use Rattle.std.specs.Prelude.{◌≡◌, ℕ, ◌<◌, ◌+◌, ◌%◌, List, [
 use Rattle.std.specs.List.{All}
 use Rattle.dancing_links.specs.declared.link.Link.{Link}
 use Rattle.dancing_links.specs.Columns.{Columns, column_of, colour_at, IsSpelled}
-use Rattle.dancing_links.specs.Counting.{IsCounted}
+use Rattle.dancing_links.specs.Keys.{IsKeyed}
 use Rattle.dancing_links.specs.Covering.{covered_by, outs, IsOpen}
 use Rattle.dancing_links.specs.Linking.{unlinks}
 
@@ -47,6 +47,6 @@ pub record IsFirst (c : Columns) (front now : List ℕ) (k : ℕ) : Type 0 where
 -- another node of its column covers the item in its place
 pub record Recovers (c : Columns) (front : List ℕ) (old : List Link) (was : List ℕ) (k next : ℕ) (new : List Link) (now held : List ℕ) : Type 0 where
   pub links : (out : List ℕ) (before : List Link) → IsSpelled c out before → IsOpen c out (column_of c k) → old ≡ unlinks before (covered_by c out k) → new ≡ unlinks before (covered_by c out next)
-  pub counts : (out : List ℕ) (before : List Link) → IsSpelled c out before → IsOpen c out (column_of c k) → old ≡ unlinks before (covered_by c out k)
-      → IsCounted c (outs (covered_by c out k) out) was → IsCounted c (outs (covered_by c out next) out) now
+  pub keys : (out : List ℕ) (before : List Link) → IsSpelled c out before → IsOpen c out (column_of c k) → old ≡ unlinks before (covered_by c out k)
+      → IsKeyed c (outs (covered_by c out k) out) was → IsKeyed c (outs (covered_by c out next) out) now
   pub commits : held ≡ commit c front next

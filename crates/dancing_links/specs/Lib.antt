@@ -2,7 +2,7 @@ pub mod Building
 pub mod Choices
 pub mod Columns
 pub mod Committing
-pub mod Counting
+pub mod Keys
 pub mod Covering
 pub mod Linking
 pub mod Table

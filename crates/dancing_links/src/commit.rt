@@ -3,7 +3,7 @@
 ghost use Rattle.std.specs.Prelude.{◌≡◌, ◌<◌, ◌≤◌, ◌+◌, ◌∷◌, [], ℕ, List, length};
 ghost use Rattle.dancing_links.specs.Columns.{columns_of, column_of, colour_at, IsLinked, IsTable};
 ghost use Rattle.dancing_links.specs.Committing.{IsCommits, IsFirst, Recovers, commit, uncommit, committed, covering};
-ghost use Rattle.dancing_links.specs.Counting.{CountsCoveredAll, CountsUncoveredAll};
+ghost use Rattle.dancing_links.specs.Keys.{KeysCoveredAll, KeysUncoveredAll};
 ghost use Rattle.dancing_links.specs.Covering.{nodes_in_turn, nodes_by, others, CoversAll, UncoversAll};
 
 use crate::cover::{cover, node_before, purify, uncover, unpurify};
@@ -16,7 +16,7 @@ use crate::place::Place;
 fn give(
     layout: &Layout,
     links: &mut [Link],
-    counts: &mut [u16],
+    keys: &mut [u32],
     commits: &mut [u32],
     node: usize,
     colour: u16,
@@ -25,18 +25,18 @@ fn give(
     requires colour { (0 < colour) × (colour ≡ colour_at (columns_of layout.now) node) }
     requires table { IsTable (columns_of layout.now) }
     requires linked { IsLinked (columns_of layout.now) links.old }
-    requires counts { length counts.old + 1 ≡ layout.now.heads }
+    requires keys { length keys.old + 1 ≡ layout.now.heads }
     requires commits { IsCommits (columns_of layout.now) commits.old }
     ensures linked { IsLinked (columns_of layout.now) links.new }
     ensures links { CoversAll (columns_of layout.now) links.old
         (covering (columns_of layout.now) commits.old (node ∷ [])) links.new }
-    ensures counts { CountsCoveredAll (columns_of layout.now) links.old
-        (covering (columns_of layout.now) commits.old (node ∷ [])) counts.old counts.new }
+    ensures keys { KeysCoveredAll (columns_of layout.now) links.old
+        (covering (columns_of layout.now) commits.old (node ∷ [])) keys.old keys.new }
     ensures commits { commits.new ≡ commit (columns_of layout.now) commits.old node }
 {
     let item = item_at(layout, node);
     if commits[item] == 0 {
-        purify(layout, links, counts, item, colour);
+        purify(layout, links, keys, item, colour);
     }
     commits[item] = commits[item].wrapping_add(1);
 }
@@ -46,7 +46,7 @@ fn give(
 fn take(
     layout: &Layout,
     links: &mut [Link],
-    counts: &mut [u16],
+    keys: &mut [u32],
     commits: &mut [u32],
     node: usize,
     colour: u16,
@@ -55,19 +55,19 @@ fn take(
     requires colour { (0 < colour) × (colour ≡ colour_at (columns_of layout.now) node) }
     requires table { IsTable (columns_of layout.now) }
     requires linked { IsLinked (columns_of layout.now) links.old }
-    requires counts { length counts.old + 1 ≡ layout.now.heads }
+    requires keys { length keys.old + 1 ≡ layout.now.heads }
     requires commits { IsCommits (columns_of layout.now) commits.old }
     ensures linked { IsLinked (columns_of layout.now) links.new }
     ensures links { UncoversAll (columns_of layout.now) links.old
         (covering (columns_of layout.now) commits.new (node ∷ [])) links.new }
-    ensures counts { CountsUncoveredAll (columns_of layout.now) links.old
-        (covering (columns_of layout.now) commits.new (node ∷ [])) counts.old counts.new }
+    ensures keys { KeysUncoveredAll (columns_of layout.now) links.old
+        (covering (columns_of layout.now) commits.new (node ∷ [])) keys.old keys.new }
     ensures commits { commits.new ≡ uncommit (columns_of layout.now) commits.old node }
 {
     let item = item_at(layout, node);
     commits[item] = commits[item].wrapping_sub(1);
     if commits[item] == 0 {
-        unpurify(layout, links, counts, item, colour);
+        unpurify(layout, links, keys, item, colour);
     }
 }
 
@@ -75,27 +75,27 @@ fn take(
 pub fn commit(
     layout: &Layout,
     links: &mut [Link],
-    counts: &mut [u16],
+    keys: &mut [u32],
     commits: &mut [u32],
     node: usize,
 )
     requires node { (layout.now.heads + layout.now.heads ≤ node + 1) × (node < layout.now.tails) }
     requires table { IsTable (columns_of layout.now) }
     requires linked { IsLinked (columns_of layout.now) links.old }
-    requires counts { length counts.old + 1 ≡ layout.now.heads }
+    requires keys { length keys.old + 1 ≡ layout.now.heads }
     requires commits { IsCommits (columns_of layout.now) commits.old }
     ensures linked { IsLinked (columns_of layout.now) links.new }
     ensures links { CoversAll (columns_of layout.now) links.old
         (covering (columns_of layout.now) commits.old (node ∷ [])) links.new }
-    ensures counts { CountsCoveredAll (columns_of layout.now) links.old
-        (covering (columns_of layout.now) commits.old (node ∷ [])) counts.old counts.new }
+    ensures keys { KeysCoveredAll (columns_of layout.now) links.old
+        (covering (columns_of layout.now) commits.old (node ∷ [])) keys.old keys.new }
     ensures commits { commits.new ≡ commit (columns_of layout.now) commits.old node }
 {
     let colour = colour_at(layout, node);
     if colour == 0 {
-        cover(layout, links, counts, item_at(layout, node));
+        cover(layout, links, keys, item_at(layout, node));
     } else {
-        give(layout, links, counts, commits, node, colour);
+        give(layout, links, keys, commits, node, colour);
     }
 }
 
@@ -103,27 +103,27 @@ pub fn commit(
 pub fn uncommit(
     layout: &Layout,
     links: &mut [Link],
-    counts: &mut [u16],
+    keys: &mut [u32],
     commits: &mut [u32],
     node: usize,
 )
     requires node { (layout.now.heads + layout.now.heads ≤ node + 1) × (node < layout.now.tails) }
     requires table { IsTable (columns_of layout.now) }
     requires linked { IsLinked (columns_of layout.now) links.old }
-    requires counts { length counts.old + 1 ≡ layout.now.heads }
+    requires keys { length keys.old + 1 ≡ layout.now.heads }
     requires commits { IsCommits (columns_of layout.now) commits.old }
     ensures linked { IsLinked (columns_of layout.now) links.new }
     ensures links { UncoversAll (columns_of layout.now) links.old
         (covering (columns_of layout.now) commits.new (node ∷ [])) links.new }
-    ensures counts { CountsUncoveredAll (columns_of layout.now) links.old
-        (covering (columns_of layout.now) commits.new (node ∷ [])) counts.old counts.new }
+    ensures keys { KeysUncoveredAll (columns_of layout.now) links.old
+        (covering (columns_of layout.now) commits.new (node ∷ [])) keys.old keys.new }
     ensures commits { commits.new ≡ uncommit (columns_of layout.now) commits.old node }
 {
     let colour = colour_at(layout, node);
     if colour == 0 {
-        uncover(layout, links, counts, item_at(layout, node));
+        uncover(layout, links, keys, item_at(layout, node));
     } else {
-        take(layout, links, counts, commits, node, colour);
+        take(layout, links, keys, commits, node, colour);
     }
 }
 
@@ -132,7 +132,7 @@ pub fn uncommit(
 pub fn recommit(
     layout: &Layout,
     links: &mut [Link],
-    counts: &mut [u16],
+    keys: &mut [u32],
     commits: &mut [u32],
     last: usize,
     next: usize,
@@ -143,16 +143,16 @@ pub fn recommit(
         ≡ column_of (columns_of layout.now) last }
     requires table { IsTable (columns_of layout.now) }
     requires linked { IsLinked (columns_of layout.now) links.old }
-    requires counts { length counts.old + 1 ≡ layout.now.heads }
+    requires keys { length keys.old + 1 ≡ layout.now.heads }
     requires commits { IsCommits (columns_of layout.now) commits.old }
     ensures linked { IsLinked (columns_of layout.now) links.new }
     ensures recovers { (front : List ℕ) → IsFirst (columns_of layout.now) front commits.old last →
-        Recovers (columns_of layout.now) front links.old counts.old last next
-        links.new counts.new commits.new }
+        Recovers (columns_of layout.now) front links.old keys.old last next
+        links.new keys.new commits.new }
 {
     if colour_at(layout, last) != 0 || colour_at(layout, next) != 0 {
-        uncommit(layout, links, counts, commits, last);
-        commit(layout, links, counts, commits, next);
+        uncommit(layout, links, keys, commits, last);
+        commit(layout, links, keys, commits, next);
     }
 }
 
@@ -161,29 +161,29 @@ pub fn recommit(
 pub fn cover_others(
     layout: &Layout,
     links: &mut [Link],
-    counts: &mut [u16],
+    keys: &mut [u32],
     commits: &mut [u32],
     node: usize,
 )
     requires node { (layout.now.heads + layout.now.heads ≤ node + 1) × (node < layout.now.tails) }
     requires table { IsTable (columns_of layout.now) }
     requires linked { IsLinked (columns_of layout.now) links.old }
-    requires counts { length counts.old + 1 ≡ layout.now.heads }
+    requires keys { length keys.old + 1 ≡ layout.now.heads }
     requires commits { IsCommits (columns_of layout.now) commits.old }
     ensures linked { IsLinked (columns_of layout.now) links.new }
     ensures links { CoversAll (columns_of layout.now) links.old
         (covering (columns_of layout.now) commits.old (others (columns_of layout.now) node))
         links.new }
-    ensures counts { CountsCoveredAll (columns_of layout.now) links.old
+    ensures keys { KeysCoveredAll (columns_of layout.now) links.old
         (covering (columns_of layout.now) commits.old (others (columns_of layout.now) node))
-        counts.old counts.new }
+        keys.old keys.new }
     ensures commits { commits.new
         ≡ committed (columns_of layout.now) commits.old (others (columns_of layout.now) node) }
 {
     let places: &[Place] = &layout.places;
     let mut other = right_among(layout, places, node);
     while other != node {
-        commit(layout, links, counts, commits, other);
+        commit(layout, links, keys, commits, other);
         other = right_among(layout, places, other);
     }
 }
@@ -193,7 +193,7 @@ pub fn cover_others(
 fn uncommit_row(
     layout: &Layout,
     links: &mut [Link],
-    counts: &mut [u16],
+    keys: &mut [u32],
     commits: &mut [u32],
     node: usize,
     begin: usize,
@@ -203,14 +203,14 @@ fn uncommit_row(
     requires row { (begin ≤ node) × (node < end) }
     requires table { IsTable (columns_of layout.now) }
     requires linked { IsLinked (columns_of layout.now) links.old }
-    requires counts { length counts.old + 1 ≡ layout.now.heads }
+    requires keys { length keys.old + 1 ≡ layout.now.heads }
     requires commits { IsCommits (columns_of layout.now) commits.old }
     ensures linked { IsLinked (columns_of layout.now) links.new }
     ensures links { UncoversAll (columns_of layout.now) links.old
         (covering (columns_of layout.now) commits.new (nodes_in_turn begin end node)) links.new }
-    ensures counts { CountsUncoveredAll (columns_of layout.now) links.old
+    ensures keys { KeysUncoveredAll (columns_of layout.now) links.old
         (covering (columns_of layout.now) commits.new (nodes_in_turn begin end node))
-        counts.old counts.new }
+        keys.old keys.new }
     ensures kept { IsCommits (columns_of layout.now) commits.new }
     ensures commits { committed (columns_of layout.now) commits.new (nodes_in_turn begin end node)
         ≡ commits.old }
@@ -218,7 +218,7 @@ fn uncommit_row(
     let mut other = node;
     for _place in begin + 1..end {
         other = node_before(begin, end, other);
-        uncommit(layout, links, counts, commits, other);
+        uncommit(layout, links, keys, commits, other);
     }
 }
 
@@ -228,81 +228,81 @@ fn uncommit_row(
 pub fn uncover_others(
     layout: &Layout,
     links: &mut [Link],
-    counts: &mut [u16],
+    keys: &mut [u32],
     commits: &mut [u32],
     node: usize,
 )
     requires node { (layout.now.heads + layout.now.heads ≤ node + 1) × (node < layout.now.tails) }
     requires table { IsTable (columns_of layout.now) }
     requires linked { IsLinked (columns_of layout.now) links.old }
-    requires counts { length counts.old + 1 ≡ layout.now.heads }
+    requires keys { length keys.old + 1 ≡ layout.now.heads }
     requires commits { IsCommits (columns_of layout.now) commits.old }
     ensures linked { IsLinked (columns_of layout.now) links.new }
     ensures links { UncoversAll (columns_of layout.now) links.old
         (covering (columns_of layout.now) commits.new (others (columns_of layout.now) node))
         links.new }
-    ensures counts { CountsUncoveredAll (columns_of layout.now) links.old
+    ensures keys { KeysUncoveredAll (columns_of layout.now) links.old
         (covering (columns_of layout.now) commits.new (others (columns_of layout.now) node))
-        counts.old counts.new }
+        keys.old keys.new }
     ensures kept { IsCommits (columns_of layout.now) commits.new }
     ensures commits { committed (columns_of layout.now) commits.new
         (others (columns_of layout.now) node) ≡ commits.old }
 {
     let (begin, end) = row_of(layout, node);
-    uncommit_row(layout, links, counts, commits, node, begin, end);
+    uncommit_row(layout, links, keys, commits, node, begin, end);
 }
 
 /// Lets the nodes of a node's option cover their items: itself first, then the others from the next one on.
 pub fn cover_from(
     layout: &Layout,
     links: &mut [Link],
-    counts: &mut [u16],
+    keys: &mut [u32],
     commits: &mut [u32],
     node: usize,
 )
     requires node { (layout.now.heads + layout.now.heads ≤ node + 1) × (node < layout.now.tails) }
     requires table { IsTable (columns_of layout.now) }
     requires linked { IsLinked (columns_of layout.now) links.old }
-    requires counts { length counts.old + 1 ≡ layout.now.heads }
+    requires keys { length keys.old + 1 ≡ layout.now.heads }
     requires commits { IsCommits (columns_of layout.now) commits.old }
     ensures linked { IsLinked (columns_of layout.now) links.new }
     ensures links { CoversAll (columns_of layout.now) links.old
         (covering (columns_of layout.now) commits.old (nodes_by (columns_of layout.now) node))
         links.new }
-    ensures counts { CountsCoveredAll (columns_of layout.now) links.old
+    ensures keys { KeysCoveredAll (columns_of layout.now) links.old
         (covering (columns_of layout.now) commits.old (nodes_by (columns_of layout.now) node))
-        counts.old counts.new }
+        keys.old keys.new }
     ensures commits { commits.new
         ≡ committed (columns_of layout.now) commits.old (nodes_by (columns_of layout.now) node) }
 {
-    commit(layout, links, counts, commits, node);
-    cover_others(layout, links, counts, commits, node);
+    commit(layout, links, keys, commits, node);
+    cover_others(layout, links, keys, commits, node);
 }
 
 /// Takes that back, in the reverse order.
 pub fn uncover_from(
     layout: &Layout,
     links: &mut [Link],
-    counts: &mut [u16],
+    keys: &mut [u32],
     commits: &mut [u32],
     node: usize,
 )
     requires node { (layout.now.heads + layout.now.heads ≤ node + 1) × (node < layout.now.tails) }
     requires table { IsTable (columns_of layout.now) }
     requires linked { IsLinked (columns_of layout.now) links.old }
-    requires counts { length counts.old + 1 ≡ layout.now.heads }
+    requires keys { length keys.old + 1 ≡ layout.now.heads }
     requires commits { IsCommits (columns_of layout.now) commits.old }
     ensures linked { IsLinked (columns_of layout.now) links.new }
     ensures links { UncoversAll (columns_of layout.now) links.old
         (covering (columns_of layout.now) commits.new (nodes_by (columns_of layout.now) node))
         links.new }
-    ensures counts { CountsUncoveredAll (columns_of layout.now) links.old
+    ensures keys { KeysUncoveredAll (columns_of layout.now) links.old
         (covering (columns_of layout.now) commits.new (nodes_by (columns_of layout.now) node))
-        counts.old counts.new }
+        keys.old keys.new }
     ensures kept { IsCommits (columns_of layout.now) commits.new }
     ensures commits { committed (columns_of layout.now) commits.new
         (nodes_by (columns_of layout.now) node) ≡ commits.old }
 {
-    uncover_others(layout, links, counts, commits, node);
-    uncommit(layout, links, counts, commits, node);
+    uncover_others(layout, links, keys, commits, node);
+    uncommit(layout, links, keys, commits, node);
 }

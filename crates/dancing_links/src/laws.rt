@@ -10,8 +10,8 @@ ghost use Rattle.dancing_links.specs.Columns.{Columns, column_of};
 /// link: so undoing a choice restores every link.
 pub fn links_by_choices()
     ensures { (problem : ProblemValue) (columns others : Columns) (chosen entries nodes : List ℕ)
-        (links more : List LinkValue) (counts tallies : List ℕ) (room space : ℕ) →
-        IsLinks problem columns chosen entries links counts room →
+        (links more : List LinkValue) (keys tallies : List ℕ) (room space : ℕ) →
+        IsLinks problem columns chosen entries links keys room →
         IsLinks problem others chosen nodes more tallies space →
         map (column_of columns) entries ≡ map (column_of others) nodes → links ≡ more }
 {}

@@ -10,6 +10,7 @@
 mod build;
 mod commit;
 mod cover;
+mod keys;
 mod laws;
 mod layout;
 mod link;

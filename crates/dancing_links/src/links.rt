@@ -1,7 +1,7 @@
 //! The links of a problem in which options are chosen.
 
 ghost use Rattle.std.specs.Prelude.{◌≡◌, ℕ, ◌+◌, ◌-◌, ◌<◌, ◌≤◌, ◌==◌, [], length, IfOk, IfSome, MatchOption, true, false, slice_get};
-ghost use Rattle.cover_problem.specs.Branching.{live_options, IsOpen};
+ghost use Rattle.cover_problem.specs.Branching.{branch_item, live_options, IsOpen};
 ghost use Rattle.cover_problem.specs.Onward.{open_items_from, live_options_from};
 ghost use Rattle.cover_problem.specs.Problem.{IsProblem};
 ghost use Rattle.dancing_links.specs.Choices.{Choices, with_child, with_child_if, with_choice, IsChild, IsNextChoice, IsPrimary};
@@ -11,8 +11,9 @@ ghost use Rattle.dancing_links.specs.Table.{table};
 ghost use Rattle.dancing_links.specs.Walking.{options_left};
 ghost use Rattle.cover_problem.specs.Prefix.{is_covered, is_live, is_prefix};
 
-use crate::build::{build_counts, build_links};
+use crate::build::build_links;
 use crate::commit::{cover_from, cover_others, recommit, uncommit, uncover_from, uncover_others};
+use crate::keys::{build_keys, count_in, item_in, least_of};
 use crate::layout::{Layout, item_at, layout_of, node_below, node_of, node_range};
 use crate::link::Link;
 use crate::options::OptionsOf;
@@ -28,7 +29,8 @@ pub struct Links<'a> {
     problem: &'a Problem,
     layout: Layout,
     links: Vec<Link>,
-    counts: Vec<u16>,
+    /// The key of each item, by which the branch item is found.
+    keys: Vec<u32>,
     /// How many chosen options give each item a colour.
     commits: Vec<u32>,
     /// The chosen options, in the order of the choices.
@@ -52,7 +54,7 @@ impl<'a> Model for Links<'a> {
     } };
 
     ghost invariant = { λ s. IsLinks s.problem.now
-        (columns_of s.layout) s.chosen.items s.entries.items s.links.items s.counts.items
+        (columns_of s.layout) s.chosen.items s.entries.items s.links.items s.keys.items
         (vec_capacity s.chosen)
         × (s.problem.now.primary ≤ vec_capacity s.entries) × (s.commits.items
         ≡ commits_of (columns_of s.layout) s.entries.items) };
@@ -68,14 +70,14 @@ impl<'a> Links<'a> {
         let entries = Vec::with_capacity(alloc, problem.primary())?;
         let layout = layout_of(alloc, problem)?;
         let links = build_links(alloc, &layout)?;
-        let counts = build_counts(alloc, &layout)?;
+        let keys = build_keys(alloc, &layout)?;
         let mut commits = Vec::new(alloc);
         commits.resize(problem.items(), 0)?;
         Ok(Links {
             problem,
             layout,
             links,
-            counts,
+            keys,
             commits,
             chosen,
             entries,
@@ -108,7 +110,7 @@ impl<'a> Links<'a> {
         cover_from(
             &self.layout,
             &mut self.links,
-            &mut self.counts,
+            &mut self.keys,
             &mut self.commits,
             node,
         );
@@ -134,7 +136,7 @@ impl<'a> Links<'a> {
         cover_from(
             &self.layout,
             &mut self.links,
-            &mut self.counts,
+            &mut self.keys,
             &mut self.commits,
             node,
         );
@@ -155,7 +157,7 @@ impl<'a> Links<'a> {
         uncover_others(
             &self.layout,
             &mut self.links,
-            &mut self.counts,
+            &mut self.keys,
             &mut self.commits,
             node,
         );
@@ -166,7 +168,7 @@ impl<'a> Links<'a> {
             uncommit(
                 &self.layout,
                 &mut self.links,
-                &mut self.counts,
+                &mut self.keys,
                 &mut self.commits,
                 node,
             );
@@ -176,7 +178,7 @@ impl<'a> Links<'a> {
         recommit(
             &self.layout,
             &mut self.links,
-            &mut self.counts,
+            &mut self.keys,
             &mut self.commits,
             node,
             next,
@@ -184,7 +186,7 @@ impl<'a> Links<'a> {
         cover_others(
             &self.layout,
             &mut self.links,
-            &mut self.counts,
+            &mut self.keys,
             &mut self.commits,
             next,
         );
@@ -203,7 +205,7 @@ impl<'a> Links<'a> {
         uncover_from(
             &self.layout,
             &mut self.links,
-            &mut self.counts,
+            &mut self.keys,
             &mut self.commits,
             node,
         );
@@ -236,7 +238,18 @@ impl<'a> Links<'a> {
         requires uncovered { is_covered self.now.problem self.now.chosen item ≡ false }
         ensures { result ≡ length (live_options self.now.problem self.now.chosen item) }
     {
-        self.counts[item as usize] as usize
+        count_in(self.keys[item as usize])
+    }
+
+    /// The uncovered primary item with fewest live options, the first of those; none where all are covered.
+    pub fn branch_item(&self) -> Option<u16>
+        ensures item { result ≡ branch_item self.now.problem self.now.chosen }
+        ensures uncovered { IfSome result (IsOpen self.now.problem self.now.chosen) }
+        ensures named { IfSome result (λ item. item < length self.now.problem.names) }
+    {
+        let primary = self.problem.primary();
+        let least = least_of(&self.keys[..primary]);
+        item_in(least)
     }
 
     /// The first uncovered primary item; none where all are covered.

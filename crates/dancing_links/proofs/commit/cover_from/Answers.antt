@@ -1,9 +1,9 @@
 use Rattle.std.proofs.Common.{List, ℕ, ◌∷◌, [], sym, subst}
 use Rattle.dancing_links.specs.Columns.{columns_of}
 use Rattle.dancing_links.specs.Committing.{commit, covering}
-use Rattle.dancing_links.specs.Counting.{CountsCoveredAll}
+use Rattle.dancing_links.specs.Keys.{KeysCoveredAll}
 use Rattle.dancing_links.specs.Covering.{others, CoversAll}
-use Rattle.dancing_links.proofs.Choose.{covers_both, counts_both}
+use Rattle.dancing_links.proofs.Choose.{covers_both, keys_both}
 use Rattle.dancing_links.proofs.Commits.{covering_one}
 use Rattle.dancing_links.proofs.commit.cover_from.Goals as goal
 
@@ -17,12 +17,12 @@ returns-clause-links c =
     subst Q (sym (covering_one cs was node (others cs node)))
     (covers_both cs c.args.links.now c.commit.new.links c.cover_others.new.links (covering cs was (node ∷ [])) (covering cs (commit cs was node) (others cs node)) c.requires.table c.commit.ensures.links (subst P c.commit.ensures.commits c.cover_others.ensures.links))
 
-pub returns-clause-counts : goal.returns-clause-counts
-returns-clause-counts c =
+pub returns-clause-keys : goal.returns-clause-keys
+returns-clause-keys c =
     let cs = columns_of c.args.layout.now in
     let was = c.args.commits.now in
     let node = c.args.node in
-    let P : List ℕ → Type 0 = λ commits. CountsCoveredAll cs c.commit.new.links (covering cs commits (others cs node)) c.commit.new.counts c.cover_others.new.counts in
-    let Q : List ℕ → Type 0 = λ nodes. CountsCoveredAll cs c.args.links.now nodes c.args.counts.now c.cover_others.new.counts in
+    let P : List ℕ → Type 0 = λ commits. KeysCoveredAll cs c.commit.new.links (covering cs commits (others cs node)) c.commit.new.keys c.cover_others.new.keys in
+    let Q : List ℕ → Type 0 = λ nodes. KeysCoveredAll cs c.args.links.now nodes c.args.keys.now c.cover_others.new.keys in
     subst Q (sym (covering_one cs was node (others cs node)))
-    (counts_both cs c.args.links.now c.commit.new.links (covering cs was (node ∷ [])) (covering cs (commit cs was node) (others cs node)) c.args.counts.now c.commit.new.counts c.cover_others.new.counts c.requires.table c.commit.ensures.links c.commit.ensures.counts (subst P c.commit.ensures.commits c.cover_others.ensures.counts))
+    (keys_both cs c.args.links.now c.commit.new.links (covering cs was (node ∷ [])) (covering cs (commit cs was node) (others cs node)) c.args.keys.now c.commit.new.keys c.cover_others.new.keys c.requires.table c.commit.ensures.links c.commit.ensures.keys (subst P c.commit.ensures.commits c.cover_others.ensures.keys))

@@ -1,8 +1,8 @@
-use Rattle.std.proofs.Common.{◌+◌, ◌≤◌, List, ℕ, arith, sym, subst}
+use Rattle.std.proofs.Common.{List, ℕ, arith, sym, subst}
 use Rattle.dancing_links.specs.Columns.{columns_of}
 use Rattle.dancing_links.specs.Committing.{IsCommits}
 use Rattle.dancing_links.specs.Covering.{others}
-use Rattle.dancing_links.proofs.Choose.{IsLeft, left_start, left_step, left_links, left_counts, left_commits}
+use Rattle.dancing_links.proofs.Choose.{IsLeft, left_start, left_step, left_links, left_keys, left_commits}
 use Rattle.dancing_links.proofs.Commits.{commit_kept}
 use Rattle.dancing_links.proofs.Others.{to_come, round_start, round_step, round_end}
 use Rattle.dancing_links.proofs.commit.cover_others.Goals as goal
@@ -12,12 +12,12 @@ loop-other-init c =
     let cs = columns_of c.args.layout.now in
     let t = c.requires.table in
     let start = round_start cs c.args.node c.right_among-other.result t (omega (arith, c.requires.node.0, t.some)) c.requires.node.1 c.right_among-other.ensures in
-    let P : List ℕ → Type 0 = λ nodes. IsLeft cs c.args.links.now c.args.links.now (others cs c.args.node) nodes c.args.counts.now c.args.counts.now c.args.commits.now c.args.commits.now in
+    let P : List ℕ → Type 0 = λ nodes. IsLeft cs c.args.links.now c.args.links.now (others cs c.args.node) nodes c.args.keys.now c.args.keys.now c.args.commits.now c.args.commits.now in
     record {
       linked = c.requires.linked;
       kept = c.requires.commits;
       round = start.0;
-      left = subst P (sym start.1) (left_start cs c.args.links.now (others cs c.args.node) c.args.counts.now c.args.commits.now);
+      left = subst P (sym start.1) (left_start cs c.args.links.now (others cs c.args.node) c.args.keys.now c.args.commits.now);
     }
 
 pub loop-other-smaller : goal.loop-other-smaller
@@ -34,9 +34,9 @@ loop-other-preserved c =
     let t = c.requires.table in
     let on = round_step cs c.args.node other next t c.loop-other.invariant.round c.loop-other-test.true c.right_among-other-in-loop-other.ensures in
     let left : List ℕ = to_come cs c.args.node next in
-    let P : List ℕ → Type 0 = λ nodes. IsLeft cs c.args.links.now c.loop-other.links all nodes c.args.counts.now c.loop-other.counts c.args.commits.now c.loop-other.commits in
-    let step = left_step cs c.args.links.now c.loop-other.links c.commit.new.links all left c.args.counts.now c.loop-other.counts c.commit.new.counts c.args.commits.now c.loop-other.commits other t c.commit.ensures.links c.commit.ensures.counts (subst P on.come c.loop-other.invariant.left) in
-    let Q : List ℕ → Type 0 = λ commits. IsLeft cs c.args.links.now c.commit.new.links all left c.args.counts.now c.commit.new.counts c.args.commits.now commits in
+    let P : List ℕ → Type 0 = λ nodes. IsLeft cs c.args.links.now c.loop-other.links all nodes c.args.keys.now c.loop-other.keys c.args.commits.now c.loop-other.commits in
+    let step = left_step cs c.args.links.now c.loop-other.links c.commit.new.links all left c.args.keys.now c.loop-other.keys c.commit.new.keys c.args.commits.now c.loop-other.commits other t c.commit.ensures.links c.commit.ensures.keys (subst P on.come c.loop-other.invariant.left) in
+    let Q : List ℕ → Type 0 = λ commits. IsLeft cs c.args.links.now c.commit.new.links all left c.args.keys.now c.commit.new.keys c.args.commits.now commits in
     let R : List ℕ → Type 0 = λ commits. IsCommits cs commits in
     record {
       linked = c.commit.ensures.linked;
@@ -49,16 +49,16 @@ pub returns-clause-links : goal.returns-clause-links
 returns-clause-links c =
     let cs = columns_of c.args.layout.now in
     let none = round_end cs c.args.node c.loop-other.other c.loop-other-test.false in
-    left_links cs c.args.links.now c.loop-other.links (others cs c.args.node) _ c.args.counts.now c.loop-other.counts c.args.commits.now c.loop-other.commits none c.loop-other.invariant.left
+    left_links cs c.args.links.now c.loop-other.links (others cs c.args.node) _ c.args.keys.now c.loop-other.keys c.args.commits.now c.loop-other.commits none c.loop-other.invariant.left
 
-pub returns-clause-counts : goal.returns-clause-counts
-returns-clause-counts c =
+pub returns-clause-keys : goal.returns-clause-keys
+returns-clause-keys c =
     let cs = columns_of c.args.layout.now in
     let none = round_end cs c.args.node c.loop-other.other c.loop-other-test.false in
-    left_counts cs c.args.links.now c.loop-other.links (others cs c.args.node) _ c.args.counts.now c.loop-other.counts c.args.commits.now c.loop-other.commits none c.loop-other.invariant.left
+    left_keys cs c.args.links.now c.loop-other.links (others cs c.args.node) _ c.args.keys.now c.loop-other.keys c.args.commits.now c.loop-other.commits none c.loop-other.invariant.left
 
 pub returns-clause-commits : goal.returns-clause-commits
 returns-clause-commits c =
     let cs = columns_of c.args.layout.now in
     let none = round_end cs c.args.node c.loop-other.other c.loop-other-test.false in
-    left_commits cs c.args.links.now c.loop-other.links (others cs c.args.node) _ c.args.counts.now c.loop-other.counts c.args.commits.now c.loop-other.commits none c.loop-other.invariant.left
+    left_commits cs c.args.links.now c.loop-other.links (others cs c.args.node) _ c.args.keys.now c.loop-other.keys c.args.commits.now c.loop-other.commits none c.loop-other.invariant.left

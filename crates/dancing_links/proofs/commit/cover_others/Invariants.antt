@@ -10,7 +10,7 @@ invariant-loop-other l = record {
   linked : IsLinked (columns_of l.layout) l.links;
   kept : IsCommits (columns_of l.layout) l.commits;
   round : IsRound (columns_of l.layout) l.node l.other;
-  left : IsLeft (columns_of l.layout) l.fn.links l.links (others (columns_of l.layout) l.node) (to_come (columns_of l.layout) l.node l.other) l.fn.counts l.counts l.fn.commits l.commits;
+  left : IsLeft (columns_of l.layout) l.fn.links l.links (others (columns_of l.layout) l.node) (to_come (columns_of l.layout) l.node l.other) l.fn.keys l.keys l.fn.commits l.commits;
 }
 
 abbrev pub decreases-loop-other : goal.decreases-loop-other

@@ -11,5 +11,5 @@ invariant-loop-place l = record {
   count : l._place - (l.begin + 1) ≤ l.end - (l.begin + 1);
   row : (l.begin ≤ l.other) × (l.other < l.end);
   place : (l.other + (l._place - (l.begin + 1)) ≡ l.node) ⊎ (l.other + (l._place - l.begin) ≡ l.node + (l.end - l.begin) + 1);
-  back : IsBackTo (columns_of l.layout) l.fn.links l.links (in_turn l.begin l.end l.other (l._place - (l.begin + 1))) l.fn.counts l.counts l.fn.commits l.commits;
+  back : IsBackTo (columns_of l.layout) l.fn.links l.links (in_turn l.begin l.end l.other (l._place - (l.begin + 1))) l.fn.keys l.keys l.fn.commits l.commits;
 }

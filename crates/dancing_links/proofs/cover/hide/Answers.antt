@@ -1,7 +1,7 @@
 use Rattle.std.proofs.Common.{List, ℕ, arith, ap, sym, ◌∙◌}
 use Rattle.dancing_links.specs.declared.link.Link.{Link}
 use Rattle.dancing_links.specs.Columns.{columns_of}
-use Rattle.dancing_links.specs.Counting.{fewer}
+use Rattle.dancing_links.specs.Keys.{fewer}
 use Rattle.dancing_links.specs.Linking.{unlinks}
 use Rattle.dancing_links.proofs.Others.{to_come, round_start, round_step, round_end}
 use Rattle.dancing_links.proofs.cover.hide.Goals as goal
@@ -14,7 +14,7 @@ loop-other-init c =
       linked = c.requires.linked;
       round = start.0;
       links = ap (unlinks c.args.links.now) start.1;
-      counts = ap (fewer cs c.args.counts.now) start.1;
+      keys = ap (fewer cs c.args.keys.now) start.1;
     }
 
 pub loop-other-smaller : goal.loop-other-smaller
@@ -31,7 +31,7 @@ loop-other-preserved c =
       linked = c.unlink.ensures.linked;
       round = step.round;
       links = ap (λ (m : List Link). unlinks m (to_come cs c.args.node next)) c.unlink.ensures.links ∙ sym (ap (unlinks c.loop-other.links) step.come) ∙ c.loop-other.invariant.links;
-      counts = ap (λ (k : List ℕ). fewer cs k (to_come cs c.args.node next)) c.count_less.ensures ∙ sym (ap (fewer cs c.loop-other.counts) step.come) ∙ c.loop-other.invariant.counts;
+      keys = ap (λ (k : List ℕ). fewer cs k (to_come cs c.args.node next)) c.count_less.ensures ∙ sym (ap (fewer cs c.loop-other.keys) step.come) ∙ c.loop-other.invariant.keys;
     }
 
 pub returns-clause-links : goal.returns-clause-links
@@ -39,7 +39,7 @@ returns-clause-links c =
     let none = round_end (columns_of c.args.layout.now) c.args.node c.loop-other.other c.loop-other-test.false in
     sym (ap (unlinks c.loop-other.links) none) ∙ c.loop-other.invariant.links
 
-pub returns-clause-counts : goal.returns-clause-counts
-returns-clause-counts c =
+pub returns-clause-keys : goal.returns-clause-keys
+returns-clause-keys c =
     let none = round_end (columns_of c.args.layout.now) c.args.node c.loop-other.other c.loop-other-test.false in
-    sym (ap (fewer (columns_of c.args.layout.now) c.loop-other.counts) none) ∙ c.loop-other.invariant.counts
+    sym (ap (fewer (columns_of c.args.layout.now) c.loop-other.keys) none) ∙ c.loop-other.invariant.keys

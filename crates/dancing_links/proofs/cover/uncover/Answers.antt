@@ -1,10 +1,10 @@
-use Rattle.std.proofs.Common.{◌≤◌, ◌+◌, arith, ap, sym, ◌∙◌}
-use Rattle.dancing_links.specs.Columns.{columns_of}
-use Rattle.dancing_links.specs.Counting.{more_in_order}
+use Rattle.std.proofs.Common.{◌≤◌, ◌+◌, arith, ap, sym, ◌∙◌, ℕ, List, subst}
+use Rattle.dancing_links.specs.Columns.{Columns, columns_of}
+use Rattle.dancing_links.specs.Keys.{more_in_order, KeysUncovered}
 use Rattle.dancing_links.specs.Linking.{relinks_in_order}
 use Rattle.dancing_links.proofs.Walk.{hidden_plain}
 use Rattle.dancing_links.proofs.Chain.{uncover_start, uncover_step, uncover_end}
-use Rattle.dancing_links.proofs.Counts.{uncover_counts}
+use Rattle.dancing_links.proofs.Keyed.{uncover_keys}
 use Rattle.dancing_links.proofs.cover.uncover.Goals as goal
 
 pub loop-node-init : goal.loop-node-init
@@ -15,7 +15,7 @@ loop-node-init c =
     record {
       linked = linked;
       high = (at.falls (omega (arith, t.order))).1;
-      back = uncover_start (columns_of c.args.layout.now) c.args.links.now c.args.counts.now c.args.item 0 t;
+      back = uncover_start (columns_of c.args.layout.now) c.args.links.now c.args.keys.now c.args.item 0 t;
     }
 
 pub loop-node-preserved : goal.loop-node-preserved
@@ -28,11 +28,14 @@ loop-node-preserved c =
     record {
       linked = linked;
       high = (at.falls low).1;
-      back = uncover_step (columns_of c.args.layout.now) c.args.links.now c.loop-node.links c.unhide.new.links c.args.counts.now c.loop-node.counts c.unhide.new.counts c.args.item 0 c.loop-node.node t low (c.unhide.ensures.links ∙ ap (relinks_in_order c.loop-node.links) same) (c.unhide.ensures.counts ∙ ap (more_in_order (columns_of c.args.layout.now) c.loop-node.counts) same) c.loop-node.invariant.back;
+      back = uncover_step (columns_of c.args.layout.now) c.args.links.now c.loop-node.links c.unhide.new.links c.args.keys.now c.loop-node.keys c.unhide.new.keys c.args.item 0 c.loop-node.node t low (c.unhide.ensures.links ∙ ap (relinks_in_order c.loop-node.links) same) (c.unhide.ensures.keys ∙ ap (more_in_order (columns_of c.args.layout.now) c.loop-node.keys) same) c.loop-node.invariant.back;
     }
 
 pub returns-clause-links : goal.returns-clause-links
-returns-clause-links c = uncover_end (columns_of c.args.layout.now) c.args.links.now c.loop-node.links c.relink.new.links c.args.counts.now c.loop-node.counts c.args.item 0 c.loop-node.node c.requires.table c.loop-node-test.false c.relink.ensures.links c.loop-node.invariant.back
+returns-clause-links c = uncover_end (columns_of c.args.layout.now) c.args.links.now c.loop-node.links c.relink.new.links c.args.keys.now c.loop-node.keys c.args.item 0 c.loop-node.node c.requires.table c.loop-node-test.false c.relink.ensures.links c.loop-node.invariant.back
 
-pub returns-clause-counts : goal.returns-clause-counts
-returns-clause-counts c = uncover_counts (columns_of c.args.layout.now) c.args.links.now c.loop-node.links c.args.counts.now c.loop-node.counts c.args.item 0 c.loop-node.node c.requires.table c.loop-node-test.false c.loop-node.invariant.back
+pub returns-clause-keys : goal.returns-clause-keys
+returns-clause-keys c =
+    let cs : Columns = columns_of c.args.layout.now in
+    let P : List ℕ → Type 0 = λ keys. KeysUncovered cs c.args.links.now c.args.item 0 c.args.keys.now keys in
+    subst P (sym c.turn_mark.ensures) (uncover_keys (columns_of c.args.layout.now) c.args.links.now c.loop-node.links c.args.keys.now c.loop-node.keys c.args.item 0 c.loop-node.node c.requires.table c.loop-node-test.false c.loop-node.invariant.back)

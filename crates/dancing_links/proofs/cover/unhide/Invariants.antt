@@ -1,6 +1,6 @@
 use Rattle.std.proofs.Common.{◌≡◌}
 use Rattle.dancing_links.specs.Columns.{IsLinked, columns_of, begin_of, end_of}
-use Rattle.dancing_links.specs.Counting.{more_in_order}
+use Rattle.dancing_links.specs.Keys.{more_in_order}
 use Rattle.dancing_links.specs.Covering.{others}
 use Rattle.dancing_links.specs.Linking.{relinks_in_order}
 use Rattle.dancing_links.proofs.Others.{ahead, to_come, IsRound}
@@ -11,7 +11,7 @@ invariant-loop-other l = record {
   linked : IsLinked (columns_of l.layout) l.links;
   round : IsRound (columns_of l.layout) l.node l.other;
   links : relinks_in_order l.links (to_come (columns_of l.layout) l.node l.other) ≡ relinks_in_order l.fn.links (others (columns_of l.layout) l.node);
-  counts : more_in_order (columns_of l.layout) l.counts (to_come (columns_of l.layout) l.node l.other) ≡ more_in_order (columns_of l.layout) l.fn.counts (others (columns_of l.layout) l.node);
+  keys : more_in_order (columns_of l.layout) l.keys (to_come (columns_of l.layout) l.node l.other) ≡ more_in_order (columns_of l.layout) l.fn.keys (others (columns_of l.layout) l.node);
 }
 
 abbrev pub decreases-loop-other : goal.decreases-loop-other

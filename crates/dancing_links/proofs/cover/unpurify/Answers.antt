@@ -1,7 +1,8 @@
-use Rattle.std.proofs.Common.{◌≤◌, ◌+◌, arith}
-use Rattle.dancing_links.specs.Columns.{columns_of}
+use Rattle.std.proofs.Common.{◌≤◌, ◌+◌, arith, ℕ, List, sym, subst}
+use Rattle.dancing_links.specs.Columns.{Columns, columns_of}
+use Rattle.dancing_links.specs.Keys.{KeysUncovered}
 use Rattle.dancing_links.proofs.Chain.{uncover_start, uncover_step, uncover_end}
-use Rattle.dancing_links.proofs.Counts.{uncover_counts}
+use Rattle.dancing_links.proofs.Keyed.{uncover_keys}
 use Rattle.dancing_links.proofs.cover.unpurify.Goals as goal
 
 pub loop-node-init : goal.loop-node-init
@@ -12,7 +13,7 @@ loop-node-init c =
     record {
       linked = linked;
       high = (at.falls (omega (arith, t.order))).1;
-      back = uncover_start (columns_of c.args.layout.now) c.args.links.now c.args.counts.now c.args.item c.args.colour t;
+      back = uncover_start (columns_of c.args.layout.now) c.args.links.now c.args.keys.now c.args.item c.args.colour t;
     }
 
 pub loop-node-preserved : goal.loop-node-preserved
@@ -24,11 +25,14 @@ loop-node-preserved c =
     record {
       linked = linked;
       high = (at.falls low).1;
-      back = uncover_step (columns_of c.args.layout.now) c.args.links.now c.loop-node.links c.unhide_unless.new.links c.args.counts.now c.loop-node.counts c.unhide_unless.new.counts c.args.item c.args.colour c.loop-node.node t low c.unhide_unless.ensures.links c.unhide_unless.ensures.counts c.loop-node.invariant.back;
+      back = uncover_step (columns_of c.args.layout.now) c.args.links.now c.loop-node.links c.unhide_unless.new.links c.args.keys.now c.loop-node.keys c.unhide_unless.new.keys c.args.item c.args.colour c.loop-node.node t low c.unhide_unless.ensures.links c.unhide_unless.ensures.keys c.loop-node.invariant.back;
     }
 
 pub returns-clause-links : goal.returns-clause-links
-returns-clause-links c = uncover_end (columns_of c.args.layout.now) c.args.links.now c.loop-node.links c.relink.new.links c.args.counts.now c.loop-node.counts c.args.item c.args.colour c.loop-node.node c.requires.table c.loop-node-test.false c.relink.ensures.links c.loop-node.invariant.back
+returns-clause-links c = uncover_end (columns_of c.args.layout.now) c.args.links.now c.loop-node.links c.relink.new.links c.args.keys.now c.loop-node.keys c.args.item c.args.colour c.loop-node.node c.requires.table c.loop-node-test.false c.relink.ensures.links c.loop-node.invariant.back
 
-pub returns-clause-counts : goal.returns-clause-counts
-returns-clause-counts c = uncover_counts (columns_of c.args.layout.now) c.args.links.now c.loop-node.links c.args.counts.now c.loop-node.counts c.args.item c.args.colour c.loop-node.node c.requires.table c.loop-node-test.false c.loop-node.invariant.back
+pub returns-clause-keys : goal.returns-clause-keys
+returns-clause-keys c =
+    let cs : Columns = columns_of c.args.layout.now in
+    let P : List ℕ → Type 0 = λ keys. KeysUncovered cs c.args.links.now c.args.item c.args.colour c.args.keys.now keys in
+    subst P (sym c.turn_mark.ensures) (uncover_keys (columns_of c.args.layout.now) c.args.links.now c.loop-node.links c.args.keys.now c.loop-node.keys c.args.item c.args.colour c.loop-node.node c.requires.table c.loop-node-test.false c.loop-node.invariant.back)

@@ -7,7 +7,7 @@ abbrev pub invariant-loop-node : goal.invariant-loop-node
 invariant-loop-node l = record {
   linked : IsLinked (columns_of l.layout) l.links;
   high : l.node < l.layout.tails;
-  back : Back (columns_of l.layout) l.fn.links l.item l.colour l.links l.fn.counts l.counts l.node;
+  back : Back (columns_of l.layout) l.fn.links l.item l.colour l.links l.fn.keys l.keys l.node;
 }
 
 abbrev pub decreases-loop-node : goal.decreases-loop-node

@@ -23,7 +23,7 @@ pub cover_from-requires-clause-linked : goal.cover_from-requires-clause-linked
 cover_from-requires-clause-linked c = same_linked (columns_of c.self.inside.layout) c.self.inside.links.items c.deref_mut.result.now c.deref_mut.ensures.value c.self.invariant.0.linked
 
 pub cover_from-requires-clause-commits : goal.cover_from-requires-clause-commits
-cover_from-requires-clause-commits c = held_kept c.self.inside.problem.now (columns_of c.self.inside.layout) c.self.inside.chosen.items c.self.inside.entries.items c.self.inside.links.items c.self.inside.counts.items (vec_capacity c.self.inside.chosen) c.deref_mut-3.result.now c.self.invariant.0 (c.deref_mut-3.ensures.value ∙ c.self.invariant.2)
+cover_from-requires-clause-commits c = held_kept c.self.inside.problem.now (columns_of c.self.inside.layout) c.self.inside.chosen.items c.self.inside.entries.items c.self.inside.links.items c.self.inside.keys.items (vec_capacity c.self.inside.chosen) c.deref_mut-3.result.now c.self.invariant.0 (c.deref_mut-3.ensures.value ∙ c.self.invariant.2)
 
 pub overflow_cast-node : goal.overflow_cast-node
 overflow_cast-node c =
@@ -35,7 +35,7 @@ push_reserved-requires c =
     let inside : c.args.option < length c.self.inside.problem.now.options = omega (arith, c.requires.option, ap (λ (v : Choices). length v.problem.options) c.self.view_is) in
     let live : is_live c.self.inside.problem.now c.self.inside.chosen.items c.args.option ≡ true = ap (λ (v : Choices). is_live v.problem v.chosen c.args.option) c.self.view_is ∙ c.requires.live in
     let room = room_left c.self.inside.problem.now c.self.inside.chosen.items c.args.option c.self.invariant.0.is_problem c.self.invariant.0.prefix inside live in
-    let same = same_length c.self.inside.problem.now (columns_of c.self.inside.layout) c.self.inside.chosen.items c.self.inside.entries.items c.self.inside.links.items c.self.inside.counts.items (vec_capacity c.self.inside.chosen) c.self.invariant.0 in
+    let same = same_length c.self.inside.problem.now (columns_of c.self.inside.layout) c.self.inside.chosen.items c.self.inside.entries.items c.self.inside.links.items c.self.inside.keys.items (vec_capacity c.self.inside.chosen) c.self.invariant.0 in
     omega (arith, room, same, c.self.invariant.1, c.self.inside.entries.ok.0)
 
 pub push_reserved-requires-2 : goal.push_reserved-requires-2
@@ -58,10 +58,10 @@ invariant_of-self c =
     let free = primary_uncovered p os c.args.option (column_of cs node) first.primary live first.named in
     let room = vec_capacity c.self.inside.chosen in
     let held : c.deref_mut-3.result.now ≡ commits_of (columns_of c.self.inside.layout) c.self.inside.entries.items = c.deref_mut-3.ensures.value ∙ c.self.invariant.2 in
-    let before = same_links_of p cs os os es es c.self.inside.links.items c.deref_mut.result.now c.self.inside.counts.items c.deref_mut-2.result.now room room refl refl c.deref_mut.ensures.value c.deref_mut-2.ensures.value refl c.self.invariant.0 in
-    let after = links_push p cs os es c.deref_mut.result.now c.cover_from.new.links c.deref_mut-2.result.now c.cover_from.new.counts c.deref_mut-3.result.now room c.args.option node before held inside live free first.in_option first.own c.cover_from.ensures.linked c.cover_from.ensures.links c.cover_from.ensures.counts in
+    let before = same_links_of p cs os os es es c.self.inside.links.items c.deref_mut.result.now c.self.inside.keys.items c.deref_mut-2.result.now room room refl refl c.deref_mut.ensures.value c.deref_mut-2.ensures.value refl c.self.invariant.0 in
+    let after = links_push p cs os es c.deref_mut.result.now c.cover_from.new.links c.deref_mut-2.result.now c.cover_from.new.keys c.deref_mut-3.result.now room c.args.option node before held inside live free first.in_option first.own c.cover_from.ensures.linked c.cover_from.ensures.links c.cover_from.ensures.keys in
     let commits = commits_pushed cs es node c.deref_mut-3.result.now c.cover_from.new.commits held c.cover_from.ensures.commits in
-    (same_links_of p cs (os ++ c.args.option ∷ []) c.push_reserved-2.new.self.items (es ++ node ∷ []) c.push_reserved.new.self.items c.cover_from.new.links _ c.cover_from.new.counts _ room _ c.push_reserved-2.ensures.items c.push_reserved.ensures.items (put_back c.cover_from.new.links _ c.self.inside.links.len (omega (arith, c.cover_from.ensures.linked.0, c.self.invariant.0.linked.0, c.self.inside.links.ok.0))) (put_back c.cover_from.new.counts _ c.self.inside.counts.len (omega (arith, c.cover_from.auto.counts, c.deref_mut-2.ensures.len, c.self.inside.counts.ok.0))) c.push_reserved-2.ensures.capacity after, omega (arith, c.self.invariant.1, c.push_reserved.ensures.capacity), put_back c.cover_from.new.commits _ c.self.inside.commits.len (omega (arith, c.cover_from.auto.commits, c.deref_mut-3.ensures.len, c.self.inside.commits.ok.0)) ∙ commits ∙ ap (commits_of cs) (sym c.push_reserved.ensures.items))
+    (same_links_of p cs (os ++ c.args.option ∷ []) c.push_reserved-2.new.self.items (es ++ node ∷ []) c.push_reserved.new.self.items c.cover_from.new.links _ c.cover_from.new.keys _ room _ c.push_reserved-2.ensures.items c.push_reserved.ensures.items (put_back c.cover_from.new.links _ c.self.inside.links.len (omega (arith, c.cover_from.ensures.linked.0, c.self.invariant.0.linked.0, c.self.inside.links.ok.0))) (put_back c.cover_from.new.keys _ c.self.inside.keys.len (omega (arith, c.cover_from.auto.keys, c.deref_mut-2.ensures.len, c.self.inside.keys.ok.0))) c.push_reserved-2.ensures.capacity after, omega (arith, c.self.invariant.1, c.push_reserved.ensures.capacity), put_back c.cover_from.new.commits _ c.self.inside.commits.len (omega (arith, c.cover_from.auto.commits, c.deref_mut-3.ensures.len, c.self.inside.commits.ok.0)) ∙ commits ∙ ap (commits_of cs) (sym c.push_reserved.ensures.items))
 
 pub returns : goal.returns
 returns c =

@@ -15,7 +15,7 @@ returns-clause-first c =
     let cs = columns_of c.self.inside.layout in
     let os = c.self.inside.chosen.items in
     let P : List Link → Type 0 = λ m. IsOnward c.self.inside.problem.now (columns_of c.self.inside.layout) c.self.inside.chosen.items 0 (down_of m (c.self.inside.layout.heads - 1)) in
-    let on = subst P (sym c.deref.ensures.value) (onward_first p cs os c.self.inside.entries.items c.self.inside.links.items c.self.inside.counts.items (vec_capacity c.self.inside.chosen) c.self.invariant.0) in
+    let on = subst P (sym c.deref.ensures.value) (onward_first p cs os c.self.inside.entries.items c.self.inside.links.items c.self.inside.keys.items (vec_capacity c.self.inside.chosen) c.self.invariant.0) in
     answer_item p cs os 0 (down_of c.deref.result.now (c.self.inside.layout.heads - 1)) c.primary.result c.item_below.result c.primary.ensures.count on c.item_below.ensures
     ∙ ap (λ (v : Choices). slice_get (open_items_from v.problem v.chosen 0) 0) c.self.view_is
 
@@ -25,7 +25,7 @@ returns-clause-uncovered c =
     let cs = columns_of c.self.inside.layout in
     let os = c.self.inside.chosen.items in
     let P : List Link → Type 0 = λ m. IsOnward c.self.inside.problem.now (columns_of c.self.inside.layout) c.self.inside.chosen.items 0 (down_of m (c.self.inside.layout.heads - 1)) in
-    let on = subst P (sym c.deref.ensures.value) (onward_first p cs os c.self.inside.entries.items c.self.inside.links.items c.self.inside.counts.items (vec_capacity c.self.inside.chosen) c.self.invariant.0) in
+    let on = subst P (sym c.deref.ensures.value) (onward_first p cs os c.self.inside.entries.items c.self.inside.links.items c.self.inside.keys.items (vec_capacity c.self.inside.chosen) c.self.invariant.0) in
     let found = answer_open p cs os 0 (down_of c.deref.result.now (c.self.inside.layout.heads - 1)) c.primary.result c.item_below.result c.primary.ensures.count on c.item_below.ensures in
     let Q : Choices → Type 0 = λ v. IfSome c.item_below.result (IsOpen v.problem v.chosen) in
     subst Q c.self.view_is found

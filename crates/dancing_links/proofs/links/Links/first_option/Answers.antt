@@ -23,7 +23,7 @@ returns-clause-first c =
     let free : is_covered c.self.inside.problem.now c.self.inside.chosen.items c.args.item ≡ false = ap (λ (v : Choices). is_covered v.problem v.chosen c.args.item) c.self.view_is ∙ c.requires.uncovered in
     c.option_below.ensures
     ∙ ap (λ (m : List Link). slice_get (options_left cs m (down_of m c.args.item)) 0) c.deref.ensures.value
-    ∙ ap (λ (left : List ℕ). slice_get left 0) (left_all p cs os c.self.inside.entries.items c.self.inside.links.items c.self.inside.counts.items (vec_capacity c.self.inside.chosen) c.args.item c.self.invariant.0 inside free ∙ sym (live_options_start p os c.args.item))
+    ∙ ap (λ (left : List ℕ). slice_get left 0) (left_all p cs os c.self.inside.entries.items c.self.inside.links.items c.self.inside.keys.items (vec_capacity c.self.inside.chosen) c.args.item c.self.invariant.0 inside free ∙ sym (live_options_start p os c.args.item))
     ∙ ap (λ (v : Choices). slice_get (live_options_from v.problem v.chosen c.args.item 0) 0) c.self.view_is
 
 pub returns-clause-child : goal.returns-clause-child

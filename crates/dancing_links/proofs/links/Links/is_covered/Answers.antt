@@ -16,5 +16,5 @@ returns c =
     let inside : c.args.item < length c.self.inside.problem.now.names = omega (arith, c.requires, ap (λ (v : Choices). length v.problem.names) c.self.view_is) in
     let x = c.self.inside.layout.heads + c.args.item in
     ap not (c.is_known.ensures ∙ ap (λ (m : List Link). down_of m (up_of m x) == x) c.deref.ensures.value)
-    ∙ covered_test c.self.inside.problem.now (columns_of c.self.inside.layout) c.self.inside.chosen.items c.self.inside.entries.items c.self.inside.links.items c.args.item (state_of c.self.inside.problem.now (columns_of c.self.inside.layout) c.self.inside.chosen.items c.self.inside.entries.items c.self.inside.links.items c.self.inside.counts.items (vec_capacity c.self.inside.chosen) c.self.invariant.0) inside
+    ∙ covered_test c.self.inside.problem.now (columns_of c.self.inside.layout) c.self.inside.chosen.items c.self.inside.entries.items c.self.inside.links.items c.args.item (state_of c.self.inside.problem.now (columns_of c.self.inside.layout) c.self.inside.chosen.items c.self.inside.entries.items c.self.inside.links.items c.self.inside.keys.items (vec_capacity c.self.inside.chosen) c.self.invariant.0) inside
     ∙ ap (λ (v : Choices). is_covered v.problem v.chosen c.args.item) c.self.view_is

@@ -44,7 +44,7 @@ returns-then-not-is_covered c =
     let free : is_covered c.self.inside.problem.now c.self.inside.chosen.items (column_of (columns_of c.self.inside.layout) c.primary_node-node.result) ≡ false =
     ap (is_covered c.self.inside.problem.now c.self.inside.chosen.items) (sym c.item_at-item.ensures.item) ∙ ap (λ (v : Choices). is_covered v.problem v.chosen c.item_at-item.result) c.self.view_is ∙ sym c.is_covered.ensures ∙ c.if-not-is_covered.true in
     c.is_known.ensures ∙ ap (λ (m : List Link). down_of m (up_of m k) == k) c.deref.ensures.value
-    ∙ live_known c.self.inside.problem.now (columns_of c.self.inside.layout) c.self.inside.chosen.items c.self.inside.entries.items c.self.inside.links.items c.self.inside.counts.items (vec_capacity c.self.inside.chosen) c.args.option k c.self.invariant.0 c.primary_node-node.ensures free
+    ∙ live_known c.self.inside.problem.now (columns_of c.self.inside.layout) c.self.inside.chosen.items c.self.inside.entries.items c.self.inside.links.items c.self.inside.keys.items (vec_capacity c.self.inside.chosen) c.args.option k c.self.invariant.0 c.primary_node-node.ensures free
     ∙ ap (λ (v : Choices). is_live v.problem v.chosen c.args.option) c.self.view_is
 
 pub returns-else-not-is_covered : goal.returns-else-not-is_covered

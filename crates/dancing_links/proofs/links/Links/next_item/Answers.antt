@@ -18,7 +18,7 @@ returns-clause-next c =
     let inside : c.args.item < length c.self.inside.problem.now.names = omega (arith, c.requires.item, ap (λ (v : Choices). length v.problem.names) c.self.view_is) in
     let free : is_covered c.self.inside.problem.now c.self.inside.chosen.items c.args.item ≡ false = ap (λ (v : Choices). is_covered v.problem v.chosen c.args.item) c.self.view_is ∙ c.requires.uncovered in
     let P : List Link → Type 0 = λ m. IsOnward c.self.inside.problem.now (columns_of c.self.inside.layout) c.self.inside.chosen.items (c.args.item + 1) (down_of m (c.self.inside.layout.heads + c.args.item)) in
-    let on = subst P (sym c.deref.ensures.value) (onward_next p cs os c.self.inside.entries.items c.self.inside.links.items c.self.inside.counts.items (vec_capacity c.self.inside.chosen) c.args.item c.self.invariant.0 inside free) in
+    let on = subst P (sym c.deref.ensures.value) (onward_next p cs os c.self.inside.entries.items c.self.inside.links.items c.self.inside.keys.items (vec_capacity c.self.inside.chosen) c.args.item c.self.invariant.0 inside free) in
     answer_item p cs os (c.args.item + 1) (down_of c.deref.result.now (c.self.inside.layout.heads + c.args.item)) c.primary.result c.item_below.result c.primary.ensures.count on c.item_below.ensures
     ∙ ap (λ (v : Choices). slice_get (open_items_from v.problem v.chosen (c.args.item + 1)) 0) c.self.view_is
 
@@ -30,7 +30,7 @@ returns-clause-uncovered c =
     let inside : c.args.item < length c.self.inside.problem.now.names = omega (arith, c.requires.item, ap (λ (v : Choices). length v.problem.names) c.self.view_is) in
     let free : is_covered c.self.inside.problem.now c.self.inside.chosen.items c.args.item ≡ false = ap (λ (v : Choices). is_covered v.problem v.chosen c.args.item) c.self.view_is ∙ c.requires.uncovered in
     let P : List Link → Type 0 = λ m. IsOnward c.self.inside.problem.now (columns_of c.self.inside.layout) c.self.inside.chosen.items (c.args.item + 1) (down_of m (c.self.inside.layout.heads + c.args.item)) in
-    let on = subst P (sym c.deref.ensures.value) (onward_next p cs os c.self.inside.entries.items c.self.inside.links.items c.self.inside.counts.items (vec_capacity c.self.inside.chosen) c.args.item c.self.invariant.0 inside free) in
+    let on = subst P (sym c.deref.ensures.value) (onward_next p cs os c.self.inside.entries.items c.self.inside.links.items c.self.inside.keys.items (vec_capacity c.self.inside.chosen) c.args.item c.self.invariant.0 inside free) in
     let found = answer_open p cs os (c.args.item + 1) (down_of c.deref.result.now (c.self.inside.layout.heads + c.args.item)) c.primary.result c.item_below.result c.primary.ensures.count on c.item_below.ensures in
     let Q : Choices → Type 0 = λ v. IfSome c.item_below.result (IsOpen v.problem v.chosen) in
     subst Q c.self.view_is found

@@ -47,7 +47,7 @@ returns-clause-next c =
     let named : names_item c.self.inside.problem.now c.args.option c.args.item ≡ true = ap (λ (v : Choices). names_item v.problem c.args.option c.args.item) c.self.view_is ∙ c.requires.child.named in
     c.option_below.ensures
     ∙ ap (λ (m : List Link). slice_get (options_left cs m (down_of m c.node_of-node.result)) 0) c.deref.ensures.value
-    ∙ ap (λ (left : List ℕ). slice_get left 0) (left_after p cs os c.self.inside.entries.items c.self.inside.links.items c.self.inside.counts.items (vec_capacity c.self.inside.chosen) c.args.item c.args.option c.node_of-node.result c.self.invariant.0 inside_item free inside live named (naming_same cs c.args.item c.node_range-begin.result.0 c.node_range-begin.result.1 _ _ c.node_of-node.result c.node_range-begin.ensures.begin c.node_range-begin.ensures.end c.node_of-node.ensures))
+    ∙ ap (λ (left : List ℕ). slice_get left 0) (left_after p cs os c.self.inside.entries.items c.self.inside.links.items c.self.inside.keys.items (vec_capacity c.self.inside.chosen) c.args.item c.args.option c.node_of-node.result c.self.invariant.0 inside_item free inside live named (naming_same cs c.args.item c.node_range-begin.result.0 c.node_range-begin.result.1 _ _ c.node_of-node.result c.node_range-begin.ensures.begin c.node_range-begin.ensures.end c.node_of-node.ensures))
     ∙ ap (λ (v : Choices). slice_get (live_options_from v.problem v.chosen c.args.item (c.args.option + 1)) 0) c.self.view_is
 
 pub returns-clause-child : goal.returns-clause-child

@@ -21,5 +21,5 @@ returns c =
     let free : is_covered c.self.inside.problem.now c.self.inside.chosen.items c.args.item ≡ false = ap (λ (v : Choices). is_covered v.problem v.chosen c.args.item) c.self.view_is ∙ c.requires.uncovered in
     c.from_node.ensures
     ∙ ap (λ (m : List Link). options_left cs m c.index.result.now.down) c.deref.ensures.value
-    ∙ left_read p cs os c.self.inside.entries.items c.self.inside.links.items c.self.inside.counts.items (vec_capacity c.self.inside.chosen) c.args.item c.index.result.now c.self.invariant.0 inside free c.index.ensures
+    ∙ left_read p cs os c.self.inside.entries.items c.self.inside.links.items c.self.inside.keys.items (vec_capacity c.self.inside.chosen) c.args.item c.index.result.now c.self.invariant.0 inside free c.index.ensures
     ∙ ap (λ (v : Choices). live_options v.problem v.chosen c.args.item) c.self.view_is

@@ -1,0 +1,112 @@
+//! One key for each item: from low to high its number, how many nodes of its column are in, and whether it is covered. So the
+//! uncovered item with fewest live options, the first of those, has the least key, which a pass without a branch finds.
+
+ghost use Rattle.std.specs.Prelude.{◌≡◌, ◌<◌, ◌≤◌, ◌+◌, ◌/◌, ◌%◌, [], length, nat_lt, if◌then◌else◌, IfOk, MatchOption};
+ghost use Rattle.dancing_links.specs.Columns.{columns_of, IsTable};
+ghost use Rattle.dancing_links.specs.Keys.{with_less, with_more, with_mark, least_from, IsKeyed, IsCounting};
+
+use crate::build::numbers_below;
+use crate::layout::{Layout, item_among, item_at};
+use crate::place::Place;
+use std::alloc::{AllocError, Global};
+
+/// One node in a column, in the key of its item; numbers of items are less.
+const ONE_OPTION: u32 = 65_536;
+
+/// The mark of a covered item; an uncovered one has a lesser key.
+const COVERED: u32 = 2_147_483_648;
+
+/// The keys of all items while no node is out; the only error is want of memory.
+pub fn build_keys(alloc: Global, layout: &Layout) -> Result<Vec<u32>, AllocError>
+    requires { IsTable (columns_of layout.now) }
+    ensures { IfOk result (λ keys. IsKeyed (columns_of layout.now) [] keys.items) }
+{
+    let mut keys = numbers_below(alloc, layout.heads - 1)?;
+    for node in 2 * layout.heads - 1..layout.tails {
+        count_node(layout, &mut keys, node);
+    }
+    Ok(keys)
+}
+
+/// Counts a node of an option.
+fn count_node(layout: &Layout, keys: &mut [u32], node: usize)
+    requires node { (layout.now.heads + layout.now.heads ≤ node + 1) × (node < layout.now.tails) }
+    requires table { IsTable (columns_of layout.now) }
+    requires before { IsCounting (columns_of layout.now) node keys.old }
+    ensures after { IsCounting (columns_of layout.now) (node + 1) keys.new }
+{
+    let item = item_at(layout, node);
+    keys[item] += ONE_OPTION;
+}
+
+/// Counts a node of an option no more: its item has one live option less.
+#[tactic(auto, unfolding(crate::specs::Keys::with_less))]
+pub fn count_less(layout: &Layout, places: &[Place], keys: &mut [u32], node: usize)
+    requires places { places.now ≡ layout.now.places.items }
+    requires node { (layout.now.heads + layout.now.heads ≤ node + 1) × (node < layout.now.tails) }
+    requires table { IsTable (columns_of layout.now) }
+    requires keys { length keys.old + 1 ≡ layout.now.heads }
+    ensures { keys.new ≡ with_less (columns_of layout.now) keys.old node }
+{
+    let item = item_among(layout, places, node);
+    keys[item] = keys[item].wrapping_sub(ONE_OPTION);
+}
+
+/// Counts a node of an option again.
+#[tactic(auto, unfolding(crate::specs::Keys::with_more))]
+pub fn count_more(layout: &Layout, places: &[Place], keys: &mut [u32], node: usize)
+    requires places { places.now ≡ layout.now.places.items }
+    requires node { (layout.now.heads + layout.now.heads ≤ node + 1) × (node < layout.now.tails) }
+    requires table { IsTable (columns_of layout.now) }
+    requires keys { length keys.old + 1 ≡ layout.now.heads }
+    ensures { keys.new ≡ with_more (columns_of layout.now) keys.old node }
+{
+    let item = item_among(layout, places, node);
+    keys[item] = keys[item].wrapping_add(ONE_OPTION);
+}
+
+/// Puts the mark of a covered item on the key of one that has none, and takes it off one that has it.
+#[tactic(auto, unfolding(crate::specs::Keys::with_mark))]
+pub fn turn_mark(keys: &mut [u32], item: usize)
+    requires { item < length keys.old }
+    ensures { keys.new ≡ with_mark keys.old item }
+{
+    keys[item] = keys[item].wrapping_add(COVERED);
+}
+
+/// The lesser of two keys.
+fn lesser(key: u32, other: u32) -> u32
+    ensures { result ≡ (if nat_lt key other then key else other) }
+{
+    if key < other { key } else { other }
+}
+
+/// The least of some keys; where there is none, the greatest number of 32 bits.
+pub fn least_of(keys: &[u32]) -> u32
+    ensures { result ≡ least_from 4294967295 keys.now }
+{
+    let mut least = u32::MAX;
+    for key in keys {
+        least = lesser(*key, least);
+    }
+    least
+}
+
+/// How many live options the key of an uncovered item counts.
+pub fn count_in(key: u32) -> usize
+    ensures { result ≡ key / 65536 }
+{
+    (key / ONE_OPTION) as usize
+}
+
+/// The item of a key, unless it is a covered one.
+pub fn item_in(key: u32) -> Option<u16>
+    ensures { MatchOption result (2147483648 ≤ key) (λ item.
+        (key < 2147483648) × (item ≡ key % 65536)) }
+{
+    if key < COVERED {
+        Some((key % ONE_OPTION) as u16)
+    } else {
+        None
+    }
+}
