@@ -1,77 +1,19 @@
 -- The loop of a visit over the children of a prefix.
-use Rattle.std.proofs.Common.{◌≡◌, ℕ, zero, suc, ◌+◌, ◌-◌, ◌<◌, ◌≤◌, List, [], ◌∷◌, ◌++◌, length, true, not, Option, Some, None, get_or, take, nat_lt, false, refl, arith, sym, ap, ◌∙◌, slice_get, IfSome, subst, option_map, is_some}
-use Rattle.std.specs.Option.{option_map_or}
-use Rattle.std.proofs.lemmas.Bool.Decides.{nat_tests}
+use Rattle.std.proofs.Common.{◌≡◌, ℕ, zero, suc, ◌+◌, ◌-◌, ◌<◌, ◌≤◌, List, [], ◌∷◌, ◌++◌, length, true, not, Option, Some, None, get_or, take, false, refl, arith, sym, ap, ◌∙◌, slice_get, IfSome, subst, is_some}
 use Rattle.std.proofs.lemmas.Bool.{and_from, and_parts, both_ways, not-true, not_from_false}
-use Rattle.cover_problem.specs.Branching.{IsOpen, branch_item, fewest_of, fewer_of, is_choice, live_options, open_items}
-use Rattle.cover_problem.specs.Onward.{open_items_from, live_options_from, first_among, visits_among}
+use Rattle.cover_problem.specs.Branching.{branch_item, is_choice, live_options, open_items}
+use Rattle.cover_problem.specs.Onward.{live_options_from, first_among, visits_among}
 use Rattle.cover_problem.specs.Prefix.{clash, is_live, is_prefix, are_options, are_apart}
 use Rattle.cover_problem.specs.Problem.{Problem, names_item}
 use Rattle.cover_problem.specs.Search.{first_within, visits_within}
 use Rattle.cover_problem.proofs.Among.{all_at}
 use Rattle.cover_problem.proofs.Clashes.{clash_both}
+use Rattle.cover_problem.proofs.Colours.{get_in}
 use Rattle.cover_problem.proofs.Prefixes.{open_fewer}
-use Rattle.cover_problem.proofs.Remaining.{open_items_from_take, open_items_start, live_options_from_take, live_options_from_end, live_options_start}
+use Rattle.cover_problem.proofs.Remaining.{live_options_from_take, live_options_from_end, live_options_start}
 use Rattle.cover_problem.proofs.Steps.{within_some, left_end, left_barren, left_found, left_spent}
 use Rattle.dancing_links.specs.Choices.{IsChild}
-use Rattle.dancing_links.proofs.Tables.{in_by_place}
-use Rattle.brancher.proofs.Lefts.{items_left, options_left, items_next, options_next, IsOpenItem, IsCounted}
-
--- ---- the items that are left
-
-pub open_item : (p : Problem) (os : List ℕ) (r : Option ℕ) → IfSome r (IsOpen p os) → IfSome r (λ i. i < length p.names) → IfSome r (IsOpenItem p os)
-open_item p os None is named = tt
-open_item p os (Some i) is named = record { is_open = is; named = named }
-
-pub fewest_start : (p : Problem) (os : List ℕ) (next : Option ℕ) → next ≡ slice_get (open_items_from p os 0) 0 → fewest_of p os None (items_left p os next) ≡ branch_item p os
-unfolding branch_item
-fewest_start p os next e = ap (fewest_of p os None) (items_next p os 0 next e ∙ open_items_start p os)
-
-items_taken : (p : Problem) (os : List ℕ) (i : ℕ) (next : Option ℕ) → next ≡ Some i → IsOpen p os i → items_left p os next ≡ i ∷ open_items_from p os (i + 1)
-items_taken p os i next e is = ap (items_left p os) e ∙ open_items_from_take p os i is.primary is.uncovered
-
-pub fewest_step : (p : Problem) (os : List ℕ) (best new : Option ℕ) (i : ℕ) (next later : Option ℕ) → next ≡ Some i → IsOpen p os i → new ≡ fewer_of p os best i → later ≡ slice_get (open_items_from p os (i + 1)) 0 → fewest_of p os best (items_left p os next) ≡ branch_item p os → fewest_of p os new (items_left p os later) ≡ branch_item p os
-fewest_step p os best new i next later e is f g h =
-    ap (λ o. fewest_of p os o (items_left p os later)) f
-    ∙ ap (fewest_of p os (fewer_of p os best i)) (items_next p os (i + 1) later g)
-    ∙ sym (ap (fewest_of p os best) (items_taken p os i next e is)) ∙ h
-
-no_less : (a b : ℕ) → b ≡ 0 → nat_lt a b ≡ false
-no_less a b e = grind (arith, nat_tests)
-
--- where an item has no live option, it stays the one with fewest
-none_fewer : (p : Problem) (os : List ℕ) (best : ℕ) (is : List ℕ) → length (live_options p os best) ≡ 0 → fewest_of p os (Some best) is ≡ Some best
-none_fewer p os best [] none = refl
-none_fewer p os best (i ∷ is) none =
-    let other = no_less (length (live_options p os i)) (length (live_options p os best)) none in
-    rw other (none_fewer p os best is none)
-
-pub fewest_found : (p : Problem) (os : List ℕ) (best : Option ℕ) (b i : ℕ) (next : Option ℕ) → next ≡ Some i → IsOpen p os i → Some b ≡ fewer_of p os best i → length (live_options p os b) ≡ 0 → fewest_of p os best (items_left p os next) ≡ branch_item p os → Some b ≡ branch_item p os
-fewest_found p os best b i next e is f none h =
-    sym (none_fewer p os b (open_items_from p os (i + 1)) none)
-    ∙ ap (λ o. fewest_of p os o (open_items_from p os (i + 1))) f
-    ∙ sym (ap (fewest_of p os best) (items_taken p os i next e is)) ∙ h
-
-pub items_fewer : (p : Problem) (os : List ℕ) (i : ℕ) (next later : Option ℕ) → next ≡ Some i → IsOpen p os i → later ≡ slice_get (open_items_from p os (i + 1)) 0 → length (items_left p os later) < length (items_left p os next)
-items_fewer p os i next later e is g = omega (arith, ap length (items_next p os (i + 1) later g), ap length (items_taken p os i next e is))
-
--- what the best item so far is, once an item was looked at
-pub record IsBest (p : Problem) (os : List ℕ) (best new : Option (ℕ × ℕ)) (i : ℕ) : Type 0 where
-  pub item : option_map (λ b. b.0) new ≡ fewer_of p os (option_map (λ b. b.0) best) i
-  pub counted : IfSome new (IsCounted p os)
-  pub is_open : IfSome new (λ b. IsOpenItem p os b.0)
-
-pub best_taken : (p : Problem) (os : List ℕ) (best : Option (ℕ × ℕ)) (i count : ℕ) → count ≡ length (live_options p os i) → IfSome best (IsCounted p os) → IsOpenItem p os i → option_map_or (λ (b : ℕ × ℕ). nat_lt count b.1) best true ≡ true → IsBest p os best (Some (i, count)) i
-best_taken p os None i count e counted is less = record { item = refl; counted = e; is_open = is }
-best_taken p os (Some b) i count e counted is less =
-    let test : nat_lt (length (live_options p os i)) (length (live_options p os b.0)) ≡ true = rw (← e, ← counted) less in
-    record { item = rw test refl; counted = e; is_open = is }
-
-pub best_kept : (p : Problem) (os : List ℕ) (best : Option (ℕ × ℕ)) (i count : ℕ) → count ≡ length (live_options p os i) → IfSome best (IsCounted p os) → IfSome best (λ b. IsOpenItem p os b.0) → option_map_or (λ (b : ℕ × ℕ). nat_lt count b.1) best true ≡ false → IsBest p os best best i
-best_kept p os None i count e counted is less = cc
-best_kept p os (Some b) i count e counted is less =
-    let test : nat_lt (length (live_options p os i)) (length (live_options p os b.0)) ≡ false = rw (← e, ← counted) less in
-    record { item = rw test refl; counted = counted; is_open = is }
+use Rattle.brancher.proofs.Lefts.{options_left, options_next}
 
 -- ---- the prefix, option by option
 
@@ -82,7 +24,7 @@ live_in_prefix p (x ∷ xs) (suc k) apart lt =
     let parts = and_parts (is_live p xs x) (are_apart p xs) apart in
     let o : ℕ = get_or xs k 0 in
     let below : k < length xs = omega (arith, lt) in
-    let none = not-true (clash p o x) (all_at (λ q. not (clash p q x)) xs o parts.0 (in_by_place xs k below)) in
+    let none = not-true (clash p o x) (all_at (λ q. not (clash p q x)) xs o parts.0 (get_in xs k below)) in
     and_from (not (clash p x o)) (is_live p (take k xs) o) (not_from_false (clash p x o) (clash_both p o x none)) (live_in_prefix p xs k parts.1 below)
 
 pub prefix_live : (p q : Problem) (xs front : List ℕ) (k : ℕ) → is_prefix p xs ≡ true → q ≡ p → front ≡ take k xs → k < length xs → is_live q front (get_or xs k 0) ≡ true

@@ -1,12 +1,12 @@
 -- Of nodes that agree where they stand in one column, those that cover: each covers an item that none before it covers.
 use Rattle.std.proofs.Common.{◌≡◌, ℕ, zero, suc, ◌+◌, ◌-◌, ◌%◌, ◌<◌, ◌≤◌, List, [], ◌∷◌, length, true, false, ◌==◌, get_or, set, replicate, refl, arith, sym, ap, ◌∙◌, inl, inr, subst}
-use Rattle.std.proofs.lemmas.Bool.{eq-eqb, eqb-true, cases_Bool, cases_eq, both_ways, or_cases, or_left, or_right}
+use Rattle.std.proofs.lemmas.Bool.{eq-eqb, eqb-true, cases_Bool, cases_eq, both_ways, or_cases, or_left, or_right, false_from_ne_true}
 use Rattle.std.proofs.lemmas.List.{get_or-set_same, get_or-set_other}
 use Rattle.dancing_links.specs.Choices.{no_commits}
 use Rattle.dancing_links.specs.Columns.{among, Columns, column_of, colour_at, IsTable}
 use Rattle.dancing_links.specs.Committing.{IsCommits, commit, committed, is_repeated, covering}
 use Rattle.dancing_links.proofs.Commits.{commit_plain, commit_coloured, commit_kept, no_commits_kept, repeated_none, repeated_some, covering_repeated, covering_new}
-use Rattle.dancing_links.proofs.Present.{covers, AreNew, with_all, never_true}
+use Rattle.dancing_links.proofs.Present.{covers, AreNew, with_all}
 
 -- a node has a colour, and each of some nodes in its column has the same
 abbrev pub Agrees : Columns → List ℕ → ℕ → Type 0
@@ -140,7 +140,7 @@ step_repeated c seen nodes commits k item agrees bound h at = record {
 -- and one that is not: it covers its item, which none before it covers
 step_new : (c : Columns) (seen nodes commits : List ℕ) (k : ℕ) → column_of c k + 1 < c.heads → Agrees c seen k → length seen + 1 < 4294967296 → is_repeated c commits k ≡ false → IsCovering c seen nodes commits → (covers c nodes (column_of c k) ≡ false) × IsCovering c (k ∷ seen) (k ∷ nodes) (commit c commits k)
 step_new c seen nodes commits k item agrees bound h at = (
-  never_true (covers c nodes (column_of c k)) (λ hit.
+  false_from_ne_true (covers c nodes (column_of c k)) (λ hit.
       let x = covers_some c nodes (column_of c k) hit in
       let in_seen = at.subset x.0 x.1 in
       let same = agrees x.0 in_seen x.2 in

@@ -1,6 +1,6 @@
 -- What the nodes that cover tell of items and options.
 use Rattle.std.proofs.Common.{◌≡◌, ℕ, ◌+◌, ◌-◌, ◌<◌, ◌≤◌, List, length, true, false, not, ◌==◌, ◌&&◌, get_or, refl, arith, sym, ap, ◌∙◌, inl, inr, subst}
-use Rattle.std.proofs.lemmas.Bool.{both_ways, and_parts, and_from, cases_Bool, cases_lt, eq-eqb, eqb-true, ne_eqb, not-true, not_from_false}
+use Rattle.std.proofs.lemmas.Bool.{both_ways, and_parts, and_from, cases_Bool, cases_lt, eq-eqb, eqb-true, ne_eqb, not-true, not_from_false, false_from_ne_true}
 use Rattle.cover_problem.specs.Numbers.{is_in}
 use Rattle.cover_problem.specs.Prefix.{agree, clash, is_covered, is_live}
 use Rattle.cover_problem.specs.Problem.{Problem, IsProblem, items_of, names_item, colour_of}
@@ -11,7 +11,7 @@ use Rattle.dancing_links.specs.Covering.{has_colour}
 use Rattle.dancing_links.specs.Table.{table}
 use Rattle.dancing_links.proofs.Agreeing.{IsCovering, IsAmong, covers_some, covers_by}
 use Rattle.dancing_links.proofs.Entries.{IsSeen, some_node, node_named}
-use Rattle.dancing_links.proofs.Present.{covers, bars, is_dead, dead_at, dead_by, never_true, same_flags}
+use Rattle.dancing_links.proofs.Present.{covers, bars, is_dead, dead_at, dead_by, same_flags}
 use Rattle.dancing_links.proofs.Tables.{IsNodeAt, node_by, node_colour, place_of, start_of}
 
 -- the node of an option in the column of an item that it names
@@ -85,7 +85,7 @@ bars_some c nodes j h = some_with (λ x. (column_of c x == column_of c j) && not
 
 -- a node of an option that is barred: the option clashes with a chosen one
 bars_clash : (p : Problem) (os seen nodes commits : List ℕ) (k o j : ℕ) → IsCast p (table p) os seen nodes commits → IsNodeAt p k o j → bars (table p) nodes k ≡ true → is_live p os o ≡ false
-bars_clash p os seen nodes commits k o j cast at h = never_true (is_live p os o) (λ live.
+bars_clash p os seen nodes commits k o j cast at h = false_from_ne_true (is_live p os o) (λ live.
     let c : Columns = table p in
     let i : ℕ = column_of (table p) k in
     let x = bars_some c nodes k h in
@@ -103,7 +103,7 @@ bars_clash p os seen nodes commits k o j cast at h = never_true (is_live p os o)
     let colour_x : colour_at (table p) x.0 ≡ colour_of p (option_of (table p) x.0) (column_of (table p) k) = node_colour p x.0 q some.0 cast.is_problem some.1 ∙ ap (colour_of p q) own in
     let colour_k : colour_at (table p) k ≡ colour_of p o (column_of (table p) k) = node_colour p k o j cast.is_problem at in
     let apart = not-true (clash p q o) (all_at (λ n. not (clash p n o)) os q live by.1) in
-    let disagree : agree p q o i ≡ false = never_true (agree p q o i) (λ t.
+    let disagree : agree p q o i ≡ false = false_from_ne_true (agree p q o i) (λ t.
     let a = agreement p q o i t in
     let same : colour_at (table p) k ≡ colour_at (table p) x.0 = colour_k ∙ sym a.same ∙ sym colour_x in
     let coloured : has_colour c (colour_at c x.0) k ≡ true = and_from (not (colour_at c x.0 == 0)) (colour_at c k == colour_at c x.0) (not_from_false (colour_at c x.0 == 0) (ne_eqb (colour_at c x.0) 0 (λ e. omega (arith, e, colour_x, a.some)))) (eq-eqb (colour_at c k) (colour_at c x.0) same) in
@@ -119,7 +119,7 @@ clash_bars p os seen nodes commits o q cast inside chosen h =
     let n = node_in_option p o i inside common.second in
     let x = cover_of p os seen nodes commits q i cast chosen common.first in
     let colour_k : colour_at (table p) n.node ≡ colour_of p o common.item = node_colour p n.node o n.place cast.is_problem n.at ∙ ap (colour_of p o) n.column in
-    let other : has_colour c (colour_at c x.node) n.node ≡ false = never_true (has_colour c (colour_at c x.node) n.node) (λ t.
+    let other : has_colour c (colour_at c x.node) n.node ≡ false = false_from_ne_true (has_colour c (colour_at c x.node) n.node) (λ t.
     let parts = and_parts (not (colour_at c x.node == 0)) (colour_at c n.node == colour_at c x.node) t in
     let same : colour_at (table p) n.node ≡ colour_at (table p) x.node = eqb-true (colour_at c n.node) (colour_at c x.node) parts.1 in
     let some : 1 ≤ colour_of p q common.item = elim (cases_lt 0 (colour_of p q common.item)) [
@@ -145,7 +145,7 @@ node_live p os seen nodes commits k o j cast at =
           let by = node_by p bar.0 o (bar.0 - start_of p o) at.option_in (omega (arith, bar.1, bar.2, at.begin, at.end)) (omega (arith, bar.1, at.begin)) in
           ap not dead ∙ sym (bars_clash p os seen nodes commits bar.0 o place cast by bar.3)
       | inr alive ↦
-          ap not alive ∙ sym (all_by (λ q. not (clash p q o)) os (λ q chosen. not_from_false (clash p q o) (never_true (clash p q o) (λ h.
+          ap not alive ∙ sym (all_by (λ q. not (clash p q o)) os (λ q chosen. not_from_false (clash p q o) (false_from_ne_true (clash p q o) (λ h.
           let bar = clash_bars p os seen nodes commits o q cast at.option_in chosen h in
           both_ways (is_dead c nodes k) alive (dead_by c nodes (begin_of c k) (end_of c k - begin_of c k) bar.0 (omega (arith, bar.2.begin, bar.2.node, at.begin)) (omega (arith, bar.2.begin, bar.2.node, bar.2.place_in, at.begin, at.end)) bar.3)))))
     ]

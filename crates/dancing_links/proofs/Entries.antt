@@ -1,7 +1,7 @@
 -- The nodes of choices: those of their options, each from the node on by which it was chosen.
 use Rattle.std.proofs.Common.{◌≡◌, ℕ, zero, suc, ◌+◌, ◌-◌, ◌*◌, ◌<◌, ◌≤◌, List, [], ◌∷◌, ◌++◌, length, Bool, true, false, not, ◌||◌, get_or, map, drop, inl, inr, ◌==◌, refl, arith, sym, ap, ◌∙◌, subst, append_assoc, append-nil}
 use Rattle.std.specs.List.{range_with_len, All}
-use Rattle.std.proofs.lemmas.Bool.{and_parts, and_from, both_ways, not-true, not_from_false, or_left, or_right, or_cases, eqb-true, eq-eqb, cases_Bool, cases_eq}
+use Rattle.std.proofs.lemmas.Bool.{and_parts, and_from, both_ways, not-true, not_from_false, or_left, or_right, or_cases, eqb-true, eq-eqb, cases_Bool, cases_eq, false_from_ne_true}
 use Rattle.std.proofs.lemmas.List.{length-append}
 use Rattle.std.proofs.lemmas.List.Concat.{flat_map-append}
 use Rattle.cover_problem.specs.Numbers.{is_in, is_distinct}
@@ -17,7 +17,7 @@ use Rattle.dancing_links.proofs.Agreeing.{Agrees, AreAgreed}
 use Rattle.dancing_links.proofs.Others.{range_step}
 use Rattle.dancing_links.proofs.Parts.{range_split, map_append}
 use Rattle.dancing_links.proofs.Prefixed.{distinct-append, prefix_front, last_live}
-use Rattle.dancing_links.proofs.Present.{never_true, with_all}
+use Rattle.dancing_links.proofs.Present.{with_all}
 use Rattle.dancing_links.proofs.Ranges.{range_at}
 use Rattle.dancing_links.proofs.Round.{among-append, others_ranges, others_at, others_has}
 use Rattle.dancing_links.proofs.Tables.{IsNodeAt, node_at, node_by, node_colour, option_distinct, start_of, table_is}
@@ -85,7 +85,7 @@ distinct_front [] ys h = refl
 distinct_front (x ∷ xs) ys h =
     let parts = and_parts (not (is_in (xs ++ ys) x)) (is_distinct (xs ++ ys)) h in
     let new = not-true (is_in (xs ++ ys) x) parts.0 in
-    let fresh : is_in xs x ≡ false = never_true (is_in xs x) (λ t. both_ways (is_in (xs ++ ys) x) new (among-append xs ys x ∙ or_left (is_in xs x) (is_in ys x) t)) in
+    let fresh : is_in xs x ≡ false = false_from_ne_true (is_in xs x) (λ t. both_ways (is_in (xs ++ ys) x) new (among-append xs ys x ∙ or_left (is_in xs x) (is_in ys x) t)) in
     and_from (not (is_in xs x)) (is_distinct xs) (not_from_false (is_in xs x) fresh) (distinct_front xs ys parts.1)
 
 distinct_apart : (xs ys : List ℕ) (i : ℕ) → is_distinct (xs ++ ys) ≡ true → is_in ys i ≡ true → is_in xs i ≡ false
@@ -94,7 +94,7 @@ distinct_apart (x ∷ xs) ys i h there =
     let parts = and_parts (not (is_in (xs ++ ys) x)) (is_distinct (xs ++ ys)) h in
     let new = not-true (is_in (xs ++ ys) x) parts.0 in
     let rest = distinct_apart xs ys i parts.1 there in
-    never_true (is_in (x ∷ xs) i) (λ t. elim (or_cases (x == i) (is_in xs i) t) [
+    false_from_ne_true (is_in (x ∷ xs) i) (λ t. elim (or_cases (x == i) (is_in xs i) t) [
       | inl e ↦
           let same = eqb-true x i e in
           both_ways (is_in (xs ++ ys) x) new (among-append xs ys x ∙ or_right (is_in xs x) (is_in ys x) (ap (is_in ys) same ∙ there))

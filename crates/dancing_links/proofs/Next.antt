@@ -1,6 +1,6 @@
 -- The node below the one of the last choice, once the other items of its option are uncovered.
 use Rattle.std.proofs.Common.{◌≡◌, ℕ, ◌+◌, ◌-◌, ◌<◌, ◌≤◌, List, [], ◌∷◌, ◌++◌, length, true, false, ◌||◌, Bool, get_or, map, refl, arith, sym, ap, ◌∙◌, subst, slice_get, Some, None}
-use Rattle.std.proofs.lemmas.Bool.{ne_eqb}
+use Rattle.std.proofs.lemmas.Bool.{ne_eqb, false_from_ne_true}
 use Rattle.std.proofs.lemmas.Grind.{get_or_default_zero}
 use Rattle.std.proofs.lemmas.List.{get_or_default}
 use Rattle.cover_problem.specs.Onward.{live_options_from}
@@ -17,7 +17,7 @@ use Rattle.dancing_links.specs.Table.{table, heads_of}
 use Rattle.dancing_links.proofs.Walk.{outs_same, option_node, column_skip_to, column_from_take, column_from_end}
 use Rattle.dancing_links.proofs.Round.{others_at}
 use Rattle.dancing_links.proofs.Choose.{spelled_all, open_parts, out_append}
-use Rattle.dancing_links.proofs.Present.{IsOut, with_all, out_start, out_all, open_by, hidden_by, never_true}
+use Rattle.dancing_links.proofs.Present.{IsOut, with_all, out_start, out_all, open_by, hidden_by}
 use Rattle.dancing_links.proofs.Prefixed.{last_live}
 use Rattle.dancing_links.proofs.Tables.{IsNodeAt}
 use Rattle.dancing_links.proofs.Entries.{some_node}
@@ -34,7 +34,7 @@ own_kept c out i a y t can own =
     let hidden : List ℕ = hidden_from c (x ∷ out) i a c.heads in
     let item = t.item_columns i can.item in
     let other : x ≡ y → ⊥ = (λ e. omega (arith, item, ap (column_of c) e, own, can.item)) in
-    let never : among hidden y ≡ false = never_true (among hidden y) (λ hid.
+    let never : among hidden y ≡ false = false_from_ne_true (among hidden y) (λ hid.
     let at = hidden_by c (x ∷ out) i a y t hid in
     let option = option_node c i at.node t can.item at.low at.own in
     let w = t.within at.node option at.high in

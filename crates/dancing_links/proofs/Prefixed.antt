@@ -1,23 +1,16 @@
 -- What the options of a prefix cover.
 use Rattle.std.proofs.Common.{◌≡◌, ℕ, ◌<◌, List, [], ◌∷◌, ◌++◌, length, true, false, not, ◌==◌, refl, sym, ◌∙◌}
 use Rattle.std.specs.Prelude.{nat_lt}
-use Rattle.std.proofs.lemmas.Bool.{both_ways, and_parts, and_from, or_left, or_right, not-true, not_from_false, false_from_ne_true, eq-eqb, ltb-true}
+use Rattle.std.proofs.lemmas.Bool.{and_parts, and_from, or_left, or_right, not-true, not_from_false, eq-eqb, ltb-true}
 use Rattle.std.proofs.lemmas.List.Elements.{All-get_or}
 use Rattle.std.proofs.lemmas.List.Folds.{list_all-append}
 use Rattle.cover_problem.specs.Numbers.{is_in, is_distinct, some_below, are_below}
 use Rattle.cover_problem.specs.Prefix.{clash, is_live, are_apart, are_options, is_prefix, is_covered}
 use Rattle.cover_problem.specs.Problem.{Problem, IsProblem, items_of, names_item}
 use Rattle.cover_problem.proofs.Among.{all_at, some_with}
-use Rattle.cover_problem.proofs.Clashes.{clash_primary, clash_both}
+use Rattle.cover_problem.proofs.Clashes.{clash_both}
 use Rattle.cover_problem.proofs.Prefixes.{prefix_more}
 use Rattle.dancing_links.proofs.Round.{among-append}
-
--- a primary item of a live option is not covered
-pub primary_uncovered : (p : Problem) (os : List ℕ) (o i : ℕ) → i < p.primary → is_live p os o ≡ true → names_item p o i ≡ true → is_covered p os i ≡ false
-primary_uncovered p os o i primary live named = false_from_ne_true (is_covered p os i) (λ covers.
-    let by = some_with (λ q. names_item p q i) os covers in
-    let apart = all_at (λ q. not (clash p q o)) os by.0 live by.1 in
-    both_ways (clash p by.0 o) (not-true (clash p by.0 o) apart) (clash_primary p by.0 o i primary by.2 named))
 
 pub distinct-append : (xs ys : List ℕ) → is_distinct xs ≡ true → is_distinct ys ≡ true → ((i : ℕ) → is_in xs i ≡ true → is_in ys i ≡ false) → is_distinct (xs ++ ys) ≡ true
 distinct-append [] ys dx dy apart = dy

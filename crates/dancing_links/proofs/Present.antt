@@ -1,7 +1,7 @@
 -- Which nodes are out once nodes cover their items: those of options that name such an item, and give it not the same colour.
 use Rattle.std.proofs.Common.{◌≡◌, ℕ, zero, suc, ◌+◌, ◌-◌, ◌<◌, ◌≤◌, List, [], ◌∷◌, ◌++◌, Bool, true, false, not, ◌==◌, ◌&&◌, filter, refl, arith, sym, ap, ◌∙◌, inl, inr, ◌⊎◌}
 use Rattle.std.specs.List.{range_with_len, list_any, flat_map}
-use Rattle.std.proofs.lemmas.Bool.{eq-eqb, eqb-true, eqb-false, cases_Bool, cases_eq, both_ways, or_cases, or_left, or_right, and_parts, and_from, not-true, not_from_false}
+use Rattle.std.proofs.lemmas.Bool.{eq-eqb, eqb-true, eqb-false, cases_Bool, cases_eq, both_ways, or_cases, or_left, or_right, and_parts, and_from, not-true, not_from_false, false_from_ne_true}
 use Rattle.dancing_links.specs.Columns.{among, Columns, column_of, colour_at, begin_of, end_of, column_from, IsTable}
 use Rattle.dancing_links.specs.Covering.{outs, others, has_colour, hidden_at, hidden_from, covered, covered_by, IsOpen, AreOpen, outs_all}
 use Rattle.dancing_links.proofs.Law.{in_other}
@@ -150,9 +150,6 @@ out_start c = record {
   out_dead = λ k low high out. absurd (both_ways false refl out);
 }
 
-pub never_true : (b : Bool) → (b ≡ true → ⊥) → b ≡ false
-never_true b never = elim (cases_Bool b) [ inl t ↦ absurd (never t) | inr f ↦ f ]
-
 -- an item that is not covered can be covered
 pub open_by : (c : Columns) (nodes out : List ℕ) (i : ℕ) → IsTable c → IsOut c nodes out → i + 1 < c.heads → covers c nodes i ≡ false → IsOpen c out i
 open_by c nodes out i t o item new = record {
@@ -163,7 +160,7 @@ open_by c nodes out i t o item new = record {
       let low_j : c.heads + c.heads ≤ j + 1 = omega (arith, wk.2, above) in
       let high_j : j < c.tails = omega (arith, wk.3, below) in
       let same = t.same k j low high above below in
-      never_true (among out j) (λ gone.
+      false_from_ne_true (among out j) (λ gone.
       both_ways (among out k) here (o.dead_out k low high (ap (covers c nodes) own ∙ new) (sym (dead_same c nodes k j same.0 same.1) ∙ o.out_dead j low_j high_j gone)));
 }
 
@@ -183,7 +180,7 @@ out_step c nodes out n t o item new =
     record {
       items_out = λ j lt h.
           let other = covers_other c n nodes j h in
-          never_true (among (outs hidden (x ∷ out)) (c.heads + j)) (λ gone. elim (outs_either hidden (x ∷ out) (c.heads + j) gone) [
+          false_from_ne_true (among (outs hidden (x ∷ out)) (c.heads + j)) (λ gone. elim (outs_either hidden (x ∷ out) (c.heads + j) gone) [
             | inl hid ↦
                 let at = hidden_by c (x ∷ out) i a (c.heads + j) t hid in
                 let option = option_node c i at.node t item at.low at.own in
@@ -216,7 +213,7 @@ out_step c nodes out n t o item new =
                   | inl both ↦
                       let parts = and_parts (i == column_of c j) (not (has_colour c a j)) both in
                       let own : column_of c j ≡ i = sym (eqb-true i (column_of c j) parts.0) in
-                      let here : among out j ≡ false = never_true (among out j) (λ gone. both_ways (is_dead c nodes k) alive (sym (dead_same c nodes k j same.0 same.1) ∙ o.out_dead j low_j high_j gone)) in
+                      let here : among out j ≡ false = false_from_ne_true (among out j) (λ gone. both_ways (is_dead c nodes k) alive (sym (dead_same c nodes k j same.0 same.1) ∙ o.out_dead j low_j high_j gone)) in
                       let here' : among (x ∷ out) j ≡ false = in_other out x j here (λ f. omega (arith, f, low_j, item)) in
                       let member = others_has c j k (omega (arith, same.0, at.1)) (omega (arith, same.1, below)) (omega (arith, same.0, w.0)) (omega (arith, same.1, w.1)) (λ f. other.1 (sym own ∙ ap (column_of c) (sym f))) in
                       outs_new hidden (x ∷ out) k (hides_at c (x ∷ out) i a k j (omega (arith, low_j, item)) high_j own here' (not-true (has_colour c a j) parts.1) member)
@@ -260,7 +257,7 @@ out_all c nodes out (k ∷ ks) t o new = out_all c (k ∷ nodes) (outs (covered_
 pub same_flags : (a b : Bool) → (a ≡ true → b ≡ true) → (b ≡ true → a ≡ true) → a ≡ b
 same_flags a b to from = elim (cases_Bool a) [
   | inl t ↦ t ∙ sym (to t)
-  | inr f ↦ f ∙ sym (never_true b (λ t. both_ways a f (from t)))
+  | inr f ↦ f ∙ sym (false_from_ne_true b (λ t. both_ways a f (from t)))
 ]
 
 pub same_filter : (p q : ℕ → Bool) (n start : ℕ) → ((k : ℕ) → start ≤ k → k < start + n → p k ≡ q k) → filter p (range_with_len start n) ≡ filter q (range_with_len start n)

@@ -5,12 +5,13 @@ use Rattle.std.proofs.lemmas.List.Elements.{All-get_or}
 use Rattle.cover_problem.specs.Numbers.{some_below}
 use Rattle.cover_problem.specs.Problem.{Problem, IsProblem, items_of, names_item}
 use Rattle.cover_problem.proofs.Among.{some_with}
+use Rattle.cover_problem.proofs.Colours.{get_in}
 use Rattle.dancing_links.specs.Choices.{IsPrimary}
 use Rattle.dancing_links.specs.Columns.{Columns}
 use Rattle.dancing_links.specs.Table.{table, base_of}
 use Rattle.dancing_links.specs.Walking.{IsBelowIn}
 use Rattle.dancing_links.proofs.Nodes.{first_at, starts_next}
-use Rattle.dancing_links.proofs.Tables.{node_by, place_of, start_of, in_by_place}
+use Rattle.dancing_links.proofs.Tables.{node_by, place_of, start_of}
 
 first_below : (bound : ℕ) (items : List ℕ) (j : ℕ) → j < length items → get_or items j 0 < bound → ((n : ℕ) → n < j → bound ≤ get_or items n 0) → get_or (filter (λ i. nat_lt i bound) items) 0 0 ≡ get_or items j 0
 first_below bound [] j inside low before = absurd (omega (arith, inside))
@@ -32,7 +33,7 @@ primary_in p o begin end k is inside b e at = elim (cases_lt k end) [
         in_option = (omega (arith, by.low, by.node), omega (arith, by.high, by.node, by.place_in));
         own = by.own;
         primary = at.found before;
-        named = ap (names_item p o) by.item ∙ in_by_place (items_of p o) j place;
+        named = ap (names_item p o) by.item ∙ get_in (items_of p o) j place;
         first = by.item ∙ sym first;
       }
   | inr past ↦

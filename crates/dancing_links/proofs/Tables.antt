@@ -2,14 +2,14 @@
 use Rattle.std.proofs.Common.{◌≡◌, ℕ, zero, suc, ◌+◌, ◌-◌, ◌<◌, ◌≤◌, List, [], ◌∷◌, length, Bool, true, false, not, ◌==◌, ◌&&◌, get_or, map, filter, refl, arith, sym, ap, ◌∙◌, inl, inr}
 use Rattle.std.specs.Prelude.{nat_lt}
 use Rattle.std.specs.List.{sum_by, list_all, concat, range_with_len, All}
-use Rattle.std.proofs.lemmas.Bool.{cases_lt, both_ways, or_cases, eqb-true, eq-eqb, and_parts, or_left, or_right, not-true, ltb-true, ne_eqb}
+use Rattle.std.proofs.lemmas.Bool.{cases_lt, both_ways, or_cases, eqb-true, eq-eqb, and_parts, not-true, ltb-true, ne_eqb}
 use Rattle.std.proofs.lemmas.List.{length-map}
 use Rattle.std.proofs.lemmas.List.FromFn.{length-range_with_len, length-map-range_with_len, get_or-map-range_with_len}
 use Rattle.std.proofs.lemmas.List.Sums.{length-filter, count_by-le-length}
 use Rattle.std.proofs.lemmas.List.Elements.{All-get_or, All-from_get_or}
 use Rattle.cover_problem.specs.Numbers.{is_distinct, is_in, are_below}
 use Rattle.cover_problem.specs.Problem.{Problem, IsProblem, items_of, names_item, colours_of, colour_of}
-use Rattle.cover_problem.proofs.Colours.{colour_at as colour_at_option, colours_long, colours_many}
+use Rattle.cover_problem.proofs.Colours.{colour_at as colour_at_option, colours_long, colours_many, get_in}
 use Rattle.dancing_links.specs.declared.place.Place.{Place}
 use Rattle.dancing_links.specs.Columns.{Columns, among, option_of, column_of, colour_at, column_from, begin_of, end_of, place_at, IsTable}
 use Rattle.dancing_links.specs.Table.{starts, numbered, heads_of, base_of, tails_of, column_list, colour_list, option_list, first_list, right_in, place_by, place_list, table}
@@ -79,20 +79,15 @@ item_below p o j is ho hj =
     let below : are_below (length p.names) (items_of p o) ≡ true = All-get_or P p.options o [] ho is.each_named in
     ltb-true (get_or (items_of p o) j 0) (length p.names) (list_all_at_place (λ i. nat_lt i (length p.names)) (items_of p o) j below hj)
 
-pub in_by_place : (xs : List ℕ) (j : ℕ) → j < length xs → is_in xs (get_or xs j 0) ≡ true
-in_by_place [] j lt = absurd (omega (arith, lt))
-in_by_place (x ∷ xs) zero lt = or_left (x == x) (is_in xs x) (eq-eqb x x refl)
-in_by_place (x ∷ xs) (suc j) lt = or_right (x == get_or xs j 0) (is_in xs (get_or xs j 0)) (in_by_place xs j (omega (arith, lt)))
-
 pub one_place : (xs : List ℕ) (i j : ℕ) → is_distinct xs ≡ true → i < length xs → j < length xs → get_or xs i 0 ≡ get_or xs j 0 → i ≡ j
 one_place [] i j d hi hj e = absurd (omega (arith, hi))
 one_place (x ∷ xs) zero zero d hi hj e = refl
 one_place (x ∷ xs) zero (suc j) d hi hj e =
     let new = not-true (is_in xs x) (and_parts (not (is_in xs x)) (is_distinct xs) d).0 in
-    absurd (both_ways (is_in xs x) new (ap (is_in xs) e ∙ in_by_place xs j (omega (arith, hj))))
+    absurd (both_ways (is_in xs x) new (ap (is_in xs) e ∙ get_in xs j (omega (arith, hj))))
 one_place (x ∷ xs) (suc i) zero d hi hj e =
     let new = not-true (is_in xs x) (and_parts (not (is_in xs x)) (is_distinct xs) d).0 in
-    absurd (both_ways (is_in xs x) new (ap (is_in xs) (sym e) ∙ in_by_place xs i (omega (arith, hi))))
+    absurd (both_ways (is_in xs x) new (ap (is_in xs) (sym e) ∙ get_in xs i (omega (arith, hi))))
 one_place (x ∷ xs) (suc i) (suc j) d hi hj e = ap suc (one_place xs i j (and_parts (not (is_in xs x)) (is_distinct xs) d).1 (omega (arith, hi)) (omega (arith, hj)) e)
 
 pub option_distinct : (p : Problem) (o : ℕ) → IsProblem p → o < length p.options → is_distinct (items_of p o) ≡ true

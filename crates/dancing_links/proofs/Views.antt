@@ -1,12 +1,13 @@
 -- What the views of the links answer.
 use Rattle.std.proofs.Common.{◌≡◌, ℕ, zero, suc, ◌+◌, ◌-◌, ◌*◌, Bool, ◌<◌, ◌≤◌, List, [], ◌∷◌, length, not, ◌==◌, true, false, get_or, map, refl, arith, sym, ap, ◌∙◌, inl, inr, subst, slice_get, Some, None, Option, MatchOption, IfSome}
-use Rattle.std.proofs.lemmas.Bool.{cases_lt, lt-ltb, le-ltb, not-true, both_ways, and_parts, cases_Bool}
+use Rattle.std.proofs.lemmas.Bool.{cases_lt, lt-ltb, le-ltb, not-true, both_ways, and_parts, cases_Bool, false_from_ne_true}
 use Rattle.std.proofs.lemmas.List.{length-map, get_or_default}
 use Rattle.std.proofs.lemmas.Grind.{get_or_default_zero}
 use Rattle.cover_problem.specs.Branching.{live_options, is_choice, IsOpen}
 use Rattle.cover_problem.specs.Onward.{open_items_from, live_options_from}
 use Rattle.cover_problem.specs.Prefix.{is_covered, is_live}
 use Rattle.cover_problem.specs.Problem.{Problem, IsProblem, items_of, names_item}
+use Rattle.cover_problem.proofs.Prefixes.{live_at}
 use Rattle.cover_problem.proofs.Remaining.{open_items_from_take, open_items_from_skip, open_items_from_end, live_options_from_take, live_options_from_skip, live_options_from_end}
 use Rattle.dancing_links.specs.declared.link.Link.{Link}
 use Rattle.dancing_links.specs.Choices.{IsLinks, IsChild, IsPrimary, out_of, chosen_nodes, covering_nodes, commits_of}
@@ -19,11 +20,10 @@ use Rattle.dancing_links.proofs.Keyed.{few}
 use Rattle.dancing_links.proofs.Walk.{column_skip_to, column_from_take, column_from_end}
 use Rattle.dancing_links.proofs.Nodes.{starts_next, first_at}
 use Rattle.dancing_links.proofs.Tables.{IsNodeAt, start_of, node_by, table_is, place_of}
-use Rattle.dancing_links.proofs.Present.{IsOut, covers, is_dead, with_all, never_true, same_flags}
+use Rattle.dancing_links.proofs.Present.{IsOut, covers, is_dead, with_all, same_flags}
 use Rattle.dancing_links.proofs.State.{IsState, state_of, item_gone, known_test}
 use Rattle.dancing_links.proofs.Cast.{IsCast, cast_names, node_live}
 use Rattle.dancing_links.proofs.Entries.{some_node}
-use Rattle.dancing_links.proofs.Prefixed.{primary_uncovered}
 use Rattle.dancing_links.proofs.Columned.{column_options, column_options_from}
 
 -- an item's column, by options
@@ -201,7 +201,7 @@ node_in p os seen nodes commits out node o j cast gone at live =
     let low : c.heads + c.heads ≤ node + 1 = omega (arith, at.low, at.node) in
     let high : node < c.tails = omega (arith, at.high, at.place_in, at.node) in
     let alive : is_dead c nodes node ≡ false = not-true (is_dead c nodes node) (node_live p os seen nodes commits node o j cast at ∙ live) in
-    never_true (among out node) (λ t. both_ways (is_dead c nodes node) alive (gone.out_dead node low high t))
+    false_from_ne_true (among out node) (λ t. both_ways (is_dead c nodes node) alive (gone.out_dead node low high t))
 
 -- and where its item is uncovered, it is in only there
 pub live_test : (p : Problem) (os seen nodes commits out : List ℕ) (node o j : ℕ) → IsCast p (table p) os seen nodes commits → IsOut (table p) nodes out → IsNodeAt p node o j → is_covered p os (column_of (table p) node) ≡ false → not (among out node) ≡ is_live p os o
@@ -226,7 +226,7 @@ live_known p c os es m keys room o k is at free =
 
 -- and not where that item is covered
 pub live_covered : (p : Problem) (c : Columns) (os : List ℕ) (o k : ℕ) → IsPrimary p c o k → is_covered p os (column_of c k) ≡ true → is_live p os o ≡ false
-live_covered p c os o k at hit = never_true (is_live p os o) (λ live. both_ways (is_covered p os (column_of c k)) (primary_uncovered p os o (column_of c k) at.primary live at.named) hit)
+live_covered p c os o k at hit = false_from_ne_true (is_live p os o) (λ live. both_ways (is_covered p os (column_of c k)) (live_at p os o (column_of c k) at.primary live at.named) hit)
 
 -- after the node of an option its column holds nodes of the live options after it
 pub rest_at : (p : Problem) (os seen nodes commits out : List ℕ) (i node o j : ℕ) → IsCast p (table p) os seen nodes commits → IsOut (table p) nodes out → i < length p.names → is_covered p os i ≡ false → IsNodeAt p node o j → column_of (table p) node ≡ i → map (option_of (table p)) (column_from (table p) out i (node + 1)) ≡ live_options_from p os i (o + 1)

@@ -1,7 +1,7 @@
 -- Nodes taken out in a row, and the walk down a column.
 use Rattle.std.proofs.Common.{◌≡◌, ℕ, zero, suc, ◌+◌, ◌-◌, ◌<◌, ◌≤◌, List, [], ◌∷◌, ◌++◌, Bool, true, false, ◌||◌, refl, arith, sym, ap, ◌∙◌, subst, inl, inr, append_assoc, append-nil}
 use Rattle.std.specs.List.{range_with_len, flat_map}
-use Rattle.std.proofs.lemmas.Bool.{eq-eqb, ne_eqb, cases_Bool, cases_eq, cases_lt, both_ways}
+use Rattle.std.proofs.lemmas.Bool.{eq-eqb, ne_eqb, cases_Bool, cases_eq, cases_lt, both_ways, false_from_ne_true}
 use Rattle.dancing_links.specs.declared.link.Link.{Link}
 use Rattle.dancing_links.specs.Columns.{among, Columns, column_of, begin_of, end_of, IsSpelled, column_from, IsTable}
 use Rattle.dancing_links.specs.Keys.{fewer, with_less, with_more}
@@ -10,9 +10,6 @@ use Rattle.dancing_links.specs.Linking.{down_of, unlinked, unlinks}
 use Rattle.dancing_links.proofs.Law.{spelled_unlink, in_other, out_other}
 use Rattle.dancing_links.proofs.Others.{range_step}
 use Rattle.dancing_links.proofs.Round.{range_at, others_at, others_ranges}
-
-not_true : (b : Bool) → (b ≡ true → ⊥) → b ≡ false
-not_true b never = elim (cases_Bool b) [ inl t ↦ absurd (never t) | inr f ↦ f ]
 
 -- nodes that can be taken out in turn
 abbrev pub AreIn : Columns → List ℕ → List ℕ → Type 0
@@ -55,7 +52,7 @@ others_are_in c out node t low high here =
     let before : List ℕ = range_with_len (begin_of c node) (node - begin_of c node) in
     let are : AreIn c out after = range_in c out n (node + 1) (omega (arith, low, t.order)) (omega (arith, w.1, w.3)) (λ j above below. here j (omega (arith, w.0, above)) (omega (arith, below, w.1))) in
     let fresh : (j : ℕ) → begin_of c node ≤ j → j < begin_of c node + (node - begin_of c node) → among (outs after out) j ≡ false = (λ j above below.
-    outs_same after out j (not_true (among after j) (λ yes. let at = range_at n (node + 1) j yes in omega (arith, at.0, below, w.0))) ∙ here j above (omega (arith, below, w.0, w.1))) in
+    outs_same after out j (false_from_ne_true (among after j) (λ yes. let at = range_at n (node + 1) j yes in omega (arith, at.0, below, w.0))) ∙ here j above (omega (arith, below, w.0, w.1))) in
     let then : AreIn c (outs after out) before = range_in c (outs after out) (node - begin_of c node) (begin_of c node) (omega (arith, w.2, t.order, low)) (omega (arith, w.0, high)) fresh in
     let P : List ℕ → Type 0 = λ ks. AreIn c out ks in
     subst P (sym (others_ranges c node w.0 w.1)) (are_in-append c out after before are then)
@@ -188,7 +185,7 @@ going_step c out i a old now node done t item s whole low high g =
     let links : unlinks now (hidden_at c a node) ≡ unlinks old (done ++ hidden_at c a node) = rw (unlinks-append old done (hidden_at c a node), g.links) refl in
     let spelled : IsSpelled c (outs (done ++ hidden_at c a node) out) (unlinks now (hidden_at c a node)) = rw links (spelled_unlinks c out old (done ++ hidden_at c a node) s both) in
     let keep : (k : ℕ) → (among (hidden_at c a node) k ≡ true → ⊥) → among (outs (done ++ hidden_at c a node) out) k ≡ among (outs done out) k =
-    (λ k never. rw (outs-append done (hidden_at c a node) out) (outs_same (hidden_at c a node) (outs done out) k (not_true (among (hidden_at c a node) k) never))) in
+    (λ k never. rw (outs-append done (hidden_at c a node) out) (outs_same (hidden_at c a node) (outs done out) k (false_from_ne_true (among (hidden_at c a node) k) never))) in
     let own : (k : ℕ) → column_of c k ≡ i → among (outs (done ++ hidden_at c a node) out) k ≡ among out k =
     (λ k same. keep k (λ yes. let at = hidden_row c a node k w.0 w.1 yes in at.2 (t.apart node k option high at.0 at.1 (same ∙ sym g.column))) ∙ g.own k same) in
     let node_in : among (outs (done ++ hidden_at c a node) out) node ≡ false = own node g.column ∙ here in

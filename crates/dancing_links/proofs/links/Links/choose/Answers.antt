@@ -1,9 +1,9 @@
 use Rattle.std.proofs.Common.{◌≡◌, ◌<◌, length, true, arith, ap, refl, sym, ◌∙◌, [], ◌∷◌, ◌++◌, vec_capacity}
 use Rattle.cover_problem.specs.Prefix.{is_live}
+use Rattle.cover_problem.proofs.Prefixes.{live_at}
 use Rattle.dancing_links.specs.Choices.{Choices, commits_of, first_primary}
 use Rattle.dancing_links.specs.Columns.{columns_of, column_of}
 use Rattle.dancing_links.proofs.Ranges.{table_of}
-use Rattle.dancing_links.proofs.Prefixed.{primary_uncovered}
 use Rattle.dancing_links.proofs.Chosen.{room_left, same_length, held_kept, commits_pushed, links_push, put_back, same_linked, same_links_of, view_push}
 use Rattle.dancing_links.proofs.links.Links.choose.Goals as goal
 
@@ -55,7 +55,7 @@ invariant_of-self c =
     let inside : c.args.option < length c.self.inside.problem.now.options = omega (arith, c.requires.option, ap (λ (v : Choices). length v.problem.options) c.self.view_is) in
     let live : is_live c.self.inside.problem.now c.self.inside.chosen.items c.args.option ≡ true = ap (λ (v : Choices). is_live v.problem v.chosen c.args.option) c.self.view_is ∙ c.requires.live in
     let first = c.primary_node-node.ensures in
-    let free = primary_uncovered p os c.args.option (column_of cs node) first.primary live first.named in
+    let free = live_at p os c.args.option (column_of cs node) first.primary live first.named in
     let room = vec_capacity c.self.inside.chosen in
     let held : c.deref_mut-3.result.now ≡ commits_of (columns_of c.self.inside.layout) c.self.inside.entries.items = c.deref_mut-3.ensures.value ∙ c.self.invariant.2 in
     let before = same_links_of p cs os os es es c.self.inside.links.items c.deref_mut.result.now c.self.inside.keys.items c.deref_mut-2.result.now room room refl refl c.deref_mut.ensures.value c.deref_mut-2.ensures.value refl c.self.invariant.0 in
