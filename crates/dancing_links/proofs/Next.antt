@@ -1,7 +1,6 @@
 -- The node below the one of the last choice, once the other items of its option are uncovered.
 use Rattle.std.proofs.Common.{◌≡◌, ℕ, ◌+◌, ◌-◌, ◌<◌, ◌≤◌, List, [], ◌∷◌, ◌++◌, length, true, false, ◌||◌, Bool, get_or, map, refl, arith, sym, ap, ◌∙◌, subst, slice_get, Some, None}
 use Rattle.std.proofs.lemmas.Bool.{ne_eqb, false_from_ne_true}
-use Rattle.std.proofs.lemmas.Grind.{get_or_default_zero}
 use Rattle.std.proofs.lemmas.List.{get_or_default}
 use Rattle.cover_problem.specs.Onward.{live_options_from}
 use Rattle.cover_problem.specs.Prefix.{is_covered, is_live}
@@ -81,13 +80,11 @@ pub record IsChoice (p : Problem) (c : Columns) (os : List ℕ) (i start k o : �
   pub first : Some o ≡ slice_get (live_options_from p os i start) 0
   pub child : IsChild p os i o
 
-pub choice_of : (p : Problem) (c : Columns) (os : List ℕ) (i start k o : ℕ) → IsTable c → IsBelow p c os i start k → k < c.tails → o ≡ get_or c.option k o → IsChoice p c os i start k o
+pub choice_of : (p : Problem) (c : Columns) (os : List ℕ) (i start k o : ℕ) → IsTable c → IsBelow p c os i start k → k < c.tails → o ≡ option_of c k → IsChoice p c os i start k o
 choice_of p c os i start k o t below high e =
     let at = below.some high in
-    let inside : k < length c.option = omega (arith, t.option, t.ends, high) in
-    let own : o ≡ option_of c k = e ∙ get_or_default_zero c.option k o inside in
-    let first : Some o ≡ slice_get (live_options_from p os i start) 0 = ap Some own ∙ sym at.2 in
-    record { node = at.0; column = at.1; option = sym own; first = first; child = head_child p os i start (Some o) first }
+    let first : Some o ≡ slice_get (live_options_from p os i start) 0 = ap Some e ∙ sym at.2 in
+    record { node = at.0; column = at.1; option = sym e; first = first; child = head_child p os i start (Some o) first }
 
 -- what was so at the last choice
 pub record IsLast (p : Problem) (c : Columns) (os es : List ℕ) (i o k : ℕ) : Type 0 where

@@ -1,8 +1,7 @@
 -- What the views of the links answer.
-use Rattle.std.proofs.Common.{◌≡◌, ℕ, zero, suc, ◌+◌, ◌-◌, ◌*◌, Bool, ◌<◌, ◌≤◌, List, [], ◌∷◌, length, not, ◌==◌, true, false, get_or, map, refl, arith, sym, ap, ◌∙◌, inl, inr, subst, slice_get, Some, None, Option, MatchOption, IfSome}
+use Rattle.std.proofs.Common.{◌≡◌, ℕ, zero, suc, ◌+◌, ◌-◌, ◌*◌, Bool, ◌<◌, ◌≤◌, List, [], ◌∷◌, length, not, ◌==◌, true, false, get_or, map, refl, arith, sym, ap, ◌∙◌, inl, inr, subst, slice_get, Some, None, Option, IfSome}
 use Rattle.std.proofs.lemmas.Bool.{cases_lt, lt-ltb, le-ltb, not-true, both_ways, and_parts, cases_Bool, false_from_ne_true}
 use Rattle.std.proofs.lemmas.List.{length-map, get_or_default}
-use Rattle.std.proofs.lemmas.Grind.{get_or_default_zero}
 use Rattle.cover_problem.specs.Branching.{live_options, is_choice, IsOpen}
 use Rattle.cover_problem.specs.Onward.{open_items_from, live_options_from}
 use Rattle.cover_problem.specs.Prefix.{is_covered, is_live}
@@ -14,7 +13,7 @@ use Rattle.dancing_links.specs.Choices.{IsLinks, IsChild, IsPrimary, out_of, cho
 use Rattle.dancing_links.specs.Columns.{Columns, among, column_of, column_from, option_of, IsTable, IsLinked, IsSpelled}
 use Rattle.dancing_links.specs.Keys.{mark_of}
 use Rattle.dancing_links.specs.Linking.{up_of, down_of}
-use Rattle.dancing_links.specs.Walking.{walk, options_left, IsNaming}
+use Rattle.dancing_links.specs.Walking.{walk, options_left, IsNaming, IsPrimaryItem}
 use Rattle.dancing_links.specs.Table.{table, heads_of, base_of, first_list}
 use Rattle.dancing_links.proofs.Keyed.{few}
 use Rattle.dancing_links.proofs.Walk.{column_skip_to, column_from_take, column_from_end}
@@ -113,11 +112,11 @@ onward_next p c os es m keys room i is h free =
     onward p c os es m (i + 1) (c.heads + i) s (omega arith) (s.table_is.item_columns i (omega (arith, heads, h))) (omega (arith, s.table_is.order, heads, h)) (item_gone p c os es m i s h ∙ free)
 
 -- what the code answers of the node below
-pub answer_item : (p : Problem) (c : Columns) (os : List ℕ) (start d primary : ℕ) (r : Option ℕ) → primary ≡ p.primary → IsOnward p c os start d → MatchOption r (c.heads + primary ≤ d) (λ item. (d < c.heads + primary) × (item ≡ d - c.heads)) → r ≡ slice_get (open_items_from p os start) 0
+pub answer_item : (p : Problem) (c : Columns) (os : List ℕ) (start d primary : ℕ) (r : Option ℕ) → primary ≡ p.primary → IsOnward p c os start d → IsPrimaryItem c primary d r → r ≡ slice_get (open_items_from p os start) 0
 answer_item p c os start d primary None e o h = sym (o.none (omega (arith, e, h)))
 answer_item p c os start d primary (Some x) e o h = ap Some h.1 ∙ sym (o.some (omega (arith, e, h.0))).0
 
-pub answer_open : (p : Problem) (c : Columns) (os : List ℕ) (start d primary : ℕ) (r : Option ℕ) → primary ≡ p.primary → IsOnward p c os start d → MatchOption r (c.heads + primary ≤ d) (λ item. (d < c.heads + primary) × (item ≡ d - c.heads)) → IfSome r (IsOpen p os)
+pub answer_open : (p : Problem) (c : Columns) (os : List ℕ) (start d primary : ℕ) (r : Option ℕ) → primary ≡ p.primary → IsOnward p c os start d → IsPrimaryItem c primary d r → IfSome r (IsOpen p os)
 answer_open p c os start d primary None e o h = tt
 answer_open p c os start d primary (Some x) e o h = let P : ℕ → Type 0 = λ k. IsOpen p os k in subst P (sym h.1) (o.some (omega (arith, e, h.0))).1
 
@@ -177,10 +176,9 @@ left_all p c os es m keys room i is h free =
     ∙ ap (map (option_of c)) (sym skip) ∙ column_is p c os es m keys room i is h free
 
 -- what a step of the iterator takes
-pub left_step : (c : Columns) (m : List Link) (node option : ℕ) (left : List ℕ) → IsTable c → IsLinked c m → node < c.tails → option ≡ get_or c.option node option → options_left c m node ≡ left → left ≡ option ∷ options_left c m (down_of m node)
+pub left_step : (c : Columns) (m : List Link) (node option : ℕ) (left : List ℕ) → IsTable c → IsLinked c m → node < c.tails → option ≡ option_of c node → options_left c m node ≡ left → left ≡ option ∷ options_left c m (down_of m node)
 left_step c m node option left t l high e f =
-    let inside : node < length c.option = omega (arith, t.option, t.ends, high) in
-    sym f ∙ left_take c m node t l high ∙ ap (λ o. o ∷ options_left c m (down_of m node)) (sym (e ∙ get_or_default_zero c.option node option inside))
+    sym f ∙ left_take c m node t l high ∙ ap (λ o. o ∷ options_left c m (down_of m node)) (sym e)
 
 -- the same, as the code reads the head
 pub left_read : (p : Problem) (c : Columns) (os es : List ℕ) (m : List Link) (keys : List ℕ) (room i : ℕ) (head : Link) → IsLinks p c os es m keys room → i < length p.names → is_covered p os i ≡ false → head ≡ get_or m i head → options_left c m head.down ≡ live_options p os i
@@ -281,10 +279,9 @@ left_after p c os es m keys room i o node is h free inside live named at =
     subst T (sym is.layout) (next_at p os es m i o node s h free inside live named (subst S end (subst R begin at_table)))
 
 -- the first of what is left below a node
-pub answer_below : (c : Columns) (m : List Link) (below option : ℕ) → IsTable c → IsLinked c m → below < c.tails → option ≡ get_or c.option below option → Some option ≡ slice_get (options_left c m below) 0
+pub answer_below : (c : Columns) (m : List Link) (below option : ℕ) → IsTable c → IsLinked c m → below < c.tails → option ≡ option_of c below → Some option ≡ slice_get (options_left c m below) 0
 answer_below c m below option t l high e =
-    let inside : below < length c.option = omega (arith, t.option, t.ends, high) in
-    ap Some (e ∙ get_or_default_zero c.option below option inside) ∙ ap (λ (os : List ℕ). slice_get os 0) (sym (left_take c m below t l high))
+    ap Some e ∙ ap (λ (os : List ℕ). slice_get os 0) (sym (left_take c m below t l high))
 
 pub answer_past : (c : Columns) (m : List Link) (below : ℕ) → c.tails ≤ below → None ≡ slice_get (options_left c m below) 0
 answer_past c m below past = ap (λ (os : List ℕ). slice_get os 0) (sym (left_none c m below past))

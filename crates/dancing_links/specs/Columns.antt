@@ -2,7 +2,6 @@
 use Rattle.std.specs.Prelude.{◌≡◌, ℕ, ◌<◌, ◌≤◌, ◌+◌, ◌-◌, List, [], length, map, slice_index_or, Bool, true, false, not, ◌==◌, ◌&&◌, filter, if◌then◌else◌}
 use Rattle.std.specs.List.{list_any, range_with_len, All}
 use Rattle.dancing_links.specs.declared.link.Link.{Link}
-use Rattle.dancing_links.specs.declared.layout.Layout.{Layout}
 use Rattle.dancing_links.specs.declared.place.Place.{Place}
 use Rattle.dancing_links.specs.Linking.{up_of, down_of}
 
@@ -22,16 +21,16 @@ pub record Columns : Type 0 where
   pub first : List ℕ
   pub places : List Place
 
--- the columns that a layout lays out
-abbrev pub columns_of : Layout → Columns
-columns_of l = record {
-  heads = l.heads;
-  tails = l.tails;
-  column = map (λ p. p.item) l.places.items;
-  colour = map (λ p. p.colour) l.places.items;
-  option = l.options.items;
-  first = l.first.items;
-  places = l.places.items;
+-- the columns of so many heads, of the nodes up to the first tail, what stands at each node, their options, and the first node of each option
+abbrev pub columns_by : ℕ → ℕ → List Place → List ℕ → List ℕ → Columns
+columns_by heads tails places options first = record {
+  heads = heads;
+  tails = tails;
+  column = map (λ p. p.item) places;
+  colour = map (λ p. p.colour) places;
+  option = options;
+  first = first;
+  places = places;
 }
 
 -- the column of a node

@@ -3,7 +3,7 @@
 ghost use Rattle.std.specs.Prelude.{◌≡◌, ◌<◌, ◌≤◌, ◌+◌, length, IfOk};
 ghost use Rattle.std.specs.List.{range_with_len};
 ghost use Rattle.dancing_links.specs.Building.{IsBuilt, IsBuilding};
-ghost use Rattle.dancing_links.specs.Columns.{columns_of, IsTable};
+ghost use Rattle.dancing_links.specs.Columns.{IsTable};
 
 use crate::layout::Layout;
 use crate::link::Link;
@@ -11,14 +11,15 @@ use std::alloc::{AllocError, Global};
 
 /// The links of all nodes, each in its column; the only error is want of memory.
 pub fn build_links(alloc: Global, layout: &Layout) -> Result<Vec<Link>, AllocError>
-    requires { IsTable (columns_of layout.now) }
-    ensures { IfOk result (λ links. IsBuilt (columns_of layout.now) links.items) }
+    requires { IsTable layout.now }
+    ensures { IfOk result (λ links. IsBuilt layout.now links.items) }
 {
-    let count = layout.places.len();
+    let heads = layout.heads();
+    let count = layout.places().len();
     let mut links = Vec::new(alloc);
     links.resize(count, Link { up: 0, down: 0 })?;
-    let mut lasts = numbers_below(alloc, layout.heads)?;
-    for node in layout.heads..count {
+    let mut lasts = numbers_below(alloc, heads)?;
+    for node in heads..count {
         append(layout, &mut links, &mut lasts, node);
     }
     Ok(links)
@@ -39,12 +40,12 @@ pub fn numbers_below(alloc: Global, bound: usize) -> Result<Vec<u32>, AllocError
 
 /// Links a node to the last one of its column so far, after which it is the last.
 fn append(layout: &Layout, links: &mut [Link], lasts: &mut [u32], node: usize)
-    requires node { (layout.now.heads ≤ node) × (node < length layout.now.places.items) }
-    requires table { IsTable (columns_of layout.now) }
-    requires before { IsBuilding (columns_of layout.now) node lasts.old links.old }
-    ensures after { IsBuilding (columns_of layout.now) (node + 1) lasts.new links.new }
+    requires node { (layout.now.heads ≤ node) × (node < length layout.now.places) }
+    requires before { IsBuilding layout.now node lasts.old links.old }
+    ensures after { IsBuilding layout.now (node + 1) lasts.new links.new }
 {
-    let column = layout.places[node].item as usize;
+    let places = layout.places();
+    let column = places[node].item as usize;
     let above = lasts[column];
     links[above as usize].down = node as u32;
     links[node].up = above;

@@ -1,13 +1,13 @@
 //! The nodes of an option cover their items one after the other; an item that has its colour already is not covered again.
 
 ghost use Rattle.std.specs.Prelude.{◌≡◌, ◌<◌, ◌≤◌, ◌+◌, ◌∷◌, [], ℕ, List, length};
-ghost use Rattle.dancing_links.specs.Columns.{columns_of, column_of, colour_at, IsLinked, IsTable};
+ghost use Rattle.dancing_links.specs.Columns.{column_of, colour_at, IsLinked};
 ghost use Rattle.dancing_links.specs.Committing.{IsCommits, IsFirst, Recovers, commit, uncommit, committed, covering};
 ghost use Rattle.dancing_links.specs.Keys.{KeysCoveredAll, KeysUncoveredAll};
 ghost use Rattle.dancing_links.specs.Covering.{nodes_in_turn, nodes_by, others, CoversAll, UncoversAll};
 
 use crate::cover::{cover, node_before, purify, uncover, unpurify};
-use crate::layout::{Layout, colour_at, item_at, right_among, row_of};
+use crate::layout::Layout;
 use crate::link::Link;
 use crate::place::Place;
 
@@ -22,19 +22,18 @@ fn give(
     colour: u16,
 )
     requires node { (layout.now.heads + layout.now.heads ≤ node + 1) × (node < layout.now.tails) }
-    requires colour { (0 < colour) × (colour ≡ colour_at (columns_of layout.now) node) }
-    requires table { IsTable (columns_of layout.now) }
-    requires linked { IsLinked (columns_of layout.now) links.old }
+    requires colour { (0 < colour) × (colour ≡ colour_at layout.now node) }
+    requires linked { IsLinked layout.now links.old }
     requires keys { length keys.old + 1 ≡ layout.now.heads }
-    requires commits { IsCommits (columns_of layout.now) commits.old }
-    ensures linked { IsLinked (columns_of layout.now) links.new }
-    ensures links { CoversAll (columns_of layout.now) links.old
-        (covering (columns_of layout.now) commits.old (node ∷ [])) links.new }
-    ensures keys { KeysCoveredAll (columns_of layout.now) links.old
-        (covering (columns_of layout.now) commits.old (node ∷ [])) keys.old keys.new }
-    ensures commits { commits.new ≡ commit (columns_of layout.now) commits.old node }
+    requires commits { IsCommits layout.now commits.old }
+    ensures linked { IsLinked layout.now links.new }
+    ensures links { CoversAll layout.now links.old
+        (covering layout.now commits.old (node ∷ [])) links.new }
+    ensures keys { KeysCoveredAll layout.now links.old
+        (covering layout.now commits.old (node ∷ [])) keys.old keys.new }
+    ensures commits { commits.new ≡ commit layout.now commits.old node }
 {
-    let item = item_at(layout, node);
+    let item = layout.item_at(node);
     if commits[item] == 0 {
         purify(layout, links, keys, item, colour);
     }
@@ -52,19 +51,18 @@ fn take(
     colour: u16,
 )
     requires node { (layout.now.heads + layout.now.heads ≤ node + 1) × (node < layout.now.tails) }
-    requires colour { (0 < colour) × (colour ≡ colour_at (columns_of layout.now) node) }
-    requires table { IsTable (columns_of layout.now) }
-    requires linked { IsLinked (columns_of layout.now) links.old }
+    requires colour { (0 < colour) × (colour ≡ colour_at layout.now node) }
+    requires linked { IsLinked layout.now links.old }
     requires keys { length keys.old + 1 ≡ layout.now.heads }
-    requires commits { IsCommits (columns_of layout.now) commits.old }
-    ensures linked { IsLinked (columns_of layout.now) links.new }
-    ensures links { UncoversAll (columns_of layout.now) links.old
-        (covering (columns_of layout.now) commits.new (node ∷ [])) links.new }
-    ensures keys { KeysUncoveredAll (columns_of layout.now) links.old
-        (covering (columns_of layout.now) commits.new (node ∷ [])) keys.old keys.new }
-    ensures commits { commits.new ≡ uncommit (columns_of layout.now) commits.old node }
+    requires commits { IsCommits layout.now commits.old }
+    ensures linked { IsLinked layout.now links.new }
+    ensures links { UncoversAll layout.now links.old
+        (covering layout.now commits.new (node ∷ [])) links.new }
+    ensures keys { KeysUncoveredAll layout.now links.old
+        (covering layout.now commits.new (node ∷ [])) keys.old keys.new }
+    ensures commits { commits.new ≡ uncommit layout.now commits.old node }
 {
-    let item = item_at(layout, node);
+    let item = layout.item_at(node);
     commits[item] = commits[item].wrapping_sub(1);
     if commits[item] == 0 {
         unpurify(layout, links, keys, item, colour);
@@ -80,20 +78,19 @@ pub fn commit(
     node: usize,
 )
     requires node { (layout.now.heads + layout.now.heads ≤ node + 1) × (node < layout.now.tails) }
-    requires table { IsTable (columns_of layout.now) }
-    requires linked { IsLinked (columns_of layout.now) links.old }
+    requires linked { IsLinked layout.now links.old }
     requires keys { length keys.old + 1 ≡ layout.now.heads }
-    requires commits { IsCommits (columns_of layout.now) commits.old }
-    ensures linked { IsLinked (columns_of layout.now) links.new }
-    ensures links { CoversAll (columns_of layout.now) links.old
-        (covering (columns_of layout.now) commits.old (node ∷ [])) links.new }
-    ensures keys { KeysCoveredAll (columns_of layout.now) links.old
-        (covering (columns_of layout.now) commits.old (node ∷ [])) keys.old keys.new }
-    ensures commits { commits.new ≡ commit (columns_of layout.now) commits.old node }
+    requires commits { IsCommits layout.now commits.old }
+    ensures linked { IsLinked layout.now links.new }
+    ensures links { CoversAll layout.now links.old
+        (covering layout.now commits.old (node ∷ [])) links.new }
+    ensures keys { KeysCoveredAll layout.now links.old
+        (covering layout.now commits.old (node ∷ [])) keys.old keys.new }
+    ensures commits { commits.new ≡ commit layout.now commits.old node }
 {
-    let colour = colour_at(layout, node);
+    let colour = layout.colour_at(node);
     if colour == 0 {
-        cover(layout, links, keys, item_at(layout, node));
+        cover(layout, links, keys, layout.item_at(node));
     } else {
         give(layout, links, keys, commits, node, colour);
     }
@@ -108,20 +105,19 @@ pub fn uncommit(
     node: usize,
 )
     requires node { (layout.now.heads + layout.now.heads ≤ node + 1) × (node < layout.now.tails) }
-    requires table { IsTable (columns_of layout.now) }
-    requires linked { IsLinked (columns_of layout.now) links.old }
+    requires linked { IsLinked layout.now links.old }
     requires keys { length keys.old + 1 ≡ layout.now.heads }
-    requires commits { IsCommits (columns_of layout.now) commits.old }
-    ensures linked { IsLinked (columns_of layout.now) links.new }
-    ensures links { UncoversAll (columns_of layout.now) links.old
-        (covering (columns_of layout.now) commits.new (node ∷ [])) links.new }
-    ensures keys { KeysUncoveredAll (columns_of layout.now) links.old
-        (covering (columns_of layout.now) commits.new (node ∷ [])) keys.old keys.new }
-    ensures commits { commits.new ≡ uncommit (columns_of layout.now) commits.old node }
+    requires commits { IsCommits layout.now commits.old }
+    ensures linked { IsLinked layout.now links.new }
+    ensures links { UncoversAll layout.now links.old
+        (covering layout.now commits.new (node ∷ [])) links.new }
+    ensures keys { KeysUncoveredAll layout.now links.old
+        (covering layout.now commits.new (node ∷ [])) keys.old keys.new }
+    ensures commits { commits.new ≡ uncommit layout.now commits.old node }
 {
-    let colour = colour_at(layout, node);
+    let colour = layout.colour_at(node);
     if colour == 0 {
-        uncover(layout, links, keys, item_at(layout, node));
+        uncover(layout, links, keys, layout.item_at(node));
     } else {
         take(layout, links, keys, commits, node, colour);
     }
@@ -139,18 +135,17 @@ pub fn recommit(
 )
     requires last { (layout.now.heads + layout.now.heads ≤ last + 1) × (last < layout.now.tails) }
     requires next { (layout.now.heads + layout.now.heads ≤ next + 1) × (next < layout.now.tails) }
-    requires column { column_of (columns_of layout.now) next
-        ≡ column_of (columns_of layout.now) last }
-    requires table { IsTable (columns_of layout.now) }
-    requires linked { IsLinked (columns_of layout.now) links.old }
+    requires column { column_of layout.now next
+        ≡ column_of layout.now last }
+    requires linked { IsLinked layout.now links.old }
     requires keys { length keys.old + 1 ≡ layout.now.heads }
-    requires commits { IsCommits (columns_of layout.now) commits.old }
-    ensures linked { IsLinked (columns_of layout.now) links.new }
-    ensures recovers { (front : List ℕ) → IsFirst (columns_of layout.now) front commits.old last →
-        Recovers (columns_of layout.now) front links.old keys.old last next
+    requires commits { IsCommits layout.now commits.old }
+    ensures linked { IsLinked layout.now links.new }
+    ensures recovers { (front : List ℕ) → IsFirst layout.now front commits.old last →
+        Recovers layout.now front links.old keys.old last next
         links.new keys.new commits.new }
 {
-    if colour_at(layout, last) != 0 || colour_at(layout, next) != 0 {
+    if layout.colour_at(last) != 0 || layout.colour_at(next) != 0 {
         uncommit(layout, links, keys, commits, last);
         commit(layout, links, keys, commits, next);
     }
@@ -166,25 +161,24 @@ pub fn cover_others(
     node: usize,
 )
     requires node { (layout.now.heads + layout.now.heads ≤ node + 1) × (node < layout.now.tails) }
-    requires table { IsTable (columns_of layout.now) }
-    requires linked { IsLinked (columns_of layout.now) links.old }
+    requires linked { IsLinked layout.now links.old }
     requires keys { length keys.old + 1 ≡ layout.now.heads }
-    requires commits { IsCommits (columns_of layout.now) commits.old }
-    ensures linked { IsLinked (columns_of layout.now) links.new }
-    ensures links { CoversAll (columns_of layout.now) links.old
-        (covering (columns_of layout.now) commits.old (others (columns_of layout.now) node))
+    requires commits { IsCommits layout.now commits.old }
+    ensures linked { IsLinked layout.now links.new }
+    ensures links { CoversAll layout.now links.old
+        (covering layout.now commits.old (others layout.now node))
         links.new }
-    ensures keys { KeysCoveredAll (columns_of layout.now) links.old
-        (covering (columns_of layout.now) commits.old (others (columns_of layout.now) node))
+    ensures keys { KeysCoveredAll layout.now links.old
+        (covering layout.now commits.old (others layout.now node))
         keys.old keys.new }
     ensures commits { commits.new
-        ≡ committed (columns_of layout.now) commits.old (others (columns_of layout.now) node) }
+        ≡ committed layout.now commits.old (others layout.now node) }
 {
-    let places: &[Place] = &layout.places;
-    let mut other = right_among(layout, places, node);
+    let places: &[Place] = layout.places();
+    let mut other = layout.right_among(places, node);
     while other != node {
         commit(layout, links, keys, commits, other);
-        other = right_among(layout, places, other);
+        other = layout.right_among(places, other);
     }
 }
 
@@ -201,20 +195,21 @@ fn uncommit_row(
 )
     requires range { (layout.now.heads + layout.now.heads ≤ begin + 1) × (end ≤ layout.now.tails) }
     requires row { (begin ≤ node) × (node < end) }
-    requires table { IsTable (columns_of layout.now) }
-    requires linked { IsLinked (columns_of layout.now) links.old }
+    requires linked { IsLinked layout.now links.old }
     requires keys { length keys.old + 1 ≡ layout.now.heads }
-    requires commits { IsCommits (columns_of layout.now) commits.old }
-    ensures linked { IsLinked (columns_of layout.now) links.new }
-    ensures links { UncoversAll (columns_of layout.now) links.old
-        (covering (columns_of layout.now) commits.new (nodes_in_turn begin end node)) links.new }
-    ensures keys { KeysUncoveredAll (columns_of layout.now) links.old
-        (covering (columns_of layout.now) commits.new (nodes_in_turn begin end node))
+    requires commits { IsCommits layout.now commits.old }
+    ensures linked { IsLinked layout.now links.new }
+    ensures links { UncoversAll layout.now links.old
+        (covering layout.now commits.new (nodes_in_turn begin end node)) links.new }
+    ensures keys { KeysUncoveredAll layout.now links.old
+        (covering layout.now commits.new (nodes_in_turn begin end node))
         keys.old keys.new }
-    ensures kept { IsCommits (columns_of layout.now) commits.new }
-    ensures commits { committed (columns_of layout.now) commits.new (nodes_in_turn begin end node)
+    ensures kept { IsCommits layout.now commits.new }
+    ensures commits { committed layout.now commits.new (nodes_in_turn begin end node)
         ≡ commits.old }
 {
+    // (for what the getter says: that the table is lawful)
+    let _heads = layout.heads();
     let mut other = node;
     for _place in begin + 1..end {
         other = node_before(begin, end, other);
@@ -233,22 +228,21 @@ pub fn uncover_others(
     node: usize,
 )
     requires node { (layout.now.heads + layout.now.heads ≤ node + 1) × (node < layout.now.tails) }
-    requires table { IsTable (columns_of layout.now) }
-    requires linked { IsLinked (columns_of layout.now) links.old }
+    requires linked { IsLinked layout.now links.old }
     requires keys { length keys.old + 1 ≡ layout.now.heads }
-    requires commits { IsCommits (columns_of layout.now) commits.old }
-    ensures linked { IsLinked (columns_of layout.now) links.new }
-    ensures links { UncoversAll (columns_of layout.now) links.old
-        (covering (columns_of layout.now) commits.new (others (columns_of layout.now) node))
+    requires commits { IsCommits layout.now commits.old }
+    ensures linked { IsLinked layout.now links.new }
+    ensures links { UncoversAll layout.now links.old
+        (covering layout.now commits.new (others layout.now node))
         links.new }
-    ensures keys { KeysUncoveredAll (columns_of layout.now) links.old
-        (covering (columns_of layout.now) commits.new (others (columns_of layout.now) node))
+    ensures keys { KeysUncoveredAll layout.now links.old
+        (covering layout.now commits.new (others layout.now node))
         keys.old keys.new }
-    ensures kept { IsCommits (columns_of layout.now) commits.new }
-    ensures commits { committed (columns_of layout.now) commits.new
-        (others (columns_of layout.now) node) ≡ commits.old }
+    ensures kept { IsCommits layout.now commits.new }
+    ensures commits { committed layout.now commits.new
+        (others layout.now node) ≡ commits.old }
 {
-    let (begin, end) = row_of(layout, node);
+    let (begin, end) = layout.row_of(node);
     uncommit_row(layout, links, keys, commits, node, begin, end);
 }
 
@@ -261,20 +255,21 @@ pub fn cover_from(
     node: usize,
 )
     requires node { (layout.now.heads + layout.now.heads ≤ node + 1) × (node < layout.now.tails) }
-    requires table { IsTable (columns_of layout.now) }
-    requires linked { IsLinked (columns_of layout.now) links.old }
+    requires linked { IsLinked layout.now links.old }
     requires keys { length keys.old + 1 ≡ layout.now.heads }
-    requires commits { IsCommits (columns_of layout.now) commits.old }
-    ensures linked { IsLinked (columns_of layout.now) links.new }
-    ensures links { CoversAll (columns_of layout.now) links.old
-        (covering (columns_of layout.now) commits.old (nodes_by (columns_of layout.now) node))
+    requires commits { IsCommits layout.now commits.old }
+    ensures linked { IsLinked layout.now links.new }
+    ensures links { CoversAll layout.now links.old
+        (covering layout.now commits.old (nodes_by layout.now node))
         links.new }
-    ensures keys { KeysCoveredAll (columns_of layout.now) links.old
-        (covering (columns_of layout.now) commits.old (nodes_by (columns_of layout.now) node))
+    ensures keys { KeysCoveredAll layout.now links.old
+        (covering layout.now commits.old (nodes_by layout.now node))
         keys.old keys.new }
     ensures commits { commits.new
-        ≡ committed (columns_of layout.now) commits.old (nodes_by (columns_of layout.now) node) }
+        ≡ committed layout.now commits.old (nodes_by layout.now node) }
 {
+    // (for what the getter says: that the table is lawful)
+    let _heads = layout.heads();
     commit(layout, links, keys, commits, node);
     cover_others(layout, links, keys, commits, node);
 }
@@ -288,21 +283,22 @@ pub fn uncover_from(
     node: usize,
 )
     requires node { (layout.now.heads + layout.now.heads ≤ node + 1) × (node < layout.now.tails) }
-    requires table { IsTable (columns_of layout.now) }
-    requires linked { IsLinked (columns_of layout.now) links.old }
+    requires linked { IsLinked layout.now links.old }
     requires keys { length keys.old + 1 ≡ layout.now.heads }
-    requires commits { IsCommits (columns_of layout.now) commits.old }
-    ensures linked { IsLinked (columns_of layout.now) links.new }
-    ensures links { UncoversAll (columns_of layout.now) links.old
-        (covering (columns_of layout.now) commits.new (nodes_by (columns_of layout.now) node))
+    requires commits { IsCommits layout.now commits.old }
+    ensures linked { IsLinked layout.now links.new }
+    ensures links { UncoversAll layout.now links.old
+        (covering layout.now commits.new (nodes_by layout.now node))
         links.new }
-    ensures keys { KeysUncoveredAll (columns_of layout.now) links.old
-        (covering (columns_of layout.now) commits.new (nodes_by (columns_of layout.now) node))
+    ensures keys { KeysUncoveredAll layout.now links.old
+        (covering layout.now commits.new (nodes_by layout.now node))
         keys.old keys.new }
-    ensures kept { IsCommits (columns_of layout.now) commits.new }
-    ensures commits { committed (columns_of layout.now) commits.new
-        (nodes_by (columns_of layout.now) node) ≡ commits.old }
+    ensures kept { IsCommits layout.now commits.new }
+    ensures commits { committed layout.now commits.new
+        (nodes_by layout.now node) ≡ commits.old }
 {
+    // (for what the getter says: that the table is lawful)
+    let _heads = layout.heads();
     uncover_others(layout, links, keys, commits, node);
     uncommit(layout, links, keys, commits, node);
 }

@@ -2,14 +2,14 @@
 //! give an item the colour that it gets.
 
 ghost use Rattle.std.specs.Prelude.{◌≡◌, ◌<◌, ◌≤◌, ◌+◌, ◌-◌, length};
-ghost use Rattle.dancing_links.specs.Columns.{columns_of, node_after, IsLinked, IsTable};
+ghost use Rattle.dancing_links.specs.Columns.{node_after, IsLinked};
 ghost use Rattle.dancing_links.specs.Keys.{fewer, more_in_order, KeysCovered, KeysUncovered};
-ghost use Rattle.dancing_links.specs.Covering.{others, has_colour, hidden_at, Covers, Uncovers};
-ghost use Rattle.dancing_links.specs.Linking.{unlinks, relinks_in_order, up_of, down_of};
+ghost use Rattle.dancing_links.specs.Covering.{others, hidden_at, Covers, Uncovers};
+ghost use Rattle.dancing_links.specs.Linking.{unlinks, relinks_in_order};
 
 use crate::keys::{count_less, count_more, turn_mark};
-use crate::layout::{Layout, right_among};
-use crate::link::{Link, relink, unlink};
+use crate::layout::Layout;
+use crate::link::Link;
 use crate::place::Place;
 
 /// The node before one in its row; in front of the first comes the last.
@@ -26,59 +26,56 @@ pub fn node_before(begin: usize, end: usize, node: usize) -> usize
 /// Takes the other nodes of a node's option out of their columns, the one to the right first.
 #[tactic(auto, unfolding(crate::specs::Covering::others))]
 fn hide(layout: &Layout, places: &[Place], links: &mut [Link], keys: &mut [u32], node: usize)
-    requires places { places.now ≡ layout.now.places.items }
+    requires places { places.now ≡ layout.now.places }
     requires node { (layout.now.heads ≤ node) × (node < layout.now.tails) }
-    requires table { IsTable (columns_of layout.now) }
-    requires linked { IsLinked (columns_of layout.now) links.old }
+    requires linked { IsLinked layout.now links.old }
     requires keys { length keys.old + 1 ≡ layout.now.heads }
-    ensures linked { IsLinked (columns_of layout.now) links.new }
-    ensures links { links.new ≡ unlinks links.old (others (columns_of layout.now) node) }
+    ensures linked { IsLinked layout.now links.new }
+    ensures links { links.new ≡ unlinks links.old (others layout.now node) }
     ensures keys { keys.new
-        ≡ fewer (columns_of layout.now) keys.old (others (columns_of layout.now) node) }
+        ≡ fewer layout.now keys.old (others layout.now node) }
 {
-    let mut other = right_among(layout, places, node);
+    let mut other = layout.right_among(places, node);
     while other != node {
-        unlink(layout, links, other);
+        layout.unlink(links, other);
         count_less(layout, places, keys, other);
-        other = right_among(layout, places, other);
+        other = layout.right_among(places, other);
     }
 }
 
 /// Puts the other nodes of a node's option back, in that order: they stand in different columns, so no order is wrong.
 #[tactic(auto, unfolding(crate::specs::Covering::others))]
 fn unhide(layout: &Layout, places: &[Place], links: &mut [Link], keys: &mut [u32], node: usize)
-    requires places { places.now ≡ layout.now.places.items }
+    requires places { places.now ≡ layout.now.places }
     requires node { (layout.now.heads ≤ node) × (node < layout.now.tails) }
-    requires table { IsTable (columns_of layout.now) }
-    requires linked { IsLinked (columns_of layout.now) links.old }
+    requires linked { IsLinked layout.now links.old }
     requires keys { length keys.old + 1 ≡ layout.now.heads }
-    ensures linked { IsLinked (columns_of layout.now) links.new }
+    ensures linked { IsLinked layout.now links.new }
     ensures links { links.new
-        ≡ relinks_in_order links.old (others (columns_of layout.now) node) }
+        ≡ relinks_in_order links.old (others layout.now node) }
     ensures keys { keys.new
-        ≡ more_in_order (columns_of layout.now) keys.old (others (columns_of layout.now) node) }
+        ≡ more_in_order layout.now keys.old (others layout.now node) }
 {
-    let mut other = right_among(layout, places, node);
+    let mut other = layout.right_among(places, node);
     while other != node {
-        relink(layout, links, other);
+        layout.relink(links, other);
         count_more(layout, places, keys, other);
-        other = right_among(layout, places, other);
+        other = layout.right_among(places, other);
     }
 }
 
 /// Covers an item that gets no colour: takes it out of the column of items, and all options that name it out of the other columns.
 pub fn cover(layout: &Layout, links: &mut [Link], keys: &mut [u32], item: usize)
     requires item { item + 1 < layout.now.heads }
-    requires table { IsTable (columns_of layout.now) }
-    requires linked { IsLinked (columns_of layout.now) links.old }
+    requires linked { IsLinked layout.now links.old }
     requires keys { length keys.old + 1 ≡ layout.now.heads }
-    ensures linked { IsLinked (columns_of layout.now) links.new }
-    ensures links { Covers (columns_of layout.now) links.old item 0 links.new }
-    ensures keys { KeysCovered (columns_of layout.now) links.old item 0 keys.old keys.new }
+    ensures linked { IsLinked layout.now links.new }
+    ensures links { Covers layout.now links.old item 0 links.new }
+    ensures keys { KeysCovered layout.now links.old item 0 keys.old keys.new }
 {
-    let places: &[Place] = &layout.places;
-    let tails = layout.tails;
-    unlink(layout, links, layout.heads + item);
+    let places: &[Place] = layout.places();
+    let tails = layout.tails();
+    layout.unlink(links, layout.heads() + item);
     turn_mark(keys, item);
     let mut node = links[item].down as usize;
     while node < tails {
@@ -90,34 +87,22 @@ pub fn cover(layout: &Layout, links: &mut [Link], keys: &mut [u32], item: usize)
 /// Uncovers the item that was covered last, without a colour: all links are as before that.
 pub fn uncover(layout: &Layout, links: &mut [Link], keys: &mut [u32], item: usize)
     requires item { item + 1 < layout.now.heads }
-    requires table { IsTable (columns_of layout.now) }
-    requires linked { IsLinked (columns_of layout.now) links.old }
+    requires linked { IsLinked layout.now links.old }
     requires keys { length keys.old + 1 ≡ layout.now.heads }
-    ensures linked { IsLinked (columns_of layout.now) links.new }
-    ensures links { Uncovers (columns_of layout.now) links.old item 0 links.new }
-    ensures keys { KeysUncovered (columns_of layout.now) links.old item 0
+    ensures linked { IsLinked layout.now links.new }
+    ensures links { Uncovers layout.now links.old item 0 links.new }
+    ensures keys { KeysUncovered layout.now links.old item 0
         keys.old keys.new }
 {
-    let places: &[Place] = &layout.places;
-    let heads = layout.heads;
-    let mut node = links[layout.tails + item].up as usize;
+    let places: &[Place] = layout.places();
+    let heads = layout.heads();
+    let mut node = links[layout.tails() + item].up as usize;
     while node >= heads {
         unhide(layout, places, links, keys, node);
         node = links[node].up as usize;
     }
-    relink(layout, links, heads + item);
+    layout.relink(links, heads + item);
     turn_mark(keys, item);
-}
-
-/// Whether a node has this colour; one without a colour has none.
-fn has_colour(layout: &Layout, places: &[Place], node: usize, colour: u16) -> bool
-    requires places { places.now ≡ layout.now.places.items }
-    requires node { node < layout.now.tails }
-    requires colour { 0 < colour }
-    requires table { IsTable (columns_of layout.now) }
-    ensures { result ≡ has_colour (columns_of layout.now) colour node }
-{
-    places[node].colour == colour
 }
 
 /// Takes the other nodes of a node's option out of their columns, unless the node has this colour.
@@ -130,18 +115,17 @@ fn hide_unless(
     node: usize,
     colour: u16,
 )
-    requires places { places.now ≡ layout.now.places.items }
+    requires places { places.now ≡ layout.now.places }
     requires node { (layout.now.heads ≤ node) × (node < layout.now.tails) }
     requires colour { 0 < colour }
-    requires table { IsTable (columns_of layout.now) }
-    requires linked { IsLinked (columns_of layout.now) links.old }
+    requires linked { IsLinked layout.now links.old }
     requires keys { length keys.old + 1 ≡ layout.now.heads }
-    ensures linked { IsLinked (columns_of layout.now) links.new }
-    ensures links { links.new ≡ unlinks links.old (hidden_at (columns_of layout.now) colour node) }
+    ensures linked { IsLinked layout.now links.new }
+    ensures links { links.new ≡ unlinks links.old (hidden_at layout.now colour node) }
     ensures keys { keys.new
-        ≡ fewer (columns_of layout.now) keys.old (hidden_at (columns_of layout.now) colour node) }
+        ≡ fewer layout.now keys.old (hidden_at layout.now colour node) }
 {
-    if !has_colour(layout, places, node, colour) {
+    if !layout.has_colour(places, node, colour) {
         hide(layout, places, links, keys, node);
     }
 }
@@ -156,20 +140,19 @@ fn unhide_unless(
     node: usize,
     colour: u16,
 )
-    requires places { places.now ≡ layout.now.places.items }
+    requires places { places.now ≡ layout.now.places }
     requires node { (layout.now.heads ≤ node) × (node < layout.now.tails) }
     requires colour { 0 < colour }
-    requires table { IsTable (columns_of layout.now) }
-    requires linked { IsLinked (columns_of layout.now) links.old }
+    requires linked { IsLinked layout.now links.old }
     requires keys { length keys.old + 1 ≡ layout.now.heads }
-    ensures linked { IsLinked (columns_of layout.now) links.new }
+    ensures linked { IsLinked layout.now links.new }
     ensures links { links.new
-        ≡ relinks_in_order links.old (hidden_at (columns_of layout.now) colour node) }
+        ≡ relinks_in_order links.old (hidden_at layout.now colour node) }
     ensures keys { keys.new
-        ≡ more_in_order (columns_of layout.now) keys.old (hidden_at
-        (columns_of layout.now) colour node) }
+        ≡ more_in_order layout.now keys.old (hidden_at
+        layout.now colour node) }
 {
-    if !has_colour(layout, places, node, colour) {
+    if !layout.has_colour(places, node, colour) {
         unhide(layout, places, links, keys, node);
     }
 }
@@ -179,17 +162,16 @@ fn unhide_unless(
 pub fn purify(layout: &Layout, links: &mut [Link], keys: &mut [u32], item: usize, colour: u16)
     requires item { item + 1 < layout.now.heads }
     requires colour { 0 < colour }
-    requires table { IsTable (columns_of layout.now) }
-    requires linked { IsLinked (columns_of layout.now) links.old }
+    requires linked { IsLinked layout.now links.old }
     requires keys { length keys.old + 1 ≡ layout.now.heads }
-    ensures linked { IsLinked (columns_of layout.now) links.new }
-    ensures links { Covers (columns_of layout.now) links.old item colour links.new }
-    ensures keys { KeysCovered (columns_of layout.now) links.old item colour
+    ensures linked { IsLinked layout.now links.new }
+    ensures links { Covers layout.now links.old item colour links.new }
+    ensures keys { KeysCovered layout.now links.old item colour
         keys.old keys.new }
 {
-    let places: &[Place] = &layout.places;
-    let tails = layout.tails;
-    unlink(layout, links, layout.heads + item);
+    let places: &[Place] = layout.places();
+    let tails = layout.tails();
+    layout.unlink(links, layout.heads() + item);
     turn_mark(keys, item);
     let mut node = links[item].down as usize;
     while node < tails {
@@ -202,21 +184,20 @@ pub fn purify(layout: &Layout, links: &mut [Link], keys: &mut [u32], item: usize
 pub fn unpurify(layout: &Layout, links: &mut [Link], keys: &mut [u32], item: usize, colour: u16)
     requires item { item + 1 < layout.now.heads }
     requires colour { 0 < colour }
-    requires table { IsTable (columns_of layout.now) }
-    requires linked { IsLinked (columns_of layout.now) links.old }
+    requires linked { IsLinked layout.now links.old }
     requires keys { length keys.old + 1 ≡ layout.now.heads }
-    ensures linked { IsLinked (columns_of layout.now) links.new }
-    ensures links { Uncovers (columns_of layout.now) links.old item colour links.new }
-    ensures keys { KeysUncovered (columns_of layout.now) links.old item colour
+    ensures linked { IsLinked layout.now links.new }
+    ensures links { Uncovers layout.now links.old item colour links.new }
+    ensures keys { KeysUncovered layout.now links.old item colour
         keys.old keys.new }
 {
-    let places: &[Place] = &layout.places;
-    let heads = layout.heads;
-    let mut node = links[layout.tails + item].up as usize;
+    let places: &[Place] = layout.places();
+    let heads = layout.heads();
+    let mut node = links[layout.tails() + item].up as usize;
     while node >= heads {
         unhide_unless(layout, places, links, keys, node, colour);
         node = links[node].up as usize;
     }
-    relink(layout, links, heads + item);
+    layout.relink(links, heads + item);
     turn_mark(keys, item);
 }

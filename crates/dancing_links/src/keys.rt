@@ -2,11 +2,11 @@
 //! uncovered item with fewest live options, the first of those, has the least key, which a pass without a branch finds.
 
 ghost use Rattle.std.specs.Prelude.{◌≡◌, ◌<◌, ◌≤◌, ◌+◌, ◌/◌, ◌%◌, [], length, nat_lt, if◌then◌else◌, IfOk, MatchOption};
-ghost use Rattle.dancing_links.specs.Columns.{columns_of, IsTable};
+ghost use Rattle.dancing_links.specs.Columns.{IsTable};
 ghost use Rattle.dancing_links.specs.Keys.{with_less, with_more, with_mark, least_from, IsKeyed, IsCounting};
 
 use crate::build::numbers_below;
-use crate::layout::{Layout, item_among, item_at};
+use crate::layout::Layout;
 use crate::place::Place;
 use std::alloc::{AllocError, Global};
 
@@ -18,11 +18,12 @@ const COVERED: u32 = 2_147_483_648;
 
 /// The keys of all items while no node is out; the only error is want of memory.
 pub fn build_keys(alloc: Global, layout: &Layout) -> Result<Vec<u32>, AllocError>
-    requires { IsTable (columns_of layout.now) }
-    ensures { IfOk result (λ keys. IsKeyed (columns_of layout.now) [] keys.items) }
+    requires { IsTable layout.now }
+    ensures { IfOk result (λ keys. IsKeyed layout.now [] keys.items) }
 {
-    let mut keys = numbers_below(alloc, layout.heads - 1)?;
-    for node in 2 * layout.heads - 1..layout.tails {
+    let heads = layout.heads();
+    let mut keys = numbers_below(alloc, heads - 1)?;
+    for node in 2 * heads - 1..layout.tails() {
         count_node(layout, &mut keys, node);
     }
     Ok(keys)
@@ -31,37 +32,34 @@ pub fn build_keys(alloc: Global, layout: &Layout) -> Result<Vec<u32>, AllocError
 /// Counts a node of an option.
 fn count_node(layout: &Layout, keys: &mut [u32], node: usize)
     requires node { (layout.now.heads + layout.now.heads ≤ node + 1) × (node < layout.now.tails) }
-    requires table { IsTable (columns_of layout.now) }
-    requires before { IsCounting (columns_of layout.now) node keys.old }
-    ensures after { IsCounting (columns_of layout.now) (node + 1) keys.new }
+    requires before { IsCounting layout.now node keys.old }
+    ensures after { IsCounting layout.now (node + 1) keys.new }
 {
-    let item = item_at(layout, node);
+    let item = layout.item_at(node);
     keys[item] += ONE_OPTION;
 }
 
 /// Counts a node of an option no more: its item has one live option less.
 #[tactic(auto, unfolding(crate::specs::Keys::with_less))]
 pub fn count_less(layout: &Layout, places: &[Place], keys: &mut [u32], node: usize)
-    requires places { places.now ≡ layout.now.places.items }
+    requires places { places.now ≡ layout.now.places }
     requires node { (layout.now.heads + layout.now.heads ≤ node + 1) × (node < layout.now.tails) }
-    requires table { IsTable (columns_of layout.now) }
     requires keys { length keys.old + 1 ≡ layout.now.heads }
-    ensures { keys.new ≡ with_less (columns_of layout.now) keys.old node }
+    ensures { keys.new ≡ with_less layout.now keys.old node }
 {
-    let item = item_among(layout, places, node);
+    let item = layout.item_among(places, node);
     keys[item] = keys[item].wrapping_sub(ONE_OPTION);
 }
 
 /// Counts a node of an option again.
 #[tactic(auto, unfolding(crate::specs::Keys::with_more))]
 pub fn count_more(layout: &Layout, places: &[Place], keys: &mut [u32], node: usize)
-    requires places { places.now ≡ layout.now.places.items }
+    requires places { places.now ≡ layout.now.places }
     requires node { (layout.now.heads + layout.now.heads ≤ node + 1) × (node < layout.now.tails) }
-    requires table { IsTable (columns_of layout.now) }
     requires keys { length keys.old + 1 ≡ layout.now.heads }
-    ensures { keys.new ≡ with_more (columns_of layout.now) keys.old node }
+    ensures { keys.new ≡ with_more layout.now keys.old node }
 {
-    let item = item_among(layout, places, node);
+    let item = layout.item_among(places, node);
     keys[item] = keys[item].wrapping_add(ONE_OPTION);
 }
 

@@ -1,14 +1,19 @@
-//! Which column and which option each node belongs to, and which colour it has.
+//! Which column and which option each node belongs to, which colour it has, and the two lines by which it leaves its column and
+//! comes back.
 
-ghost use Rattle.std.specs.Prelude.{◌≡◌, ◌<◌, ◌≤◌, ◌+◌, ◌++◌, length, map, replicate, slice_index, IfOk};
+ghost use Rattle.std.specs.Prelude.{◌≡◌, ◌==◌, ◌<◌, ◌≤◌, ◌+◌, ◌++◌, length, map, replicate, slice_index, IfOk};
 ghost use Rattle.std.specs.List.{range_with_len, concat, All};
-ghost use Rattle.dancing_links.specs.Columns.{columns_of, column_of, colour_at, begin_of, end_of, place_at, IsTable};
+ghost use Rattle.dancing_links.specs.Columns.{column_of, colour_at, begin_of, end_of, option_of, place_at, IsLinked, IsTable};
+ghost use Rattle.dancing_links.specs.Covering.{has_colour};
+ghost use Rattle.dancing_links.specs.Linking.{down_of, up_of, unlinked, relinked};
 ghost use Rattle.dancing_links.specs.Walking.{IsNaming, IsBelowIn};
 ghost use Rattle.dancing_links.specs.Table.{table, column_list, colour_list, option_list, first_list, place_by, right_in, numbered};
 
+use crate::link::Link;
 use crate::place::Place;
 use cover_problem::Problem;
 use std::alloc::{AllocError, Global};
+use std::marker::Model;
 
 /// What never changes: the column, the colour and the option of each node, and where each option begins.
 ///
@@ -17,20 +22,29 @@ use std::alloc::{AllocError, Global};
 #[derive(Drop)]
 pub struct Layout {
     /// What stands at each node: its right neighbour, its item and its colour.
-    pub places: Vec<Place>,
+    places: Vec<Place>,
     /// The option of each node; the number of options for a node that belongs to none.
-    pub options: Vec<u16>,
+    options: Vec<u16>,
     /// The first node of each option; then, twice, the first tail.
-    pub first: Vec<u32>,
-    /// How many heads there are.
-    pub heads: usize,
-    /// The first tail.
-    pub tails: usize,
+    first: Vec<u32>,
+    heads: usize,
+    tails: usize,
+}
+
+impl Model for Layout {
+    ghost use Rattle.dancing_links.specs.Columns.{Columns, columns_by, IsTable};
+
+    ghost Value = { Columns };
+
+    ghost view = { λ l. columns_by l.heads l.tails l.places.items l.options.items l.first.items };
+
+    ghost invariant = { λ l. IsTable
+        (columns_by l.heads l.tails l.places.items l.options.items l.first.items) };
 }
 
 /// The layout of a problem; the only error is want of memory.
 pub fn layout_of(alloc: Global, problem: &Problem) -> Result<Layout, AllocError>
-    ensures { IfOk result (λ layout. columns_of layout ≡ table problem.now) }
+    ensures { IfOk result (λ layout. layout ≡ table problem.now) }
 {
     let heads = problem.items() + 1;
     let items = node_items(alloc, problem)?;
@@ -205,96 +219,183 @@ fn node_places(
     Ok(places)
 }
 
-/// The item of a node of an option.
-pub fn item_at(layout: &Layout, node: usize) -> usize
-    requires node { (layout.now.heads + layout.now.heads ≤ node + 1) × (node < layout.now.tails) }
-    requires table { IsTable (columns_of layout.now) }
-    ensures item { result ≡ column_of (columns_of layout.now) node }
-{
-    layout.places[node].item as usize
-}
-
-/// The item of a node of an option, from the layout's places.
-pub fn item_among(layout: &Layout, places: &[Place], node: usize) -> usize
-    requires places { places.now ≡ layout.now.places.items }
-    requires node { (layout.now.heads + layout.now.heads ≤ node + 1) × (node < layout.now.tails) }
-    requires table { IsTable (columns_of layout.now) }
-    ensures item { result ≡ column_of (columns_of layout.now) node }
-{
-    places[node].item as usize
-}
-
-/// The node to the right of a node in its row, from the layout's places.
-pub fn right_among(layout: &Layout, places: &[Place], node: usize) -> usize
-    requires places { places.now ≡ layout.now.places.items }
-    requires node { (layout.now.heads ≤ node) × (node < layout.now.tails) }
-    requires table { IsTable (columns_of layout.now) }
-    ensures { result ≡ (place_at (columns_of layout.now) node).right }
-{
-    places[node].right as usize
-}
-
-/// The colour of a node of an option, 0 for none.
-pub fn colour_at(layout: &Layout, node: usize) -> u16
-    requires node { (layout.now.heads + layout.now.heads ≤ node + 1) × (node < layout.now.tails) }
-    requires table { IsTable (columns_of layout.now) }
-    ensures { result ≡ colour_at (columns_of layout.now) node }
-{
-    layout.places[node].colour
-}
-
-/// The row of a node's option: its first node, and the number after the last.
-pub fn row_of(layout: &Layout, node: usize) -> (usize, usize)
-    requires node { (layout.now.heads + layout.now.heads ≤ node + 1) × (node < layout.now.tails) }
-    requires table { IsTable (columns_of layout.now) }
-    ensures begin { result.0 ≡ begin_of (columns_of layout.now) node }
-    ensures end { result.1 ≡ end_of (columns_of layout.now) node }
-    ensures range { (layout.now.heads + layout.now.heads ≤ result.0 + 1)
-        × (result.1 ≤ layout.now.tails) }
-    ensures within { (result.0 ≤ node) × (node < result.1) }
-{
-    node_range(layout, layout.options[node])
-}
-
-/// The nodes of an option: the first, and the one after the last.
-pub fn node_range(layout: &Layout, option: u16) -> (usize, usize)
-    requires { option + 1 < length layout.now.first.items }
-    ensures begin { result.0 ≡ slice_index layout.now.first.items option }
-    ensures end { result.1 ≡ slice_index layout.now.first.items (option + 1) }
-{
-    let option = option as usize;
-    (
-        layout.first[option] as usize,
-        layout.first[option + 1] as usize,
-    )
-}
-
-/// The first node of a range that stands for an item, or the end of the range.
-pub fn node_of(layout: &Layout, item: u16, begin: usize, end: usize) -> usize
-    requires range { (layout.now.heads + layout.now.heads ≤ begin + 1) × (begin ≤ end)
-        × (end ≤ layout.now.tails) }
-    requires table { IsTable (columns_of layout.now) }
-    ensures { IsNaming (columns_of layout.now) item begin end result }
-{
-    for node in begin..end {
-        if item_at(layout, node) == item as usize {
-            return node;
-        }
+impl Layout {
+    /// How many heads there are.
+    #[inline(always)]
+    pub fn heads(&self) -> usize
+        ensures heads { result ≡ self.now.heads }
+        ensures table { IsTable self.now }
+    {
+        self.heads
     }
-    end
-}
 
-/// The first node of a range that stands for an item below a bound, or the end of the range.
-pub fn node_below(layout: &Layout, bound: usize, begin: usize, end: usize) -> usize
-    requires range { (layout.now.heads + layout.now.heads ≤ begin + 1) × (begin ≤ end)
-        × (end ≤ layout.now.tails) }
-    requires table { IsTable (columns_of layout.now) }
-    ensures { IsBelowIn (columns_of layout.now) bound begin end result }
-{
-    for node in begin..end {
-        if item_at(layout, node) < bound {
-            return node;
-        }
+    /// The first tail.
+    #[inline(always)]
+    pub fn tails(&self) -> usize
+        ensures tails { result ≡ self.now.tails }
+        ensures table { IsTable self.now }
+    {
+        self.tails
     }
-    end
+
+    /// What stands at each node.
+    #[inline(always)]
+    pub fn places(&self) -> &[Place]
+        ensures places { result.now ≡ self.now.places }
+        ensures table { IsTable self.now }
+    {
+        &self.places
+    }
+
+    /// The option of a node.
+    #[inline(always)]
+    pub fn option_at(&self, node: usize) -> u16
+        requires { node < self.now.tails }
+        ensures option { result ≡ option_of self.now node }
+        ensures table { IsTable self.now }
+    {
+        self.options[node]
+    }
+
+    /// The item of a node of an option.
+    pub fn item_at(&self, node: usize) -> usize
+        requires node { (self.now.heads + self.now.heads ≤ node + 1) × (node < self.now.tails) }
+        ensures item { result ≡ column_of self.now node }
+        ensures table { IsTable self.now }
+    {
+        self.places[node].item as usize
+    }
+
+    /// The item of a node of an option, from the layout's places.
+    pub fn item_among(&self, places: &[Place], node: usize) -> usize
+        requires places { places.now ≡ self.now.places }
+        requires node { (self.now.heads + self.now.heads ≤ node + 1) × (node < self.now.tails) }
+        ensures item { result ≡ column_of self.now node }
+        ensures table { IsTable self.now }
+    {
+        let _ = &self.places;
+        places[node].item as usize
+    }
+
+    /// The node to the right of a node in its row, from the layout's places.
+    pub fn right_among(&self, places: &[Place], node: usize) -> usize
+        requires places { places.now ≡ self.now.places }
+        requires node { (self.now.heads ≤ node) × (node < self.now.tails) }
+        ensures right { result ≡ (place_at self.now node).right }
+        ensures table { IsTable self.now }
+    {
+        let _ = &self.places;
+        places[node].right as usize
+    }
+
+    /// The colour of a node of an option, 0 for none.
+    pub fn colour_at(&self, node: usize) -> u16
+        requires node { (self.now.heads + self.now.heads ≤ node + 1) × (node < self.now.tails) }
+        ensures colour { result ≡ colour_at self.now node }
+        ensures table { IsTable self.now }
+    {
+        self.places[node].colour
+    }
+
+    /// Whether a node has this colour, from the layout's places; one without a colour has none.
+    pub fn has_colour(&self, places: &[Place], node: usize, colour: u16) -> bool
+        requires places { places.now ≡ self.now.places }
+        requires node { node < self.now.tails }
+        requires colour { 0 < colour }
+        ensures { result ≡ has_colour self.now colour node }
+    {
+        let _ = &self.places;
+        places[node].colour == colour
+    }
+
+    /// The row of a node's option: its first node, and the number after the last.
+    pub fn row_of(&self, node: usize) -> (usize, usize)
+        requires node { (self.now.heads + self.now.heads ≤ node + 1) × (node < self.now.tails) }
+        ensures begin { result.0 ≡ begin_of self.now node }
+        ensures end { result.1 ≡ end_of self.now node }
+        ensures range { (self.now.heads + self.now.heads ≤ result.0 + 1)
+            × (result.1 ≤ self.now.tails) }
+        ensures within { (result.0 ≤ node) × (node < result.1) }
+    {
+        self.node_range(self.options[node])
+    }
+
+    /// The nodes of an option: the first, and the one after the last.
+    pub fn node_range(&self, option: u16) -> (usize, usize)
+        requires { option + 1 < length self.now.first }
+        ensures begin { result.0 ≡ slice_index self.now.first option }
+        ensures end { result.1 ≡ slice_index self.now.first (option + 1) }
+    {
+        let option = option as usize;
+        (self.first[option] as usize, self.first[option + 1] as usize)
+    }
+
+    /// The first node of a range that stands for an item, or the end of the range.
+    pub fn node_of(&self, item: u16, begin: usize, end: usize) -> usize
+        requires range { (self.now.heads + self.now.heads ≤ begin + 1) × (begin ≤ end)
+            × (end ≤ self.now.tails) }
+        ensures { IsNaming self.now item begin end result }
+    {
+        for node in begin..end {
+            if self.item_at(node) == item as usize {
+                return node;
+            }
+        }
+        end
+    }
+
+    /// The first node of a range that stands for an item below a bound, or the end of the range.
+    pub fn node_below(&self, bound: usize, begin: usize, end: usize) -> usize
+        requires range { (self.now.heads + self.now.heads ≤ begin + 1) × (begin ≤ end)
+            × (end ≤ self.now.tails) }
+        ensures { IsBelowIn self.now bound begin end result }
+    {
+        for node in begin..end {
+            if self.item_at(node) < bound {
+                return node;
+            }
+        }
+        end
+    }
+
+    /// Takes a node out of its column.
+    #[tactic(auto, unfolding(crate::specs::Linking::unlinked, crate::specs::Linking::with_up, crate::specs::Linking::with_down))]
+    pub fn unlink(&self, links: &mut [Link], node: usize)
+        requires node { (self.now.heads ≤ node) × (node < self.now.tails) }
+        requires linked { IsLinked self.now links.old }
+        ensures linked { IsLinked self.now links.new }
+        ensures links { links.new ≡ unlinked links.old node }
+    {
+        let _ = &self.places;
+        let up = links[node].up;
+        let down = links[node].down;
+        links[up as usize].down = down;
+        links[down as usize].up = up;
+    }
+
+    /// Puts the node that was taken out last back into its column.
+    #[tactic(auto, unfolding(crate::specs::Linking::relinked, crate::specs::Linking::with_up, crate::specs::Linking::with_down))]
+    pub fn relink(&self, links: &mut [Link], node: usize)
+        requires node { (self.now.heads ≤ node) × (node < self.now.tails) }
+        requires linked { IsLinked self.now links.old }
+        ensures linked { IsLinked self.now links.new }
+        ensures links { links.new ≡ relinked links.old node }
+    {
+        let _ = &self.places;
+        let up = links[node].up;
+        let down = links[node].down;
+        links[up as usize].down = node as u32;
+        links[down as usize].up = node as u32;
+    }
+
+    /// Whether the node above a node leads to it: so where it is in.
+    pub fn is_known(&self, links: &[Link], node: usize) -> bool
+        requires node { (self.now.heads ≤ node) × (node < self.now.tails) }
+        requires linked { IsLinked self.now links.now }
+        ensures { result ≡ (down_of links.now (up_of links.now node) == node) }
+    {
+        let _ = &self.places;
+        let above = links[node].up as usize;
+        links[above].down as usize == node
+    }
 }

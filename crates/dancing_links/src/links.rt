@@ -1,20 +1,20 @@
 //! The links of a problem in which options are chosen.
 
-ghost use Rattle.std.specs.Prelude.{◌≡◌, ℕ, ◌+◌, ◌-◌, ◌<◌, ◌≤◌, ◌==◌, [], length, IfOk, IfSome, MatchOption, true, false, slice_get};
+ghost use Rattle.std.specs.Prelude.{◌≡◌, ℕ, ◌+◌, ◌-◌, ◌<◌, ◌≤◌, [], length, IfOk, IfSome, true, false, slice_get};
 ghost use Rattle.cover_problem.specs.Branching.{branch_item, live_options, IsOpen};
 ghost use Rattle.cover_problem.specs.Onward.{open_items_from, live_options_from};
 ghost use Rattle.cover_problem.specs.Problem.{IsProblem};
 ghost use Rattle.dancing_links.specs.Choices.{Choices, with_child, with_child_if, with_choice, IsChild, IsNextChoice, IsPrimary};
-ghost use Rattle.dancing_links.specs.Columns.{columns_of, IsTable, IsLinked};
-ghost use Rattle.dancing_links.specs.Linking.{down_of, up_of};
+ghost use Rattle.dancing_links.specs.Columns.{IsLinked};
+ghost use Rattle.dancing_links.specs.Linking.{down_of};
 ghost use Rattle.dancing_links.specs.Table.{table};
-ghost use Rattle.dancing_links.specs.Walking.{options_left};
+ghost use Rattle.dancing_links.specs.Walking.{options_left, IsPrimaryItem};
 ghost use Rattle.cover_problem.specs.Prefix.{is_covered, is_live, is_prefix};
 
 use crate::build::build_links;
 use crate::commit::{cover_from, cover_others, recommit, uncommit, uncover_from, uncover_others};
 use crate::keys::{build_keys, count_in, item_in, least_of};
-use crate::layout::{Layout, item_at, layout_of, node_below, node_of, node_range};
+use crate::layout::{Layout, layout_of};
 use crate::link::Link;
 use crate::options::OptionsOf;
 use cover_problem::Problem;
@@ -41,7 +41,7 @@ pub struct Links<'a> {
 
 impl<'a> Model for Links<'a> {
     ghost use Rattle.std.specs.Prelude.{vec_capacity, map, ◌≡◌, ◌≤◌};
-    ghost use Rattle.dancing_links.specs.Columns.{columns_of, column_of};
+    ghost use Rattle.dancing_links.specs.Columns.{column_of};
     ghost use Rattle.dancing_links.specs.Choices.{Choices, IsLinks, commits_of};
 
     ghost Value = { Choices };
@@ -50,14 +50,14 @@ impl<'a> Model for Links<'a> {
       problem = s.problem.now;
       chosen = s.chosen.items;
       branches = map
-          (column_of (columns_of s.layout)) s.entries.items;
+          (column_of s.layout) s.entries.items;
     } };
 
     ghost invariant = { λ s. IsLinks s.problem.now
-        (columns_of s.layout) s.chosen.items s.entries.items s.links.items s.keys.items
+        s.layout s.chosen.items s.entries.items s.links.items s.keys.items
         (vec_capacity s.chosen)
         × (s.problem.now.primary ≤ vec_capacity s.entries) × (s.commits.items
-        ≡ commits_of (columns_of s.layout) s.entries.items) };
+        ≡ commits_of s.layout s.entries.items) };
 }
 
 impl<'a> Links<'a> {
@@ -129,10 +129,10 @@ impl<'a> Links<'a> {
         ensures chosen { self.new ≡ with_child_if self.old item result }
     {
         let node = self.links[item as usize].down as usize;
-        if node >= self.layout.tails {
+        if node >= self.layout.tails() {
             return None;
         }
-        let option = self.layout.options[node];
+        let option = self.layout.option_at(node);
         cover_from(
             &self.layout,
             &mut self.links,
@@ -164,7 +164,7 @@ impl<'a> Links<'a> {
         self.entries.pop();
         self.chosen.pop();
         let next = self.links[node].down as usize;
-        if next >= self.layout.tails {
+        if next >= self.layout.tails() {
             uncommit(
                 &self.layout,
                 &mut self.links,
@@ -174,7 +174,7 @@ impl<'a> Links<'a> {
             );
             return None;
         }
-        let option = self.layout.options[next];
+        let option = self.layout.option_at(next);
         recommit(
             &self.layout,
             &mut self.links,
@@ -219,7 +219,9 @@ impl<'a> Links<'a> {
         requires { item < length self.now.problem.names }
         ensures { result ≡ is_covered self.now.problem self.now.chosen item }
     {
-        !is_known(&self.layout, &self.links, self.layout.heads + item as usize)
+        !self
+            .layout
+            .is_known(&self.links, self.layout.heads() + item as usize)
     }
 
     /// Whether an option clashes with no chosen one: its first primary item is uncovered, and its node there is in.
@@ -228,8 +230,8 @@ impl<'a> Links<'a> {
         ensures { result ≡ is_live self.now.problem self.now.chosen option }
     {
         let node = primary_node(&self.layout, self.problem, option);
-        let item = item_at(&self.layout, node) as u16;
-        !self.is_covered(item) && is_known(&self.layout, &self.links, node)
+        let item = self.layout.item_at(node) as u16;
+        !self.is_covered(item) && self.layout.is_known(&self.links, node)
     }
 
     /// How many live options name an uncovered item.
@@ -262,7 +264,7 @@ impl<'a> Links<'a> {
             &self.layout,
             &self.links,
             self.problem.primary() as u16,
-            self.layout.heads - 1,
+            self.layout.heads() - 1,
         )
     }
 
@@ -280,7 +282,7 @@ impl<'a> Links<'a> {
             &self.layout,
             &self.links,
             self.problem.primary() as u16,
-            self.layout.heads + item as usize,
+            self.layout.heads() + item as usize,
         )
     }
 
@@ -315,31 +317,20 @@ impl<'a> Links<'a> {
         ensures child { IfSome result (IsChild self.now.problem self.now.chosen item) }
         ensures later { IfSome result (λ next. option < next) }
     {
-        let (begin, end) = node_range(&self.layout, option);
-        let node = node_of(&self.layout, item, begin, end);
+        let (begin, end) = self.layout.node_range(option);
+        let node = self.layout.node_of(item, begin, end);
         option_below(&self.layout, &self.links, node)
     }
 }
 
-/// Whether the node above a node leads to it: so where it is in.
-fn is_known(layout: &Layout, links: &[Link], node: usize) -> bool
-    requires node { (layout.now.heads ≤ node) × (node < layout.now.tails) }
-    requires table { IsTable (columns_of layout.now) }
-    requires linked { IsLinked (columns_of layout.now) links.now }
-    ensures { result ≡ (down_of links.now (up_of links.now node) == node) }
-{
-    let above = links[node].up as usize;
-    links[above].down as usize == node
-}
-
 /// The node of an option's first primary item.
 fn primary_node(layout: &Layout, problem: &Problem, option: u16) -> usize
-    requires layout { columns_of layout.now ≡ table problem.now }
+    requires layout { layout.now ≡ table problem.now }
     requires option { option < length problem.now.options }
-    ensures { IsPrimary problem.now (columns_of layout.now) option result }
+    ensures { IsPrimary problem.now layout.now option result }
 {
-    let (begin, end) = node_range(layout, option);
-    node_below(layout, problem.primary(), begin, end)
+    let (begin, end) = layout.node_range(option);
+    layout.node_below(problem.primary(), begin, end)
 }
 
 /// The item whose node is below a node in the column of items, if it is primary.
@@ -348,11 +339,9 @@ fn item_below(layout: &Layout, links: &[Link], primary: u16, node: usize) -> Opt
     requires below { layout.now.heads ≤ down_of links.now node }
     requires primary { primary ≤ 1000 }
     requires heads { layout.now.heads ≤ 1001 }
-    ensures { MatchOption result (layout.now.heads + primary ≤ down_of links.now node) (λ item.
-        (down_of links.now node < layout.now.heads + primary)
-        × (item ≡ down_of links.now node - layout.now.heads)) }
+    ensures { IsPrimaryItem layout.now primary (down_of links.now node) result }
 {
-    let item = links[node].down as usize - layout.heads;
+    let item = links[node].down as usize - layout.heads();
     if item < primary as usize {
         Some(item as u16)
     } else {
@@ -363,14 +352,13 @@ fn item_below(layout: &Layout, links: &[Link], primary: u16, node: usize) -> Opt
 /// The option of the node below a node in its column; none at the tail.
 fn option_below(layout: &Layout, links: &[Link], node: usize) -> Option<u16>
     requires node { node < length links.now }
-    requires table { IsTable (columns_of layout.now) }
-    requires linked { IsLinked (columns_of layout.now) links.now }
+    requires linked { IsLinked layout.now links.now }
     ensures { result ≡ slice_get
-        (options_left (columns_of layout.now) links.now (down_of links.now node)) 0 }
+        (options_left layout.now links.now (down_of links.now node)) 0 }
 {
     let below = links[node].down as usize;
-    if below < layout.tails {
-        Some(layout.options[below])
+    if below < layout.tails() {
+        Some(layout.option_at(below))
     } else {
         None
     }

@@ -18,15 +18,14 @@ pub struct OptionsOf<'a> {
 
 impl<'a> Model for OptionsOf<'a> {
     ghost use Rattle.std.specs.Prelude.{List, ℕ};
-    ghost use Rattle.dancing_links.specs.Columns.{columns_of, IsTable, IsLinked};
+    ghost use Rattle.dancing_links.specs.Columns.{IsLinked};
     ghost use Rattle.dancing_links.specs.Walking.{options_left};
 
     ghost Value = { List ℕ };
 
-    ghost view = { λ s. options_left (columns_of s.layout.now) s.links.now s.node };
+    ghost view = { λ s. options_left s.layout.now s.links.now s.node };
 
-    ghost invariant = { λ s. IsTable (columns_of s.layout.now)
-        × IsLinked (columns_of s.layout.now) s.links.now };
+    ghost invariant = { λ s. IsLinked s.layout.now s.links.now };
 }
 
 impl<'a> Iterator for OptionsOf<'a> {
@@ -37,10 +36,10 @@ impl<'a> Iterator for OptionsOf<'a> {
     ghost remaining = { item_count (λ s. s) };
 
     fn next(&mut self) -> Option<u16> {
-        if self.node >= self.layout.tails {
+        if self.node >= self.layout.tails() {
             return None;
         }
-        let option = self.layout.options[self.node];
+        let option = self.layout.option_at(self.node);
         self.node = self.links[self.node].down as usize;
         Some(option)
     }
@@ -48,14 +47,13 @@ impl<'a> Iterator for OptionsOf<'a> {
 
 impl<'a> OptionsOf<'a> {
     ghost use Rattle.std.specs.Prelude.{◌≡◌};
-    ghost use Rattle.dancing_links.specs.Columns.{columns_of, IsTable, IsLinked};
+    ghost use Rattle.dancing_links.specs.Columns.{IsLinked};
     ghost use Rattle.dancing_links.specs.Walking.{options_left};
 
     /// The options of the nodes down a column from one on.
     pub(crate) fn from_node(layout: &'a Layout, links: &'a [Link], node: usize) -> OptionsOf<'a>
-        requires table { IsTable (columns_of layout.now) }
-        requires linked { IsLinked (columns_of layout.now) links.now }
-        ensures { result ≡ options_left (columns_of layout.now) links.now node }
+        requires linked { IsLinked layout.now links.now }
+        ensures { result ≡ options_left layout.now links.now node }
     {
         OptionsOf {
             layout,

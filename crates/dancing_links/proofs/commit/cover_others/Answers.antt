@@ -1,5 +1,4 @@
 use Rattle.std.proofs.Common.{List, ℕ, arith, sym, subst}
-use Rattle.dancing_links.specs.Columns.{columns_of}
 use Rattle.dancing_links.specs.Committing.{IsCommits}
 use Rattle.dancing_links.specs.Covering.{others}
 use Rattle.dancing_links.proofs.Choose.{IsLeft, left_start, left_step, left_links, left_keys, left_commits}
@@ -9,9 +8,9 @@ use Rattle.dancing_links.proofs.commit.cover_others.Goals as goal
 
 pub loop-other-init : goal.loop-other-init
 loop-other-init c =
-    let cs = columns_of c.args.layout.now in
-    let t = c.requires.table in
-    let start = round_start cs c.args.node c.right_among-other.result t (omega (arith, c.requires.node.0, t.some)) c.requires.node.1 c.right_among-other.ensures in
+    let cs = c.args.layout.now in
+    let t = c.right_among-other.ensures.table in
+    let start = round_start cs c.args.node c.right_among-other.result t (omega (arith, c.requires.node.0, t.some)) c.requires.node.1 c.right_among-other.ensures.right in
     let P : List ℕ → Type 0 = λ nodes. IsLeft cs c.args.links.now c.args.links.now (others cs c.args.node) nodes c.args.keys.now c.args.keys.now c.args.commits.now c.args.commits.now in
     record {
       linked = c.requires.linked;
@@ -22,17 +21,17 @@ loop-other-init c =
 
 pub loop-other-smaller : goal.loop-other-smaller
 loop-other-smaller c =
-    let step = round_step (columns_of c.args.layout.now) c.args.node c.loop-other.other c.right_among-other-in-loop-other.result c.requires.table c.loop-other.invariant.round c.loop-other-test.true c.right_among-other-in-loop-other.ensures in
+    let step = round_step c.args.layout.now c.args.node c.loop-other.other c.right_among-other-in-loop-other.result c.right_among-other.ensures.table c.loop-other.invariant.round c.loop-other-test.true c.right_among-other-in-loop-other.ensures.right in
     omega (arith, step.fewer)
 
 pub loop-other-preserved : goal.loop-other-preserved
 loop-other-preserved c =
-    let cs = columns_of c.args.layout.now in
+    let cs = c.args.layout.now in
     let all = others cs c.args.node in
     let other : ℕ = c.loop-other.other in
     let next : ℕ = c.right_among-other-in-loop-other.result in
-    let t = c.requires.table in
-    let on = round_step cs c.args.node other next t c.loop-other.invariant.round c.loop-other-test.true c.right_among-other-in-loop-other.ensures in
+    let t = c.right_among-other.ensures.table in
+    let on = round_step cs c.args.node other next t c.loop-other.invariant.round c.loop-other-test.true c.right_among-other-in-loop-other.ensures.right in
     let left : List ℕ = to_come cs c.args.node next in
     let P : List ℕ → Type 0 = λ nodes. IsLeft cs c.args.links.now c.loop-other.links all nodes c.args.keys.now c.loop-other.keys c.args.commits.now c.loop-other.commits in
     let step = left_step cs c.args.links.now c.loop-other.links c.commit.new.links all left c.args.keys.now c.loop-other.keys c.commit.new.keys c.args.commits.now c.loop-other.commits other t c.commit.ensures.links c.commit.ensures.keys (subst P on.come c.loop-other.invariant.left) in
@@ -47,18 +46,18 @@ loop-other-preserved c =
 
 pub returns-clause-links : goal.returns-clause-links
 returns-clause-links c =
-    let cs = columns_of c.args.layout.now in
+    let cs = c.args.layout.now in
     let none = round_end cs c.args.node c.loop-other.other c.loop-other-test.false in
     left_links cs c.args.links.now c.loop-other.links (others cs c.args.node) _ c.args.keys.now c.loop-other.keys c.args.commits.now c.loop-other.commits none c.loop-other.invariant.left
 
 pub returns-clause-keys : goal.returns-clause-keys
 returns-clause-keys c =
-    let cs = columns_of c.args.layout.now in
+    let cs = c.args.layout.now in
     let none = round_end cs c.args.node c.loop-other.other c.loop-other-test.false in
     left_keys cs c.args.links.now c.loop-other.links (others cs c.args.node) _ c.args.keys.now c.loop-other.keys c.args.commits.now c.loop-other.commits none c.loop-other.invariant.left
 
 pub returns-clause-commits : goal.returns-clause-commits
 returns-clause-commits c =
-    let cs = columns_of c.args.layout.now in
+    let cs = c.args.layout.now in
     let none = round_end cs c.args.node c.loop-other.other c.loop-other-test.false in
     left_commits cs c.args.links.now c.loop-other.links (others cs c.args.node) _ c.args.keys.now c.loop-other.keys c.args.commits.now c.loop-other.commits none c.loop-other.invariant.left

@@ -1,4 +1,4 @@
-use Rattle.dancing_links.specs.Columns.{IsLinked, columns_of, begin_of, end_of}
+use Rattle.dancing_links.specs.Columns.{IsLinked, begin_of, end_of}
 use Rattle.dancing_links.specs.Committing.{IsCommits}
 use Rattle.dancing_links.specs.Covering.{others}
 use Rattle.dancing_links.proofs.Choose.{IsLeft}
@@ -7,11 +7,11 @@ use Rattle.dancing_links.proofs.commit.cover_others.Given as goal
 
 abbrev pub invariant-loop-other : goal.invariant-loop-other
 invariant-loop-other l = record {
-  linked : IsLinked (columns_of l.layout) l.links;
-  kept : IsCommits (columns_of l.layout) l.commits;
-  round : IsRound (columns_of l.layout) l.node l.other;
-  left : IsLeft (columns_of l.layout) l.fn.links l.links (others (columns_of l.layout) l.node) (to_come (columns_of l.layout) l.node l.other) l.fn.keys l.keys l.fn.commits l.commits;
+  linked : IsLinked l.layout l.links;
+  kept : IsCommits l.layout l.commits;
+  round : IsRound l.layout l.node l.other;
+  left : IsLeft l.layout l.fn.links l.links (others l.layout l.node) (to_come l.layout l.node l.other) l.fn.keys l.keys l.fn.commits l.commits;
 }
 
 abbrev pub decreases-loop-other : goal.decreases-loop-other
-decreases-loop-other l = ahead (begin_of (columns_of l.layout) l.node) (end_of (columns_of l.layout) l.node) l.node l.other
+decreases-loop-other l = ahead (begin_of l.layout l.node) (end_of l.layout l.node) l.node l.other

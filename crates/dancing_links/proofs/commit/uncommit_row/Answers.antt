@@ -1,5 +1,4 @@
 use Rattle.std.proofs.Common.{◌≡◌, ◌+◌, ◌-◌, ◌∷◌, [], List, ℕ, arith, ap, sym, ◌∙◌, subst, inl}
-use Rattle.dancing_links.specs.Columns.{columns_of}
 use Rattle.dancing_links.specs.Keys.{KeysUncoveredAll}
 use Rattle.dancing_links.specs.Committing.{uncommit, committed, covering}
 use Rattle.dancing_links.specs.Covering.{in_turn, UncoversAll}
@@ -9,7 +8,7 @@ use Rattle.dancing_links.proofs.commit.uncommit_row.Goals as goal
 
 pub loop-place-init : goal.loop-place-init
 loop-place-init c =
-    let cs = columns_of c.args.layout.now in
+    let cs = c.args.layout.now in
     let none : c.args.begin + 1 - (c.args.begin + 1) ≡ 0 = omega arith in
     let P : ℕ → Type 0 = λ n. IsBackTo cs c.args.links.now c.args.links.now (in_turn c.args.begin c.args.end c.args.node n) c.args.keys.now c.args.keys.now c.args.commits.now c.args.commits.now in
     record {
@@ -23,17 +22,17 @@ loop-place-init c =
 
 pub loop-place-preserved : goal.loop-place-preserved
 loop-place-preserved c =
-    let cs = columns_of c.args.layout.now in
+    let cs = c.args.layout.now in
     let begin = c.args.begin in
     let end = c.args.end in
     let was = c.loop-place.invariant in
     let other : ℕ = c.node_before-other.result in
     let taken = back_take begin end c.loop-place.other other c.loop-place._place was.low c.node_before-other.ensures.node in
     let done : List ℕ = in_turn c.args.begin c.args.end c.loop-place.other (c.loop-place._place - (c.args.begin + 1)) in
-    let item = c.requires.table.option_columns c.node_before-other.result (omega (arith, c.requires.range.0, c.node_before-other.ensures.row.0)) (omega (arith, c.requires.range.1, c.node_before-other.ensures.row.1)) in
+    let item = c.heads-heads.ensures.table.option_columns c.node_before-other.result (omega (arith, c.requires.range.0, c.node_before-other.ensures.row.0)) (omega (arith, c.requires.range.1, c.node_before-other.ensures.row.1)) in
     let P : List ℕ → Type 0 = λ commits. UncoversAll cs c.loop-place.links (covering cs commits (other ∷ [])) c.uncommit.new.links in
     let Q : List ℕ → Type 0 = λ commits. KeysUncoveredAll cs c.loop-place.links (covering cs commits (other ∷ [])) c.loop-place.keys c.uncommit.new.keys in
-    let step = back_step cs c.args.links.now c.loop-place.links c.uncommit.new.links done c.args.keys.now c.loop-place.keys c.uncommit.new.keys c.args.commits.now c.loop-place.commits other c.requires.table item (subst P c.uncommit.ensures.commits c.uncommit.ensures.links) (subst Q c.uncommit.ensures.commits c.uncommit.ensures.keys) was.back in
+    let step = back_step cs c.args.links.now c.loop-place.links c.uncommit.new.links done c.args.keys.now c.loop-place.keys c.uncommit.new.keys c.args.commits.now c.loop-place.commits other c.heads-heads.ensures.table item (subst P c.uncommit.ensures.commits c.uncommit.ensures.links) (subst Q c.uncommit.ensures.commits c.uncommit.ensures.keys) was.back in
     let R : List ℕ → Type 0 = λ nodes. IsBackTo cs c.args.links.now c.uncommit.new.links nodes c.args.keys.now c.uncommit.new.keys c.args.commits.now (uncommit cs c.loop-place.commits other) in
     let S : List ℕ → Type 0 = λ commits. IsBackTo cs c.args.links.now c.uncommit.new.links (in_turn c.args.begin c.args.end c.node_before-other.result (c.loop-place._place + 1 - (c.args.begin + 1))) c.args.keys.now c.uncommit.new.keys c.args.commits.now commits in
     record {
@@ -47,7 +46,7 @@ loop-place-preserved c =
 
 pub returns-clause-links : goal.returns-clause-links
 returns-clause-links c =
-    let cs = columns_of c.args.layout.now in
+    let cs = c.args.layout.now in
     let was = c.loop-place.invariant in
     let same = back_end c.args.begin c.args.end c.args.node c.loop-place.other c.loop-place._place was.low c.loop-place-test.false was.count (λ _. c.requires.row) (λ _. was.row) was.place in
     let P : List ℕ → Type 0 = λ nodes. UncoversAll cs c.args.links.now (covering cs c.loop-place.commits nodes) c.loop-place.links in
@@ -55,7 +54,7 @@ returns-clause-links c =
 
 pub returns-clause-keys : goal.returns-clause-keys
 returns-clause-keys c =
-    let cs = columns_of c.args.layout.now in
+    let cs = c.args.layout.now in
     let was = c.loop-place.invariant in
     let same = back_end c.args.begin c.args.end c.args.node c.loop-place.other c.loop-place._place was.low c.loop-place-test.false was.count (λ _. c.requires.row) (λ _. was.row) was.place in
     let P : List ℕ → Type 0 = λ nodes. KeysUncoveredAll cs c.args.links.now (covering cs c.loop-place.commits nodes) c.args.keys.now c.loop-place.keys in
@@ -66,7 +65,7 @@ returns-clause-kept c = c.loop-place.invariant.back.kept
 
 pub returns-clause-commits : goal.returns-clause-commits
 returns-clause-commits c =
-    let cs = columns_of c.args.layout.now in
+    let cs = c.args.layout.now in
     let was = c.loop-place.invariant in
     let same = back_end c.args.begin c.args.end c.args.node c.loop-place.other c.loop-place._place was.low c.loop-place-test.false was.count (λ _. c.requires.row) (λ _. was.row) was.place in
     ap (committed cs c.loop-place.commits) (sym same) ∙ was.back.commits

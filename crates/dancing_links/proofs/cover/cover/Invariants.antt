@@ -1,14 +1,14 @@
 use Rattle.std.proofs.Common.{◌-◌, ◌≤◌}
-use Rattle.dancing_links.specs.Columns.{IsLinked, columns_of}
+use Rattle.dancing_links.specs.Columns.{IsLinked}
 use Rattle.dancing_links.specs.Keys.{with_mark}
 use Rattle.dancing_links.proofs.Walk.{Going}
 use Rattle.dancing_links.proofs.cover.cover.Given as goal
 
 abbrev pub invariant-loop-node : goal.invariant-loop-node
 invariant-loop-node l = record {
-  linked : IsLinked (columns_of l.layout) l.links;
+  linked : IsLinked l.layout l.links;
   low : l.layout.heads ≤ l.node;
-  going : Going (columns_of l.layout) l.fn.links l.item 0 l.links (with_mark l.fn.keys l.item) l.keys l.node;
+  going : Going l.layout l.fn.links l.item 0 l.links (with_mark l.fn.keys l.item) l.keys l.node;
 }
 
 abbrev pub decreases-loop-node : goal.decreases-loop-node

@@ -1,39 +1,39 @@
-use Rattle.std.proofs.Common.{◌<◌, arith, ℕ, List, sym, subst}
-use Rattle.dancing_links.specs.Columns.{Columns, columns_of}
+use Rattle.std.proofs.Common.{◌<◌, ◌+◌, ◌∙◌, ap, arith, ℕ, List, sym, subst}
+use Rattle.dancing_links.specs.Columns.{Columns}
 use Rattle.dancing_links.specs.Keys.{with_mark}
-use Rattle.dancing_links.specs.Linking.{down_of}
+use Rattle.dancing_links.specs.Linking.{down_of, unlinked}
 use Rattle.dancing_links.proofs.Walk.{Going, cover_start, cover_step, cover_end}
 use Rattle.dancing_links.proofs.Keyed.{cover_keys}
 use Rattle.dancing_links.proofs.cover.purify.Goals as goal
 
 pub loop-node-init : goal.loop-node-init
 loop-node-init c =
-    let t = c.requires.table in
+    let t = c.tails-tails.ensures.table in
     let linked = c.unlink.ensures.linked in
     let at = linked.1 c.args.item (omega (arith, c.requires.item, linked.0, t.ends)) in
-    let cs : Columns = columns_of c.args.layout.now in
+    let cs : Columns = c.args.layout.now in
     let was : List ℕ = with_mark c.args.keys.now c.args.item in
     let P : List ℕ → Type 0 = λ keys. Going cs c.args.links.now c.args.item c.args.colour c.unlink.new.links was keys (down_of c.unlink.new.links c.args.item) in
     record {
       linked = linked;
       low = (at.rises (omega (arith, c.requires.item, t.order))).1;
-      going = subst P (sym c.turn_mark.ensures) (cover_start cs c.args.links.now c.unlink.new.links was c.args.item c.args.colour t c.unlink.ensures.links);
+      going = subst P (sym c.turn_mark.ensures) (cover_start cs c.args.links.now c.unlink.new.links was c.args.item c.args.colour t (c.unlink.ensures.links ∙ ap (λ (heads : ℕ). unlinked c.args.links.now (heads + c.args.item)) c.heads.ensures.heads));
     }
 
 pub loop-node-preserved : goal.loop-node-preserved
 loop-node-preserved c =
-    let t = c.requires.table in
+    let t = c.tails-tails.ensures.table in
     let linked = c.hide_unless.ensures.linked in
-    let high : c.loop-node.node < c.args.layout.now.tails = c.loop-node-test.true in
+    let high : c.loop-node.node < c.args.layout.now.tails = omega (arith, c.loop-node-test.true, c.tails-tails.ensures.tails) in
     let at = linked.1 c.loop-node.node (omega (arith, high, linked.0, t.ends)) in
     record {
       linked = linked;
       low = (at.rises high).1;
-      going = cover_step (columns_of c.args.layout.now) c.args.links.now c.loop-node.links c.hide_unless.new.links (with_mark c.args.keys.now c.args.item) c.loop-node.keys c.hide_unless.new.keys c.args.item c.args.colour c.loop-node.node t c.loop-node.invariant.low high c.hide_unless.ensures.links c.hide_unless.ensures.keys c.loop-node.invariant.going;
+      going = cover_step c.args.layout.now c.args.links.now c.loop-node.links c.hide_unless.new.links (with_mark c.args.keys.now c.args.item) c.loop-node.keys c.hide_unless.new.keys c.args.item c.args.colour c.loop-node.node t c.loop-node.invariant.low high c.hide_unless.ensures.links c.hide_unless.ensures.keys c.loop-node.invariant.going;
     }
 
 pub returns-clause-links : goal.returns-clause-links
-returns-clause-links c = cover_end (columns_of c.args.layout.now) c.args.links.now c.loop-node.links (with_mark c.args.keys.now c.args.item) c.loop-node.keys c.args.item c.args.colour c.loop-node.node c.loop-node-test.false c.loop-node.invariant.going
+returns-clause-links c = cover_end c.args.layout.now c.args.links.now c.loop-node.links (with_mark c.args.keys.now c.args.item) c.loop-node.keys c.args.item c.args.colour c.loop-node.node (omega (arith, c.loop-node-test.false, c.tails-tails.ensures.tails)) c.loop-node.invariant.going
 
 pub returns-clause-keys : goal.returns-clause-keys
-returns-clause-keys c = cover_keys (columns_of c.args.layout.now) c.args.links.now c.loop-node.links c.args.keys.now c.loop-node.keys c.args.item c.args.colour c.loop-node.node c.requires.table c.loop-node-test.false c.loop-node.invariant.going
+returns-clause-keys c = cover_keys c.args.layout.now c.args.links.now c.loop-node.links c.args.keys.now c.loop-node.keys c.args.item c.args.colour c.loop-node.node c.tails-tails.ensures.table (omega (arith, c.loop-node-test.false, c.tails-tails.ensures.tails)) c.loop-node.invariant.going

@@ -1,6 +1,5 @@
 use Rattle.std.proofs.Common.{List, ℕ, arith, ap, sym, ◌∙◌}
 use Rattle.dancing_links.specs.declared.link.Link.{Link}
-use Rattle.dancing_links.specs.Columns.{columns_of}
 use Rattle.dancing_links.specs.Keys.{more_in_order}
 use Rattle.dancing_links.specs.Linking.{relinks_in_order}
 use Rattle.dancing_links.proofs.Others.{to_come, round_start, round_step, round_end}
@@ -8,8 +7,8 @@ use Rattle.dancing_links.proofs.cover.unhide.Goals as goal
 
 pub loop-other-init : goal.loop-other-init
 loop-other-init c =
-    let cs = columns_of c.args.layout.now in
-    let start = round_start cs c.args.node c.right_among-other.result c.requires.table c.requires.node.0 c.requires.node.1 c.right_among-other.ensures in
+    let cs = c.args.layout.now in
+    let start = round_start cs c.args.node c.right_among-other.result c.right_among-other.ensures.table c.requires.node.0 c.requires.node.1 c.right_among-other.ensures.right in
     record {
       linked = c.requires.linked;
       round = start.0;
@@ -19,14 +18,14 @@ loop-other-init c =
 
 pub loop-other-smaller : goal.loop-other-smaller
 loop-other-smaller c =
-    let step = round_step (columns_of c.args.layout.now) c.args.node c.loop-other.other c.right_among-other-in-loop-other.result c.requires.table c.loop-other.invariant.round c.loop-other-test.true c.right_among-other-in-loop-other.ensures in
+    let step = round_step c.args.layout.now c.args.node c.loop-other.other c.right_among-other-in-loop-other.result c.right_among-other.ensures.table c.loop-other.invariant.round c.loop-other-test.true c.right_among-other-in-loop-other.ensures.right in
     omega (arith, step.fewer)
 
 pub loop-other-preserved : goal.loop-other-preserved
 loop-other-preserved c =
-    let cs = columns_of c.args.layout.now in
+    let cs = c.args.layout.now in
     let next : ℕ = c.right_among-other-in-loop-other.result in
-    let step = round_step (columns_of c.args.layout.now) c.args.node c.loop-other.other c.right_among-other-in-loop-other.result c.requires.table c.loop-other.invariant.round c.loop-other-test.true c.right_among-other-in-loop-other.ensures in
+    let step = round_step c.args.layout.now c.args.node c.loop-other.other c.right_among-other-in-loop-other.result c.right_among-other.ensures.table c.loop-other.invariant.round c.loop-other-test.true c.right_among-other-in-loop-other.ensures.right in
     record {
       linked = c.relink.ensures.linked;
       round = step.round;
@@ -36,10 +35,10 @@ loop-other-preserved c =
 
 pub returns-clause-links : goal.returns-clause-links
 returns-clause-links c =
-    let none = round_end (columns_of c.args.layout.now) c.args.node c.loop-other.other c.loop-other-test.false in
+    let none = round_end c.args.layout.now c.args.node c.loop-other.other c.loop-other-test.false in
     sym (ap (relinks_in_order c.loop-other.links) none) ∙ c.loop-other.invariant.links
 
 pub returns-clause-keys : goal.returns-clause-keys
 returns-clause-keys c =
-    let none = round_end (columns_of c.args.layout.now) c.args.node c.loop-other.other c.loop-other-test.false in
-    sym (ap (more_in_order (columns_of c.args.layout.now) c.loop-other.keys) none) ∙ c.loop-other.invariant.keys
+    let none = round_end c.args.layout.now c.args.node c.loop-other.other c.loop-other-test.false in
+    sym (ap (more_in_order c.args.layout.now c.loop-other.keys) none) ∙ c.loop-other.invariant.keys

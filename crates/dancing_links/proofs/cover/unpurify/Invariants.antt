@@ -1,13 +1,13 @@
 use Rattle.std.proofs.Common.{◌<◌}
-use Rattle.dancing_links.specs.Columns.{IsLinked, columns_of}
+use Rattle.dancing_links.specs.Columns.{IsLinked}
 use Rattle.dancing_links.proofs.Chain.{Back}
 use Rattle.dancing_links.proofs.cover.unpurify.Given as goal
 
 abbrev pub invariant-loop-node : goal.invariant-loop-node
 invariant-loop-node l = record {
-  linked : IsLinked (columns_of l.layout) l.links;
+  linked : IsLinked l.layout l.links;
   high : l.node < l.layout.tails;
-  back : Back (columns_of l.layout) l.fn.links l.item l.colour l.links l.fn.keys l.keys l.node;
+  back : Back l.layout l.fn.links l.item l.colour l.links l.fn.keys l.keys l.node;
 }
 
 abbrev pub decreases-loop-node : goal.decreases-loop-node

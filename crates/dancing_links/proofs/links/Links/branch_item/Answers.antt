@@ -2,7 +2,6 @@ use Rattle.std.proofs.Common.{◌≡◌, ℕ, List, take, ap, ◌∙◌, vec_cap
 use Rattle.cover_problem.specs.Branching.{branch_item, IsOpen}
 use Rattle.cover_problem.specs.Problem.{IsProblem}
 use Rattle.dancing_links.specs.Choices.{Choices}
-use Rattle.dancing_links.specs.Columns.{columns_of}
 use Rattle.dancing_links.specs.Keys.{least_from}
 use Rattle.dancing_links.proofs.Branching.{least_told, told_item, told_open}
 use Rattle.dancing_links.proofs.Views.{open_named}
@@ -14,7 +13,7 @@ returns-clause-item c =
     let os = c.self.inside.chosen.items in
     let keys = c.self.inside.keys.items in
     let least : c.least_of-least.result ≡ least_from 4294967295 (take p.primary keys) = c.least_of-least.ensures ∙ ap (λ (n : ℕ). least_from 4294967295 (take n c.deref.result.now)) c.primary-primary.ensures.count ∙ ap (λ (ks : List ℕ). least_from 4294967295 (take p.primary ks)) c.deref.ensures.value in
-    let told = least_told p (columns_of c.self.inside.layout) os c.self.inside.entries.items c.self.inside.links.items keys (vec_capacity c.self.inside.chosen) c.least_of-least.result c.self.invariant.0 least in
+    let told = least_told p c.self.inside.layout os c.self.inside.entries.items c.self.inside.links.items keys (vec_capacity c.self.inside.chosen) c.least_of-least.result c.self.invariant.0 least in
     told_item p os keys c.least_of-least.result c.item_in.result told c.item_in.ensures ∙ ap (λ (v : Choices). branch_item v.problem v.chosen) c.self.view_is
 
 pub returns-clause-uncovered : goal.returns-clause-uncovered
@@ -23,7 +22,7 @@ returns-clause-uncovered c =
     let os = c.self.inside.chosen.items in
     let keys = c.self.inside.keys.items in
     let least : c.least_of-least.result ≡ least_from 4294967295 (take p.primary keys) = c.least_of-least.ensures ∙ ap (λ (n : ℕ). least_from 4294967295 (take n c.deref.result.now)) c.primary-primary.ensures.count ∙ ap (λ (ks : List ℕ). least_from 4294967295 (take p.primary ks)) c.deref.ensures.value in
-    let told = least_told p (columns_of c.self.inside.layout) os c.self.inside.entries.items c.self.inside.links.items keys (vec_capacity c.self.inside.chosen) c.least_of-least.result c.self.invariant.0 least in
+    let told = least_told p c.self.inside.layout os c.self.inside.entries.items c.self.inside.links.items keys (vec_capacity c.self.inside.chosen) c.least_of-least.result c.self.invariant.0 least in
     let Q : Choices → Type 0 = λ v. IfSome c.item_in.result (IsOpen v.problem v.chosen) in
     subst Q c.self.view_is (told_open p os keys c.least_of-least.result c.item_in.result told c.item_in.ensures)
 

@@ -2,16 +2,15 @@ use Rattle.std.proofs.Common.{◌≡◌, ◌<◌, length, false, arith, ap, sym,
 use Rattle.cover_problem.specs.Onward.{live_options_from}
 use Rattle.cover_problem.specs.Prefix.{is_covered}
 use Rattle.dancing_links.specs.Choices.{Choices, IsChild, commits_of}
-use Rattle.dancing_links.specs.Columns.{columns_of}
 use Rattle.dancing_links.proofs.Ranges.{table_of}
 use Rattle.dancing_links.proofs.Chosen.{room_left, same_length, held_kept, commits_pushed, links_push, put_back, same_links_of, view_push}
 use Rattle.dancing_links.proofs.Next.{below_head, choice_of}
 use Rattle.dancing_links.proofs.links.Links.choose_first.Goals as goal
 
-pub returns-then-node-self-clause-first : goal.returns-then-node-self-clause-first
-returns-then-node-self-clause-first c =
+pub returns-then-node-tails-clause-first : goal.returns-then-node-tails-clause-first
+returns-then-node-tails-clause-first c =
     let p = c.self.inside.problem.now in
-    let cs = columns_of c.self.inside.layout in
+    let cs = c.self.inside.layout in
     let os = c.self.inside.chosen.items in
     let es = c.self.inside.entries.items in
     let room = vec_capacity c.self.inside.chosen in
@@ -19,26 +18,12 @@ returns-then-node-self-clause-first c =
     let inside : c.args.item < length c.self.inside.problem.now.names = omega (arith, c.requires.item, ap (λ (v : Choices). length v.problem.names) c.self.view_is) in
     let free : is_covered c.self.inside.problem.now c.self.inside.chosen.items c.args.item ≡ false = ap (λ (v : Choices). is_covered v.problem v.chosen c.args.item) c.self.view_is ∙ c.requires.uncovered in
     let below = below_head p cs os es c.self.inside.links.items c.self.inside.keys.items room c.args.item c.index.result.now c.self.invariant.0 inside free c.index.ensures in
-    sym (below.none (omega (arith, c.if-node-self.true))) ∙ ap (λ (v : Choices). slice_get (live_options_from v.problem v.chosen c.args.item 0) 0) c.self.view_is
-
-pub index-option-requires : goal.index-option-requires
-index-option-requires c =
-    let p = c.self.inside.problem.now in
-    let cs = columns_of c.self.inside.layout in
-    let os = c.self.inside.chosen.items in
-    let es = c.self.inside.entries.items in
-    let room = vec_capacity c.self.inside.chosen in
-    let t = table_of p cs c.self.invariant.0.is_problem c.self.invariant.0.layout in
-    let inside : c.args.item < length c.self.inside.problem.now.names = omega (arith, c.requires.item, ap (λ (v : Choices). length v.problem.names) c.self.view_is) in
-    let free : is_covered c.self.inside.problem.now c.self.inside.chosen.items c.args.item ≡ false = ap (λ (v : Choices). is_covered v.problem v.chosen c.args.item) c.self.view_is ∙ c.requires.uncovered in
-    let below = below_head p cs os es c.self.inside.links.items c.self.inside.keys.items room c.args.item c.index.result.now c.self.invariant.0 inside free c.index.ensures in
-    let node = (below.some (omega (arith, c.if-node-self.false))).0 in
-    omega (arith, node.1, t.option, t.ends, c.self.inside.layout.options.ok.0)
+    sym (below.none (omega (arith, c.if-node-tails.true, c.tails.ensures.tails))) ∙ ap (λ (v : Choices). slice_get (live_options_from v.problem v.chosen c.args.item 0) 0) c.self.view_is
 
 pub cover_from-requires-clause-node : goal.cover_from-requires-clause-node
 cover_from-requires-clause-node c =
     let p = c.self.inside.problem.now in
-    let cs = columns_of c.self.inside.layout in
+    let cs = c.self.inside.layout in
     let os = c.self.inside.chosen.items in
     let es = c.self.inside.entries.items in
     let room = vec_capacity c.self.inside.chosen in
@@ -46,26 +31,16 @@ cover_from-requires-clause-node c =
     let inside : c.args.item < length c.self.inside.problem.now.names = omega (arith, c.requires.item, ap (λ (v : Choices). length v.problem.names) c.self.view_is) in
     let free : is_covered c.self.inside.problem.now c.self.inside.chosen.items c.args.item ≡ false = ap (λ (v : Choices). is_covered v.problem v.chosen c.args.item) c.self.view_is ∙ c.requires.uncovered in
     let below = below_head p cs os es c.self.inside.links.items c.self.inside.keys.items room c.args.item c.index.result.now c.self.invariant.0 inside free c.index.ensures in
-    let choice = choice_of p cs os c.args.item 0 c.index.result.now.down c.index-option.result.now t below (omega (arith, c.if-node-self.false)) c.index-option.ensures in
+    let choice = choice_of p cs os c.args.item 0 c.index.result.now.down c.option_at-option.result t below (omega (arith, c.if-node-tails.false, c.tails.ensures.tails)) c.option_at-option.ensures.option in
     choice.node
 
-pub cover_from-requires-clause-table : goal.cover_from-requires-clause-table
-cover_from-requires-clause-table c =
-    let p = c.self.inside.problem.now in
-    let cs = columns_of c.self.inside.layout in
-    let os = c.self.inside.chosen.items in
-    let es = c.self.inside.entries.items in
-    let room = vec_capacity c.self.inside.chosen in
-    let t = table_of p cs c.self.invariant.0.is_problem c.self.invariant.0.layout in
-    t
-
 pub cover_from-requires-clause-commits : goal.cover_from-requires-clause-commits
-cover_from-requires-clause-commits c = held_kept c.self.inside.problem.now (columns_of c.self.inside.layout) c.self.inside.chosen.items c.self.inside.entries.items c.self.inside.links.items c.self.inside.keys.items (vec_capacity c.self.inside.chosen) c.deref_mut-3.result.now c.self.invariant.0 (c.deref_mut-3.ensures.value ∙ c.self.invariant.2)
+cover_from-requires-clause-commits c = held_kept c.self.inside.problem.now c.self.inside.layout c.self.inside.chosen.items c.self.inside.entries.items c.self.inside.links.items c.self.inside.keys.items (vec_capacity c.self.inside.chosen) c.deref_mut-3.result.now c.self.invariant.0 (c.deref_mut-3.ensures.value ∙ c.self.invariant.2)
 
 pub push_reserved-requires : goal.push_reserved-requires
 push_reserved-requires c =
     let p = c.self.inside.problem.now in
-    let cs = columns_of c.self.inside.layout in
+    let cs = c.self.inside.layout in
     let os = c.self.inside.chosen.items in
     let es = c.self.inside.entries.items in
     let room = vec_capacity c.self.inside.chosen in
@@ -73,15 +48,15 @@ push_reserved-requires c =
     let inside : c.args.item < length c.self.inside.problem.now.names = omega (arith, c.requires.item, ap (λ (v : Choices). length v.problem.names) c.self.view_is) in
     let free : is_covered c.self.inside.problem.now c.self.inside.chosen.items c.args.item ≡ false = ap (λ (v : Choices). is_covered v.problem v.chosen c.args.item) c.self.view_is ∙ c.requires.uncovered in
     let below = below_head p cs os es c.self.inside.links.items c.self.inside.keys.items room c.args.item c.index.result.now c.self.invariant.0 inside free c.index.ensures in
-    let choice = choice_of p cs os c.args.item 0 c.index.result.now.down c.index-option.result.now t below (omega (arith, c.if-node-self.false)) c.index-option.ensures in
-    let left = room_left p os c.index-option.result.now c.self.invariant.0.is_problem c.self.invariant.0.prefix choice.child.inside choice.child.live in
+    let choice = choice_of p cs os c.args.item 0 c.index.result.now.down c.option_at-option.result t below (omega (arith, c.if-node-tails.false, c.tails.ensures.tails)) c.option_at-option.ensures.option in
+    let left = room_left p os c.option_at-option.result c.self.invariant.0.is_problem c.self.invariant.0.prefix choice.child.inside choice.child.live in
     let same = same_length p cs os es c.self.inside.links.items c.self.inside.keys.items room c.self.invariant.0 in
     omega (arith, left, same, c.self.invariant.1, c.self.inside.entries.ok.0)
 
 pub push_reserved-requires-2 : goal.push_reserved-requires-2
 push_reserved-requires-2 c =
     let p = c.self.inside.problem.now in
-    let cs = columns_of c.self.inside.layout in
+    let cs = c.self.inside.layout in
     let os = c.self.inside.chosen.items in
     let es = c.self.inside.entries.items in
     let room = vec_capacity c.self.inside.chosen in
@@ -89,14 +64,14 @@ push_reserved-requires-2 c =
     let inside : c.args.item < length c.self.inside.problem.now.names = omega (arith, c.requires.item, ap (λ (v : Choices). length v.problem.names) c.self.view_is) in
     let free : is_covered c.self.inside.problem.now c.self.inside.chosen.items c.args.item ≡ false = ap (λ (v : Choices). is_covered v.problem v.chosen c.args.item) c.self.view_is ∙ c.requires.uncovered in
     let below = below_head p cs os es c.self.inside.links.items c.self.inside.keys.items room c.args.item c.index.result.now c.self.invariant.0 inside free c.index.ensures in
-    let choice = choice_of p cs os c.args.item 0 c.index.result.now.down c.index-option.result.now t below (omega (arith, c.if-node-self.false)) c.index-option.ensures in
-    let left = room_left p os c.index-option.result.now c.self.invariant.0.is_problem c.self.invariant.0.prefix choice.child.inside choice.child.live in
+    let choice = choice_of p cs os c.args.item 0 c.index.result.now.down c.option_at-option.result t below (omega (arith, c.if-node-tails.false, c.tails.ensures.tails)) c.option_at-option.ensures.option in
+    let left = room_left p os c.option_at-option.result c.self.invariant.0.is_problem c.self.invariant.0.prefix choice.child.inside choice.child.live in
     omega (arith, left, c.self.invariant.0.enough, c.self.inside.chosen.ok.0)
 
 pub invariant_of-self : goal.invariant_of-self
 invariant_of-self c =
     let p = c.self.inside.problem.now in
-    let cs = columns_of c.self.inside.layout in
+    let cs = c.self.inside.layout in
     let os = c.self.inside.chosen.items in
     let es = c.self.inside.entries.items in
     let room = vec_capacity c.self.inside.chosen in
@@ -104,11 +79,11 @@ invariant_of-self c =
     let inside : c.args.item < length c.self.inside.problem.now.names = omega (arith, c.requires.item, ap (λ (v : Choices). length v.problem.names) c.self.view_is) in
     let free : is_covered c.self.inside.problem.now c.self.inside.chosen.items c.args.item ≡ false = ap (λ (v : Choices). is_covered v.problem v.chosen c.args.item) c.self.view_is ∙ c.requires.uncovered in
     let below = below_head p cs os es c.self.inside.links.items c.self.inside.keys.items room c.args.item c.index.result.now c.self.invariant.0 inside free c.index.ensures in
-    let choice = choice_of p cs os c.args.item 0 c.index.result.now.down c.index-option.result.now t below (omega (arith, c.if-node-self.false)) c.index-option.ensures in
-    let option = c.index-option.result.now in
+    let choice = choice_of p cs os c.args.item 0 c.index.result.now.down c.option_at-option.result t below (omega (arith, c.if-node-tails.false, c.tails.ensures.tails)) c.option_at-option.ensures.option in
+    let option = c.option_at-option.result in
     let node = c.index.result.now.down in
     let before = same_links_of p cs os os es es c.self.inside.links.items c.deref_mut.result.now c.self.inside.keys.items c.deref_mut-2.result.now room room refl refl c.deref_mut.ensures.value c.deref_mut-2.ensures.value refl c.self.invariant.0 in
-    let held : c.deref_mut-3.result.now ≡ commits_of (columns_of c.self.inside.layout) c.self.inside.entries.items = c.deref_mut-3.ensures.value ∙ c.self.invariant.2 in
+    let held : c.deref_mut-3.result.now ≡ commits_of c.self.inside.layout c.self.inside.entries.items = c.deref_mut-3.ensures.value ∙ c.self.invariant.2 in
     let commits = commits_pushed cs es node c.deref_mut-3.result.now c.cover_from.new.commits held c.cover_from.ensures.commits in
     let after = links_push p cs os es c.deref_mut.result.now c.cover_from.new.links c.deref_mut-2.result.now c.cover_from.new.keys c.deref_mut-3.result.now room option node before held choice.child.inside choice.child.live (ap (is_covered p os) choice.column ∙ free) choice.node choice.option c.cover_from.ensures.linked c.cover_from.ensures.links c.cover_from.ensures.keys in
     (same_links_of p cs (os ++ option ∷ []) c.push_reserved-2.new.self.items (es ++ node ∷ []) c.push_reserved.new.self.items c.cover_from.new.links _ c.cover_from.new.keys _ room _ c.push_reserved-2.ensures.items c.push_reserved.ensures.items (put_back c.cover_from.new.links _ c.self.inside.links.len (omega (arith, c.cover_from.ensures.linked.0, c.self.invariant.0.linked.0, c.self.inside.links.ok.0))) (put_back c.cover_from.new.keys _ c.self.inside.keys.len (omega (arith, c.cover_from.auto.keys, c.deref_mut-2.ensures.len, c.self.inside.keys.ok.0))) c.push_reserved-2.ensures.capacity after, omega (arith, c.self.invariant.1, c.push_reserved.ensures.capacity), put_back c.cover_from.new.commits _ c.self.inside.commits.len (omega (arith, c.cover_from.auto.commits, c.deref_mut-3.ensures.len, c.self.inside.commits.ok.0)) ∙ commits ∙ ap (commits_of cs) (sym c.push_reserved.ensures.items))
@@ -116,7 +91,7 @@ invariant_of-self c =
 pub returns-clause-first : goal.returns-clause-first
 returns-clause-first c =
     let p = c.self.inside.problem.now in
-    let cs = columns_of c.self.inside.layout in
+    let cs = c.self.inside.layout in
     let os = c.self.inside.chosen.items in
     let es = c.self.inside.entries.items in
     let room = vec_capacity c.self.inside.chosen in
@@ -124,13 +99,13 @@ returns-clause-first c =
     let inside : c.args.item < length c.self.inside.problem.now.names = omega (arith, c.requires.item, ap (λ (v : Choices). length v.problem.names) c.self.view_is) in
     let free : is_covered c.self.inside.problem.now c.self.inside.chosen.items c.args.item ≡ false = ap (λ (v : Choices). is_covered v.problem v.chosen c.args.item) c.self.view_is ∙ c.requires.uncovered in
     let below = below_head p cs os es c.self.inside.links.items c.self.inside.keys.items room c.args.item c.index.result.now c.self.invariant.0 inside free c.index.ensures in
-    let choice = choice_of p cs os c.args.item 0 c.index.result.now.down c.index-option.result.now t below (omega (arith, c.if-node-self.false)) c.index-option.ensures in
+    let choice = choice_of p cs os c.args.item 0 c.index.result.now.down c.option_at-option.result t below (omega (arith, c.if-node-tails.false, c.tails.ensures.tails)) c.option_at-option.ensures.option in
     choice.first ∙ ap (λ (v : Choices). slice_get (live_options_from v.problem v.chosen c.args.item 0) 0) c.self.view_is
 
 pub returns-clause-child : goal.returns-clause-child
 returns-clause-child c =
     let p = c.self.inside.problem.now in
-    let cs = columns_of c.self.inside.layout in
+    let cs = c.self.inside.layout in
     let os = c.self.inside.chosen.items in
     let es = c.self.inside.entries.items in
     let room = vec_capacity c.self.inside.chosen in
@@ -138,14 +113,14 @@ returns-clause-child c =
     let inside : c.args.item < length c.self.inside.problem.now.names = omega (arith, c.requires.item, ap (λ (v : Choices). length v.problem.names) c.self.view_is) in
     let free : is_covered c.self.inside.problem.now c.self.inside.chosen.items c.args.item ≡ false = ap (λ (v : Choices). is_covered v.problem v.chosen c.args.item) c.self.view_is ∙ c.requires.uncovered in
     let below = below_head p cs os es c.self.inside.links.items c.self.inside.keys.items room c.args.item c.index.result.now c.self.invariant.0 inside free c.index.ensures in
-    let choice = choice_of p cs os c.args.item 0 c.index.result.now.down c.index-option.result.now t below (omega (arith, c.if-node-self.false)) c.index-option.ensures in
-    let P : Choices → Type 0 = λ v. IsChild v.problem v.chosen c.args.item c.index-option.result.now in
+    let choice = choice_of p cs os c.args.item 0 c.index.result.now.down c.option_at-option.result t below (omega (arith, c.if-node-tails.false, c.tails.ensures.tails)) c.option_at-option.ensures.option in
+    let P : Choices → Type 0 = λ v. IsChild v.problem v.chosen c.args.item c.option_at-option.result in
     subst P c.self.view_is choice.child
 
 pub returns-clause-chosen : goal.returns-clause-chosen
 returns-clause-chosen c =
     let p = c.self.inside.problem.now in
-    let cs = columns_of c.self.inside.layout in
+    let cs = c.self.inside.layout in
     let os = c.self.inside.chosen.items in
     let es = c.self.inside.entries.items in
     let room = vec_capacity c.self.inside.chosen in
@@ -153,5 +128,5 @@ returns-clause-chosen c =
     let inside : c.args.item < length c.self.inside.problem.now.names = omega (arith, c.requires.item, ap (λ (v : Choices). length v.problem.names) c.self.view_is) in
     let free : is_covered c.self.inside.problem.now c.self.inside.chosen.items c.args.item ≡ false = ap (λ (v : Choices). is_covered v.problem v.chosen c.args.item) c.self.view_is ∙ c.requires.uncovered in
     let below = below_head p cs os es c.self.inside.links.items c.self.inside.keys.items room c.args.item c.index.result.now c.self.invariant.0 inside free c.index.ensures in
-    let choice = choice_of p cs os c.args.item 0 c.index.result.now.down c.index-option.result.now t below (omega (arith, c.if-node-self.false)) c.index-option.ensures in
-    view_push c.args.self.now p cs os es c.push_reserved-2.new.self.items c.push_reserved.new.self.items c.index-option.result.now c.index.result.now.down c.args.item c.self.view_is c.push_reserved-2.ensures.items c.push_reserved.ensures.items choice.column
+    let choice = choice_of p cs os c.args.item 0 c.index.result.now.down c.option_at-option.result t below (omega (arith, c.if-node-tails.false, c.tails.ensures.tails)) c.option_at-option.ensures.option in
+    view_push c.args.self.now p cs os es c.push_reserved-2.new.self.items c.push_reserved.new.self.items c.option_at-option.result c.index.result.now.down c.args.item c.self.view_is c.push_reserved-2.ensures.items c.push_reserved.ensures.items choice.column

@@ -4,7 +4,6 @@ use Rattle.cover_problem.specs.Prefix.{is_covered, is_live}
 use Rattle.cover_problem.specs.Problem.{names_item}
 use Rattle.dancing_links.specs.declared.link.Link.{Link}
 use Rattle.dancing_links.specs.Choices.{Choices}
-use Rattle.dancing_links.specs.Columns.{columns_of}
 use Rattle.dancing_links.specs.Linking.{down_of}
 use Rattle.dancing_links.specs.Walking.{options_left}
 use Rattle.dancing_links.proofs.Ranges.{table_of, first_room, range_of}
@@ -14,31 +13,25 @@ use Rattle.dancing_links.proofs.links.Links.next_option.Goals as goal
 pub node_range-begin-requires : goal.node_range-begin-requires
 node_range-begin-requires c =
     let inside : c.args.option < length c.self.inside.problem.now.options = omega (arith, c.requires.child.inside, ap (λ (v : Choices). length v.problem.options) c.self.view_is) in
-    first_room c.self.inside.problem.now (columns_of c.self.inside.layout) c.args.option c.self.invariant.0.layout inside
+    first_room c.self.inside.problem.now c.self.inside.layout c.args.option c.self.invariant.0.layout inside
 
-pub node_of-node-requires-clause-range : goal.node_of-node-requires-clause-range
-node_of-node-requires-clause-range c =
+pub node_of-node-requires : goal.node_of-node-requires
+node_of-node-requires c =
     let inside : c.args.option < length c.self.inside.problem.now.options = omega (arith, c.requires.child.inside, ap (λ (v : Choices). length v.problem.options) c.self.view_is) in
-    let range = range_of c.self.inside.problem.now (columns_of c.self.inside.layout) c.args.option c.node_range-begin.result.0 c.node_range-begin.result.1 c.self.invariant.0.layout inside c.node_range-begin.ensures.begin c.node_range-begin.ensures.end in
-    (range.low, range.order, range.high)
-
-pub node_of-node-requires-clause-table : goal.node_of-node-requires-clause-table
-node_of-node-requires-clause-table c = table_of c.self.inside.problem.now (columns_of c.self.inside.layout) c.self.invariant.0.is_problem c.self.invariant.0.layout
+    let range = range_of c.self.inside.problem.now c.self.inside.layout c.args.option c.node_range-begin.result.0 c.node_range-begin.result.1 c.self.invariant.0.layout inside c.node_range-begin.ensures.begin c.node_range-begin.ensures.end in
+    record { range = (range.low, range.order, range.high) }
 
 pub option_below-requires-clause-node : goal.option_below-requires-clause-node
 option_below-requires-clause-node c =
     let inside : c.args.option < length c.self.inside.problem.now.options = omega (arith, c.requires.child.inside, ap (λ (v : Choices). length v.problem.options) c.self.view_is) in
-    let range = range_of c.self.inside.problem.now (columns_of c.self.inside.layout) c.args.option c.node_range-begin.result.0 c.node_range-begin.result.1 c.self.invariant.0.layout inside c.node_range-begin.ensures.begin c.node_range-begin.ensures.end in
-    let t = table_of c.self.inside.problem.now (columns_of c.self.inside.layout) c.self.invariant.0.is_problem c.self.invariant.0.layout in
+    let range = range_of c.self.inside.problem.now c.self.inside.layout c.args.option c.node_range-begin.result.0 c.node_range-begin.result.1 c.self.invariant.0.layout inside c.node_range-begin.ensures.begin c.node_range-begin.ensures.end in
+    let t = table_of c.self.inside.problem.now c.self.inside.layout c.self.invariant.0.is_problem c.self.invariant.0.layout in
     omega (arith, c.node_of-node.ensures.high, range.high, t.ends, t.some, c.self.invariant.0.linked.0, ap length c.deref.ensures.value)
-
-pub option_below-requires-clause-table : goal.option_below-requires-clause-table
-option_below-requires-clause-table c = table_of c.self.inside.problem.now (columns_of c.self.inside.layout) c.self.invariant.0.is_problem c.self.invariant.0.layout
 
 pub returns-clause-next : goal.returns-clause-next
 returns-clause-next c =
     let p = c.self.inside.problem.now in
-    let cs = columns_of c.self.inside.layout in
+    let cs = c.self.inside.layout in
     let os = c.self.inside.chosen.items in
     let inside_item : c.args.item < length c.self.inside.problem.now.names = omega (arith, c.requires.item, ap (λ (v : Choices). length v.problem.names) c.self.view_is) in
     let inside : c.args.option < length c.self.inside.problem.now.options = omega (arith, c.requires.child.inside, ap (λ (v : Choices). length v.problem.options) c.self.view_is) in

@@ -3,19 +3,14 @@ use Rattle.cover_problem.specs.Branching.{live_options}
 use Rattle.cover_problem.specs.Prefix.{is_covered}
 use Rattle.dancing_links.specs.declared.link.Link.{Link}
 use Rattle.dancing_links.specs.Choices.{Choices}
-use Rattle.dancing_links.specs.Columns.{columns_of}
 use Rattle.dancing_links.specs.Walking.{options_left}
-use Rattle.dancing_links.proofs.Ranges.{table_of}
 use Rattle.dancing_links.proofs.Views.{left_read}
 use Rattle.dancing_links.proofs.links.Links.options_of.Goals as goal
-
-pub from_node-requires-clause-table : goal.from_node-requires-clause-table
-from_node-requires-clause-table c = table_of c.self.inside.problem.now (columns_of c.self.inside.layout) c.self.invariant.0.is_problem c.self.invariant.0.layout
 
 pub returns : goal.returns
 returns c =
     let p = c.self.inside.problem.now in
-    let cs = columns_of c.self.inside.layout in
+    let cs = c.self.inside.layout in
     let os = c.self.inside.chosen.items in
     let inside : c.args.item < length c.self.inside.problem.now.names = omega (arith, c.requires.item, ap (λ (v : Choices). length v.problem.names) c.self.view_is) in
     let free : is_covered c.self.inside.problem.now c.self.inside.chosen.items c.args.item ≡ false = ap (λ (v : Choices). is_covered v.problem v.chosen c.args.item) c.self.view_is ∙ c.requires.uncovered in
