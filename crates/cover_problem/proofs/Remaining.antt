@@ -36,7 +36,3 @@ open_items_from_end p xs i h = let e : p.primary - i ≡ 0 = omega arith in rw e
 pub live_options_start : (p : Problem) (xs : List ℕ) (i : ℕ) → live_options_from p xs i 0 ≡ live_options p xs i
 unfolding live_options_from live_options
 live_options_start p xs i = let e : length p.options - 0 ≡ length p.options = omega arith in rw e refl
-
-pub open_items_start : (p : Problem) (xs : List ℕ) → open_items_from p xs 0 ≡ open_items p xs
-unfolding open_items_from open_items
-open_items_start p xs = let e : p.primary - 0 ≡ p.primary = omega arith in rw e refl

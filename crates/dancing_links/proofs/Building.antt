@@ -7,7 +7,7 @@ use Rattle.std.proofs.lemmas.List.FromFn.{length-range_with_len, get_or-range_wi
 use Rattle.std.proofs.lemmas.List.Elements.{All-get_or}
 use Rattle.dancing_links.specs.declared.link.Link.{Link}
 use Rattle.dancing_links.specs.Building.{IsBuilt, IsLast, IsBuilding}
-use Rattle.dancing_links.specs.Columns.{Columns, column_of, IsNext, IsTable, IsLinked}
+use Rattle.dancing_links.specs.Columns.{Columns, column_of, IsNext, IsTable}
 use Rattle.dancing_links.specs.Linking.{up_of, down_of, with_up, with_down}
 use Rattle.dancing_links.proofs.Law.{up-with_up_same, up-with_up_other, down-with_up, down-with_down_same, down-with_down_other, up-with_down, length-with_up, length-with_down}
 
@@ -133,23 +133,6 @@ building_end c lasts m t b = record {
   heads_up = b.heads_up;
   tails_down = b.tails_down;
 }
-
-pub linked_built : (c : Columns) (m : List Link) → IsTable c → IsBuilt c m → IsLinked c m
-linked_built c m t b = (
-  b.spelled.count,
-  λ k h. record {
-    up_in = elim (cases_lt k c.heads) [
-      | inl head ↦ omega (arith, b.heads_up k head, h)
-      | inr low ↦ let next = b.spelled.up k low (omega (arith, b.spelled.count, h)) refl in omega (arith, next.below, h)
-    ];
-    down_in = elim (cases_lt k c.tails) [
-      | inl high ↦ let next = b.spelled.down k high refl in omega (arith, next.inside, b.spelled.count)
-      | inr tail ↦ omega (arith, b.tails_down k tail, h)
-    ];
-    rises = λ high. let next = b.spelled.down k high refl in (next.below, next.low);
-    falls = λ low. let next = b.spelled.up k low (omega (arith, b.spelled.count, h)) refl in (next.below, next.high);
-  },
-)
 
 pub building_step_at : (c : Columns) (node i above : ℕ) (lasts : List ℕ) (m : List Link) → IsTable c → c.heads ≤ node → node < length c.column → i ≡ column_of c node → above ≡ get_or lasts i 0 → IsBuilding c node lasts m → IsBuilding c (node + 1) (set lasts i node) (with_up (with_down m above node) node above)
 building_step_at c node i above lasts m t low inside e is b =

@@ -3,12 +3,12 @@ use Rattle.std.proofs.Common.{◌≡◌, ℕ, ◌+◌, ◌<◌, get_or, List, []
 use Rattle.dancing_links.specs.declared.link.Link.{Link}
 use Rattle.dancing_links.specs.Columns.{Columns, column_of, colour_at, IsSpelled, IsTable}
 use Rattle.dancing_links.specs.Committing.{IsCommits, IsFirst, Recovers, commit, uncommit, committed, covering}
-use Rattle.dancing_links.specs.Keys.{IsKeyed, KeysCovered, KeysUncovered, KeysCoveredAll, KeysUncoveredAll}
-use Rattle.dancing_links.specs.Covering.{outs, hidden_from, covered, covered_by, IsOpen, Covers, Uncovers, CoversAll, UncoversAll, outs_all, links_all, AreOpen}
+use Rattle.dancing_links.specs.Keys.{IsKeyed, KeysCovered, KeysCoveredAll, KeysUncoveredAll}
+use Rattle.dancing_links.specs.Covering.{outs, hidden_from, covered, covered_by, IsOpen, CoversAll, UncoversAll, outs_all, links_all, AreOpen}
 use Rattle.dancing_links.specs.Linking.{unlinked, unlinks}
 use Rattle.dancing_links.proofs.Walk.{spelled_unlinks, whole_item, item_out}
 use Rattle.dancing_links.proofs.Chain.{going_all}
-use Rattle.dancing_links.proofs.Commits.{commit_plain, uncommit_plain, repeated_plain, commit_uncommit, uncommit_commit, uncommit_kept, repeated_none, covering_new, covering_one}
+use Rattle.dancing_links.proofs.Commits.{commit_plain, repeated_plain, commit_uncommit, uncommit_commit, uncommit_kept, repeated_none, covering_new, covering_one}
 
 -- once an item is covered, the links are spelled without what that took out
 pub spelled_cover : (c : Columns) (out : List ℕ) (m : List Link) (i a : ℕ) → IsTable c → IsSpelled c out m → IsOpen c out i → IsSpelled c (outs (covered c out i a) out) (unlinks m (covered c out i a))
@@ -41,17 +41,8 @@ open_parts c out (x ∷ xs) ys are = let rest = open_parts c (outs (covered_by c
 
 -- ---- one node alone
 
-pub one_covers : (c : Columns) (old new : List Link) (k : ℕ) → Covers c old (column_of c k) (colour_at c k) new → CoversAll c old (k ∷ []) new
-one_covers c old new k covers = λ out s are. covers out s are.0
-
 pub one_keys : (c : Columns) (old : List Link) (k : ℕ) (was now : List ℕ) → KeysCovered c old (column_of c k) (colour_at c k) was now → KeysCoveredAll c old (k ∷ []) was now
 one_keys c old k was now keys = λ out s are. keys out s are.0
-
-pub one_uncovers : (c : Columns) (old new : List Link) (k : ℕ) → Uncovers c old (column_of c k) (colour_at c k) new → UncoversAll c old (k ∷ []) new
-one_uncovers c old new k uncovers = λ out before s are e. uncovers out before s are.0 e
-
-pub one_unkeys : (c : Columns) (old : List Link) (k : ℕ) (was now : List ℕ) → KeysUncovered c old (column_of c k) (colour_at c k) was now → KeysUncoveredAll c old (k ∷ []) was now
-one_unkeys c old k was now keys = λ out before s are e keyed. keys out before s are.0 e keyed
 
 -- ---- some nodes, and then more
 
@@ -162,45 +153,14 @@ back_step c old now new done was is grown held holds k t item uncovers keys at =
       commits = ap (λ (commits : List ℕ). committed c commits done) same ∙ at.commits;
     }
 
--- ---- the same, where nodes have no colours
+-- ---- where a node has no colour
 
-plain_covers : (c : Columns) (old new : List Link) (i k : ℕ) (held : List ℕ) → colour_at c k ≡ 0 → i ≡ column_of c k → Covers c old i 0 new → CoversAll c old (covering c held (k ∷ [])) new
-plain_covers c old new i k held plain e covers =
-    let P : ℕ → Type 0 = λ a. Covers c old (column_of c k) a new in
-    let Q : ℕ → Type 0 = λ j. Covers c old j 0 new in
-    let R : List ℕ → Type 0 = λ ks. CoversAll c old ks new in
-    subst R (sym (covering_new c held k [] (repeated_plain c held k plain))) (one_covers c old new k (subst P (sym plain) (subst Q e covers)))
-
-plain_keys : (c : Columns) (old : List Link) (i k : ℕ) (was now held : List ℕ) → colour_at c k ≡ 0 → i ≡ column_of c k → KeysCovered c old i 0 was now → KeysCoveredAll c old (covering c held (k ∷ [])) was now
+pub plain_keys : (c : Columns) (old : List Link) (i k : ℕ) (was now held : List ℕ) → colour_at c k ≡ 0 → i ≡ column_of c k → KeysCovered c old i 0 was now → KeysCoveredAll c old (covering c held (k ∷ [])) was now
 plain_keys c old i k was now held plain e keys =
     let P : ℕ → Type 0 = λ a. KeysCovered c old (column_of c k) a was now in
     let Q : ℕ → Type 0 = λ j. KeysCovered c old j 0 was now in
     let R : List ℕ → Type 0 = λ ks. KeysCoveredAll c old ks was now in
     subst R (sym (covering_new c held k [] (repeated_plain c held k plain))) (one_keys c old k was now (subst P (sym plain) (subst Q e keys)))
-
-plain_uncovers : (c : Columns) (old new : List Link) (i k : ℕ) (held : List ℕ) → colour_at c k ≡ 0 → i ≡ column_of c k → Uncovers c old i 0 new → UncoversAll c old (covering c held (k ∷ [])) new
-plain_uncovers c old new i k held plain e uncovers =
-    let P : ℕ → Type 0 = λ a. Uncovers c old (column_of c k) a new in
-    let Q : ℕ → Type 0 = λ j. Uncovers c old j 0 new in
-    let R : List ℕ → Type 0 = λ ks. UncoversAll c old ks new in
-    subst R (sym (covering_new c held k [] (repeated_plain c held k plain))) (one_uncovers c old new k (subst P (sym plain) (subst Q e uncovers)))
-
-plain_unkeys : (c : Columns) (old : List Link) (i k : ℕ) (was now held : List ℕ) → colour_at c k ≡ 0 → i ≡ column_of c k → KeysUncovered c old i 0 was now → KeysUncoveredAll c old (covering c held (k ∷ [])) was now
-plain_unkeys c old i k was now held plain e keys =
-    let P : ℕ → Type 0 = λ a. KeysUncovered c old (column_of c k) a was now in
-    let Q : ℕ → Type 0 = λ j. KeysUncovered c old j 0 was now in
-    let R : List ℕ → Type 0 = λ ks. KeysUncoveredAll c old ks was now in
-    subst R (sym (covering_new c held k [] (repeated_plain c held k plain))) (one_unkeys c old k was now (subst P (sym plain) (subst Q e keys)))
-
-pub left_plain : (c : Columns) (old now new : List Link) (all left was is less held : List ℕ) (i k : ℕ) → IsTable c → colour_at c k ≡ 0 → i ≡ column_of c k → Covers c now i 0 new → KeysCovered c now i 0 is less → IsLeft c old now all (k ∷ left) was is held held → IsLeft c old new all left was less held held
-left_plain c old now new all left was is less held i k t plain e covers keys at =
-    let P : List ℕ → Type 0 = λ commits. IsLeft c old new all left was less held commits in
-    subst P (commit_plain c held k plain) (left_step c old now new all left was is less held held k t (plain_covers c now new i k held plain e covers) (plain_keys c now i k is less held plain e keys) at)
-
-pub back_plain : (c : Columns) (old now new : List Link) (done was is grown held : List ℕ) (i k : ℕ) → IsTable c → column_of c k + 1 < c.heads → colour_at c k ≡ 0 → i ≡ column_of c k → Uncovers c now i 0 new → KeysUncovered c now i 0 is grown → IsBackTo c old now done was is held held → IsBackTo c old new (k ∷ done) was grown held held
-back_plain c old now new done was is grown held i k t item plain e uncovers keys at =
-    let P : List ℕ → Type 0 = λ commits. IsBackTo c old new (k ∷ done) was grown held commits in
-    subst P (uncommit_plain c held k plain) (back_step c old now new done was is grown held held k t item (plain_uncovers c now new i k (uncommit c held k) plain e uncovers) (plain_unkeys c now i k is grown (uncommit c held k) plain e keys) at)
 
 pub committed_plain : (c : Columns) (commits ks : List ℕ) → ((k : ℕ) → colour_at c k ≡ 0) → committed c commits ks ≡ commits
 committed_plain c commits [] plain = refl

@@ -1,5 +1,5 @@
 -- The nodes of choices: those of their options, each from the node on by which it was chosen.
-use Rattle.std.proofs.Common.{◌≡◌, ℕ, zero, suc, ◌+◌, ◌-◌, ◌*◌, ◌<◌, ◌≤◌, List, [], ◌∷◌, ◌++◌, length, Bool, true, false, not, ◌||◌, get_or, map, drop, inl, inr, ◌==◌, refl, arith, sym, ap, ◌∙◌, subst, append_assoc, append-nil}
+use Rattle.std.proofs.Common.{◌≡◌, ℕ, zero, suc, ◌+◌, ◌-◌, ◌*◌, ◌<◌, ◌≤◌, List, [], ◌∷◌, ◌++◌, length, true, false, not, ◌||◌, get_or, map, drop, inl, inr, ◌==◌, refl, arith, sym, ap, ◌∙◌, subst, append_assoc, append-nil}
 use Rattle.std.specs.List.{range_with_len, All}
 use Rattle.std.proofs.lemmas.Bool.{and_parts, and_from, both_ways, not-true, not_from_false, or_left, or_right, or_cases, eqb-true, eq-eqb, cases_Bool, cases_eq, false_from_ne_true}
 use Rattle.std.proofs.lemmas.List.{length-append}
@@ -61,20 +61,6 @@ turned p k o j at =
           ∙ ap (λ is. column_of c k ∷ is) (map_append (column_of c) (range_with_len (k + 1) (e - (k + 1))) (range_with_len b (k - b)))
           ∙ ap (λ ks. map (column_of c) ks ++ front) (sym (range_step k _ _ one));
     }
-
-or_turned : (a b : Bool) → (a || b) ≡ (b || a)
-or_turned true true = refl
-or_turned true false = refl
-or_turned false true = refl
-or_turned false false = refl
-
--- they are those of the option
-names_by : (p : Problem) (k o j i : ℕ) → IsNodeAt p k o j → among (items_by (table p) k) i ≡ names_item p o i
-names_by p k o j i at =
-    let t = turned p k o j at in
-    ap (λ (is : List ℕ). among is i) t.by_are
-    ∙ among-append t.back t.front i ∙ or_turned (among t.back i) (among t.front i)
-    ∙ sym (among-append t.front t.back i) ∙ ap (λ (is : List ℕ). among is i) (sym t.items_are)
 
 distinct_back : (xs ys : List ℕ) → is_distinct (xs ++ ys) ≡ true → is_distinct ys ≡ true
 distinct_back [] ys h = h

@@ -9,12 +9,6 @@ use Rattle.dancing_links.specs.Covering.{in_turn, others}
 pub range_step : (a n k : ℕ) → n ≡ suc k → range_with_len a n ≡ a ∷ range_with_len (a + 1) k
 range_step a n k e = rw e refl
 
-pub in_turn_take : (begin end node place : ℕ) → place < end → in_turn begin end node (end - place) ≡ node ∷ in_turn begin end (node_after begin end node) (end - (place + 1))
-in_turn_take begin end node place h = let e : end - place ≡ suc (end - (place + 1)) = omega arith in rw e refl
-
-pub in_turn_end : (begin end node place : ℕ) → end ≤ place → in_turn begin end node (end - place) ≡ []
-in_turn_end begin end node place h = let e : end - place ≡ 0 = omega arith in rw e refl
-
 -- ---- going round a row
 
 -- how many nodes of a row come before one is reached, from another one on

@@ -1,13 +1,13 @@
 -- What the options of a prefix cover.
 use Rattle.std.proofs.Common.{◌≡◌, ℕ, ◌<◌, List, [], ◌∷◌, ◌++◌, length, true, false, not, ◌==◌, refl, sym, ◌∙◌}
 use Rattle.std.specs.Prelude.{nat_lt}
-use Rattle.std.proofs.lemmas.Bool.{and_parts, and_from, or_left, or_right, not-true, not_from_false, eq-eqb, ltb-true}
+use Rattle.std.proofs.lemmas.Bool.{and_parts, and_from, or_left, or_right, not-true, not_from_false, eq-eqb}
 use Rattle.std.proofs.lemmas.List.Elements.{All-get_or}
 use Rattle.std.proofs.lemmas.List.Folds.{list_all-append}
-use Rattle.cover_problem.specs.Numbers.{is_in, is_distinct, some_below, are_below}
-use Rattle.cover_problem.specs.Prefix.{clash, is_live, are_apart, are_options, is_prefix, is_covered}
+use Rattle.cover_problem.specs.Numbers.{is_in, is_distinct, some_below}
+use Rattle.cover_problem.specs.Prefix.{clash, is_live, are_apart, are_options, is_prefix}
 use Rattle.cover_problem.specs.Problem.{Problem, IsProblem, items_of, names_item}
-use Rattle.cover_problem.proofs.Among.{all_at, some_with}
+use Rattle.cover_problem.proofs.Among.{some_with}
 use Rattle.cover_problem.proofs.Clashes.{clash_both}
 use Rattle.cover_problem.proofs.Prefixes.{prefix_more}
 use Rattle.dancing_links.proofs.Round.{among-append}
@@ -54,15 +54,3 @@ last_apart p (x ∷ xs) o h =
 -- the last option of a prefix is live before it
 pub last_live : (p : Problem) (os : List ℕ) (o : ℕ) → is_prefix p (os ++ o ∷ []) ≡ true → is_live p os o ≡ true
 last_live p os o h = last_apart p os o (and_parts (are_options p (os ++ o ∷ [])) (are_apart p (os ++ o ∷ [])) h).1
-
--- an item that an option names is one of the problem
-pub named_below : (p : Problem) (o i : ℕ) → IsProblem p → o < length p.options → names_item p o i ≡ true → i < length p.names
-named_below p o i is inside named =
-    let P : List ℕ → Type 0 = λ items. are_below (length p.names) items ≡ true in
-    let below : are_below (length p.names) (items_of p o) ≡ true = All-get_or P p.options o [] inside is.each_named in
-    ltb-true i (length p.names) (all_at (λ j. nat_lt j (length p.names)) (items_of p o) i below named)
-
-pub covered_below : (p : Problem) (os : List ℕ) (i : ℕ) → IsProblem p → are_options p os ≡ true → is_covered p os i ≡ true → i < length p.names
-covered_below p os i is options covers =
-    let by = some_with (λ q. names_item p q i) os covers in
-    named_below p by.0 i is (ltb-true by.0 (length p.options) (all_at (λ q. nat_lt q (length p.options)) os by.0 options by.1)) by.2

@@ -283,9 +283,6 @@ pub answer_below : (c : Columns) (m : List Link) (below option : ℕ) → IsTabl
 answer_below c m below option t l high e =
     ap Some e ∙ ap (λ (os : List ℕ). slice_get os 0) (sym (left_take c m below t l high))
 
-pub answer_past : (c : Columns) (m : List Link) (below : ℕ) → c.tails ≤ below → None ≡ slice_get (options_left c m below) 0
-answer_past c m below past = ap (λ (os : List ℕ). slice_get os 0) (sym (left_none c m below past))
-
 pub naming_same : (c : Columns) (i b e begin end node : ℕ) → b ≡ begin → e ≡ end → IsNaming c i b e node → IsNaming c i begin end node
 naming_same c i b e begin end node f g at =
     let R : ℕ → Type 0 = λ k. IsNaming c i k end node in
