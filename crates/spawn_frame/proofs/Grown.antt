@@ -1,12 +1,12 @@
 -- Prefixes that grow from parent to child: what keeps them, and how they are looked up.
-use Rattle.std.proofs.Common.{◌≡◌, ℕ, zero, suc, ◌<◌, Bool, true, false, cond, List, [], ◌∷◌, ◌++◌, map, length, get_or, position, option_map, Option, Some, None, slice_get, refl, sym, ap, ◌∙◌, arith}
+use Rattle.std.proofs.Common.{◌≡◌, ℕ, zero, suc, ◌+◌, ◌<◌, Bool, true, false, cond, List, [], ◌∷◌, ◌++◌, map, take, length, length-append, get_or, position, option_map, Option, Some, None, slice_get, refl, sym, ap, ◌∙◌, arith}
 use Rattle.std.specs.List.{AllByRecursion}
 use Rattle.std.proofs.lemmas.Option.{same_Some, none-some, slice_get-get_or, slice_get-map}
-use Rattle.std.proofs.lemmas.List.{length-map}
+use Rattle.std.proofs.lemmas.List.{length-map, length-take, map-append, take_more}
 use Rattle.spawn_frame.specs.Prefixes.{Link, last_of, link_of, link_path, origin_of, origin_path, path_of}
 use Rattle.spawn_frame.specs.Tables.{longer_prefixes, prefix_in}
 use Rattle.spawn_frame.specs.Units.{guest_in, is_guest, unit_of}
-use Rattle.spawn_frame.specs.Works.{change_child, change_work, child_entry, child_work, guest_entry, guest_work, guests_told, own_told, table_of, work_in}
+use Rattle.spawn_frame.specs.Works.{change_child, change_work, child_entry, child_work, fresh_child, guest_entry, guest_work, guests_told, own_told, table_of, work_in}
 use Rattle.spawn_frame.specs.declared.child.Child.{Child}
 use Rattle.spawn_frame.specs.declared.guest.Guest.{Guest}
 use Rattle.spawn_frame.specs.declared.site.ChildName.{ChildName}
@@ -152,3 +152,19 @@ longer_count prefix options = length-map options (λ o. prefix ++ o ∷ [])
 pub prefixes_grow : (prefix options : List ℕ) → AllByRecursion (λ p. p ≡ prefix ++ last_of p ∷ []) (longer_prefixes prefix options)
 prefixes_grow prefix [] = tt
 prefixes_grow prefix (o ∷ os) = (ap (λ x. prefix ++ x ∷ []) (sym (last_behind prefix o)), prefixes_grow prefix os)
+
+-- ---- the children of a unit, made one after the other
+
+pub children_more : (unit : WorkUnit) (path options : List ℕ) (i : ℕ) → i < length options
+    → map (fresh_child unit) (longer_prefixes path (take (i + 1) options)) ≡ map (fresh_child unit) (longer_prefixes path (take i options)) ++ fresh_child unit (path ++ get_or options i 0 ∷ []) ∷ []
+children_more unit path options i within =
+    ap (λ l. map (fresh_child unit) (longer_prefixes path l)) (take_more options i 0 within)
+    ∙ ap (map (fresh_child unit)) (map-append (λ o. path ++ o ∷ []) (take i options) (get_or options i 0 ∷ []))
+    ∙ map-append (fresh_child unit) (longer_prefixes path (take i options)) ((path ++ get_or options i 0 ∷ []) ∷ [])
+
+pub children_count : (unit : WorkUnit) (path options : List ℕ) (i first : ℕ) (own now : List Child) → i < length options → first ≡ length own
+    → now ≡ own ++ map (fresh_child unit) (longer_prefixes path (take i options)) → first + i ≡ length now
+children_count unit path options i first own now within e is =
+    let made = map (fresh_child unit) (longer_prefixes path (take i options)) in
+    let count : length made ≡ length (take i options) = length-map (longer_prefixes path (take i options)) (fresh_child unit) ∙ longer_count path (take i options) in
+    omega (arith, e, within, count, ap length is, length-append own made, length-take i options)

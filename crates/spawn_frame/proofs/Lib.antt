@@ -20,6 +20,7 @@ pub mod Halving
 pub mod Admitted
 pub mod Spawned
 pub mod Split
+pub mod Filled
 pub mod Paged
 pub mod Ahead
 pub mod Walks

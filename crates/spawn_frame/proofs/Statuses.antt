@@ -1,6 +1,6 @@
 -- Units that get another status of which no frame hears.
-use Rattle.std.proofs.Common.{◌≡◌, ℕ, Bool, true, not, ◌&&◌, ◌||◌, List, map, option_map, Option, Some, None, is_some, slice_get, get_or, refl, sym, ap, ◌∙◌, ⊎_elim}
-use Rattle.std.proofs.lemmas.Option.{same_Some, slice_get-map, slice_get_within}
+use Rattle.std.proofs.Common.{◌≡◌, ℕ, Bool, true, not, ◌&&◌, ◌||◌, List, map, option_map, Option, Some, None, is_some, slice_get, refl, sym, ap, ◌∙◌, ⊎_elim}
+use Rattle.std.proofs.lemmas.Option.{same_Some, slice_get-map}
 use Rattle.std.proofs.lemmas.Bool.{and_parts, not-true, or_parts, or_cases, both_ways, false≢true}
 use Rattle.spawn_frame.specs.Frames.{cover_of}
 use Rattle.spawn_frame.specs.Inlets.{is_done}
@@ -20,7 +20,6 @@ use Rattle.spawn_frame.proofs.Briefs.{brief}
 use Rattle.spawn_frame.proofs.Frames.{undone_uncovered}
 use Rattle.spawn_frame.proofs.Kept.{guests_kept, own_kept}
 use Rattle.spawn_frame.proofs.Lookups.{child_view, guest_at, guest_view}
-use Rattle.spawn_frame.proofs.Places.{child_get}
 
 -- a child that is there, with a status that passes
 pub record HasChild (test : Status → Bool) (own : List Child) (k : ℕ) : Type 0 where
@@ -87,10 +86,9 @@ status_view site limit own guests (units.Guest name attempt) status =
     ap (table_guests (table_of site limit own guests)) (guest_view (with_work_status status) (with_status status) (λ parent w. refl) guests name attempt)
 
 -- the child that was read, where its status passes
-abbrev pub child_here : (test : Status → Bool) (own : List Child) (k : ℕ) (c : Child) → c ≡ get_or own k c → has_status test (slice_get (map child_entry own) k) ≡ true → HasChild test own k
-child_here test own k c at h =
+abbrev pub child_here : (test : Status → Bool) (own : List Child) (k : ℕ) (c : Child) → slice_get own k ≡ Some c → has_status test (slice_get (map child_entry own) k) ≡ true → HasChild test own k
+child_here test own k c is h =
     let found = child_with test own k h in
-    let is : slice_get own k ≡ Some c = child_get own k c (slice_get_within own k found.child found.is) at in
     record { child = c; is = is; passes = ap (λ x. test x.work.status) (same_Some c found.child (sym is ∙ found.is)) ∙ found.passes }
 
 -- a unit that is there, with a status that passes

@@ -1,5 +1,5 @@
 -- The pages of a site's own children, and which kinds of children stand in each.
-use Rattle.std.specs.Prelude.{◌≡◌, ◌⊎◌, ℕ, ◌*◌, ◌<◌, ◌≤◌, Bool, List, length, take, drop, Option, get_or}
+use Rattle.std.specs.Prelude.{◌≡◌, ℕ, ◌+◌, ◌*◌, ◌<◌, ◌^◌, Bool, List, [], ◌∷◌, ◌++◌, length, min, take, drop, Option}
 use Rattle.std.specs.List.{list_any, position_from}
 use Rattle.spawn_frame.specs.Works.{is_wanted}
 use Rattle.spawn_frame.specs.declared.child.Child.{Child}
@@ -35,15 +35,21 @@ tells wants.Ripe kinds = kinds.ripe
 tells wants.Here kinds = kinds.here
 tells wants.Out kinds = kinds.out
 
--- Of each begun page it is told which kinds stand in it.
-pub record TellsPages (own : List Child) (pages : List Kinds) : Type 0 where
-  pub begun : length own ≤ length pages * page_size
-  pub each : (p : ℕ) (kinds : Kinds) → p * page_size < length own → get_or pages p kinds ≡ kinds_of (page_of own p)
+-- the children of all pages, one page behind the other
+abbrev pub in_pages : List (List Child) → List Child
+in_pages [] = []
+in_pages (page ∷ pages) = page ++ in_pages pages
 
--- The same, but of the pages from the first one up to the second.
-pub record TellsOthers (first end : ℕ) (own : List Child) (pages : List Kinds) : Type 0 where
-  pub begun : length own ≤ length pages * page_size
-  pub each : (p : ℕ) (kinds : Kinds) → (p < first) ⊎ (end ≤ p) → p * page_size < length own → get_or pages p kinds ≡ kinds_of (page_of own p)
+-- each page has as many children as fit into it, of those in it and behind it
+abbrev pub AreFilled : List (List Child) → Type 0
+AreFilled [] = Unit {0}
+AreFilled (page ∷ pages) = (length page ≡ min page_size (length page + length (in_pages pages))) × AreFilled pages
+
+-- The pages of a site's children, which are so many: each is filled before the next one is begun, and serials have 32 bits.
+pub record IsPaged (pages : List (List Child)) (number : ℕ) : Type 0 where
+  pub filled : AreFilled pages
+  pub count : number ≡ length (in_pages pages)
+  pub small : number < 2 ^ 32
 
 -- the child of least serial that is wanted, of those that begin at serial k
 abbrev pub next_wanted : Wanted → ℕ → List Child → Option ℕ

@@ -1,8 +1,7 @@
 //! Units that a table makes.
 
-ghost use Rattle.std.specs.Prelude.{◌≡◌, ◌+◌, ◌≤◌, ◌++◌, ◌∷◌, [], map, length, vec_len, vec_capacity};
+ghost use Rattle.std.specs.Prelude.{◌≡◌, ◌++◌, ◌∷◌, []};
 ghost use Rattle.spawn_frame.specs.Works.{fresh_child, fresh_guest, root_child};
-ghost use Rattle.spawn_frame.specs.Tables.{longer_prefixes};
 
 use crate::child::Child;
 use crate::guest::Guest;
@@ -25,21 +24,8 @@ pub fn new_root(alloc: Global) -> Child
     }
 }
 
-/// Puts the children of a unit behind the others: for each option one with this prefix and the option. There is room for
-/// them.
-pub fn push_children(children: &mut Vec<Child>, unit: Unit, path: &Path, options: &[u16])
-    requires { vec_len children.old + length options.now ≤ vec_capacity children.old }
-    ensures items { children.new.items ≡ children.old.items
-        ++ map (fresh_child unit) (longer_prefixes path.now.options options.now) }
-    ensures room { vec_capacity children.new ≡ vec_capacity children.old }
-{
-    for option in options {
-        children.push_reserved(new_child(unit, path, *option));
-    }
-}
-
 /// A child of a unit, with this prefix and the option.
-fn new_child(unit: Unit, path: &Path, option: u16) -> Child
+pub fn new_child(unit: Unit, path: &Path, option: u16) -> Child
     ensures { result ≡ fresh_child unit (path.now.options ++ option ∷ []) }
 {
     Child {

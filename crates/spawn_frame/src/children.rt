@@ -1,17 +1,17 @@
 //! The own children of a site.
 
-ghost use Rattle.std.specs.Prelude.{◌≡◌, ℕ, ◌+◌, ◌/◌, ◌<◌, ◌≤◌, ◌++◌, ◌^◌, drop, get_or, [], length, map, option_map, slice_get, ◌∷◌, IfOk, OnErr, OnOk, Some};
+ghost use Rattle.std.specs.Prelude.{◌≡◌, ℕ, ◌+◌, ◌<◌, ◌++◌, ◌^◌, drop, [], length, map, option_map, slice_get, ◌∷◌, IfOk, MatchOption, None, OnErr, OnOk, Some};
 ghost use Rattle.std.specs.List.{count_by};
 ghost use Rattle.spawn_frame.specs.Tables.{longer_prefixes};
 ghost use Rattle.spawn_frame.specs.Works.{change_child, child_work, fresh_child, frame_says, is_wanted, last_wanted, redone_work, root_child, split_work, with_heard, with_work_status, HearsFrom};
 
-use crate::building::{new_root, push_children};
+use crate::building::new_root;
 use crate::child::Child;
 use crate::child_result::ChildResult;
 use crate::heard::Heard;
-use crate::kinds::Kinds;
 use crate::next::next_in_pages;
-use crate::pages::{PAGE, count_in_pages, last_in_pages, tell_pages};
+use crate::page::{PAGE, Page};
+use crate::pages::{add_pages, count_in_pages, last_in_pages, push_children};
 use crate::path::Path;
 use crate::status::Status;
 use crate::unit::Unit;
@@ -19,30 +19,30 @@ use crate::wanted::Wanted;
 use std::alloc::{AllocError, Global};
 use std::marker::Model;
 
-/// The own children of a site, by serial, in pages of 256. Of each page it is kept which kinds of children stand in it,
-/// so that no call looks at all of them.
+/// The own children of a site, by serial, in pages of 256 that never move. Of each page it is kept which kinds of children
+/// stand in it, so that no call looks at all of them.
 #[derive(Drop)]
 pub struct Children {
-    items: Vec<Child>,
-    pages: Vec<Kinds>,
+    pages: Vec<Page>,
+    count: usize,
+    alloc: Global,
 }
 
 impl Model for Children {
     ghost use Rattle.std.specs.Prelude.{List};
     ghost use Rattle.spawn_frame.specs.declared.child.Child.{Child as OwnChild};
-    ghost use Rattle.spawn_frame.specs.Pages.{TellsPages};
+    ghost use Rattle.spawn_frame.specs.Pages.{in_pages, IsPaged};
 
     ghost Value = { List OwnChild };
 
-    ghost view = { λ c. c.items.items };
+    ghost view = { λ c. in_pages c.pages.items };
 
-    ghost invariant = { λ c. TellsPages c.items.items c.pages.items };
+    ghost invariant = { λ c. IsPaged c.pages.items c.count };
 }
 
-ghost use Rattle.spawn_frame.specs.Pages.{next_wanted, TellsOthers, TellsPages};
+ghost use Rattle.spawn_frame.specs.Pages.{next_wanted};
 ghost use Rattle.spawn_frame.specs.Units.{last_attempt};
 ghost use Rattle.spawn_frame.specs.declared.child.Child.{Child as OwnChild};
-ghost use Rattle.spawn_frame.specs.declared.kinds.Kinds.{Kinds as PageKinds};
 
 impl Children {
     /// No children. It costs nothing.
@@ -50,8 +50,9 @@ impl Children {
         ensures { result ≡ [] }
     {
         Children {
-            items: Vec::new(alloc),
             pages: Vec::new(alloc),
+            count: 0,
+            alloc,
         }
     }
 
@@ -59,29 +60,39 @@ impl Children {
     pub fn with_root(alloc: Global) -> Result<Children, AllocError>
         ensures { IfOk result (λ children. children ≡ root_child ∷ []) }
     {
-        let mut items = Vec::new(alloc);
-        items.push(new_root(alloc))?;
+        let mut page = Page::new(alloc)?;
+        page.push(new_root(alloc));
         let mut pages = Vec::new(alloc);
-        pages.push(Kinds::of(&items))?;
-        Ok(Children { items, pages })
+        pages.push(page)?;
+        Ok(Children {
+            pages,
+            count: 1,
+            alloc,
+        })
     }
 
-    /// The children, by serial.
-    pub fn as_slice(&self) -> &[Child]
-        ensures { result.now ≡ self.now }
+    /// The child of this serial, if it is there.
+    pub fn get(&self, serial: u32) -> Option<&Child>
+        ensures { MatchOption result (slice_get self.now serial ≡ None) (λ child.
+            slice_get self.now serial ≡ Some child.now) }
     {
-        self.items.as_slice()
+        let index = serial as usize;
+        if index < self.count {
+            Some(&self.pages[index / PAGE].as_slice()[index % PAGE])
+        } else {
+            None
+        }
     }
 
     /// How many there are.
     pub fn len(&self) -> usize
         ensures { result ≡ length self.now }
     {
-        self.items.len()
+        self.count
     }
 
     /// Puts the children of a unit behind those that are there: for each option one with this prefix and the option. The
-    /// only error is want of memory, which changes nothing. It takes memory for whole pages, before any change, and none
+    /// only error is want of memory, which changes no child. It takes memory for whole pages, before any change, and none
     /// where the last page has room.
     pub fn append(&mut self, unit: Unit, path: &Path, options: &[u16]) -> Result<(), AllocError>
         requires { length self.old + length options.now < 2 ^ 32 }
@@ -89,39 +100,36 @@ impl Children {
             ≡ self.old ++ map (fresh_child unit) (longer_prefixes path.now.options options.now)) }
         ensures err { OnErr result (self.new ≡ self.old) }
     {
-        let first = self.items.len() / PAGE;
-        let end = (self.items.len() + options.len()).div_ceil(PAGE);
-        self.items.reserve(end * PAGE - self.items.len())?;
-        make_room(&mut self.pages, end)?;
-        push_children(&mut self.items, unit, path, options);
-        if first < end {
-            tell_pages(&self.items, &mut self.pages, first, end);
-        }
+        let end = (self.count + options.len()).div_ceil(PAGE);
+        add_pages(self.alloc, &mut self.pages, end)?;
+        push_children(&mut self.pages, self.count, unit, path, options);
+        self.count += options.len();
         Ok(())
     }
 
     /// The one of greatest serial that is wanted. It costs a look at each page, and a pass through one.
     pub fn last(&self, wanted: Wanted) -> Option<Unit>
-        requires { length self.now < 2 ^ 32 }
         ensures { result ≡ last_wanted wanted 0 self.now }
     {
-        last_in_pages(&self.items, &self.pages, wanted)
+        last_in_pages(&self.pages, wanted)
     }
 
     /// The one of least serial from this one on that is wanted. It costs a look at each page behind, and passes through two
     /// at most.
     pub fn next(&self, wanted: Wanted, from: u32) -> Option<u32>
-        requires { length self.now < 2 ^ 32 }
         ensures { result ≡ next_wanted wanted from (drop from self.now) }
     {
-        next_in_pages(&self.items, &self.pages, wanted, from)
+        if from as usize >= self.count {
+            return None;
+        }
+        next_in_pages(&self.pages, wanted, from)
     }
 
     /// How many are wanted. It costs a look at each page, and passes through the pages that have such a child.
     pub fn count(&self, wanted: Wanted) -> usize
         ensures { result ≡ count_by (λ c. is_wanted wanted c.work) self.now }
     {
-        count_in_pages(&self.items, &self.pages, wanted)
+        count_in_pages(&self.pages, wanted)
     }
 
     /// Gives a child another status, if it is there. It costs four passes through its page at most, as each change does.
@@ -129,9 +137,8 @@ impl Children {
         ensures { self.new ≡ change_child (with_work_status status) self.old serial }
     {
         let index = serial as usize;
-        if index < self.items.len() {
-            self.items[index].work.status = status;
-            tell_again(&self.items, &mut self.pages, index);
+        if index < self.count {
+            self.pages[index / PAGE].set_status(index % PAGE, status);
         }
     }
 
@@ -142,9 +149,8 @@ impl Children {
         ensures { self.new ≡ change_child (split_work first count) self.old serial }
     {
         let index = serial as usize;
-        if index < self.items.len() {
-            self.items[index].work.split(first, count);
-            tell_again(&self.items, &mut self.pages, index);
+        if index < self.count {
+            self.pages[index / PAGE].split(index % PAGE, first, count);
         }
     }
 
@@ -157,12 +163,10 @@ impl Children {
             (slice_get self.old serial))) }
     {
         let index = serial as usize;
-        if index >= self.items.len() {
+        if index >= self.count {
             return Heard::Open;
         }
-        let heard = self.items[index].work.hear(child, child_result);
-        tell_again(&self.items, &mut self.pages, index);
-        heard
+        self.pages[index / PAGE].hear(index % PAGE, child, child_result)
     }
 
     /// Makes a child ready again, at the next attempt.
@@ -173,29 +177,6 @@ impl Children {
         ensures { self.new ≡ change_child redone_work self.old serial }
     {
         let index = serial as usize;
-        self.items[index].work.redo();
-        tell_again(&self.items, &mut self.pages, index);
+        self.pages[index / PAGE].redo(index % PAGE);
     }
-}
-
-/// Makes sure that there are so many pages at least; those that are there stay, also where memory ran out.
-fn make_room(pages: &mut Vec<Kinds>, end: usize) -> Result<(), AllocError>
-    ensures room { OnOk result (end ≤ length pages.new.items) }
-    ensures longer { length pages.old.items ≤ length pages.new.items }
-    ensures kept { (p : ℕ) (kinds : PageKinds) → p < length pages.old.items
-        → get_or pages.new.items p kinds ≡ get_or pages.old.items p kinds }
-{
-    if pages.len() < end {
-        pages.resize(end, Kinds::of(&[]))?;
-    }
-    Ok(())
-}
-
-/// Tells again which kinds stand in the page of one child.
-fn tell_again(own: &[Child], pages: &mut [Kinds], index: usize)
-    requires within { index < length own.now }
-    requires others { TellsOthers (index / 256) (index / 256 + 1) own.now pages.old }
-    ensures { TellsPages own.now pages.new }
-{
-    tell_pages(own, pages, index / PAGE, index / PAGE + 1);
 }

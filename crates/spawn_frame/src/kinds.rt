@@ -1,4 +1,4 @@
-ghost use Rattle.std.specs.Prelude.{◌≡◌};
+ghost use Rattle.std.specs.Prelude.{◌≡◌, ◌++◌, ◌∷◌, [], List};
 
 use crate::child::Child;
 use crate::wanted::Wanted;
@@ -18,6 +18,7 @@ pub struct Kinds {
 
 impl Kinds {
     ghost use Rattle.spawn_frame.specs.Pages.{has_wanted, kinds_of, tells};
+    ghost use Rattle.spawn_frame.specs.declared.child.Child.{Child as OwnChild};
 
     /// The kinds that stand among these children. It costs four passes through them at most.
     pub fn of(children: &[Child]) -> Kinds
@@ -28,6 +29,19 @@ impl Kinds {
             ripe: has_wanted(children, Wanted::Ripe),
             here: has_wanted(children, Wanted::Here),
             out: has_wanted(children, Wanted::Out),
+        }
+    }
+
+    /// The kinds once this child stands behind the others.
+    pub fn with(self, child: &Child) -> Kinds
+        ensures { (own : List OwnChild) → self ≡ kinds_of own
+            → result ≡ kinds_of (own ++ child.now ∷ []) }
+    {
+        Kinds {
+            ready: self.ready || child.work.is_wanted(Wanted::Ready),
+            ripe: self.ripe || child.work.is_wanted(Wanted::Ripe),
+            here: self.here || child.work.is_wanted(Wanted::Here),
+            out: self.out || child.work.is_wanted(Wanted::Out),
         }
     }
 

@@ -14,6 +14,7 @@ mod inlet;
 mod kinds;
 mod next;
 mod out;
+mod page;
 mod pages;
 mod path;
 mod prefix_part;

@@ -1,42 +1,40 @@
 //! The next own child that is wanted, from some serial on.
 
 ghost use Rattle.std.specs.Prelude.{◌≡◌, ◌+◌, ◌*◌, ◌<◌, ◌≤◌, ◌^◌, drop, length};
-ghost use Rattle.spawn_frame.specs.Pages.{next_wanted, TellsPages};
+ghost use Rattle.spawn_frame.specs.Pages.{in_pages, next_wanted, AreFilled};
 
 use crate::child::Child;
-use crate::kinds::Kinds;
-use crate::pages::{PAGE, page_of};
+use crate::page::{PAGE, Page};
+use crate::pages::first_of;
 use crate::wanted::Wanted;
 
-/// The own child of least serial from this one on that is wanted. It costs a look at each page behind, and passes through
-/// two pages at most.
-pub fn next_in_pages(own: &[Child], pages: &[Kinds], wanted: Wanted, from: u32) -> Option<u32>
-    requires small { length own.now < 2 ^ 32 }
-    requires told { TellsPages own.now pages.now }
-    ensures { result ≡ next_wanted wanted from (drop from own.now) }
+/// The own child of least serial from this one on, which is there, that is wanted. It costs a look at each page behind, and
+/// passes through two pages at most.
+pub fn next_in_pages(pages: &[Page], wanted: Wanted, from: u32) -> Option<u32>
+    requires small { length (in_pages pages.now) < 2 ^ 32 }
+    requires filled { AreFilled pages.now }
+    requires there { from < length (in_pages pages.now) }
+    ensures { result ≡ next_wanted wanted from (drop from (in_pages pages.now)) }
 {
-    let from = from as usize;
-    if from >= own.len() {
-        return None;
-    }
-    let count = (PAGE - from % PAGE).min(own.len() - from);
-    let found = next_child(&own[from..from + count], from as u32, wanted);
+    let number = from as usize / PAGE;
+    let children = pages[number].as_slice();
+    let found = next_child(&children[from as usize % PAGE..], from, wanted);
     if found.is_some() {
         return found;
     }
-    next_in_later(own, pages, wanted, from / PAGE + 1)
+    next_in_later(pages, wanted, number + 1)
 }
 
 /// The one of least serial that is wanted of the children in this page and behind it.
-fn next_in_later(own: &[Child], pages: &[Kinds], wanted: Wanted, first: usize) -> Option<u32>
-    requires small { length own.now < 2 ^ 32 }
-    requires first { first * 256 < length own.now + 256 }
-    requires told { TellsPages own.now pages.now }
-    ensures { result ≡ next_wanted wanted (first * 256) (drop (first * 256) own.now) }
+fn next_in_later(pages: &[Page], wanted: Wanted, first: usize) -> Option<u32>
+    requires small { length (in_pages pages.now) < 2 ^ 32 }
+    requires filled { AreFilled pages.now }
+    ensures { result ≡ next_wanted wanted (first * 256) (drop (first * 256) (in_pages pages.now)) }
 {
-    for page in first..own.len().div_ceil(PAGE) {
-        if pages[page].has(wanted) {
-            let found = next_child(page_of(own, page), (page * PAGE) as u32, wanted);
+    for number in first..pages.len() {
+        let page = &pages[number];
+        if page.has(wanted) {
+            let found = next_child(page.as_slice(), first_of(number), wanted);
             if found.is_some() {
                 return found;
             }

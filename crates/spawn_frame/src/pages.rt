@@ -1,52 +1,61 @@
-//! Pages of own children, and what is told of each.
+//! Pages of own children, and what stands in them.
 
-ghost use Rattle.std.specs.Prelude.{◌≡◌, ◌+◌, ◌*◌, ◌<◌, ◌≤◌, ◌^◌, drop, length};
+ghost use Rattle.std.specs.Prelude.{◌≡◌, ◌+◌, ◌*◌, ◌<◌, ◌≤◌, ◌++◌, ◌^◌, length, map, OnErr, OnOk};
 ghost use Rattle.std.specs.List.{count_by};
-ghost use Rattle.spawn_frame.specs.Pages.{page_of as children_of, TellsOthers, TellsPages};
-ghost use Rattle.spawn_frame.specs.Works.{is_wanted, last_wanted};
+ghost use Rattle.spawn_frame.specs.Pages.{in_pages, AreFilled};
+ghost use Rattle.spawn_frame.specs.Tables.{longer_prefixes};
+ghost use Rattle.spawn_frame.specs.Works.{fresh_child, is_wanted, last_wanted};
 
+use crate::building::new_child;
 use crate::child::Child;
-use crate::kinds::Kinds;
+use crate::page::{PAGE, Page};
+use crate::path::Path;
 use crate::unit::Unit;
 use crate::wanted::Wanted;
+use std::alloc::{AllocError, Global};
 
-/// How many children a page has, the last one excepted.
-pub const PAGE: usize = 256;
-
-/// The children of a page.
-pub fn page_of(own: &[Child], page: usize) -> &[Child]
-    requires { page * 256 ≤ length own.now }
-    ensures { result.now ≡ children_of own.now page }
+/// Makes sure that there are so many pages at least; those that are there stay, and new ones have no children. The only
+/// error is want of memory.
+pub fn add_pages(alloc: Global, pages: &mut Vec<Page>, end: usize) -> Result<(), AllocError>
+    requires { AreFilled pages.old.items }
+    ensures filled { AreFilled pages.new.items }
+    ensures kept { in_pages pages.new.items ≡ in_pages pages.old.items }
+    ensures room { OnOk result (end ≤ length pages.new.items) }
 {
-    let start = page * PAGE;
-    let count = PAGE.min(own.len() - start);
-    &own[start..start + count]
+    for _page in pages.len()..end {
+        pages.push(Page::new(alloc)?)?;
+    }
+    Ok(())
 }
 
-/// Tells again which kinds stand in the pages from `first` up to `end`.
-pub fn tell_pages(own: &[Child], pages: &mut [Kinds], first: usize, end: usize)
-    requires some { first ≤ end }
-    requires begun { end * 256 < length own.now + 256 }
-    requires others { TellsOthers first end own.now pages.old }
-    ensures { TellsPages own.now pages.new }
+/// Puts the children of a unit behind those that are there: for each option one with this prefix and the option. There are
+/// pages for them.
+pub fn push_children(pages: &mut [Page], first: usize, unit: Unit, path: &Path, options: &[u16])
+    requires filled { AreFilled pages.old }
+    requires first { first ≡ length (in_pages pages.old) }
+    requires room { first + length options.now ≤ length pages.old * 256 }
+    requires small { first + length options.now < 2 ^ 32 }
+    ensures filled { AreFilled pages.new }
+    ensures children { in_pages pages.new ≡ in_pages pages.old
+        ++ map (fresh_child unit) (longer_prefixes path.now.options options.now) }
 {
-    for page in first..end {
-        pages[page] = Kinds::of(page_of(own, page));
+    for (place, option) in options.iter().enumerate() {
+        pages[(first + place) / PAGE].push(new_child(unit, path, *option));
     }
 }
 
-/// The own child of greatest serial that is wanted. It costs a look at each page, and a pass through the pages that have
-/// such a child until it is found, which is one page.
-pub fn last_in_pages(own: &[Child], pages: &[Kinds], wanted: Wanted) -> Option<Unit>
-    requires small { length own.now < 2 ^ 32 }
-    requires told { TellsPages own.now pages.now }
-    ensures { result ≡ last_wanted wanted 0 own.now }
+/// The own child of greatest serial that is wanted. It costs a look at each page, and a pass through the page that has it.
+pub fn last_in_pages(pages: &[Page], wanted: Wanted) -> Option<Unit>
+    requires small { length (in_pages pages.now) < 2 ^ 32 }
+    requires filled { AreFilled pages.now }
+    ensures { result ≡ last_wanted wanted 0 (in_pages pages.now) }
 {
-    let count = own.len().div_ceil(PAGE);
+    let count = pages.len();
     for behind in 0..count {
-        let page = count - 1 - behind;
-        if pages[page].has(wanted) {
-            let found = last_child(page_of(own, page), (page * PAGE) as u32, wanted);
+        let number = count - 1 - behind;
+        let page = &pages[number];
+        if page.has(wanted) {
+            let found = last_child(page.as_slice(), first_of(number), wanted);
             if found.is_some() {
                 return found;
             }
@@ -56,14 +65,14 @@ pub fn last_in_pages(own: &[Child], pages: &[Kinds], wanted: Wanted) -> Option<U
 }
 
 /// How many own children are wanted. It costs a look at each page, and passes through the pages that have such a child.
-pub fn count_in_pages(own: &[Child], pages: &[Kinds], wanted: Wanted) -> usize
-    requires { TellsPages own.now pages.now }
-    ensures { result ≡ count_by (λ c. is_wanted wanted c.work) own.now }
+pub fn count_in_pages(pages: &[Page], wanted: Wanted) -> usize
+    requires { length (in_pages pages.now) < 2 ^ 32 }
+    ensures { result ≡ count_by (λ c. is_wanted wanted c.work) (in_pages pages.now) }
 {
     let mut count = 0;
-    for page in 0..own.len().div_ceil(PAGE) {
-        if pages[page].has(wanted) {
-            count += count_wanted(page_of(own, page), wanted);
+    for page in pages {
+        if page.has(wanted) {
+            count += count_wanted(page.as_slice(), wanted);
         }
     }
     count
@@ -91,4 +100,12 @@ fn last_child(children: &[Child], first: u32, wanted: Wanted) -> Option<Unit>
         }
     }
     last
+}
+
+/// The serial of the first child of a page.
+pub fn first_of(page: usize) -> u32
+    requires { page * 256 < 2 ^ 32 }
+    ensures { result ≡ page * 256 }
+{
+    (page * PAGE) as u32
 }

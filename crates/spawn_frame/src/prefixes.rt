@@ -6,6 +6,7 @@ ghost use Rattle.spawn_frame.specs.Tables.{IsAscending};
 ghost use Rattle.spawn_frame.specs.Works.{guest_entry};
 
 use crate::child::Child;
+use crate::children::Children;
 use crate::guest::Guest;
 use crate::prefix_part::PrefixPart;
 use crate::unit::Unit;
@@ -15,7 +16,7 @@ use std::alloc::AllocError;
 /// Appends a unit's prefix to the list; the only error is want of memory, and the list is then as it was. It costs a step
 /// for each option.
 pub fn prefix_into(
-    own: &[Child],
+    own: &Children,
     guests: &[Guest],
     unit: Unit,
     list: &mut Vec<u16>,
@@ -41,7 +42,7 @@ pub fn prefix_into(
 
 /// Appends the options of a unit's prefix, the last one first.
 fn push_upwards(
-    own: &[Child],
+    own: &Children,
     guests: &[Guest],
     unit: Unit,
     list: &mut Vec<u16>,
@@ -77,7 +78,7 @@ fn push_backwards(options: &[u16], list: &mut Vec<u16>) -> Result<(), AllocError
 
 /// Whether a unit has this prefix. The last options are compared first; it takes no memory, and costs a step for each
 /// option until two differ.
-pub fn has_prefix(own: &[Child], guests: &[Guest], unit: Unit, prefix: &[u16]) -> bool
+pub fn has_prefix(own: &Children, guests: &[Guest], unit: Unit, prefix: &[u16]) -> bool
     requires ascending { IsAscending (map guest_entry guests.now) }
     requires grown { AreGrown (map link_of own.now) (map origin_of guests.now) }
     ensures { result ≡ same_numbers (path_of own.now guests.now unit) prefix.now }
@@ -99,13 +100,13 @@ pub fn has_prefix(own: &[Child], guests: &[Guest], unit: Unit, prefix: &[u16]) -
 }
 
 /// What the prefix of a unit is made of; that of a unit that isn't there is empty.
-fn part_of<'a>(own: &[Child], guests: &'a [Guest], unit: Unit) -> PrefixPart<'a>
+fn part_of<'a>(own: &Children, guests: &'a [Guest], unit: Unit) -> PrefixPart<'a>
     requires ascending { IsAscending (map guest_entry guests.now) }
     requires grown { AreGrown (map link_of own.now) (map origin_of guests.now) }
     ensures { IsPart (map link_of own.now) (map origin_of guests.now) unit result }
 {
     match unit {
-        Unit::Own(serial) => match own.get(serial as usize) {
+        Unit::Own(serial) => match own.get(serial) {
             Some(child) => above(child),
             None => PrefixPart::Whole(&[]),
         },

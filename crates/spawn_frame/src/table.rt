@@ -103,9 +103,9 @@ impl Table {
     /// have the next serials, in order; the answer is the first.
     ///
     /// `NamesSpent` comes exactly where the site may not name so many, `Memory` only where memory ran out; a fault
-    /// changes nothing. It costs a look for the unit, the making of the children, and passes through their pages. Memory
-    /// is taken for whole pages, before any change, and none where the last page has room for the children; where the
-    /// list of all children is full, it is moved to one twice as long.
+    /// changes nothing. It costs looks for the unit, the making of the children, and passes through the unit's page. Memory
+    /// is taken for whole pages, before any change, and none where the last page has room for the children. No child that
+    /// is there moves.
     pub fn spawn(&mut self, unit: Unit, options: &[u16]) -> Result<u32, SpawnFault>
         requires here { has_status is_here (unit_of self.old unit) ≡ true }
         requires some { 0 < length options.now }
@@ -219,7 +219,7 @@ impl Table {
             ++ prefix_in (unit_of self.now unit)) }
         ensures err { OnErr result (list.new.items ≡ list.old.items) }
     {
-        prefix_into(self.own.as_slice(), &self.guests, unit, list)
+        prefix_into(&self.own, &self.guests, unit, list)
     }
 
     /// The unit that an own child is a child of; none for the root. It costs nothing.
@@ -229,7 +229,7 @@ impl Table {
         ensures lower { IfSome result (λ parent. IsMadeBefore parent serial) }
         ensures there { IfSome result (λ parent. IsSome (unit_of self.now parent)) }
     {
-        self.own.as_slice()[serial as usize].parent
+        self.own.get(serial)?.parent
     }
 
     /// The serials of a unit's children, which follow one another. It costs a look for the unit.
@@ -360,7 +360,7 @@ impl Table {
         match self.work(job.unit) {
             Some(work) => {
                 work.is_here_at(job.attempt)
-                    && has_prefix(self.own.as_slice(), &self.guests, job.unit, prefix)
+                    && has_prefix(&self.own, &self.guests, job.unit, prefix)
             }
             None => false,
         }
@@ -454,7 +454,10 @@ impl Table {
             ≡ table_gets self.old (Unit.Own serial) (Status.Done child_result) }
         ensures heard { result ≡ parent_heard self.new (Unit.Own serial) }
     {
-        let parent = self.own.as_slice()[serial as usize].parent;
+        let parent = match self.own.get(serial) {
+            Some(child) => child.parent,
+            None => unreachable!(),
+        };
         let heard = tell_parent(
             &mut self.own,
             &mut self.guests,
@@ -483,7 +486,7 @@ impl Table {
     {
         match unit {
             Unit::Own(serial) => {
-                let child = self.own.as_slice().get(serial as usize)?;
+                let child = self.own.get(serial)?;
                 Some(&child.work)
             }
             Unit::Guest(name, attempt) => {

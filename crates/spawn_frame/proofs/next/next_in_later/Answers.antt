@@ -1,36 +1,46 @@
-use Rattle.std.proofs.Common.{◌≡◌, ◌+◌, ◌*◌, ◌<◌, ◌≤◌, length, sym, ap, ◌∙◌, arith}
-use Rattle.spawn_frame.specs.Pages.{next_wanted, page_of, tells}
-use Rattle.spawn_frame.proofs.Ahead.{next_found, next_missed, next_unfound, page_unwanted}
-use Rattle.spawn_frame.proofs.Paged.{page_fits}
+use Rattle.std.proofs.Common.{length, sym, ap, ◌∙◌, arith}
+use Rattle.spawn_frame.specs.Pages.{has_wanted, next_wanted}
+use Rattle.spawn_frame.proofs.Ahead.{page_found, page_none, page_unfound, past_pages}
+use Rattle.spawn_frame.proofs.Filled.{page_begun}
+use Rattle.spawn_frame.proofs.Paged.{has_some}
 use Rattle.spawn_frame.proofs.next.next_in_later.Goals as goal
 use Rattle.spawn_frame.proofs.next.next_in_later.Goals.{then-has+else-is_some, else-has}
 
+pub first_of-requires : goal.first_of-requires
+first_of-requires c =
+    let p = c.index-pages-number in
+    let wanted = ap (has_wanted c.args.wanted) (sym p.is) ∙ sym c.has.ensures ∙ c.if-has.true in
+    omega (arith, page_begun c.args.pages.now c.loop-number.number p.result c.requires.filled c.loop-number-test.true (has_some c.args.wanted _ wanted), c.requires.small)
+
 pub next_child-found-requires : goal.next_child-found-requires
 next_child-found-requires c =
-    let begun : c.loop-page.page * 256 ≤ length c.args.own.now = omega arith in
-    let fits = page_fits c.args.own.now c.loop-page.page c.page_of.result.now begun c.page_of.ensures in
-    omega (arith, fits)
+    let p = c.index-pages-number in
+    let wanted = ap (has_wanted c.args.wanted) (sym p.is) ∙ sym c.has.ensures ∙ c.if-has.true in
+    omega (arith, page_begun c.args.pages.now c.loop-number.number p.result c.requires.filled c.loop-number-test.true (has_some c.args.wanted _ wanted), c.requires.small, ap length (c.as_slice.ensures ∙ p.is))
 
 pub returns-then-is_some : goal.returns-then-is_some
 returns-then-is_some c =
-    let first = c.loop-page.page * 256 in
-    next_found c.args.wanted c.args.own.now first 256 c.next_child-found.result (c.next_child-found.ensures ∙ ap (next_wanted c.args.wanted first) c.page_of.ensures) (sym c.is_some.ensures ∙ c.if-is_some.true)
-    ∙ c.loop-page.invariant
+    let p = c.index-pages-number in
+    let number = c.loop-number.number in
+    let is = c.next_child-found.ensures ∙ (λ i. next_wanted c.args.wanted (c.first_of.ensures i) ((c.as_slice.ensures ∙ p.is) i)) in
+    page_found c.args.wanted c.args.pages.now number p.result _ c.requires.filled c.loop-number-test.true is (sym c.is_some.ensures ∙ c.if-is_some.true)
+    ∙ c.loop-number.invariant
 
-pub loop-page-preserved : goal.loop-page-preserved
-loop-page-preserved c =
-    let own = c.args.own.now in
-    let page = c.loop-page.page in
-    let first = page * 256 in
-    let behind : (page + 1) * 256 ≡ first + 256 = omega arith in
-    let begun : page * 256 < length own = omega arith in
+pub loop-number-preserved : goal.loop-number-preserved
+loop-number-preserved c =
+    let p = c.index-pages-number in
+    let pages = c.args.pages.now in
+    let number = c.loop-number.number in
     elim c.if-has.branch [
       | then-has+else-is_some w ↦
-          next_missed c.args.wanted own first 256 ((page + 1) * 256) behind
-          (next_unfound c.args.wanted own first 256 w.next_child-found.result (w.next_child-found.ensures ∙ ap (next_wanted c.args.wanted first) w.page_of.ensures) (sym w.is_some.ensures ∙ w.if-is_some.false))
-          ∙ c.loop-page.invariant
+          let is = w.next_child-found.ensures ∙ (λ i. next_wanted c.args.wanted (w.first_of.ensures i) ((w.as_slice.ensures ∙ p.is) i)) in
+          page_unfound c.args.wanted pages number p.result _ c.requires.filled c.loop-number-test.true is (sym w.is_some.ensures ∙ w.if-is_some.false)
+          ∙ c.loop-number.invariant
       | else-has w ↦
-          next_missed c.args.wanted own first 256 ((page + 1) * 256) behind
-          (page_unwanted c.args.wanted first (page_of own page) (ap (tells c.args.wanted) (sym (c.requires.told.each page _ begun)) ∙ sym c.has.ensures ∙ w.if-has.false))
-          ∙ c.loop-page.invariant
+          page_none c.args.wanted pages number p.result c.requires.filled c.loop-number-test.true (ap (has_wanted c.args.wanted) (sym p.is) ∙ sym c.has.ensures ∙ w.if-has.false)
+          ∙ c.loop-number.invariant
     ]
+
+pub returns : goal.returns
+returns c =
+    sym (past_pages c.args.wanted c.args.pages.now c.loop-number.number c.requires.filled (omega (arith, c.loop-number-test.false))) ∙ c.loop-number.invariant

@@ -1,22 +1,38 @@
-use Rattle.std.proofs.Common.{◌<◌, length, refl, ap, ◌∙◌, arith}
+use Rattle.std.proofs.Common.{◌%◌, ◌<◌, length, ap, ◌∙◌, arith}
+use Rattle.spawn_frame.specs.Pages.{in_pages}
 use Rattle.spawn_frame.specs.Works.{change_child, with_work_status}
-use Rattle.spawn_frame.proofs.Paged.{others_told, work_written}
+use Rattle.spawn_frame.proofs.Filled.{changed_count, changed_filled, page_changed, page_within, place_within}
 use Rattle.spawn_frame.proofs.Places.{child_past}
 use Rattle.spawn_frame.proofs.children.Children.set_status.Goals as goal
 
-pub tell_again-requires-clause-others : goal.tell_again-requires-clause-others
-tell_again-requires-clause-others c =
-    let own = c.self.inside.items.items in
-    let within : c.args.serial < length own = omega arith in
-    others_told (with_work_status c.args.status) own _ c.args.serial c.self.inside.pages.items _ c.self.invariant
-    (c.deref.ensures.value ∙ work_written (with_work_status c.args.status) own c.args.serial c.index_mut.result.now _ within c.index_mut.ensures.value refl) c.deref_mut.ensures.value
+pub index_mut-requires : goal.index_mut-requires
+index_mut-requires c =
+    let pages = c.self.inside.pages.items in
+    let there : c.args.serial < length (in_pages pages) = omega (arith, c.self.invariant.count) in
+    omega (arith, page_within pages c.args.serial c.self.invariant.filled there)
 
-pub returns-then-index-len : goal.returns-then-index-len
-returns-then-index-len c =
-    let own = c.self.inside.items.items in
-    let within : c.args.serial < length own = omega arith in
-    work_written (with_work_status c.args.status) own c.args.serial c.index_mut.result.now _ within c.index_mut.ensures.value refl
-    ∙ ap (λ l. change_child (with_work_status c.args.status) l c.args.serial) c.self.view_is
+pub set_status-requires : goal.set_status-requires
+set_status-requires c =
+    let pages = c.self.inside.pages.items in
+    let there : c.args.serial < length (in_pages pages) = omega (arith, c.self.invariant.count) in
+    omega (arith, place_within pages c.args.serial c.index_mut.result.now c.self.invariant.filled there, ap length c.index_mut.ensures.value)
 
-pub returns-else-index-len : goal.returns-else-index-len
-returns-else-index-len c = child_past (with_work_status c.args.status) c.args.self.now c.args.serial (omega (arith, ap length c.self.view_is))
+pub invariant_of-self : goal.invariant_of-self
+invariant_of-self c =
+    let pages = c.self.inside.pages.items in
+    let k = c.args.serial in
+    let there : k < length (in_pages pages) = omega (arith, c.self.invariant.count) in
+    let is = c.set_status.ensures ∙ ap (λ l. change_child (with_work_status c.args.status) l (k % 256)) c.index_mut.ensures.value in
+    record { filled = changed_filled (with_work_status c.args.status) pages k _ c.index_mut.result.now c.self.invariant.filled there is; count = changed_count (with_work_status c.args.status) pages k _ _ c.index_mut.result.now c.self.invariant.filled there is c.self.invariant.count; small = c.self.invariant.small }
+
+pub returns-then-index-self : goal.returns-then-index-self
+returns-then-index-self c =
+    let pages = c.self.inside.pages.items in
+    let k = c.args.serial in
+    let there : k < length (in_pages pages) = omega (arith, c.self.invariant.count) in
+    let is = c.set_status.ensures ∙ ap (λ l. change_child (with_work_status c.args.status) l (k % 256)) c.index_mut.ensures.value in
+    page_changed (with_work_status c.args.status) pages k _ c.index_mut.result.now c.self.invariant.filled there is
+    ∙ ap (λ l. change_child (with_work_status c.args.status) l k) c.self.view_is
+
+pub returns-else-index-self : goal.returns-else-index-self
+returns-else-index-self c = child_past (with_work_status c.args.status) c.args.self.now c.args.serial (omega (arith, c.self.invariant.count, ap length c.self.view_is))

@@ -1,4 +1,4 @@
-use Rattle.std.proofs.Common.{List, get_or, option_map, slice_get, sym, ap, subst, ◌∙◌, map}
+use Rattle.std.proofs.Common.{List, option_map, slice_get, sym, ap, subst, ◌∙◌, map}
 use Rattle.spawn_frame.specs.Tables.{has_status, may_end, parent_heard, IsAscending}
 use Rattle.spawn_frame.specs.Units.{table_gets}
 use Rattle.spawn_frame.specs.Works.{HearsFrom, IsTable, frame_says, guests_told, change_child, parent_work, table_of, with_heard, with_work_status, guest_entry}
@@ -14,23 +14,19 @@ use Rattle.spawn_frame.proofs.table.Table.set_child_result.Goals as goal
 pub tell_parent-heard-requires-clause-hears : goal.tell_parent-heard-requires-clause-hears
 tell_parent-heard-requires-clause-hears c =
     let t = c.self.inside in
-    let seen = c.as_slice.result.now in
-    let item : Child = get_or seen c.args.serial c.index-as_slice-serial.result in
-    let at = ap (get_or seen c.args.serial) c.index-as_slice-serial.is ∙ ap (λ l. get_or l c.args.serial item) c.as_slice.ensures in
-    let there = child_here may_end t.own c.args.serial item at (ap (λ v. has_status may_end (slice_get v.own c.args.serial)) c.self.view_is ∙ c.requires) in
+    let item = c.in-Some.child.now in
+    let there = child_here may_end t.own c.args.serial item c.in-Some.ensures (ap (λ v. has_status may_end (slice_get v.own c.args.serial)) c.self.view_is ∙ c.requires) in
     subst (λ (p : List Child × List Guest). HearsFrom (parent_work item.parent p.0 p.1)) (λ i. (t.own, sym c.deref_mut.ensures.value i))
     (parent_hears t.site t.names_limit t.own t.guests.items c.self.invariant c.args.serial there c.args.child_result)
 
 pub invariant_of-self : goal.invariant_of-self
 invariant_of-self c =
     let t = c.self.inside in
-    let seen = c.as_slice.result.now in
-    let item : Child = get_or seen c.args.serial c.index-as_slice-serial.result in
-    let at = ap (get_or seen c.args.serial) c.index-as_slice-serial.is ∙ ap (λ l. get_or l c.args.serial item) c.as_slice.ensures in
+    let item = c.in-Some.child.now in
     let r = c.args.child_result in
     let f = with_heard c.args.serial r in
     let p = item.parent in
-    let there = child_here may_end t.own c.args.serial item at (ap (λ v. has_status may_end (slice_get v.own c.args.serial)) c.self.view_is ∙ c.requires) in
+    let there = child_here may_end t.own c.args.serial item c.in-Some.ensures (ap (λ v. has_status may_end (slice_get v.own c.args.serial)) c.self.view_is ∙ c.requires) in
     let heard = c.tell_parent-heard.ensures.own in
     let e = c.set_status.ensures ∙ ap (λ l. change_child (with_work_status (Done r)) l c.args.serial) heard in
     let g = items_after t.guests c.deref_mut.result.now c.tell_parent-heard.new.guests (guests_told p f) c.tell_parent-heard.auto.guests c.deref_mut.ensures.len c.tell_parent-heard.ensures.guests c.deref_mut.ensures.value in
@@ -40,13 +36,11 @@ invariant_of-self c =
 pub returns-clause-after : goal.returns-clause-after
 returns-clause-after c =
     let t = c.self.inside in
-    let seen = c.as_slice.result.now in
-    let item : Child = get_or seen c.args.serial c.index-as_slice-serial.result in
-    let at = ap (get_or seen c.args.serial) c.index-as_slice-serial.is ∙ ap (λ l. get_or l c.args.serial item) c.as_slice.ensures in
+    let item = c.in-Some.child.now in
     let r = c.args.child_result in
     let f = with_heard c.args.serial r in
     let p = item.parent in
-    let there = child_here may_end t.own c.args.serial item at (ap (λ v. has_status may_end (slice_get v.own c.args.serial)) c.self.view_is ∙ c.requires) in
+    let there = child_here may_end t.own c.args.serial item c.in-Some.ensures (ap (λ v. has_status may_end (slice_get v.own c.args.serial)) c.self.view_is ∙ c.requires) in
     let heard = c.tell_parent-heard.ensures.own in
     let e = c.set_status.ensures ∙ ap (λ l. change_child (with_work_status (Done r)) l c.args.serial) heard in
     let g = items_after t.guests c.deref_mut.result.now c.tell_parent-heard.new.guests (guests_told p f) c.tell_parent-heard.auto.guests c.deref_mut.ensures.len c.tell_parent-heard.ensures.guests c.deref_mut.ensures.value in
@@ -57,13 +51,11 @@ returns-clause-after c =
 pub returns-clause-heard : goal.returns-clause-heard
 returns-clause-heard c =
     let t = c.self.inside in
-    let seen = c.as_slice.result.now in
-    let item : Child = get_or seen c.args.serial c.index-as_slice-serial.result in
-    let at = ap (get_or seen c.args.serial) c.index-as_slice-serial.is ∙ ap (λ l. get_or l c.args.serial item) c.as_slice.ensures in
+    let item = c.in-Some.child.now in
     let r = c.args.child_result in
     let f = with_heard c.args.serial r in
     let p = item.parent in
-    let there = child_here may_end t.own c.args.serial item at (ap (λ v. has_status may_end (slice_get v.own c.args.serial)) c.self.view_is ∙ c.requires) in
+    let there = child_here may_end t.own c.args.serial item c.in-Some.ensures (ap (λ v. has_status may_end (slice_get v.own c.args.serial)) c.self.view_is ∙ c.requires) in
     let heard = c.tell_parent-heard.ensures.own in
     let e = c.set_status.ensures ∙ ap (λ l. change_child (with_work_status (Done r)) l c.args.serial) heard in
     let g = items_after t.guests c.deref_mut.result.now c.tell_parent-heard.new.guests (guests_told p f) c.tell_parent-heard.auto.guests c.deref_mut.ensures.len c.tell_parent-heard.ensures.guests c.deref_mut.ensures.value in

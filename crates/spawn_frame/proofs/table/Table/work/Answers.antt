@@ -1,11 +1,10 @@
-use Rattle.std.proofs.Common.{◌≡◌, ◌<◌, List, get_or, length, MatchOption, None, position, sym, ap, subst, ◌∙◌, arith, map}
-use Rattle.std.proofs.lemmas.Bool.{ltb-true}
+use Rattle.std.proofs.Common.{◌≡◌, List, MatchOption, None, position, sym, ap, subst, ◌∙◌, map}
 use Rattle.spawn_frame.specs.Tables.{IsAscending}
 use Rattle.spawn_frame.specs.Units.{is_guest, unit_of}
 use Rattle.spawn_frame.specs.Works.{IsWork, child_work, guest_entry, work_in}
 use Rattle.spawn_frame.specs.declared.guest.Guest.{Guest}
 use Rattle.spawn_frame.proofs.Found.{unit_none, unit_work}
-use Rattle.spawn_frame.proofs.Places.{child_get, guest_get, guest_unread, place_is}
+use Rattle.spawn_frame.proofs.Places.{guest_get, guest_unread, place_is}
 use Rattle.spawn_frame.proofs.table.Table.work.Goals as goal
 
 pub returns-in_err-place-in-Guest : goal.returns-in_err-place-in-Guest
@@ -21,10 +20,7 @@ pub returns-in_ok-child-in-Own : goal.returns-in_ok-child-in-Own
 returns-in_ok-child-in-Own c =
     let t = c.self.inside in
     let child = c.in_ok-child-in-Own.child.now in
-    let found = c.in_ok-child-in-Own.ensures.lookup in
-    let within : c.in-Own.serial < length t.own = omega (arith, ltb-true c.in-Own.serial (length c.as_slice.result.now) (sym found.0), ap length c.as_slice.ensures) in
-    let at = child_get t.own c.in-Own.serial child within (found.1 ∙ ap (λ xs. get_or xs c.in-Own.serial child) c.as_slice.ensures) in
-    let e = ap (work_in t.own t.guests.items) c.in-Own.is ∙ ap child_work at in
+    let e = ap (work_in t.own t.guests.items) c.in-Own.is ∙ ap child_work c.in_ok-child-in-Own.ensures in
     subst (λ v. IsWork v c.args.unit child.work) c.self.view_is (unit_work t.site t.names_limit t.own t.guests.items c.self.invariant c.args.unit child.work e)
 
 pub returns-in_ok-place-in-Guest : goal.returns-in_ok-place-in-Guest
