@@ -57,6 +57,10 @@ pub record Adds (IsParent : WorkUnit → Type 0) (own : List Entry) (old new : L
   pub all : (k : ℕ) (unit : WorkUnit) → IsParent unit → parent_in (slice_get own k) ≡ Some unit → Contains more k
   pub only : (k : ℕ) → Contains more k → (unit : WorkUnit) × IsParent unit × (parent_in (slice_get own k) ≡ Some unit)
 
+-- Where the old serials are those of the children of some units, the new ones are all those below these units.
+abbrev pub Completes : List Entry → List ℕ → List ℕ → Type 0
+Completes own old new = (top : WorkUnit → Bool) → Adds (λ unit. top unit ≡ true) own [] old → AreBelow top own new
+
 -- an own child whose serial stands in the list, from the first place up to the end
 abbrev pub IsListed : ℕ → ℕ → List ℕ → WorkUnit → Type 0
 IsListed first end serials unit = (i : ℕ) × (first ≤ i) × (i < end) × (unit ≡ Own (get_or serials i 0))

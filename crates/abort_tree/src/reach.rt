@@ -6,7 +6,7 @@ ghost use Rattle.spawn_frame.specs.Aborts.{AbortsBelow, is_open, reached};
 ghost use Rattle.spawn_frame.specs.Tables.{has_status};
 ghost use Rattle.spawn_frame.specs.Units.{table_own, change_at};
 ghost use Rattle.spawn_frame.specs.declared.unit.Unit.{Unit as WorkUnit};
-ghost use Rattle.abort_tree.specs.Below.{abort_if, aborted, is_among, out_of, outs_from, Adds, AreBelow, IsListed, MarksBelow};
+ghost use Rattle.abort_tree.specs.Below.{abort_if, aborted, is_among, out_of, outs_from, Adds, Completes, IsListed, MarksBelow};
 
 use spawn_frame::{Out, Status, Table, Unit};
 use std::alloc::{AllocError, Global};
@@ -103,9 +103,7 @@ fn children_of(alloc: Global, table: &Table, units: &[Unit]) -> Result<Vec<u32>,
 /// Appends what is below the children of some units, level by level. A parent was made before its children, so there are
 /// no more levels than children.
 fn push_below(table: &Table, serials: &mut Vec<u32>) -> Result<(), AllocError>
-    ensures { OnOk result ((top : WorkUnit → Bool) →
-        Adds (λ unit. top unit ≡ true) table.now.own [] serials.old.items →
-        AreBelow top table.now.own serials.new.items) }
+    ensures { OnOk result (Completes table.now.own serials.old.items serials.new.items) }
 {
     let mut first = 0;
     for _level in 0..table.issued() {

@@ -1,7 +1,6 @@
 ghost use Rattle.std.specs.Prelude.{◌≡◌, ◌≤◌, ℕ, length, true};
 ghost use Rattle.cover_problem.specs.Branching.{open_items};
-ghost use Rattle.cover_problem.specs.Search.{first_within, visits_within};
-ghost use Rattle.brancher.specs.Visit.{IsVisit};
+ghost use Rattle.brancher.specs.Visit.{IsVisitWithin};
 
 use crate::branching::branch;
 use crate::watch::Watch;
@@ -28,8 +27,7 @@ pub enum Visit {
 pub fn visit_prefix<W: Watch>(links: &mut Links, depth: usize, fuel: u64, watch: &W) -> Visit
     requires { length (open_items links.old.problem links.old.chosen) ≤ depth }
     ensures problem { links.new.problem ≡ links.old.problem }
-    ensures visit { IsVisit (first_within links.old.problem depth links.old.chosen)
-        (visits_within links.old.problem depth links.old.chosen) fuel links.old.chosen
+    ensures visit { IsVisitWithin links.old.problem depth links.old.chosen fuel
         links.new.chosen result }
     ensures back { (rest : ℕ) → result ≡ Visit.Barren rest → links.new ≡ links.old }
     ensures stopped { result ≡ Visit.Stopped → W.may_stop ≡ true }

@@ -1,16 +1,18 @@
 -- What is said again, unit by unit.
-use Rattle.std.proofs.Common.{◌≡◌, ℕ, zero, suc, ◌+◌, ◌<◌, ◌≤◌, false, true≢false, Option, Some, None, List, [], ◌∷◌, ◌++◌, length, take, slice_get, refl, sym, ap, ◌∙◌, subst, arith, append_assoc, append-nil, add-zero}
+use Rattle.std.proofs.Common.{◌≡◌, ℕ, zero, suc, ◌+◌, ◌<◌, ◌≤◌, Bool, true, false, cond, true≢false, Option, Some, None, List, [], ◌∷◌, ◌++◌, length, take, slice_get, refl, sym, ap, ◌∙◌, subst, arith, append_assoc, append-nil, add-zero}
 use Rattle.std.proofs.Math.Seq.{take-length}
+use Rattle.std.proofs.lemmas.List.{take_all}
 use Rattle.node_core.proofs.Sending.{sends_more}
 use Rattle.node_core.specs.Outgoing.{Lists, Sends}
 use Rattle.node_core.specs.Requests.{give_again, given_again, gives_again, moved_by, return_again, returned_again, returns_again}
 use Rattle.node_core.specs.declared.reply.Reply.TheVariants.{Ignored, Moved}
 use Rattle.packet_wire.specs.declared.packet.Packet.{Packet}
-use Rattle.spawn_frame.specs.Tables.{has_status, is_out}
+use Rattle.spawn_frame.specs.Aborts.{is_open}
+use Rattle.spawn_frame.specs.Tables.{has_status, is_out, open_guests}
 use Rattle.spawn_frame.specs.Units.{Entry, GuestEntry}
 use Rattle.spawn_frame.specs.declared.site.Site.{Site}
 use Rattle.spawn_frame.specs.declared.status.Status.{Status}
-use Rattle.spawn_frame.specs.declared.status.Status.TheVariants.{Out, Ready}
+use Rattle.spawn_frame.specs.declared.status.Status.TheVariants.{Aborted, Done, Dropped, Finished, Here, Out, Ready, Settled, Split}
 use Rattle.steal_return.proofs.Scans.{IsNext, onward}
 
 -- the Gives of one child more, of those from serial s on
@@ -32,6 +34,28 @@ returns_next from (g ∷ gs) zero l = append-nil (return_again from g g.entry.st
 returns_next from (g ∷ gs) (suc i) l =
     ap (λ ps. return_again from g g.entry.status ++ ps) (returns_next from gs i (omega (arith, l)))
     ∙ sym (append_assoc (return_again from g g.entry.status) (returns_again from (take i gs)) (returned_again from (slice_get gs i)))
+
+-- of a guest that isn't open nothing is said
+none_returned : (from : Site) (g : GuestEntry) (status : Status) → is_open status ≡ false → return_again from g status ≡ []
+none_returned from g (Finished result) h = absurd (true≢false h)
+none_returned from g Ready h = refl
+none_returned from g Here h = refl
+none_returned from g Split h = refl
+none_returned from g (Out thief) h = refl
+none_returned from g (Done result) h = refl
+none_returned from g Aborted h = refl
+none_returned from g (Settled result) h = refl
+none_returned from g Dropped h = refl
+
+-- so the open ones say all
+pub returns_open : (from : Site) (gs : List GuestEntry) → returns_again from (open_guests gs) ≡ returns_again from gs
+returns_open from [] = refl
+returns_open from (g ∷ gs) = go (is_open g.entry.status) refl (returns_open from gs)
+  where
+    go : (b : Bool) → is_open g.entry.status ≡ b → returns_again from (open_guests gs) ≡ returns_again from gs
+        → returns_again from (cond b (g ∷ open_guests gs) (open_guests gs)) ≡ return_again from g g.entry.status ++ returns_again from gs
+    go true t e = ap (λ ps. return_again from g g.entry.status ++ ps) e
+    go false t e = e ∙ sym (ap (λ ps. ps ++ returns_again from gs) (none_returned from g g.entry.status t))
 
 -- where nothing is said, the reply is Ignored
 pub none_moved : (ps qs : List Packet) → length (ps ++ qs) ≡ length ps → Ignored ≡ moved_by qs
@@ -67,6 +91,12 @@ returns_sent old mid new from guests i l before then =
     let at : take (i + 1) guests ≡ take (suc i) guests = ap (λ k. take k guests) more in
     subst P (sym (ap (returns_again from) at ∙ returns_next from guests i l))
     (sends_more old mid new (returns_again from (take i guests)) (returned_again from (slice_get guests i)) before then)
+
+-- where the walk over the open guests has come to the end, all Returns are sent
+pub all_returned : (old new : Lists) (from : Site) (guests : List GuestEntry) (i : ℕ) → length (open_guests guests) ≤ i
+    → Sends old (returns_again from (take i (open_guests guests))) new → Sends old (returns_again from guests) new
+all_returned old new from guests i le sent =
+    subst (λ ps. Sends old ps new) (ap (returns_again from) (take_all i (open_guests guests) le) ∙ returns_open from guests) sent
 
 -- ---- a walk over the children that are out
 

@@ -4,6 +4,7 @@ use Rattle.cover_problem.specs.Prefix.{is_prefix}
 use Rattle.cover_problem.specs.Problem.{Problem}
 use Rattle.node_core.specs.Arrivals.{answer_packet}
 use Rattle.node_core.specs.Formed.{AllFormed}
+use Rattle.node_core.specs.NodeStep.{HearStep, NodeStep}
 use Rattle.node_core.specs.Outgoing.{Lists, Sends}
 use Rattle.node_core.specs.SiteView.{View, opening_view, unit_in}
 use Rattle.node_core.specs.declared.act_fault.ActFault.{ActFault}
@@ -44,6 +45,14 @@ abbrev pub AnswersLeast : View → Site → Body → List Packet → Type 0
 AnswersLeast old from Steal out = GivesLeastTo old from out
 AnswersLeast old from _ out = ⊤
 
+-- a node hears a packet of this body, and of the ready children a Steal gets the one of least serial
+abbrev pub AnswersHeard : Problem → View → Site → Body → View → Reply → List Packet → Type 0
+AnswersHeard problem old from body new reply out = HearStep problem old from body reply out new × AnswersLeast old from body out
+
+-- the same of a packet that is delivered
+abbrev pub AnswersDelivery : Problem → View → Packet → View → Reply → List Packet → Type 0
+AnswersDelivery problem old packet new reply out = NodeStep problem old (Deliver packet) reply out new × AnswersLeast old packet.from packet.body out
+
 -- of the ready children a Steal gets the one of least serial
 abbrev pub GivesLeast : View → Event → List Packet → Type 0
 GivesLeast old (Deliver packet) out = AnswersLeast old packet.from packet.body out
@@ -54,6 +63,10 @@ pub record Acts (Step : StepOf) (problem : Problem) (old : View) (event : Event)
   pub steps : Step problem old event reply out new
   pub least : GivesLeast old event out
   pub formed : AllFormed out
+
+-- the same of the reply and the packets of an event that leaves this view
+abbrev pub ActsTo : StepOf → Problem → View → Event → View → Reply → List Packet → Type 0
+ActsTo Step problem old event new reply out = Acts Step problem old event reply out new
 
 -- packets of which this is so are appended to each list
 abbrev pub Sending : Lists → Lists → (List Packet → Type 0) → Type 0

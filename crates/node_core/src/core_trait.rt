@@ -1,6 +1,6 @@
 ghost use Rattle.std.specs.Prelude.{◌≡◌, Option, OnErr};
 ghost use Rattle.cover_problem.specs.Problem.{Problem};
-ghost use Rattle.node_core.specs.Acting.{refusal_told, Acts, Answered, MaySend, PutsOut, PutsOutBoth, StepOf};
+ghost use Rattle.node_core.specs.Acting.{refusal_told, ActsTo, Answered, MaySend, PutsOut, PutsOutBoth, StepOf};
 ghost use Rattle.node_core.specs.Refusal.{IsFit};
 ghost use Rattle.node_core.specs.SiteView.{View};
 ghost use Rattle.node_core.specs.declared.act_fault.ActFault.{ActFault};
@@ -37,8 +37,8 @@ pub trait Core {
     fn answer(&mut self, event: Event, out: &mut Outgoing) -> Result<Reply, ActFault>
         requires { IsFit (problem self.old) event }
         ensures problem { problem self.new ≡ problem self.old }
-        ensures acts { Answered result out.old out.new (λ reply sent.
-            Acts step (problem self.old) (view self.old) event reply sent (view self.new)) }
+        ensures acts { Answered result out.old out.new
+            (ActsTo step (problem self.old) (view self.old) event (view self.new)) }
         ensures refusal { refusal_told result ≡ refusal (problem self.old) (view self.old) event }
         ensures err { OnErr result (view self.new ≡ view self.old) }
         ensures list { OnErr result (MaySend out.old out.new) };
@@ -50,8 +50,8 @@ pub trait Core {
     fn act(&mut self, event: Event, out: &mut Vec<Packet>) -> Result<Reply, ActFault>
         requires { IsFit (problem self.old) event }
         ensures problem { problem self.new ≡ problem self.old }
-        ensures acts { PutsOut result out.old.items out.new.items (λ reply sent.
-            Acts step (problem self.old) (view self.old) event reply sent (view self.new)) }
+        ensures acts { PutsOut result out.old.items out.new.items
+            (ActsTo step (problem self.old) (view self.old) event (view self.new)) }
         ensures refusal { refusal_told result ≡ refusal (problem self.old) (view self.old) event }
         ensures err { OnErr result (view self.new ≡ view self.old) }
         ensures list { OnErr result (out.new.items ≡ out.old.items) }
@@ -78,8 +78,8 @@ pub trait Core {
         requires { IsFit (problem self.old) event }
         ensures problem { problem self.new ≡ problem self.old }
         ensures acts { PutsOutBoth result (out.old.items, copies.old.items)
-            (out.new.items, copies.new.items) (λ reply sent.
-            Acts step (problem self.old) (view self.old) event reply sent (view self.new)) }
+            (out.new.items, copies.new.items)
+            (ActsTo step (problem self.old) (view self.old) event (view self.new)) }
         ensures refusal { refusal_told result ≡ refusal (problem self.old) (view self.old) event }
         ensures err { OnErr result (view self.new ≡ view self.old) }
         ensures list { OnErr result (out.new.items ≡ out.old.items) }

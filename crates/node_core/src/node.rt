@@ -1,7 +1,7 @@
 ghost use Rattle.std.specs.Prelude.{◌≡◌, ◌≢◌, ◌<◌, ◌≤◌, ◌^◌, true, false, IfOk, OnErr};
-ghost use Rattle.node_core.specs.Acting.{is_delivery, refusal_told, Answered, AnswersLeast, GivesLeast, HasPrefixes, MaySend};
+ghost use Rattle.node_core.specs.Acting.{is_delivery, refusal_told, Answered, AnswersDelivery, AnswersHeard, GivesLeast, HasPrefixes, MaySend};
 ghost use Rattle.node_core.specs.Formed.{IsFormedNode};
-ghost use Rattle.node_core.specs.NodeStep.{EventStep, HearStep, NodeStep};
+ghost use Rattle.node_core.specs.NodeStep.{EventStep, NodeStep};
 ghost use Rattle.node_core.specs.Refusal.{event_refusal, hear_refusal, is_misdirected, node_refusal, IsFit};
 ghost use Rattle.packet_wire.specs.WellFormed.{is_body, is_well_formed};
 ghost use Rattle.packet_wire.specs.declared.packet.Body.{Body};
@@ -146,9 +146,8 @@ fn hear(
 ) -> Result<Reply, ActFault>
     requires formed { is_body body ≡ true }
     requires heard { body ≢ Body.Hello }
-    ensures step { Answered result out.old out.new (λ reply sent.
-        HearStep problem.now state.old from body reply sent state.new
-        × AnswersLeast state.old from body sent) }
+    ensures step { Answered result out.old out.new
+        (AnswersHeard problem.now state.old from body state.new) }
     ensures refusal { refusal_told result ≡ hear_refusal problem.now state.old from body }
     ensures err { OnErr result (state.new ≡ state.old) }
     ensures list { OnErr result (MaySend out.old out.new) }
@@ -192,9 +191,8 @@ fn deliver(
 ) -> Result<Reply, ActFault>
     requires fit { is_well_formed packet ≡ true }
     requires node { 1 ≤ state.old.site.node }
-    ensures step { Answered result out.old out.new (λ reply sent.
-        NodeStep problem.now state.old (Event.Deliver packet) reply sent state.new
-        × AnswersLeast state.old packet.from packet.body sent) }
+    ensures step { Answered result out.old out.new
+        (AnswersDelivery problem.now state.old packet state.new) }
     ensures refusal { refusal_told result
         ≡ node_refusal problem.now state.old (Event.Deliver packet) }
     ensures err { OnErr result (state.new ≡ state.old) }

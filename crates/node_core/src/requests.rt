@@ -4,6 +4,7 @@ ghost use Rattle.std.specs.Prelude.{◌≡◌, ◌<◌, ◌∷◌, [], length, s
 ghost use Rattle.node_core.specs.Acting.{refusal_told, Answered, MaySend};
 ghost use Rattle.node_core.specs.Outgoing.{Sends};
 ghost use Rattle.node_core.specs.Refusal.{ask_refusal, redo_refusal};
+ghost use Rattle.spawn_frame.specs.Tables.{open_guests};
 ghost use Rattle.node_core.specs.Requests.{all_again, given_again, gives_again, hello_packet, moved_by, returned_again, returns_again, AskStep, RedoStep};
 
 use crate::act_fault::ActFault;
@@ -129,27 +130,27 @@ impl SiteState {
         })
     }
 
-    /// A Return for each finished guest, in order.
+    /// A Return for each finished guest, in order. It costs a pass through the open guests.
     fn return_again(&self, out: &mut Outgoing) -> Result<(), AllocError>
         ensures ok { OnOk result
             (Sends out.old (returns_again self.now.site self.now.guests) out.new) }
         ensures err { OnErr result (MaySend out.old out.new) }
     {
-        for place in 0..self.ledger.table().guest_count() {
+        for place in 0..self.ledger.table().open_count() {
             self.return_one_again(place, out)?;
         }
         Ok(())
     }
 
-    /// A Return for a guest, if it is finished.
+    /// A Return for the open guest at a place among the open ones, if it is finished.
     fn return_one_again(&self, place: usize, out: &mut Outgoing) -> Result<(), AllocError>
-        requires { place < length self.now.guests }
+        requires { place < length (open_guests self.now.guests) }
         ensures ok { OnOk result
             (Sends out.old (returned_again self.now.site
-            (slice_get self.now.guests place)) out.new) }
+            (slice_get (open_guests self.now.guests) place)) out.new) }
         ensures err { OnErr result (Sends out.old [] out.new) }
     {
-        let guest = self.ledger.table().guest(place);
+        let guest = self.ledger.table().open_guest(place);
         let Status::Finished(result) = guest.status else {
             return Ok(());
         };

@@ -1,8 +1,8 @@
 //! The root, and the result that enters for it.
 
-ghost use Rattle.std.specs.Prelude.{◌≡◌, ◌≢◌, ◌≤◌, is_some, slice_get, true, IfOk, OnErr, OnOk};
+ghost use Rattle.std.specs.Prelude.{◌≡◌, ◌≢◌, ◌≤◌, is_some, slice_get, true, OnErr, OnOk};
 ghost use Rattle.std.specs.Bool.{OnFalse, OnTrue};
-ghost use Rattle.node_core.specs.Acting.{refusal_told, MaySend, Sending};
+ghost use Rattle.node_core.specs.Acting.{refusal_told, Answered, MaySend};
 ghost use Rattle.packet_wire.specs.declared.packet.Body.{Body};
 ghost use Rattle.root_registry.specs.Core.{AnswersBody};
 ghost use Rattle.root_registry.specs.Published.{entering_with, publishing};
@@ -60,9 +60,8 @@ pub(crate) fn receive_steal(
     from: Site,
     out: &mut Outgoing,
 ) -> Result<Reply, ActFault>
-    ensures step { IfOk result (λ reply.
-        Sending out.old out.new
-        (AnswersBody problem.now state.old from Body.Steal state.new reply)) }
+    ensures step { Answered result out.old out.new
+        (AnswersBody problem.now state.old from Body.Steal state.new) }
     ensures refusal { refusal_told result
         ≡ root_hear_refusal problem.now state.old from Body.Steal }
     ensures err { OnErr result (state.new ≡ state.old) }
@@ -91,9 +90,9 @@ pub(crate) fn receive_return(
     out: &mut Outgoing,
 ) -> Result<Reply, ActFault>
     requires { state.old.nodes ≤ LAST_NODE }
-    ensures step { IfOk result (λ reply. Sending out.old out.new
+    ensures step { Answered result out.old out.new
         (AnswersBody publication.old.problem state.old from
-        (Body.Return serial attempt child_result) state.new reply)) }
+        (Body.Return serial attempt child_result) state.new) }
     ensures refusal { refusal_told result
         ≡ root_hear_refusal publication.old.problem state.old from
         (Body.Return serial attempt child_result) }

@@ -9,7 +9,6 @@ pub mod Compared
 pub mod Kept
 pub mod Statuses
 pub mod Working
-pub mod Writes
 pub mod Found
 pub mod Redone
 pub mod Winners
@@ -18,6 +17,7 @@ pub mod Ended
 pub mod Orders
 pub mod Halving
 pub mod Admitted
+pub mod Opened
 pub mod Spawned
 pub mod Split
 pub mod Filled

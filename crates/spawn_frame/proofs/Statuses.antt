@@ -2,6 +2,7 @@
 use Rattle.std.proofs.Common.{◌≡◌, ℕ, Bool, true, not, ◌&&◌, ◌||◌, List, map, option_map, Option, Some, None, is_some, slice_get, refl, sym, ap, ◌∙◌, ⊎_elim}
 use Rattle.std.proofs.lemmas.Option.{same_Some, slice_get-map}
 use Rattle.std.proofs.lemmas.Bool.{and_parts, not-true, or_parts, or_cases, both_ways, false≢true}
+use Rattle.spawn_frame.specs.Aborts.{is_open}
 use Rattle.spawn_frame.specs.Frames.{cover_of}
 use Rattle.spawn_frame.specs.Inlets.{is_done}
 use Rattle.spawn_frame.specs.Picks.{is_split}
@@ -76,8 +77,9 @@ status_kept site limit own guests h (units.Own k) status t =
     own_kept site limit own guests h (with_work_status status) (λ w. refl) k c.child c.is (frame_becomes status (units.Own k) c.child.work (map child_entry own) fits.0 p.1) (undone_brief c.child.parent c.child.work status p.0)
 status_kept site limit own guests h (units.Guest name attempt) status t =
     let g = guest_with_status (may_become (units.Guest name attempt) status) guests name attempt t in
-    let fits = and_parts (suits (units.Guest name attempt) status) (keeps_frame status g.work.status) g.passes in
-    guests_kept site limit own guests h (with_work_status status) (λ w. refl) (λ w. refl) name attempt g.work g.is (λ m b. frame_becomes status (units.Guest m b) g.work (map child_entry own) fits.0 fits.1)
+    let fits = and_parts (suits (units.Guest name attempt) status) (is_open g.work.status && keeps_frame status g.work.status) g.passes in
+    let keeps = and_parts (is_open g.work.status) (keeps_frame status g.work.status) fits.1 in
+    guests_kept site limit own guests h (with_work_status status) (λ w. refl) (λ w. refl) name attempt g.work g.is (λ m b. frame_becomes status (units.Guest m b) g.work (map child_entry own) fits.0 keeps.1)
 
 pub status_view : (site : Site) (limit : ℕ) (own : List Child) (guests : List Guest) (unit : WorkUnit) (status : Status)
     → table_of site limit (own_after unit (with_work_status status) own) (guests_after unit (with_work_status status) guests) ≡ table_gets (table_of site limit own guests) unit status

@@ -1,6 +1,7 @@
 -- What the calls of a table ask for and answer.
-use Rattle.std.specs.Prelude.{◌≡◌, ℕ, ◌<◌, ◌≤◌, IsSome, Bool, true, false, ◌&&◌, if◌then◌else◌, List, [], ◌∷◌, ◌++◌, map, Option, Some, None, slice_get, ◌==◌, bytes_eq as same_numbers}
+use Rattle.std.specs.Prelude.{◌≡◌, ℕ, ◌<◌, ◌≤◌, IsSome, Bool, true, false, ◌&&◌, if◌then◌else◌, List, [], ◌∷◌, ◌++◌, filter, map, Option, Some, None, slice_get, ◌==◌, bytes_eq as same_numbers}
 use Rattle.std.specs.List.{AllByRecursion, count_by}
+use Rattle.spawn_frame.specs.Aborts.{is_open}
 use Rattle.spawn_frame.specs.Frames.{frame, frame_result, is_unit}
 use Rattle.spawn_frame.specs.Inlets.{heard_by}
 use Rattle.spawn_frame.specs.Names.{guest_before}
@@ -134,6 +135,10 @@ seen_guest view = record {
   name = view.name;
   entry = record { parent = None; prefix = view.prefix.now; attempt = view.attempt; status = view.status.now };
 }
+
+-- the guests that are open, in order
+abbrev pub open_guests : List GuestEntry → List GuestEntry
+open_guests guests = filter (λ g. is_open g.entry.status) guests
 
 -- by what a guest is known
 abbrev pub guest_key : GuestEntry → ChildName × ℕ

@@ -1,6 +1,7 @@
 -- How a table keeps its units, and what is true of it.
 use Rattle.std.specs.Prelude.{◌≡◌, ℕ, zero, suc, ◌+◌, ◌<◌, ◌≤◌, ◌^◌, Bool, true, false, not, ◌&&◌, ◌||◌, if◌then◌else◌, List, [], ◌∷◌, map, length, Option, Some, None, slice_get}
 use Rattle.std.specs.List.{AllByRecursion, list_any}
+use Rattle.spawn_frame.specs.Aborts.{is_open}
 use Rattle.spawn_frame.specs.Frames.{is_unit}
 use Rattle.spawn_frame.specs.Inlets.{Hearing, frame_hearing, heard_of, hearing_of, is_done, new_hearing}
 use Rattle.spawn_frame.specs.Picks.{either_unit, is_ready, is_split, pick, ready_unit, ripe_unit}
@@ -223,7 +224,8 @@ fresh_guest name attempt prefix = record { name = name; prefix = prefix; work = 
 abbrev pub keeps_frame : Status → Status → Bool
 keeps_frame new old = not (is_split new) && (not (is_whole new) || is_whole old)
 
--- a status of its kind that a unit may get with no frame hearing of it: an own child isn't done before or after
+-- a status of its kind that a unit may get with no frame hearing of it: an own child isn't done before or after, a guest is open
+-- before
 abbrev pub may_become : WorkUnit → Status → Status → Bool
 may_become (units.Own serial) new old = suits (units.Own serial) new && (not (is_done new || is_done old) && keeps_frame new old)
-may_become (units.Guest name attempt) new old = suits (units.Guest name attempt) new && keeps_frame new old
+may_become (units.Guest name attempt) new old = suits (units.Guest name attempt) new && (is_open old && keeps_frame new old)

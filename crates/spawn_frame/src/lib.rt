@@ -9,6 +9,7 @@ mod children;
 mod first_found;
 mod guest;
 mod guest_view;
+mod guests;
 mod heard;
 mod inlet;
 mod kinds;

@@ -8,7 +8,7 @@ ghost use Rattle.spawn_frame.specs.Frames.{frame, frame_result};
 ghost use Rattle.spawn_frame.specs.Inlets.{frame_winner, heard_by};
 ghost use Rattle.spawn_frame.specs.Picks.{is_finished, is_ready, is_split, ready_unit, ripe_unit};
 ghost use Rattle.spawn_frame.specs.Splits.{split_into, with_result};
-ghost use Rattle.spawn_frame.specs.Tables.{attempt_in, empty_table, guest_key, has_status, is_after, is_at_work, is_here, is_out, longer_prefixes, may_end, new_guest, outs_of, parent_heard, parent_in, prefix_in, root_table, seen_guest, status_in, AllLawful, AreChildren, GivesResult, HasParents, IsAscending, IsAtWork, IsMadeBefore, IsSeen};
+ghost use Rattle.spawn_frame.specs.Tables.{attempt_in, empty_table, guest_key, has_status, is_after, is_at_work, is_here, is_out, longer_prefixes, may_end, new_guest, open_guests, outs_of, parent_heard, parent_in, prefix_in, root_table, seen_guest, status_in, AllLawful, AreChildren, GivesResult, HasParents, IsAscending, IsAtWork, IsMadeBefore, IsSeen};
 ghost use Rattle.spawn_frame.specs.declared.site.ChildName.{ChildName};
 ghost use Rattle.spawn_frame.specs.declared.status.Status.{Status};
 ghost use Rattle.spawn_frame.specs.Units.{change_at, guest_in, insert_guest, last_attempt, redone, table_gets, table_guests, table_own, unit_of};
@@ -16,8 +16,8 @@ ghost use Rattle.spawn_frame.specs.Units.{change_at, guest_in, insert_guest, las
 use crate::building::new_guest;
 use crate::child_result::ChildResult;
 use crate::children::Children;
-use crate::guest::Guest;
 use crate::guest_view::GuestView;
+use crate::guests::Guests;
 use crate::heard::Heard;
 use crate::inlet::Inlet;
 use crate::path::Path;
@@ -28,9 +28,7 @@ use crate::spawn_fault::SpawnFault;
 use crate::status::Status;
 use crate::unit::{Job, Unit};
 use crate::unit_view::UnitView;
-use crate::units::{
-    first_after, first_guest, place_behind, place_of, set_unit, split_unit, tell_parent,
-};
+use crate::units::{first_after, place_behind, place_of, set_unit, split_unit, tell_parent};
 use crate::wanted::Wanted;
 use crate::work::Work;
 use cover_problem::Numbers;
@@ -41,14 +39,15 @@ use std::marker::Model;
 ///
 /// Only `with_root`, `spawn`, `admit` and `prefix_into` take memory. The own children stand in pages of 256: a call looks
 /// at each page once and at the children of one or two pages, `outs` at those of each page that has one that is out. A
-/// guest is found by halving. Only `ready`, `take` and `ripe` may make a pass through the guests, where they find no own
-/// child. No call goes through the children of a frame, whose inlet has heard them.
+/// guest is found by halving. Only `ready`, `take` and `ripe` may make a pass through the open guests, where they find no
+/// own child: no call walks over guests that have ended. No call goes through the children of a frame, whose inlet has
+/// heard them.
 #[derive(Drop)]
 pub struct Table {
     site: Site,
     names_limit: u32,
     own: Children,
-    guests: Vec<Guest>,
+    guests: Guests,
     alloc: Global,
 }
 
@@ -59,10 +58,10 @@ impl Model for Table {
 
     ghost use Rattle.spawn_frame.specs.Works.{table_of, IsTable};
 
-    ghost view = { λ t. table_of t.site t.names_limit t.own t.guests.items };
+    ghost view = { λ t. table_of t.site t.names_limit t.own t.guests };
 
-    ghost invariant = { λ t. IsTable (table_of t.site t.names_limit t.own t.guests.items) t.own
-        t.guests.items };
+    ghost invariant = { λ t. IsTable (table_of t.site t.names_limit t.own t.guests) t.own
+        t.guests };
 }
 
 impl Table {
@@ -76,7 +75,7 @@ impl Table {
             site,
             names_limit,
             own: Children::new(alloc),
-            guests: Vec::new(alloc),
+            guests: Guests::new(alloc),
             alloc,
         }
     }
@@ -94,7 +93,7 @@ impl Table {
             site,
             names_limit: 1,
             own,
-            guests: Vec::new(alloc),
+            guests: Guests::new(alloc),
             alloc,
         })
     }
@@ -219,7 +218,7 @@ impl Table {
             ++ prefix_in (unit_of self.now unit)) }
         ensures err { OnErr result (list.new.items ≡ list.old.items) }
     {
-        prefix_into(&self.own, &self.guests, unit, list)
+        prefix_into(&self.own, self.guests.as_slice(), unit, list)
     }
 
     /// The unit that an own child is a child of; none for the root. It costs nothing.
@@ -251,7 +250,7 @@ impl Table {
         ensures next { result ≡ option_map guest_key (find (is_after after) self.now.guests) }
         ensures ascending { IsAscending self.now.guests }
     {
-        first_after(&self.guests, after)
+        first_after(self.guests.as_slice(), after)
     }
 
     /// How many guests there are; they stand in order. It costs nothing.
@@ -259,7 +258,7 @@ impl Table {
         ensures count { result ≡ length self.now.guests }
         ensures ascending { IsAscending self.now.guests }
     {
-        self.guests.len()
+        self.guests.as_slice().len()
     }
 
     /// The guest at a place in the order of guests, from 0. It costs nothing.
@@ -267,7 +266,29 @@ impl Table {
         requires { place < length self.now.guests }
         ensures { slice_get self.now.guests place ≡ Some (seen_guest result) }
     {
-        let guest = &self.guests[place];
+        let guest = &self.guests.as_slice()[place];
+        GuestView {
+            name: guest.name,
+            prefix: guest.prefix.as_slice(),
+            attempt: guest.work.attempt,
+            status: &guest.work.status,
+        }
+    }
+
+    /// How many guests are open; they stand in order. It costs nothing.
+    pub fn open_count(&self) -> usize
+        ensures count { result ≡ length (open_guests self.now.guests) }
+        ensures ascending { IsAscending self.now.guests }
+    {
+        self.guests.open_count()
+    }
+
+    /// The open guest at a place among the open ones, in the order of guests, from 0. It costs nothing.
+    pub fn open_guest(&self, place: usize) -> GuestView<'_>
+        requires { place < length (open_guests self.now.guests) }
+        ensures { slice_get (open_guests self.now.guests) place ≡ Some (seen_guest result) }
+    {
+        let guest = self.guests.open_guest(place);
         GuestView {
             name: guest.name,
             prefix: guest.prefix.as_slice(),
@@ -277,7 +298,7 @@ impl Table {
     }
 
     /// The settled frame that is finished next: the own child of greatest serial, else the least guest. It costs a look
-    /// at each page, a pass through one page, and where no page has such a child one through the guests.
+    /// at each page, a pass through one page, and where no page has such a child one through the open guests.
     pub fn ripe(&self) -> Option<Unit>
         ensures { result ≡ ripe_unit self.now }
     {
@@ -360,7 +381,7 @@ impl Table {
         match self.work(job.unit) {
             Some(work) => {
                 work.is_here_at(job.attempt)
-                    && has_prefix(&self.own, &self.guests, job.unit, prefix)
+                    && has_prefix(&self.own, self.guests.as_slice(), job.unit, prefix)
             }
             None => false,
         }
@@ -402,7 +423,8 @@ impl Table {
     }
 
     /// Another site's child becomes a ready guest, which keeps the prefix that is handed in; the only error is want of
-    /// memory, which changes nothing. It costs a search by halving and a move of the guests that stand behind.
+    /// memory, which changes nothing. It costs searches by halving, a move of the guests that stand behind, and one of
+    /// the places of those among them that are open.
     pub fn admit(
         &mut self,
         name: ChildName,
@@ -417,12 +439,13 @@ impl Table {
         ensures err { OnErr result (self.new ≡ self.old) }
     {
         let guest = new_guest(name, attempt, prefix);
-        let place = place_behind(&self.guests, name, attempt);
+        let place = place_behind(self.guests.as_slice(), name, attempt);
         self.guests.insert(place, guest)?;
         Ok(())
     }
 
-    /// A finished guest settles on the result that its owner accepted. It costs a look for the guest.
+    /// A finished guest settles on the result that its owner accepted. It costs a look for the guest, and one for its
+    /// place among the open ones, of which those behind are moved.
     pub fn settle(&mut self, name: ChildName, attempt: Attempt, child_result: ChildResult)
         requires { has_status is_finished (guest_in self.old.guests name attempt) ≡ true }
         ensures { self.new ≡ table_gets self.old (Unit.Guest name attempt)
@@ -431,7 +454,7 @@ impl Table {
         self.set_status(Unit::Guest(name, attempt), Status::Settled(child_result));
     }
 
-    /// An open guest is wanted no more. It costs a look for the guest.
+    /// An open guest is wanted no more. It costs what `settle` does.
     pub fn drop_guest(&mut self, name: ChildName, attempt: Attempt)
         requires { has_status is_open (guest_in self.old.guests name attempt) ≡ true }
         ensures { self.new ≡ table_gets self.old (Unit.Guest name attempt) Status.Dropped }
@@ -490,8 +513,8 @@ impl Table {
                 Some(&child.work)
             }
             Unit::Guest(name, attempt) => {
-                let place = place_of(&self.guests, name, attempt)?;
-                Some(&self.guests[place].work)
+                let place = place_of(self.guests.as_slice(), name, attempt)?;
+                Some(&self.guests.as_slice()[place].work)
             }
         }
     }
@@ -515,7 +538,7 @@ impl Table {
     {
         match self.own.last(wanted) {
             Some(unit) => Some(unit),
-            None => first_guest(&self.guests, wanted),
+            None => self.guests.first(wanted),
         }
     }
 }

@@ -2,31 +2,20 @@
 
 ghost use Rattle.std.specs.Prelude.{◌≡◌, ◌+◌, ◌<◌, ◌≤◌, ◌^◌, find, length, map, not, option_map, position, slice_get};
 ghost use Rattle.std.specs.List.{position_or_len};
+ghost use Rattle.spawn_frame.specs.Guests.{guest_of, StaysOpen};
 ghost use Rattle.spawn_frame.specs.Names.{guest_before};
 ghost use Rattle.spawn_frame.specs.Tables.{guest_key, is_after, IsAscending};
 ghost use Rattle.spawn_frame.specs.Units.{is_guest};
-ghost use Rattle.spawn_frame.specs.Works.{first_wanted, frame_says, guest_entry, guests_after, guests_told, own_after, own_told, parent_work, split_work, with_heard, with_work_status, work_in, HearsFrom};
+ghost use Rattle.spawn_frame.specs.Works.{frame_says, guest_entry, guests_after, guests_told, own_after, own_told, parent_work, split_work, with_heard, with_work_status, work_in, HearsFrom};
 
 use crate::child_result::ChildResult;
 use crate::children::Children;
 use crate::guest::Guest;
+use crate::guests::Guests;
 use crate::heard::Heard;
 use crate::site::{Attempt, ChildName};
 use crate::status::Status;
 use crate::unit::Unit;
-use crate::wanted::Wanted;
-
-/// The first guest that is wanted.
-pub fn first_guest(guests: &[Guest], wanted: Wanted) -> Option<Unit>
-    ensures { result ≡ first_wanted wanted guests.now }
-{
-    for guest in guests {
-        if guest.work.is_wanted(wanted) {
-            return Some(Unit::Guest(guest.name, guest.work.attempt));
-        }
-    }
-    None
-}
 
 /// The name and attempt of the first guest behind the given one, or of the first of all. It costs a search by halving.
 pub fn first_after(
@@ -87,34 +76,36 @@ pub fn place_behind(guests: &[Guest], name: ChildName, attempt: Attempt) -> usiz
 }
 
 /// Gives a unit another status, if it is there.
-pub fn set_unit(own: &mut Children, guests: &mut [Guest], unit: Unit, status: Status)
-    requires { IsAscending (map guest_entry guests.old) }
+pub fn set_unit(own: &mut Children, guests: &mut Guests, unit: Unit, status: Status)
+    requires ascending { IsAscending (map guest_entry guests.old) }
+    requires stays { StaysOpen status (guest_of unit guests.old) }
     ensures own { own.new ≡ own_after unit (with_work_status status) own.old }
     ensures guests { guests.new ≡ guests_after unit (with_work_status status) guests.old }
 {
     match unit {
         Unit::Own(serial) => own.set_status(serial, status),
         Unit::Guest(name, attempt) => {
-            if let Some(place) = place_of(guests, name, attempt) {
-                guests[place].work.status = status;
+            if let Some(place) = place_of(guests.as_slice(), name, attempt) {
+                guests.set_status(place, status);
             }
         }
     }
 }
 
 /// Makes a unit a frame of so many children, whose serials begin at the first, if it is there.
-pub fn split_unit(own: &mut Children, guests: &mut [Guest], unit: Unit, first: u32, count: u32)
+pub fn split_unit(own: &mut Children, guests: &mut Guests, unit: Unit, first: u32, count: u32)
     requires some { 0 < count }
     requires fits { first + count < 2 ^ 32 }
     requires ascending { IsAscending (map guest_entry guests.old) }
+    requires stays { StaysOpen Status.Split (guest_of unit guests.old) }
     ensures own { own.new ≡ own_after unit (split_work first count) own.old }
     ensures guests { guests.new ≡ guests_after unit (split_work first count) guests.old }
 {
     match unit {
         Unit::Own(serial) => own.split(serial, first, count),
         Unit::Guest(name, attempt) => {
-            if let Some(place) = place_of(guests, name, attempt) {
-                guests[place].work.split(first, count);
+            if let Some(place) = place_of(guests.as_slice(), name, attempt) {
+                guests.split(place, first, count);
             }
         }
     }
@@ -123,7 +114,7 @@ pub fn split_unit(own: &mut Children, guests: &mut [Guest], unit: Unit, first: u
 /// Tells a frame the result of a child, and says whether it is settled now; what is no frame says `Open`.
 fn tell(
     own: &mut Children,
-    guests: &mut [Guest],
+    guests: &mut Guests,
     unit: Unit,
     child: u32,
     child_result: &ChildResult,
@@ -137,8 +128,8 @@ fn tell(
 {
     match unit {
         Unit::Own(serial) => own.hear(serial, child, child_result),
-        Unit::Guest(name, attempt) => match place_of(guests, name, attempt) {
-            Some(place) => guests[place].work.hear(child, child_result),
+        Unit::Guest(name, attempt) => match place_of(guests.as_slice(), name, attempt) {
+            Some(place) => guests.hear(place, child, child_result),
             None => Heard::Open,
         },
     }
@@ -147,7 +138,7 @@ fn tell(
 /// Tells the parent of a child its result, if it has one, and says whether that frame is settled now; else `Open`.
 pub fn tell_parent(
     own: &mut Children,
-    guests: &mut [Guest],
+    guests: &mut Guests,
     parent: Option<Unit>,
     child: u32,
     child_result: &ChildResult,

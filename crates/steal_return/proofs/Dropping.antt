@@ -6,7 +6,7 @@ use Rattle.std.proofs.lemmas.Option.{none-some, same_Some}
 use Rattle.std.proofs.Math.Bool.{and-false}
 use Rattle.abort_tree.specs.Below.{is_among}
 use Rattle.spawn_frame.specs.Aborts.{is_open}
-use Rattle.spawn_frame.specs.Tables.{IsAscending, has_status}
+use Rattle.spawn_frame.specs.Tables.{IsAscending, has_status, open_guests}
 use Rattle.spawn_frame.specs.Units.{GuestEntry, change_guest, guest_in, is_guest, with_status}
 use Rattle.spawn_frame.specs.declared.site.ChildName.{ChildName}
 use Rattle.spawn_frame.specs.declared.status.Status.TheVariants.{Dropped}
@@ -148,6 +148,21 @@ some_dropped known (g ∷ hs) u us e d = go (is_lost known g) refl e d (λ f h. 
     go false t f h on = on f (let s : drop_lost known hs ≡ hs = cc in s)
 
 -- ---- a walk that collects the lost guests
+
+-- they are among the open ones
+pub lost_open : (known : List ℕ) (gs : List GuestEntry) → lost_units known (open_guests gs) ≡ lost_units known gs
+lost_open known [] = refl
+lost_open known (g ∷ hs) = go (is_open g.entry.status) refl (is_lost known g) refl (lost_open known hs)
+  where
+    go : (b : Bool) → is_open g.entry.status ≡ b → (l : Bool) → is_lost known g ≡ l → lost_units known (open_guests hs) ≡ lost_units known hs
+        → lost_units known (cond b (g ∷ open_guests hs) (open_guests hs)) ≡ map (λ x. Guest x.name x.entry.attempt) (cond l (g ∷ filter (is_lost known) hs) (filter (is_lost known) hs))
+    go true t true l e =
+        ap (λ c. map (λ x. Guest x.name x.entry.attempt) (cond c (g ∷ filter (is_lost known) (open_guests hs)) (filter (is_lost known) (open_guests hs)))) l
+        ∙ ap (λ us. Guest g.name g.entry.attempt ∷ us) e
+    go true t false l e =
+        ap (λ c. map (λ x. Guest x.name x.entry.attempt) (cond c (g ∷ filter (is_lost known) (open_guests hs)) (filter (is_lost known) (open_guests hs)))) l ∙ e
+    go false t true l e = absurd (true≢false (sym (and_parts (is_older known g.name.site) (is_open g.entry.status) l).1 ∙ t))
+    go false t false l e = e
 
 one_more : (known : List ℕ) (gs : List GuestEntry) (k : ℕ) (g : GuestEntry) → slice_get gs k ≡ Some g
     → lost_units known (drop k gs) ≡ cond (is_lost known g) (Guest g.name g.entry.attempt ∷ lost_units known (drop (suc k) gs)) (lost_units known (drop (suc k) gs))

@@ -11,14 +11,14 @@ use spawn_frame::{Attempt, ChildName, GuestView, Table, Unit};
 use std::alloc::{AllocError, Global};
 
 /// The open guests of owners of which a later run is known; the only error is want of memory. It costs a pass through
-/// the guests.
+/// the open guests.
 pub fn lost_guests(alloc: Global, table: &Table, known: &Known) -> Result<Vec<Unit>, AllocError>
     ensures lost { IfOk result (λ lost. lost.items ≡ lost_units known.now table.now.guests) }
     ensures ascending { IfOk result (λ _. IsAscending table.now.guests) }
 {
     let mut lost = Vec::new(alloc);
-    for place in 0..table.guest_count() {
-        let guest = table.guest(place);
+    for place in 0..table.open_count() {
+        let guest = table.open_guest(place);
         if is_lost(known, guest) {
             lost.push(Unit::Guest(guest.name, guest.attempt))?;
         }

@@ -57,6 +57,8 @@ enum Step {
     Works(Unit, Attempt, &'static [u16], bool),
     /// The guest at a place, and its attempt.
     Stands(usize, ChildName, Attempt),
+    /// The open guests, in order: their names and attempts.
+    Opens(&'static [(ChildName, Attempt)]),
 }
 
 use self::Step::*;
@@ -112,12 +114,33 @@ fn stands(table: &Table, place: usize, name: ChildName, attempt: Attempt) -> boo
     }
 }
 
+/// Whether the open guest at a place among the open ones is this one.
+fn is_open_at(table: &Table, place: usize, key: (ChildName, Attempt)) -> bool {
+    if place < table.open_count() {
+        let guest = table.open_guest(place);
+        (guest.name, guest.attempt) == key && guest.status.is_open()
+    } else {
+        false
+    }
+}
+
+/// Whether these are the open guests, in order.
+fn opens(table: &Table, keys: &[(ChildName, Attempt)]) -> bool {
+    for (place, key) in keys.iter().enumerate() {
+        if !is_open_at(table, place, *key) {
+            return false;
+        }
+    }
+    table.open_count() == keys.len()
+}
+
 /// Whether the table tells what a step says of jobs, guests and thieves.
 fn is_told(table: &Table, step: &Step) -> bool {
     match *step {
         Outs(count) => table.outs() == count,
         Works(unit, attempt, prefix, is) => table.has_job(Job { unit, attempt }, prefix) == is,
         Stands(place, name, attempt) => stands(table, place, name, attempt),
+        Opens(keys) => opens(table, keys),
         _ => false,
     }
 }
@@ -446,6 +469,49 @@ static SETTLED: &[Step] = &[
 #[test]
 fn guests_settle_and_drop(rt: HostRuntime) {
     run_anew(&rt, rt.alloc(), 0, SETTLED);
+}
+
+/// Guests that ended stand before, among and behind those that are open.
+static ENDED: &[Step] = &[
+    Opens(&[]),
+    Admit(OF_2, 1, &[]),
+    Admit(OF_3, 1, &[3]),
+    Take(Guest(OF_2, 1), 1),
+    End(Guest(OF_2, 1), Some(1), Open),
+    Opens(&[(OF_2, 1), (OF_3, 1)]),
+    Settle(OF_2, None),
+    Opens(&[(OF_3, 1)]),
+    // One is admitted before an ended one and the open one, another between them.
+    Admit(ROOT, 1, &[]),
+    Admit(OF_2, 2, &[2]),
+    Opens(&[(ROOT, 1), (OF_2, 2), (OF_3, 1)]),
+    Drop(ROOT),
+    Take(Guest(OF_2, 2), 2),
+    Take(Guest(OF_3, 1), 1),
+    Idle,
+    Ripe(None),
+    Split(Guest(OF_3, 1), &[5], Ok(0)),
+    Take(Own(0), 1),
+    End(Own(0), Some(0), Settled),
+    Ripe(Some(Guest(OF_3, 1))),
+    Opens(&[(OF_2, 2), (OF_3, 1)]),
+    End(Guest(OF_3, 1), Some(2), Open),
+    Ripe(None),
+    Settle(OF_3, Some(2)),
+    Opens(&[(OF_2, 2)]),
+    // Behind all that ended.
+    Admit(OF_3, 2, &[3]),
+    Opens(&[(OF_2, 2), (OF_3, 2)]),
+    Take(Guest(OF_3, 2), 2),
+    Idle,
+    Stands(0, ROOT, 1),
+    Stands(1, OF_2, 1),
+    Stands(4, OF_3, 2),
+];
+
+#[test]
+fn guests_that_ended_are_passed_over(rt: HostRuntime) {
+    run_anew(&rt, rt.alloc(), 1, ENDED);
 }
 
 /// A child and its result; what an inlet says then, its winner, and how many children it still waits for.

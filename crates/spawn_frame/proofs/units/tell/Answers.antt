@@ -1,39 +1,47 @@
-use Rattle.std.proofs.Common.{◌∙◌, get_or, option_map, slice_set, Some, subst, sym, ap}
-use Rattle.spawn_frame.specs.Works.{HearsFrom, frame_says, guests_after, with_heard, work_in}
+use Rattle.std.proofs.Common.{List, map, option_map, position, subst, sym, ap, ◌∙◌}
+use Rattle.spawn_frame.specs.Tables.{IsAscending}
+use Rattle.spawn_frame.specs.Units.{is_guest}
+use Rattle.spawn_frame.specs.Works.{HearsFrom, frame_says, guest_entry, guests_after, with_heard, work_in}
 use Rattle.spawn_frame.specs.declared.guest.Guest.{Guest}
-use Rattle.spawn_frame.specs.declared.work.Work.{Work}
-use Rattle.spawn_frame.proofs.Places.{guest_read, guest_unread, guest_unwritten, guest_write}
+use Rattle.spawn_frame.proofs.Opened.{place_changed, place_work}
+use Rattle.spawn_frame.proofs.Places.{guest_unread, guest_unwritten}
 use Rattle.spawn_frame.proofs.units.tell.Goals as goal
 
-pub hear-requires-in-Some : goal.hear-requires-in-Some
-hear-requires-in-Some c =
-    let e = guest_read c.args.guests.now c.in-Guest.name c.in-Guest.attempt c.in-Some.place c.index-guests-place.result (sym c.in-Some.is ∙ c.place_of.ensures) in
-    subst HearsFrom e (subst (λ u. HearsFrom (work_in c.args.own.now c.args.guests.now u)) c.in-Guest.is c.requires.hears)
+pub place_of-requires : goal.place_of-requires
+place_of-requires c = subst (λ (gs : List Guest). IsAscending (map guest_entry gs)) (sym c.as_slice.ensures) c.requires.ascending
+
+pub hear-requires-in-Some-clause-hears : goal.hear-requires-in-Some-clause-hears
+hear-requires-in-Some-clause-hears c =
+    let guests = c.args.guests.now in
+    subst HearsFrom
+    (ap (work_in c.args.own.now guests) c.in-Guest.is ∙ sym (place_work guests c.in-Guest.name c.in-Guest.attempt c.in-Some.place (sym c.in-Some.is ∙ c.place_of.ensures ∙ ap (λ (gs : List Guest). position (λ h. is_guest c.in-Guest.name c.in-Guest.attempt (guest_entry h)) gs) c.as_slice.ensures)))
+    c.requires.hears
 
 pub returns-in-Some-clause-guests : goal.returns-in-Some-clause-guests
 returns-in-Some-clause-guests c =
     let guests = c.args.guests.now in
-    let at : Guest = get_or guests c.in-Some.place c.index-guests-place.result in
-    ap (λ (w : Work). slice_set guests c.in-Some.place (record { name = at.name; prefix = at.prefix; work = w })) c.hear-in-Some.ensures.hears
-    ∙ guest_write (with_heard c.args.child c.args.child_result.now) guests c.in-Guest.name c.in-Guest.attempt c.in-Some.place _ (sym c.in-Some.is ∙ c.place_of.ensures)
-    ∙ ap (λ u. guests_after u (with_heard c.args.child c.args.child_result.now) guests) (sym c.in-Guest.is)
+    let f = with_heard c.args.child c.args.child_result.now in
+    c.hear-in-Some.ensures.guests
+    ∙ place_changed f guests c.in-Guest.name c.in-Guest.attempt c.in-Some.place (sym c.in-Some.is ∙ c.place_of.ensures ∙ ap (λ (gs : List Guest). position (λ h. is_guest c.in-Guest.name c.in-Guest.attempt (guest_entry h)) gs) c.as_slice.ensures)
+    ∙ ap (λ u. guests_after u f guests) (sym c.in-Guest.is)
 
 pub returns-in-Some-clause-heard : goal.returns-in-Some-clause-heard
 returns-in-Some-clause-heard c =
+    let guests = c.args.guests.now in
     let f = with_heard c.args.child c.args.child_result.now in
-    let e = guest_read c.args.guests.now c.in-Guest.name c.in-Guest.attempt c.in-Some.place c.index-guests-place.result (sym c.in-Some.is ∙ c.place_of.ensures) in
-    c.hear-in-Some.ensures.heard ∙ ap (λ w. frame_says (Some w)) c.hear-in-Some.ensures.hears
-    ∙ ap (λ o. frame_says (option_map f o)) (sym e)
-    ∙ ap (λ u. frame_says (option_map f (work_in c.args.own.now c.args.guests.now u))) (sym c.in-Guest.is)
+    c.hear-in-Some.ensures.heard
+    ∙ ap (λ o. frame_says (option_map f o)) (place_work guests c.in-Guest.name c.in-Guest.attempt c.in-Some.place (sym c.in-Some.is ∙ c.place_of.ensures ∙ ap (λ (gs : List Guest). position (λ h. is_guest c.in-Guest.name c.in-Guest.attempt (guest_entry h)) gs) c.as_slice.ensures))
+    ∙ ap (λ u. frame_says (option_map f (work_in c.args.own.now guests u))) (sym c.in-Guest.is)
 
 pub returns-in-None-clause-guests : goal.returns-in-None-clause-guests
 returns-in-None-clause-guests c =
-    guest_unwritten (with_heard c.args.child c.args.child_result.now) c.args.guests.now c.in-Guest.name c.in-Guest.attempt (sym c.in-None.is ∙ c.place_of.ensures)
-    ∙ ap (λ u. guests_after u (with_heard c.args.child c.args.child_result.now) c.args.guests.now) (sym c.in-Guest.is)
+    let guests = c.args.guests.now in
+    let f = with_heard c.args.child c.args.child_result.now in
+    guest_unwritten f guests c.in-Guest.name c.in-Guest.attempt (sym c.in-None.is ∙ c.place_of.ensures ∙ ap (λ (gs : List Guest). position (λ h. is_guest c.in-Guest.name c.in-Guest.attempt (guest_entry h)) gs) c.as_slice.ensures) ∙ ap (λ u. guests_after u f guests) (sym c.in-Guest.is)
 
 pub returns-in-None-clause-heard : goal.returns-in-None-clause-heard
 returns-in-None-clause-heard c =
+    let guests = c.args.guests.now in
     let f = with_heard c.args.child c.args.child_result.now in
-    let e = guest_unread c.args.guests.now c.in-Guest.name c.in-Guest.attempt (sym c.in-None.is ∙ c.place_of.ensures) in
-    ap (λ o. frame_says (option_map f o)) (sym e)
-    ∙ ap (λ u. frame_says (option_map f (work_in c.args.own.now c.args.guests.now u))) (sym c.in-Guest.is)
+    ap (λ o. frame_says (option_map f o)) (sym (guest_unread guests c.in-Guest.name c.in-Guest.attempt (sym c.in-None.is ∙ c.place_of.ensures ∙ ap (λ (gs : List Guest). position (λ h. is_guest c.in-Guest.name c.in-Guest.attempt (guest_entry h)) gs) c.as_slice.ensures)))
+    ∙ ap (λ u. frame_says (option_map f (work_in c.args.own.now guests u))) (sym c.in-Guest.is)

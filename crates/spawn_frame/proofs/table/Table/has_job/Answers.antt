@@ -10,7 +10,7 @@ pub returns-then-is_here_at-clause-tested : goal.returns-then-is_here_at-clause-
 returns-then-is_here_at-clause-tested c =
     let t = c.self.inside in
     let u = c.args.job.unit in
-    let path = ap (λ gs. path_of t.own gs u) c.deref.ensures.value ∙ path_seen t.site t.names_limit t.own t.guests.items u ∙ ap (λ v. prefix_in (unit_of v u)) c.self.view_is in
+    let path = ap (λ gs. path_of t.own gs u) c.as_slice.ensures ∙ path_seen t.site t.names_limit t.own t.guests u ∙ ap (λ v. prefix_in (unit_of v u)) c.self.view_is in
     job_tested c.args.self.now u c.in-Some.work.now c.args.job.attempt c.args.prefix.now c.is_here_at.result c.has_prefix.result c.in-Some.ensures c.is_here_at.ensures c.if-is_here_at.true
     (c.has_prefix.ensures ∙ ap (λ l. bytes_eq l c.args.prefix.now) path)
 

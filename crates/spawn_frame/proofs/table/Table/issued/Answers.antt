@@ -6,4 +6,4 @@ use Rattle.spawn_frame.proofs.table.Table.issued.Goals as goal
 pub returns-clause-lawful : goal.returns-clause-lawful
 returns-clause-lawful c =
     let t = c.self.inside in
-    subst AllLawful c.self.view_is (each_lawful t.site t.names_limit t.own t.guests.items c.self.invariant)
+    subst AllLawful c.self.view_is (each_lawful t.site t.names_limit t.own t.guests c.self.invariant)

@@ -6,4 +6,4 @@ use Rattle.spawn_frame.proofs.table.Table.next_guest.Goals as goal
 
 pub first_after-requires : goal.first_after-requires
 first_after-requires c =
-    subst (λ (gs : List Guest). IsAscending (map guest_entry gs)) (sym c.deref.ensures.value) c.self.invariant.ascending
+    subst (λ (gs : List Guest). IsAscending (map guest_entry gs)) (sym c.as_slice.ensures) c.self.invariant.ascending

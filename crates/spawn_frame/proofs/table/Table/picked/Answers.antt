@@ -13,11 +13,11 @@ returns-in-Some c =
     let t = c.self.inside in
     let last = sym c.last.ensures ∙ c.in-Some.is in
     let is =
-    sym (ap (λ o. either_unit o (first_wanted c.args.wanted t.guests.items)) last)
-    ∙ wanted_is t.site t.names_limit t.own t.guests.items c.self.invariant c.args.wanted in
+    sym (ap (λ o. either_unit o (first_wanted c.args.wanted t.guests)) last)
+    ∙ wanted_is t.site t.names_limit t.own t.guests c.self.invariant c.args.wanted in
     record {
       unit = is ∙ ap (wanted_unit c.args.wanted) c.self.view_is;
-      status = each_wanted_there c.args.wanted (table_of t.site t.names_limit t.own t.guests.items) c.args.self.now c.self.invariant.ascending c.self.view_is _ is;
+      status = each_wanted_there c.args.wanted (table_of t.site t.names_limit t.own t.guests) c.args.self.now c.self.invariant.ascending c.self.view_is _ is;
     }
 
 pub returns-in-None : goal.returns-in-None
@@ -25,10 +25,10 @@ returns-in-None c =
     let t = c.self.inside in
     let last = sym c.last.ensures ∙ c.in-None.is in
     let is =
-    c.first_guest.ensures ∙ ap (first_wanted c.args.wanted) c.deref.ensures.value
-    ∙ sym (ap (λ o. either_unit o (first_wanted c.args.wanted t.guests.items)) last)
-    ∙ wanted_is t.site t.names_limit t.own t.guests.items c.self.invariant c.args.wanted in
+    c.first.ensures
+    ∙ sym (ap (λ o. either_unit o (first_wanted c.args.wanted t.guests)) last)
+    ∙ wanted_is t.site t.names_limit t.own t.guests c.self.invariant c.args.wanted in
     record {
       unit = is ∙ ap (wanted_unit c.args.wanted) c.self.view_is;
-      status = each_wanted_there c.args.wanted (table_of t.site t.names_limit t.own t.guests.items) c.args.self.now c.self.invariant.ascending c.self.view_is _ is;
+      status = each_wanted_there c.args.wanted (table_of t.site t.names_limit t.own t.guests) c.args.self.now c.self.invariant.ascending c.self.view_is _ is;
     }

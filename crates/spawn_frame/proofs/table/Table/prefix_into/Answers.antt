@@ -9,5 +9,5 @@ pub returns-clause-ok : goal.returns-clause-ok
 returns-clause-ok c =
     let t = c.self.inside in
     let u = c.args.unit in
-    let path = ap (λ gs. path_of t.own gs u) c.deref.ensures.value ∙ path_seen t.site t.names_limit t.own t.guests.items u ∙ ap (λ v. prefix_in (unit_of v u)) c.self.view_is in
+    let path = ap (λ gs. path_of t.own gs u) c.as_slice.ensures ∙ path_seen t.site t.names_limit t.own t.guests u ∙ ap (λ v. prefix_in (unit_of v u)) c.self.view_is in
     subst (λ (l : List ℕ). OnOk c.prefix_into.result (c.prefix_into.new.list.items ≡ c.args.list.now.items ++ l)) path c.prefix_into.ensures.ok

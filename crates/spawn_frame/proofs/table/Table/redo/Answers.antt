@@ -11,14 +11,14 @@ invariant_of-self c =
     let t = c.self.inside in
     let there = child_with is_out t.own c.args.serial (ap (λ v. has_status is_out (slice_get v.own c.args.serial)) c.self.view_is ∙ c.requires.out) in
     let set = c.redo.ensures in
-    subst (λ own. IsTable (table_of t.site t.names_limit own t.guests.items) own t.guests.items) (sym set)
-    (redone_kept t.site t.names_limit t.own t.guests.items c.self.invariant c.args.serial there)
+    subst (λ own. IsTable (table_of t.site t.names_limit own t.guests) own t.guests) (sym set)
+    (redone_kept t.site t.names_limit t.own t.guests c.self.invariant c.args.serial there)
 
 pub returns : goal.returns
 returns c =
     let t = c.self.inside in
     let there = child_with is_out t.own c.args.serial (ap (λ v. has_status is_out (slice_get v.own c.args.serial)) c.self.view_is ∙ c.requires.out) in
     let set = c.redo.ensures in
-    ap (λ own. table_of t.site t.names_limit own t.guests.items) set
-    ∙ redone_view t.site t.names_limit t.own t.guests.items c.args.serial
+    ap (λ own. table_of t.site t.names_limit own t.guests) set
+    ∙ redone_view t.site t.names_limit t.own t.guests c.args.serial
     ∙ ap (λ v. table_own v (change_at redone v.own c.args.serial)) c.self.view_is
