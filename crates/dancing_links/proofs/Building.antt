@@ -121,18 +121,23 @@ building_end c lasts m t b = record {
     ends = omega (arith, t.ends);
     heads_in = λ x h. refl;
     tails_in = λ x h. refl;
-    down = λ x high here. b.down x (omega (arith, t.ends, high)) (λ e.
+    down = λ x high own here. below x high;
+    up = λ x low inside own here. b.up x low inside;
+  };
+  items_down = λ x high own. below x high;
+  items_up = λ x low inside own. b.up x low inside;
+  heads_up = b.heads_up;
+  tails_down = b.tails_down;
+}
+  where
+    below : (x : ℕ) → x < c.tails → IsNext c [] x (down_of m x)
+    below x high = b.down x (omega (arith, t.ends, high)) (λ e.
         let P : ℕ → Type 0 = λ k. k < c.heads in
         let column : column_of c x < c.heads = All-get_or P c.column x 0 (omega (arith, t.ends, high)) t.each_column in
         let last = b.last (column_of c x) column in
         let tail : ℕ = c.tails + column_of c x in
         let inside : tail < length c.column = omega (arith, t.ends, column) in
-        last.nearest tail (omega (arith, sym e, high)) inside (omega (arith, t.tail_columns tail (omega arith) inside)));
-    up = λ x low inside here. b.up x low inside;
-  };
-  heads_up = b.heads_up;
-  tails_down = b.tails_down;
-}
+        last.nearest tail (omega (arith, sym e, high)) inside (omega (arith, t.tail_columns tail (omega arith) inside)))
 
 pub building_step_at : (c : Columns) (node i above : ℕ) (lasts : List ℕ) (m : List Link) → IsTable c → c.heads ≤ node → node < length c.column → i ≡ column_of c node → above ≡ get_or lasts i 0 → IsBuilding c node lasts m → IsBuilding c (node + 1) (set lasts i node) (with_up (with_down m above node) node above)
 building_step_at c node i above lasts m t low inside e is b =

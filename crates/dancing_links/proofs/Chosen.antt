@@ -11,8 +11,9 @@ use Rattle.cover_problem.proofs.Prefixes.{prefix_short}
 use Rattle.dancing_links.specs.declared.link.Link.{Link}
 use Rattle.dancing_links.specs.Columns.{Columns, among, column_of, option_of, IsTable, IsLinked, IsSpelled, IsOptionNode}
 use Rattle.dancing_links.specs.Committing.{IsCommits, IsFirst, Recovers, commit, uncommit, committed, covering}
-use Rattle.dancing_links.specs.Keys.{IsKeyed, KeysCoveredAll, KeysUncoveredAll}
-use Rattle.dancing_links.specs.Covering.{outs, outs_all, links_all, covered_by, others, nodes_by, AreOpen, CoversAll, UncoversAll}
+use Rattle.dancing_links.specs.Keys.{IsKeyed, KeysCoveredAll}
+use Rattle.dancing_links.specs.Trail.{hidden_all, KeysUncoveredAll, UncoversAll}
+use Rattle.dancing_links.specs.Covering.{outs, outs_all, links_all, hides, covered_by, others, nodes_by, AreOpen, CoversAll}
 use Rattle.dancing_links.specs.Linking.{unlinks}
 use Rattle.dancing_links.specs.Table.{table}
 use Rattle.dancing_links.specs.Choices.{Choices, with_child, AreFresh, IsNextChoice, IsLinks, IsHistory, chosen_nodes, covering_nodes, commits_of, no_commits}
@@ -221,42 +222,42 @@ links_push p c os es old new was now held room o k is e inside live free node ow
     links_of p c (os ++ o ∷ []) (es ++ k ∷ []) new now room f linked (subst H (sym all) more)
 
 -- without the last one
-pub links_pop : (p : Problem) (c : Columns) (os es : List ℕ) (old new : List Link) (was now held : List ℕ) (room o k : ℕ) → IsLinks p c (os ++ o ∷ []) (es ++ k ∷ []) old was room → held ≡ commits_of c es → IsLinked c new → UncoversAll c old (covering c held (nodes_by c k)) new → KeysUncoveredAll c old (covering c held (nodes_by c k)) was now → IsLinks p c os es new now room
-links_pop p c os es old new was now held room o k is e linked uncovers keys =
+pub links_pop : (p : Problem) (c : Columns) (os es : List ℕ) (old new : List Link) (was now held piece : List ℕ) (room o k : ℕ) → IsLinks p c (os ++ o ∷ []) (es ++ k ∷ []) old was room → held ≡ commits_of c es → IsLinked c new → UncoversAll c old (covering c held (nodes_by c k)) piece new → KeysUncoveredAll c old (covering c held (nodes_by c k)) piece was now → piece ≡ hidden_all c (outs_all c [] (covering_nodes c es)) (covering c (commits_of c es) (nodes_by c k)) → IsLinks p c os es new now room
+links_pop p c os es old new was now held piece room o k is e linked uncovers keys same =
     let f = frame_of p c (os ++ o ∷ []) (es ++ k ∷ []) old was room is in
     let all = covering_more c es k in
     let O : List ℕ → Type 0 = λ ks. AreOpen c [] ks in
     let H : List ℕ → Type 0 = λ ks. IsHistory c ks old was in
-    let P : List ℕ → Type 0 = λ commits. UncoversAll c old (covering c commits (nodes_by c k)) new in
-    let Q : List ℕ → Type 0 = λ commits. KeysUncoveredAll c old (covering c commits (nodes_by c k)) was now in
-    let less = history_less c (covering_nodes c es) (covering c (commits_of c es) (nodes_by c k)) old new was now (frame_table p c (os ++ o ∷ []) (es ++ k ∷ []) room f) (subst O all (frame_open p c (os ++ o ∷ []) (es ++ k ∷ []) room f)) (subst H all is.history) (subst P e uncovers) (subst Q e keys) in
+    let P : List ℕ → Type 0 = λ commits. UncoversAll c old (covering c commits (nodes_by c k)) piece new in
+    let Q : List ℕ → Type 0 = λ commits. KeysUncoveredAll c old (covering c commits (nodes_by c k)) piece was now in
+    let less = history_less c (covering_nodes c es) (covering c (commits_of c es) (nodes_by c k)) piece old new was now (frame_table p c (os ++ o ∷ []) (es ++ k ∷ []) room f) (subst O all (frame_open p c (os ++ o ∷ []) (es ++ k ∷ []) room f)) (subst H all is.history) (subst P e uncovers) (subst Q e keys) same in
     links_of p c os es new now room (frame_front p c os es room o k f).0 linked less
 
 -- once the others of the last node's option are taken back
-pub others_popped : (p : Problem) (c : Columns) (os es : List ℕ) (old mid : List Link) (was half held : List ℕ) (room o k : ℕ) → IsLinks p c (os ++ o ∷ []) (es ++ k ∷ []) old was room → held ≡ commit c (commits_of c es) k → UncoversAll c old (covering c held (others c k)) mid → KeysUncoveredAll c old (covering c held (others c k)) was half → IsHistory c (covering_nodes c es ++ k ∷ []) mid half
-others_popped p c os es old mid was half held room o k is e uncovers keys =
+pub others_popped : (p : Problem) (c : Columns) (os es : List ℕ) (old mid : List Link) (was half held piece : List ℕ) (room o k : ℕ) → IsLinks p c (os ++ o ∷ []) (es ++ k ∷ []) old was room → held ≡ commit c (commits_of c es) k → UncoversAll c old (covering c held (others c k)) piece mid → KeysUncoveredAll c old (covering c held (others c k)) piece was half → piece ≡ hidden_all c (outs_all c [] (covering_nodes c es ++ k ∷ [])) (covering c (commit c (commits_of c es) k) (others c k)) → IsHistory c (covering_nodes c es ++ k ∷ []) mid half
+others_popped p c os es old mid was half held piece room o k is e uncovers keys same =
     let f = frame_of p c (os ++ o ∷ []) (es ++ k ∷ []) old was room is in
     let H : List ℕ → Type 0 = λ ks. IsHistory c ks old was in
-    let P : List ℕ → Type 0 = λ commits. UncoversAll c old (covering c commits (others c k)) mid in
-    let Q : List ℕ → Type 0 = λ commits. KeysUncoveredAll c old (covering c commits (others c k)) was half in
+    let P : List ℕ → Type 0 = λ commits. UncoversAll c old (covering c commits (others c k)) piece mid in
+    let Q : List ℕ → Type 0 = λ commits. KeysUncoveredAll c old (covering c commits (others c k)) piece was half in
     let push = covering_push p c os es room k (frame_front p c os es room o k f).0 (last_free p c os es room o k f) in
-    history_less c (covering_nodes c es ++ k ∷ []) (covering c (commit c (commits_of c es) k) (others c k)) old mid was half (frame_table p c (os ++ o ∷ []) (es ++ k ∷ []) room f) (push_open p c os es room o k f) (subst H push is.history) (subst P e uncovers) (subst Q e keys)
+    history_less c (covering_nodes c es ++ k ∷ []) (covering c (commit c (commits_of c es) k) (others c k)) piece old mid was half (frame_table p c (os ++ o ∷ []) (es ++ k ∷ []) room f) (push_open p c os es room o k f) (subst H push is.history) (subst P e uncovers) (subst Q e keys) same
 
 -- and its own
-pub item_popped : (p : Problem) (c : Columns) (os es : List ℕ) (mid new : List Link) (half now held : List ℕ) (room o k : ℕ) → IsFrame p c (os ++ o ∷ []) (es ++ k ∷ []) room → IsHistory c (covering_nodes c es ++ k ∷ []) mid half → held ≡ commits_of c es → IsLinked c new → UncoversAll c mid (covering c held (k ∷ [])) new → KeysUncoveredAll c mid (covering c held (k ∷ [])) half now → IsLinks p c os es new now room
-item_popped p c os es mid new half now held room o k f history e linked uncovers keys =
+pub item_popped : (p : Problem) (c : Columns) (os es : List ℕ) (mid new : List Link) (half now held piece : List ℕ) (room o k : ℕ) → IsFrame p c (os ++ o ∷ []) (es ++ k ∷ []) room → IsHistory c (covering_nodes c es ++ k ∷ []) mid half → held ≡ commits_of c es → IsLinked c new → UncoversAll c mid (covering c held (k ∷ [])) piece new → KeysUncoveredAll c mid (covering c held (k ∷ [])) piece half now → piece ≡ hidden_all c (outs_all c [] (covering_nodes c es)) (k ∷ []) → IsLinks p c os es new now room
+item_popped p c os es mid new half now held piece room o k f history e linked uncovers keys same =
     let t = frame_table p c (os ++ o ∷ []) (es ++ k ∷ []) room f in
     let front = (frame_front p c os es room o k f).0 in
     let one : covering c held (k ∷ []) ≡ k ∷ [] = ap (λ (commits : List ℕ). covering c commits (k ∷ [])) e ∙ covering_new c (commits_of c es) k [] (repeated_none c (commits_of c es) k (frame_free p c os es room (column_of c k) front (last_free p c os es room o k f))) in
-    let P : List ℕ → Type 0 = λ ks. UncoversAll c mid ks new in
-    let Q : List ℕ → Type 0 = λ ks. KeysUncoveredAll c mid ks half now in
+    let P : List ℕ → Type 0 = λ ks. UncoversAll c mid ks piece new in
+    let Q : List ℕ → Type 0 = λ ks. KeysUncoveredAll c mid ks piece half now in
     let are = (open_parts c [] (covering_nodes c es ++ k ∷ []) (covering c (commit c (commits_of c es) k) (others c k)) (push_open p c os es room o k f)).0 in
     links_of p c os es new now room front linked
-    (history_less c (covering_nodes c es) (k ∷ []) mid new half now t are history (subst P one uncovers) (subst Q one keys))
+    (history_less c (covering_nodes c es) (k ∷ []) piece mid new half now t are history (subst P one uncovers) (subst Q one keys) same)
 
 -- another node in the place of the last one
-pub recovered : (p : Problem) (c : Columns) (os es : List ℕ) (mid new : List Link) (half now held : List ℕ) (room o k next : ℕ) → IsFrame p c (os ++ o ∷ []) (es ++ k ∷ []) room → IsHistory c (covering_nodes c es ++ k ∷ []) mid half → Recovers c (commits_of c es) mid half k next new now held → IsHistory c (covering_nodes c es ++ next ∷ []) new now
-recovered p c os es mid new half now held room o k next f h r =
+pub recovered : (p : Problem) (c : Columns) (os es : List ℕ) (mid new : List Link) (half now held kept piece trail : List ℕ) (room o k next : ℕ) → IsFrame p c (os ++ o ∷ []) (es ++ k ∷ []) room → IsHistory c (covering_nodes c es ++ k ∷ []) mid half → Recovers c (commits_of c es) mid half kept piece k next new now trail held → piece ≡ hides c (outs_all c [] (covering_nodes c es)) k → IsHistory c (covering_nodes c es ++ next ∷ []) new now
+recovered p c os es mid new half now held kept piece trail room o k next f h r same =
     let t = frame_table p c (os ++ o ∷ []) (es ++ k ∷ []) room f in
     let xs = covering_nodes c es in
     let parts = open_parts c [] xs (k ∷ []) (open_parts c [] (covering_nodes c es ++ k ∷ []) (covering c (commit c (commits_of c es) k) (others c k)) (push_open p c os es room o k f)).0 in
@@ -264,15 +265,15 @@ recovered p c os es mid new half now held room o k next f h r =
     let out : List ℕ = outs_all c [] (covering_nodes c es) in
     let m : List Link = links_all c [] before (covering_nodes c es) in
     let spelled : IsSpelled c (outs_all c [] (covering_nodes c es)) (links_all c [] before (covering_nodes c es)) = spelled_all c [] before xs t h.built.spelled parts.0 in
-    let was : mid ≡ unlinks (links_all c [] before (covering_nodes c es)) (covered_by c (outs_all c [] (covering_nodes c es)) k) = h.links_are ∙ links_append c [] before xs (k ∷ []) in
+    let was : mid ≡ unlinks (links_all c [] before (covering_nodes c es)) (hides c (outs_all c [] (covering_nodes c es)) k) = h.links_are ∙ links_append c [] before xs (k ∷ []) in
     let P : List ℕ → Type 0 = λ gone. IsKeyed c gone half in
     let Q : List ℕ → Type 0 = λ gone. IsKeyed c gone now in
     let keyed : IsKeyed c (outs (covered_by c (outs_all c [] (covering_nodes c es)) k) (outs_all c [] (covering_nodes c es))) half = subst P (out_append c [] xs (k ∷ [])) h.keyed in
     record {
       before = before;
       built = h.built;
-      links_are = r.links out m spelled parts.1.0 was ∙ sym (links_append c [] before xs (next ∷ []));
-      keyed = subst Q (sym (out_append c [] xs (next ∷ []))) (r.keys out m spelled parts.1.0 was keyed);
+      links_are = r.links out m (spelled, parts.1.0, was, same) ∙ sym (links_append c [] before xs (next ∷ []));
+      keyed = subst Q (sym (out_append c [] xs (next ∷ []))) (r.keys out m (spelled, parts.1.0, was, same) keyed);
     }
 
 -- there is room for one more

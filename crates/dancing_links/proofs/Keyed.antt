@@ -1,36 +1,18 @@
 -- The keys of items while nodes leave their columns and come back.
-use Rattle.std.proofs.Common.{◌≡◌, ℕ, zero, suc, ◌+◌, ◌-◌, ◌*◌, ◌%◌, ◌||◌, ◌<◌, ◌≤◌, List, [], ◌∷◌, length, Bool, true, false, not, ◌==◌, ◌&&◌, get_or, set, filter, refl, arith, sym, ap, ◌∙◌, inl, inr, subst}
+use Rattle.std.proofs.Common.{◌≡◌, ℕ, suc, ◌+◌, ◌-◌, ◌*◌, ◌%◌, ◌||◌, ◌<◌, ◌≤◌, List, [], ◌∷◌, length, Bool, true, false, not, ◌==◌, ◌&&◌, get_or, set, refl, arith, sym, ap, ◌∙◌, inl, inr, subst}
 use Rattle.std.specs.List.{range_with_len}
-use Rattle.std.proofs.lemmas.Bool.{cases_Bool, cases_eq, eq-eqb, ne_eqb, or_left, or_right}
+use Rattle.std.proofs.lemmas.Bool.{cases_eq, eq-eqb, ne_eqb, or_left, or_right}
 use Rattle.std.proofs.lemmas.List.{length-set, get_or-set_same, get_or-set_other}
 use Rattle.std.proofs.lemmas.List.FromFn.{length-range_with_len, get_or-range_with_len}
 use Rattle.cover_problem.proofs.Among.{filter_fewer}
 use Rattle.dancing_links.specs.declared.link.Link.{Link}
 use Rattle.dancing_links.specs.Columns.{Columns, among, column_of, column_from, IsTable}
-use Rattle.dancing_links.specs.Keys.{with_less, with_more, with_mark, mark_of, key_of, fewer, IsKeyed, IsCounting, KeysCovered, KeysUncovered}
+use Rattle.dancing_links.specs.Keys.{with_less, with_more, with_mark, mark_of, key_of, fewer, more, IsKeyed, IsCounting, KeysCovered}
 use Rattle.dancing_links.specs.Covering.{outs, hidden_from, covered}
-use Rattle.dancing_links.specs.Linking.{unlinked}
-use Rattle.dancing_links.proofs.Present.{same_filter, hidden_by}
+use Rattle.dancing_links.proofs.Present.{hidden_by}
 use Rattle.dancing_links.proofs.Round.{others_at}
-use Rattle.dancing_links.proofs.Walk.{AreIn, Going, more, going_done, item_out, whole_item, option_node, column_skip_to, column_from_take, column_from_skip, column_from_end}
-use Rattle.dancing_links.proofs.Chain.{Back, back_all, going_all}
-
-filter_one_less : (p q : ℕ → Bool) (x n s : ℕ) → ((k : ℕ) → (k ≡ x → ⊥) → p k ≡ q k) → p x ≡ true → q x ≡ false → s ≤ x → x < s + n → length (filter p (range_with_len s n)) ≡ suc (length (filter q (range_with_len s n)))
-filter_one_less p q x zero s same yes_p no_q low high = absurd (omega (arith, low, high))
-filter_one_less p q x (suc n) s same yes_p no_q low high = elim (cases_eq s x) [
-  | inl e ↦
-      let here : p s ≡ true = ap p e ∙ yes_p in
-      let gone : q s ≡ false = ap q e ∙ no_q in
-      let rest : filter p (range_with_len (s + 1) n) ≡ filter q (range_with_len (s + 1) n) = same_filter p q n (s + 1) (λ k above below. same k (λ f. omega (arith, f, e, above))) in
-      rw (here, gone, rest) refl
-  | inr ne ↦
-      let rest = filter_one_less p q x n (s + 1) same yes_p no_q (omega (arith, low, ne)) (omega (arith, high)) in
-      let both : p s ≡ q s = same s ne in
-      elim (cases_Bool (q s)) [
-        | inl t ↦ rw (both, t) (ap suc rest)
-        | inr f ↦ rw (both, f) rest
-      ]
-]
+use Rattle.dancing_links.proofs.Walk.{AreIn, Going, filter_one_less, same_filter, going_done, item_out, whole_item, option_node, column_skip_to, column_from_take, column_from_skip, column_from_end}
+use Rattle.dancing_links.proofs.Chain.{going_all}
 
 -- a node that is taken out of a column makes it one shorter
 column_taken : (c : Columns) (out : List ℕ) (x i : ℕ) → c.heads ≤ x → x < c.tails → column_of c x ≡ i → among out x ≡ false → length (column_from c out i c.heads) ≡ suc (length (column_from c (x ∷ out) i c.heads))
@@ -122,14 +104,14 @@ keyed_fewer c out keys (x ∷ xs) t are options is =
     let own = options x (or_left (x == x) (among xs x) (eq-eqb x x refl)) in
     keyed_fewer c (x ∷ out) (with_less c keys x) xs t are.1 (λ k h. options k (or_right (x == k) (among xs k) h)) (keyed_less c out keys x t are.0.0 are.0.1 own are.0.2 is)
 
-keyed_back : (c : Columns) (out keys xs : List ℕ) → IsTable c → AreIn c out xs → AreOptions c xs → IsKeyed c (outs xs out) keys → IsKeyed c out (more c keys xs)
+pub keyed_back : (c : Columns) (out keys xs : List ℕ) → IsTable c → AreIn c out xs → AreOptions c xs → IsKeyed c (outs xs out) keys → IsKeyed c out (more c keys xs)
 keyed_back c out keys [] t are options is = is
 keyed_back c out keys (x ∷ xs) t are options is =
     let own = options x (or_left (x == x) (among xs x) (eq-eqb x x refl)) in
     keyed_more c out (more c keys xs) x t are.0.0 are.0.1 own are.0.2 (keyed_back c (x ∷ out) keys xs t are.1 (λ k h. options k (or_right (x == k) (among xs k) h)) is)
 
 -- what is hidden are nodes of options
-hidden_options : (c : Columns) (out : List ℕ) (i a : ℕ) → IsTable c → i + 1 < c.heads → AreOptions c (hidden_from c out i a c.heads)
+pub hidden_options : (c : Columns) (out : List ℕ) (i a : ℕ) → IsTable c → i + 1 < c.heads → AreOptions c (hidden_from c out i a c.heads)
 hidden_options c out i a t item = λ k hid.
     let at = hidden_by c out i a k t hid in
     let w = t.within at.node (option_node c i at.node t item at.low at.own) at.high in
@@ -159,7 +141,7 @@ marked_on c out keys i t item here is = record {
   ];
 }
 
-marked_off : (c : Columns) (out keys : List ℕ) (i : ℕ) → IsTable c → i + 1 < c.heads → among out (c.heads + i) ≡ false → IsKeyed c ((c.heads + i) ∷ out) keys → IsKeyed c out (with_mark keys i)
+pub marked_off : (c : Columns) (out keys : List ℕ) (i : ℕ) → IsTable c → i + 1 < c.heads → among out (c.heads + i) ≡ false → IsKeyed c ((c.heads + i) ∷ out) keys → IsKeyed c out (with_mark keys i)
 unfolding with_mark
 marked_off c out keys i t item here is = record {
   columns = omega (arith, length-set keys i ((get_or keys i 0 + 2147483648) % 4294967296), is.columns);
@@ -178,26 +160,16 @@ marked_off c out keys i t item here is = record {
   ];
 }
 
-pub cover_keys : (c : Columns) (old now : List Link) (was is : List ℕ) (i a node : ℕ) → IsTable c → c.tails ≤ node → Going c old i a now (with_mark was i) is node → KeysCovered c old i a was is
+pub cover_keys : (c : Columns) (old now : List Link) (was is first trail : List ℕ) (i a node : ℕ) → IsTable c → c.tails ≤ node → Going c old i a now (with_mark was i) is first trail node → KeysCovered c old i a was is
 unfolding covered
-cover_keys c old now was is i a node t past going = λ out s can keyed.
+cover_keys c old now was is first trail i a node t past going = λ out s can keyed.
     let w = going out s can in
     let out' : List ℕ = (c.heads + i) ∷ out in
     let s1 = item_out c out i old t can s in
-    let all = going_done c out' i a (unlinked old (c.heads + i)) now node w.done past w.going in
-    let are = going_all c out' i a (unlinked old (c.heads + i)) t can.item s1 (whole_item c out i t can) in
+    let all = going_done c out' i a old now node w.done past w.going in
+    let are = going_all c out' i a old t can.item s1 (whole_item c out i t can) in
     let P : List ℕ → Type 0 = λ k. IsKeyed c (outs (hidden_from c out' i a c.heads) out') k in
     subst P (sym (w.keys ∙ ap (fewer c (with_mark was i)) all)) (keyed_fewer c out' (with_mark was i) (hidden_from c out' i a c.heads) t are (hidden_options c out' i a t can.item) (marked_on c out was i t can.item can.here keyed))
-
-pub uncover_keys : (c : Columns) (old now : List Link) (was is : List ℕ) (i a node : ℕ) → IsTable c → node < c.heads → Back c old i a now was is node → KeysUncovered c old i a was (with_mark is i)
-unfolding covered
-uncover_keys c old now was is i a node t low back = λ out before s can covers keyed.
-    let b = back out before s can covers in
-    let out' : List ℕ = (c.heads + i) ∷ out in
-    let m : List Link = unlinked before (c.heads + i) in
-    let are = going_all c out' i a m t can.item (item_out c out i before t can s) (whole_item c out i t can) in
-    let P : List ℕ → Type 0 = λ k. IsKeyed c out' k in
-    marked_off c out is i t can.item can.here (subst P (sym (back_all c out' m i a now was is node low b)) (keyed_back c out' was (hidden_from c out' i a c.heads) t are (hidden_options c out' i a t can.item) keyed))
 
 -- ---- counting
 

@@ -1,8 +1,8 @@
 -- The law of two lines: a node that is put back right after it was taken out leaves all links as they were.
-use Rattle.std.proofs.Common.{◌≡◌, ℕ, suc, ◌<◌, ◌≤◌, List, [], ◌∷◌, length, true, false, ◌==◌, refl, sym, ap, ◌∙◌, arith, inl, inr}
+use Rattle.std.proofs.Common.{◌≡◌, ℕ, suc, ◌+◌, ◌<◌, ◌≤◌, List, [], ◌∷◌, length, true, false, ◌==◌, refl, sym, ap, ◌∙◌, arith, inl, inr}
 use Rattle.std.proofs.lemmas.List.{length-set, get_or-set_same, get_or-set_other}
 use Rattle.std.proofs.lemmas.Bool.{cases_eq, cases_Bool, eq-eqb, ne_eqb, eqb-false, both_ways, or_left, or_right, cases_order}
-use Rattle.dancing_links.specs.Columns.{among, Columns, IsNext, IsSpelled}
+use Rattle.dancing_links.specs.Columns.{among, Columns, column_of, IsNext, IsSpelled}
 use Rattle.dancing_links.specs.Linking.{up_of, down_of, with_up, with_down, unlinked, relinked}
 use Rattle.dancing_links.specs.declared.link.Link.{Link}
 
@@ -148,10 +148,10 @@ relink_unlink m x b =
     ])
 
 -- columns that are spelled: a node's neighbours know it
-pub from_down : (c : Columns) (out : List ℕ) (m : List Link) (x : ℕ) → IsSpelled c out m → x < c.tails → among out x ≡ false → up_of m (down_of m x) ≡ x
-from_down c out m x s high here =
-    let d = s.down x high here in
-    let u = s.up (down_of m x) d.low d.inside d.in_down in
+pub from_down : (c : Columns) (out : List ℕ) (m : List Link) (x : ℕ) → IsSpelled c out m → x < c.tails → column_of c x + 1 < c.heads → among out x ≡ false → up_of m (down_of m x) ≡ x
+from_down c out m x s high own here =
+    let d = s.down x high own here in
+    let u = s.up (down_of m x) d.low d.inside (omega (arith, d.column, own)) d.in_down in
     elim (cases_order (up_of m (down_of m x)) x) [
       | inl e ↦ e
       | inr ne ↦ elim ne [
@@ -160,10 +160,10 @@ from_down c out m x s high here =
       ]
     ]
 
-pub from_up : (c : Columns) (out : List ℕ) (m : List Link) (x : ℕ) → IsSpelled c out m → c.heads ≤ x → x < length c.column → among out x ≡ false → down_of m (up_of m x) ≡ x
-from_up c out m x s low inside here =
-    let u = s.up x low inside here in
-    let d = s.down (up_of m x) u.high u.in_up in
+pub from_up : (c : Columns) (out : List ℕ) (m : List Link) (x : ℕ) → IsSpelled c out m → c.heads ≤ x → x < length c.column → column_of c x + 1 < c.heads → among out x ≡ false → down_of m (up_of m x) ≡ x
+from_up c out m x s low inside own here =
+    let u = s.up x low inside own here in
+    let d = s.down (up_of m x) u.high (omega (arith, u.column, own)) u.in_up in
     elim (cases_order (down_of m (up_of m x)) x) [
       | inl e ↦ e
       | inr ne ↦ elim ne [
@@ -172,15 +172,15 @@ from_up c out m x s low inside here =
       ]
     ]
 
-pub between : (c : Columns) (out : List ℕ) (m : List Link) (x : ℕ) → IsSpelled c out m → c.heads ≤ x → x < c.tails → among out x ≡ false → IsBetween m x
-between c out m x s low high here =
-    let d = s.down x high here in
-    let u = s.up x low (omega (arith, s.ends)) here in
+pub between : (c : Columns) (out : List ℕ) (m : List Link) (x : ℕ) → IsSpelled c out m → c.heads ≤ x → x < c.tails → column_of c x + 1 < c.heads → among out x ≡ false → IsBetween m x
+between c out m x s low high own here =
+    let d = s.down x high own here in
+    let u = s.up x low (omega (arith, s.ends)) own here in
     record {
       up_in = omega (arith, u.below, s.ends, s.count);
       down_in = omega (arith, d.inside, s.count);
-      from_up = from_up c out m x s low (omega (arith, s.ends)) here;
-      from_down = from_down c out m x s high here;
+      from_up = from_up c out m x s low (omega (arith, s.ends)) own here;
+      from_down = from_down c out m x s high own here;
       up_other = λ e. omega (arith, e, u.below);
       down_other = λ e. omega (arith, e, d.below);
     }
@@ -232,20 +232,20 @@ next_stays c out x y d next ne_up ne_down = record {
   nearest = λ z above below same. out_more out x z (next.nearest z above below same);
 }
 
-pub spelled_unlink : (c : Columns) (out : List ℕ) (m : List Link) (x : ℕ) → IsSpelled c out m → c.heads ≤ x → x < c.tails → among out x ≡ false → IsSpelled c (x ∷ out) (unlinked m x)
-spelled_unlink c out m x s low high here =
-    let b = between c out m x s low high here in
-    let d = s.down x high here in
-    let u = s.up x low (omega (arith, s.ends)) here in
+pub spelled_unlink : (c : Columns) (out : List ℕ) (m : List Link) (x : ℕ) → IsSpelled c out m → c.heads ≤ x → x < c.tails → column_of c x + 1 < c.heads → among out x ≡ false → IsSpelled c (x ∷ out) (unlinked m x)
+spelled_unlink c out m x s low high own here =
+    let b = between c out m x s low high own here in
+    let d = s.down x high own here in
+    let u = s.up x low (omega (arith, s.ends)) own here in
     record {
       count = length-unlinked m x ∙ s.count;
       order = s.order;
       ends = s.ends;
       heads_in = λ y lt. in_other out x y (s.heads_in y lt) (λ e. omega (arith, e));
       tails_in = λ y le. in_other out x y (s.tails_in y le) (λ e. omega (arith, e));
-      down = λ y above out_y.
+      down = λ y above own_y out_y.
           let other = out_other out x y out_y in
-          let next = s.down y above other.0 in
+          let next = s.down y above own_y other.0 in
           elim (cases_eq y (up_of m x)) [
             | inl e ↦
                 let over = next_over c out (up_of m x) x (down_of m x) u d in
@@ -253,11 +253,11 @@ spelled_unlink c out m x s low high here =
                 rw (same, e) over
             | inr ne ↦
                 let same : down_of (unlinked m x) y ≡ down_of m y = down-unlinked_other m x y b.down_in ne in
-                rw same (next_stays c out x y (down_of m y) next other.1 (λ e. ne (sym (from_down c out m y s above other.0) ∙ ap (up_of m) e)))
+                rw same (next_stays c out x y (down_of m y) next other.1 (λ e. ne (sym (from_down c out m y s above own_y other.0) ∙ ap (up_of m) e)))
           ];
-      up = λ y low_y inside_y out_y.
+      up = λ y low_y inside_y own_y out_y.
           let other = out_other out x y out_y in
-          let next = s.up y low_y inside_y other.0 in
+          let next = s.up y low_y inside_y own_y other.0 in
           elim (cases_eq y (down_of m x)) [
             | inl e ↦
                 let over = next_over c out (up_of m x) x (down_of m x) u d in
@@ -265,6 +265,24 @@ spelled_unlink c out m x s low high here =
                 rw (same, e) over
             | inr ne ↦
                 let same : up_of (unlinked m x) y ≡ up_of m y = up-unlinked_other m x y b.up_in ne in
-                rw same (next_stays c out x (up_of m y) y next (λ e. ne (sym (from_up c out m y s low_y inside_y other.0) ∙ ap (down_of m) e)) other.1)
+                rw same (next_stays c out x (up_of m y) y next (λ e. ne (sym (from_up c out m y s low_y inside_y own_y other.0) ∙ ap (down_of m) e)) other.1)
           ];
     }
+
+-- the node of an item is out as a mark: the columns of items are as they were
+pub spelled_mark : (c : Columns) (out : List ℕ) (m : List Link) (x : ℕ) → IsSpelled c out m → c.heads ≤ x → x < c.tails → column_of c x + 1 ≡ c.heads → IsSpelled c (x ∷ out) m
+spelled_mark c out m x s low high item = record {
+  count = s.count;
+  order = s.order;
+  ends = s.ends;
+  heads_in = λ y lt. in_other out x y (s.heads_in y lt) (λ e. omega (arith, e));
+  tails_in = λ y le. in_other out x y (s.tails_in y le) (λ e. omega (arith, e));
+  down = λ y above own out_y.
+      let other = out_other out x y out_y in
+      let next = s.down y above own other.0 in
+      next_stays c out x y (down_of m y) next other.1 (λ e. omega (arith, ap (column_of c) e, next.column, item, own));
+  up = λ y low_y inside_y own out_y.
+      let other = out_other out x y out_y in
+      let next = s.up y low_y inside_y own other.0 in
+      next_stays c out x (up_of m y) y next (λ e. omega (arith, ap (column_of c) e, next.column, item, own)) other.1;
+}

@@ -2,15 +2,16 @@ pub mod Law
 pub mod Others
 pub mod Round
 pub mod Walk
-pub mod Apart
 pub mod Chain
 pub mod Keyed
 pub mod Commits
 pub mod Choose
+pub mod Trail
 pub mod Present
 pub mod Agreeing
 pub mod Unique
 pub mod Undone
+pub mod Built
 pub mod Nodes
 pub mod Parts
 pub mod Tables
@@ -22,6 +23,7 @@ pub mod Entries
 pub mod Cast
 pub mod Chosen
 pub mod State
+pub mod Trailed
 pub mod Primary
 pub mod Views
 pub mod Columned

@@ -259,13 +259,3 @@ same_flags a b to from = elim (cases_Bool a) [
   | inl t ↦ t ∙ sym (to t)
   | inr f ↦ f ∙ sym (false_from_ne_true b (λ t. both_ways a f (from t)))
 ]
-
-pub same_filter : (p q : ℕ → Bool) (n start : ℕ) → ((k : ℕ) → start ≤ k → k < start + n → p k ≡ q k) → filter p (range_with_len start n) ≡ filter q (range_with_len start n)
-same_filter p q zero start same = refl
-same_filter p q (suc n) start same =
-    let rest = same_filter p q n (start + 1) (λ k low high. same k (omega (arith, low)) (omega (arith, high))) in
-    let here = same start (omega arith) (omega arith) in
-    elim (cases_Bool (q start)) [
-      | inl t ↦ rw (here, t, rest) refl
-      | inr f ↦ rw (here, f, rest) refl
-    ]

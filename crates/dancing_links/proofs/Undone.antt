@@ -3,8 +3,9 @@ use Rattle.std.proofs.Common.{◌≡◌, ℕ, List, [], ◌++◌, sym, ap, ◌�
 use Rattle.dancing_links.specs.declared.link.Link.{Link}
 use Rattle.dancing_links.specs.Columns.{Columns, IsSpelled, IsTable}
 use Rattle.dancing_links.specs.Choices.{IsHistory}
-use Rattle.dancing_links.specs.Keys.{IsKeyed, KeysCoveredAll, KeysUncoveredAll}
-use Rattle.dancing_links.specs.Covering.{outs_all, links_all, AreOpen, CoversAll, UncoversAll}
+use Rattle.dancing_links.specs.Keys.{IsKeyed, KeysCoveredAll}
+use Rattle.dancing_links.specs.Trail.{hidden_all, KeysUncoveredAll, UncoversAll}
+use Rattle.dancing_links.specs.Covering.{outs_all, links_all, AreOpen, CoversAll}
 use Rattle.dancing_links.proofs.Choose.{spelled_all, links_append, out_append, open_parts}
 
 -- the links after choosing are those of the longer list
@@ -15,10 +16,10 @@ chosen_more c before now new xs ys t s are e covers =
     covers (outs_all c [] xs) spelled parts.1 ∙ ap (λ (m : List Link). links_all c (outs_all c [] xs) m ys) e ∙ sym (links_append c [] before xs ys)
 
 -- the links after undoing are those of the shorter list
-pub chosen_less : (c : Columns) (before now new : List Link) (xs ys : List ℕ) → IsTable c → IsSpelled c [] before → AreOpen c [] (xs ++ ys) → now ≡ links_all c [] before (xs ++ ys) → UncoversAll c now ys new → new ≡ links_all c [] before xs
-chosen_less c before now new xs ys t s are e uncovers =
+pub chosen_less : (c : Columns) (before now new : List Link) (xs ys piece : List ℕ) → IsTable c → IsSpelled c [] before → AreOpen c [] (xs ++ ys) → now ≡ links_all c [] before (xs ++ ys) → UncoversAll c now ys piece new → piece ≡ hidden_all c (outs_all c [] xs) ys → new ≡ links_all c [] before xs
+chosen_less c before now new xs ys piece t s are e uncovers same =
     let parts = open_parts c [] xs ys are in
-    uncovers (outs_all c [] xs) (links_all c [] before xs) (spelled_all c [] before xs t s parts.0) parts.1 (e ∙ links_append c [] before xs ys)
+    uncovers (outs_all c [] xs) (links_all c [] before xs) (spelled_all c [] before xs t s parts.0) parts.1 (e ∙ links_append c [] before xs ys) same
 
 -- more nodes cover
 pub history_more : (c : Columns) (xs ys : List ℕ) (old new : List Link) (was now : List ℕ) → IsTable c → AreOpen c [] (xs ++ ys) → IsHistory c xs old was → CoversAll c old ys new → KeysCoveredAll c old ys was now → IsHistory c (xs ++ ys) new now
@@ -35,13 +36,13 @@ history_more c xs ys old new was now t are h covers keys =
     }
 
 -- the last of them taken back
-pub history_less : (c : Columns) (xs ys : List ℕ) (old new : List Link) (was now : List ℕ) → IsTable c → AreOpen c [] (xs ++ ys) → IsHistory c (xs ++ ys) old was → UncoversAll c old ys new → KeysUncoveredAll c old ys was now → IsHistory c xs new now
-history_less c xs ys old new was now t are h uncovers keys =
+pub history_less : (c : Columns) (xs ys piece : List ℕ) (old new : List Link) (was now : List ℕ) → IsTable c → AreOpen c [] (xs ++ ys) → IsHistory c (xs ++ ys) old was → UncoversAll c old ys piece new → KeysUncoveredAll c old ys piece was now → piece ≡ hidden_all c (outs_all c [] xs) ys → IsHistory c xs new now
+history_less c xs ys piece old new was now t are h uncovers keys same =
     let parts = open_parts c [] xs ys are in
     let R : List ℕ → Type 0 = λ gone. IsKeyed c gone was in
     record {
       before = h.before;
       built = h.built;
-      links_are = chosen_less c h.before old new xs ys t h.built.spelled are h.links_are uncovers;
-      keyed = keys (outs_all c [] xs) (links_all c [] h.before xs) (spelled_all c [] h.before xs t h.built.spelled parts.0) parts.1 (h.links_are ∙ links_append c [] h.before xs ys) (subst R (out_append c [] xs ys) h.keyed);
+      links_are = chosen_less c h.before old new xs ys piece t h.built.spelled are h.links_are uncovers same;
+      keyed = keys (outs_all c [] xs) (links_all c [] h.before xs) (spelled_all c [] h.before xs t h.built.spelled parts.0) parts.1 (h.links_are ∙ links_append c [] h.before xs ys) same (subst R (out_append c [] xs ys) h.keyed);
     }

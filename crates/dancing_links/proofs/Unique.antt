@@ -1,9 +1,11 @@
--- The links are known by what is out: there is one way to spell columns from which nothing is out.
-use Rattle.std.proofs.Common.{◌≡◌, ℕ, ◌<◌, ◌≤◌, List, length, false, arith, sym, ap, ◌∙◌, inl, inr}
+-- There is one way to link columns from which nothing is out.
+use Rattle.std.proofs.Common.{◌≡◌, ℕ, ◌+◌, ◌<◌, ◌⊎◌, List, [], length, refl, arith, sym, ap, ◌∙◌, inl, inr}
 use Rattle.std.proofs.lemmas.List.{get_or_past}
+use Rattle.std.proofs.lemmas.List.Elements.{All-get_or}
 use Rattle.std.proofs.lemmas.Bool.{cases_lt, cases_order, both_ways}
 use Rattle.dancing_links.specs.declared.link.Link.{Link}
-use Rattle.dancing_links.specs.Columns.{among, Columns, IsNext, IsSpelled}
+use Rattle.dancing_links.specs.Columns.{among, Columns, column_of, IsNext, IsTable}
+use Rattle.dancing_links.specs.Building.{IsBuilt}
 use Rattle.dancing_links.specs.Linking.{up_of, down_of}
 use Rattle.dancing_links.proofs.Law.{same_links}
 
@@ -25,19 +27,35 @@ one_before c out u v x a b = elim (cases_order u v) [
   ]
 ]
 
--- links of which nothing is out are equal where the ends are
-pub one_spelling : (c : Columns) (out : List ℕ) (m n : List Link) → ((k : ℕ) → among out k ≡ false) → IsSpelled c out m → IsSpelled c out n → ((k : ℕ) → k < c.heads → up_of m k ≡ up_of n k) → ((k : ℕ) → c.tails ≤ k → down_of m k ≡ down_of n k) → m ≡ n
-one_spelling c out m n none s t ups downs = same_links m n (s.count ∙ sym t.count)
+-- a column is that of an item, or that of the items
+pub two_columns : (c : Columns) (k : ℕ) → IsTable c → k < length c.column → (column_of c k + 1 < c.heads) ⊎ (column_of c k + 1 ≡ c.heads)
+two_columns c k t inside = elim (cases_lt (column_of c k + 1) c.heads) [
+  | inl less ↦ inl less
+  | inr more ↦
+      let P : ℕ → Type 0 = λ i. i < c.heads in
+      let below : column_of c k < c.heads = All-get_or P c.column k 0 inside t.each_column in
+      inr (omega (arith, more, below))
+]
+
+-- links as they are built are equal
+pub one_built : (c : Columns) (m n : List Link) → IsTable c → IsBuilt c m → IsBuilt c n → m ≡ n
+one_built c m n t a b = same_links m n (a.spelled.count ∙ sym b.spelled.count)
     (λ k. elim (cases_lt k c.heads) [
-      | inl low ↦ ups k low
+      | inl low ↦ a.heads_up k low ∙ sym (b.heads_up k low)
       | inr high ↦ elim (cases_lt k (length c.column)) [
-        | inl inside ↦ one_before c out (up_of m k) (up_of n k) k (s.up k high inside (none k)) (t.up k high inside (none k))
+        | inl inside ↦ elim (two_columns c k t inside) [
+          | inl item ↦ one_before c [] (up_of m k) (up_of n k) k (a.spelled.up k high inside item refl) (b.spelled.up k high inside item refl)
+          | inr items ↦ one_before c [] (up_of m k) (up_of n k) k (a.items_up k high inside items) (b.items_up k high inside items)
+        ]
         | inr past ↦
             let at : (links : List Link) → length links ≡ length c.column → up_of links k ≡ 0 = (λ links e. let U : Link → ℕ = λ l. l.up in ap U (get_or_past links k (record { up = 0; down = 0 }) (omega (arith, e, past)))) in
-            at m s.count ∙ sym (at n t.count)
+            at m a.spelled.count ∙ sym (at n b.spelled.count)
       ]
     ])
     (λ k. elim (cases_lt k c.tails) [
-      | inl high ↦ one_next c out k (down_of m k) (down_of n k) (s.down k high (none k)) (t.down k high (none k))
-      | inr past ↦ downs k past
+      | inl high ↦ elim (two_columns c k t (omega (arith, high, t.ends))) [
+        | inl item ↦ one_next c [] k (down_of m k) (down_of n k) (a.spelled.down k high item refl) (b.spelled.down k high item refl)
+        | inr items ↦ one_next c [] k (down_of m k) (down_of n k) (a.items_down k high items) (b.items_down k high items)
+      ]
+      | inr past ↦ a.tails_down k past ∙ sym (b.tails_down k past)
     ])

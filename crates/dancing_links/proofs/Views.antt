@@ -1,5 +1,5 @@
 -- What the views of the links answer.
-use Rattle.std.proofs.Common.{◌≡◌, ℕ, zero, suc, ◌+◌, ◌-◌, ◌*◌, Bool, ◌<◌, ◌≤◌, List, [], ◌∷◌, length, not, ◌==◌, true, false, get_or, map, refl, arith, sym, ap, ◌∙◌, inl, inr, subst, slice_get, Some, None, Option, IfSome}
+use Rattle.std.proofs.Common.{◌≡◌, ℕ, zero, suc, ◌+◌, ◌-◌, ◌*◌, Bool, ◌<◌, ◌≤◌, List, [], ◌∷◌, length, nat_lt, not, ◌==◌, true, false, get_or, map, refl, arith, sym, ap, ◌∙◌, inl, inr, subst, slice_get, Some, None, Option, IfSome}
 use Rattle.std.proofs.lemmas.Bool.{cases_lt, lt-ltb, le-ltb, not-true, both_ways, and_parts, cases_Bool, false_from_ne_true}
 use Rattle.std.proofs.lemmas.List.{length-map, get_or_default}
 use Rattle.cover_problem.specs.Branching.{live_options, is_choice, IsOpen}
@@ -11,9 +11,9 @@ use Rattle.cover_problem.proofs.Remaining.{open_items_from_take, open_items_from
 use Rattle.dancing_links.specs.declared.link.Link.{Link}
 use Rattle.dancing_links.specs.Choices.{IsLinks, IsChild, IsPrimary, out_of, chosen_nodes, covering_nodes, commits_of}
 use Rattle.dancing_links.specs.Columns.{Columns, among, column_of, column_from, option_of, IsTable, IsLinked, IsSpelled}
-use Rattle.dancing_links.specs.Keys.{mark_of}
+use Rattle.dancing_links.specs.Keys.{mark_of, AreMarked, IsFirstUnmarked}
 use Rattle.dancing_links.specs.Linking.{up_of, down_of}
-use Rattle.dancing_links.specs.Walking.{walk, options_left, IsNaming, IsPrimaryItem}
+use Rattle.dancing_links.specs.Walking.{walk, options_left, IsNaming}
 use Rattle.dancing_links.specs.Table.{table, heads_of, base_of, first_list}
 use Rattle.dancing_links.proofs.Keyed.{few}
 use Rattle.dancing_links.proofs.Walk.{column_skip_to, column_from_take, column_from_end}
@@ -62,66 +62,60 @@ open_skip_to p os (suc n) start j e high hit =
     open_items_from_skip p os start (omega (arith, e, high)) (hit start (omega arith) (omega (arith, e)))
     ∙ open_skip_to p os n (start + 1) j (omega (arith, e)) high (λ k low under. hit k (omega (arith, low)) under)
 
--- what follows a node of the column of items, from an item on
-pub record IsOnward (p : Problem) (c : Columns) (os : List ℕ) (start d : ℕ) : Type 0 where
-  pub low : c.heads ≤ d
-  pub some : d < c.heads + p.primary → (slice_get (open_items_from p os start) 0 ≡ Some (d - c.heads)) × IsOpen p os (d - c.heads) × (start ≤ d - c.heads)
-  pub none : c.heads + p.primary ≤ d → slice_get (open_items_from p os start) 0 ≡ None
-
-pub onward : (p : Problem) (c : Columns) (os es : List ℕ) (m : List Link) (start x : ℕ) → IsState p c os es m → x + 1 ≡ c.heads + start → column_of c x + 1 ≡ c.heads → x < c.tails → among (out_of c es) x ≡ false → IsOnward p c os start (down_of m x)
-onward p c os es m start x s at own high here =
-    let heads : c.heads ≡ heads_of p = ap (λ (t : Columns). t.heads) s.layout in
-    let next = s.spelled.down x high here in
-    let d : ℕ = down_of m x in
-    let between : (k : ℕ) → start ≤ k → c.heads + k < d → k < p.primary → is_covered p os k ≡ true =
-    (λ k low under primary.
-    let item : k + 1 < c.heads = omega (arith, heads, primary, s.is_problem.primary) in
-    sym (item_gone p c os es m k s (omega (arith, primary, s.is_problem.primary)))
-    ∙ next.nearest (c.heads + k) (omega (arith, at, low)) under (omega (arith, s.table_is.item_columns k item, own))) in
-    record {
-      low = next.low;
-      some = λ under.
-          let j : ℕ = d - c.heads in
-          let e : c.heads + j ≡ d = omega (arith, next.low) in
-          let primary : j < p.primary = omega (arith, under, e) in
-          let free : is_covered p os j ≡ false = sym (item_gone p c os es m j s (omega (arith, primary, s.is_problem.primary))) ∙ ap (among (out_of c es)) e ∙ next.in_down in
-          let past : start ≤ j = omega (arith, next.below, at, e) in
-          let skip = open_skip_to p os (j - start) start j (omega (arith, past)) (omega (arith, primary)) (λ k low less. between k low (omega (arith, less, e)) (omega (arith, less, primary))) in
-          (ap (λ (items : List ℕ). slice_get items 0) (skip ∙ open_items_from_take p os j primary free), record { primary = primary; uncovered = free }, past);
-      none = λ over. elim (cases_lt start p.primary) [
-        | inl less ↦
-            let skip = open_skip_to p os (p.primary - start) start p.primary (omega (arith, less)) (omega arith) (λ k low under. between k low (omega (arith, under, over)) under) in
-            ap (λ (items : List ℕ). slice_get items 0) (skip ∙ open_items_from_end p os p.primary (omega arith))
-        | inr past ↦ ap (λ (items : List ℕ). slice_get items 0) (open_items_from_end p os start past)
-      ];
-    }
-
--- the first uncovered item
-pub onward_first : (p : Problem) (c : Columns) (os es : List ℕ) (m : List Link) (keys : List ℕ) (room : ℕ) → IsLinks p c os es m keys room → IsOnward p c os 0 (down_of m (c.heads - 1))
-onward_first p c os es m keys room is =
-    let s = state_of p c os es m keys room is in
-    let x : ℕ = c.heads - 1 in
-    let lt : x < c.heads = omega (arith, s.table_is.some) in
-    onward p c os es m 0 x s (omega (arith, s.table_is.some)) (omega (arith, s.table_is.head_columns x lt, s.table_is.some)) (omega (arith, lt, s.spelled.order)) (s.spelled.heads_in x lt)
-
--- the uncovered item after an uncovered one
-pub onward_next : (p : Problem) (c : Columns) (os es : List ℕ) (m : List Link) (keys : List ℕ) (room i : ℕ) → IsLinks p c os es m keys room → i < length p.names → is_covered p os i ≡ false → IsOnward p c os (i + 1) (down_of m (c.heads + i))
-onward_next p c os es m keys room i is h free =
-    let s = state_of p c os es m keys room is in
-    let heads : c.heads ≡ heads_of p = ap (λ (t : Columns). t.heads) s.layout in
-    onward p c os es m (i + 1) (c.heads + i) s (omega arith) (s.table_is.item_columns i (omega (arith, heads, h))) (omega (arith, s.table_is.order, heads, h)) (item_gone p c os es m i s h ∙ free)
-
--- what the code answers of the node below
-pub answer_item : (p : Problem) (c : Columns) (os : List ℕ) (start d primary : ℕ) (r : Option ℕ) → primary ≡ p.primary → IsOnward p c os start d → IsPrimaryItem c primary d r → r ≡ slice_get (open_items_from p os start) 0
-answer_item p c os start d primary None e o h = sym (o.none (omega (arith, e, h)))
-answer_item p c os start d primary (Some x) e o h = ap Some h.1 ∙ sym (o.some (omega (arith, e, h.0))).0
-
-pub answer_open : (p : Problem) (c : Columns) (os : List ℕ) (start d primary : ℕ) (r : Option ℕ) → primary ≡ p.primary → IsOnward p c os start d → IsPrimaryItem c primary d r → IfSome r (IsOpen p os)
-answer_open p c os start d primary None e o h = tt
-answer_open p c os start d primary (Some x) e o h = let P : ℕ → Type 0 = λ k. IsOpen p os k in subst P (sym h.1) (o.some (omega (arith, e, h.0))).1
-
 pub item_keyed_in : (p : Problem) (c : Columns) (os es : List ℕ) (m : List Link) (keys : List ℕ) (room i : ℕ) → IsLinks p c os es m keys room → i < length p.names → i < length keys
 item_keyed_in p c os es m keys room i is h = omega (arith, is.history.keyed.columns, ap (λ (t : Columns). t.heads) is.layout, h)
+
+-- an item whose key has the mark is covered, and the others are not
+pub marked_covered : (p : Problem) (c : Columns) (os es : List ℕ) (m : List Link) (keys : List ℕ) (room i : ℕ) → IsLinks p c os es m keys room → i < length p.names → 2147483648 ≤ get_or keys i 0 → is_covered p os i ≡ true
+marked_covered p c os es m keys room i is h marked = elim (cases_Bool (is_covered p os i)) [
+  | inl hit ↦ hit
+  | inr free ↦ absurd (omega (arith, open_key_small p c os es m keys room i is h free, marked))
+]
+
+pub unmarked_free : (p : Problem) (c : Columns) (os es : List ℕ) (m : List Link) (keys : List ℕ) (room i : ℕ) → IsLinks p c os es m keys room → i < length p.names → get_or keys i 0 < 2147483648 → is_covered p os i ≡ false
+unmarked_free p c os es m keys room i is h small = elim (cases_Bool (is_covered p os i)) [
+  | inl hit ↦ absurd (omega (arith, key_is p c os es m keys room i is h, ap mark_of hit, small))
+  | inr free ↦ free
+]
+
+-- so the mark tells it
+pub covered_test : (p : Problem) (c : Columns) (os es : List ℕ) (m : List Link) (keys : List ℕ) (room i key : ℕ) → IsLinks p c os es m keys room → i < length p.names → key ≡ get_or keys i key → not (nat_lt key 2147483648) ≡ is_covered p os i
+covered_test p c os es m keys room i key is h e =
+    let same : key ≡ get_or keys i 0 = e ∙ get_or_default keys i key 0 (item_keyed_in p c os es m keys room i is h) in
+    elim (cases_lt key 2147483648) [
+      | inl small ↦ rw (lt-ltb key 2147483648 small) (sym (unmarked_free p c os es m keys room i is h (omega (arith, same, small))))
+      | inr marked ↦ rw (le-ltb key 2147483648 marked) (sym (marked_covered p c os es m keys room i is h (omega (arith, same, marked))))
+    ]
+
+-- what the first key without a mark tells, from an item on
+pub record IsFirstOpen (p : Problem) (os : List ℕ) (start : ℕ) (r : Option ℕ) : Type 0 where
+  pub first : r ≡ slice_get (open_items_from p os start) 0
+  pub uncovered : IfSome r (IsOpen p os)
+
+pub first_open : (p : Problem) (c : Columns) (os es : List ℕ) (m : List Link) (keys read : List ℕ) (room start bound : ℕ) (r : Option ℕ) → IsLinks p c os es m keys room → read ≡ keys → bound ≡ p.primary → IsFirstUnmarked read start bound r → IsFirstOpen p os start r
+first_open p c os es m keys read room start bound r is e f at =
+    let P : List ℕ → Type 0 = λ ks. IsFirstUnmarked ks start bound r in
+    let Q : ℕ → Type 0 = λ n. IsFirstUnmarked keys start n r in
+    go r (subst Q f (subst P e at))
+  where
+    hit : (end : ℕ) → end ≤ p.primary → AreMarked keys start end → (k : ℕ) → start ≤ k → k < end → is_covered p os k ≡ true
+    hit end high marked k low under = marked_covered p c os es m keys room k is (omega (arith, under, high, is.is_problem.primary)) (marked k low under)
+
+    go : (r : Option ℕ) → IsFirstUnmarked keys start p.primary r → IsFirstOpen p os start r
+    go None all = record {
+      first = elim (cases_lt start p.primary) [
+        | inl less ↦ sym (ap (λ (items : List ℕ). slice_get items 0) (open_skip_to p os (p.primary - start) start p.primary (omega (arith, less)) (omega arith) (hit p.primary (omega arith) all) ∙ open_items_from_end p os p.primary (omega arith)))
+        | inr past ↦ sym (ap (λ (items : List ℕ). slice_get items 0) (open_items_from_end p os start past))
+      ];
+      uncovered = tt;
+    }
+    go (Some i) at =
+        let free = unmarked_free p c os es m keys room i is (omega (arith, at.1, is.is_problem.primary)) at.2 in
+        let skip = open_skip_to p os (i - start) start i (omega (arith, at.0)) (omega (arith, at.1)) (hit i (omega (arith, at.1)) at.3) in
+        record {
+          first = sym (ap (λ (items : List ℕ). slice_get items 0) (skip ∙ open_items_from_take p os i at.1 free));
+          uncovered = record { primary = at.1; uncovered = free };
+        }
 
 -- ---- down the column of an item
 
@@ -150,15 +144,15 @@ left_take c m node t l high =
 pub left_none : (c : Columns) (m : List Link) (node : ℕ) → c.tails ≤ node → options_left c m node ≡ []
 left_none c m node past = let e : c.tails - node ≡ 0 = omega (arith, past) in ap (λ n. walk c m n node) e
 
-walk_column : (c : Columns) (out : List ℕ) (m : List Link) (i n node : ℕ) → IsSpelled c out m → c.heads ≤ node → column_of c node ≡ i → among out node ≡ false → c.tails ≤ node + n → walk c m n node ≡ map (option_of c) (column_from c out i node)
-walk_column c out m i zero node s low own here enough = ap (map (option_of c)) (sym (column_from_end c out i node (omega (arith, enough))))
-walk_column c out m i (suc n) node s low own here enough = elim (cases_lt node c.tails) [
+walk_column : (c : Columns) (out : List ℕ) (m : List Link) (i n node : ℕ) → IsSpelled c out m → i + 1 < c.heads → c.heads ≤ node → column_of c node ≡ i → among out node ≡ false → c.tails ≤ node + n → walk c m n node ≡ map (option_of c) (column_from c out i node)
+walk_column c out m i zero node s item low own here enough = ap (map (option_of c)) (sym (column_from_end c out i node (omega (arith, enough))))
+walk_column c out m i (suc n) node s item low own here enough = elim (cases_lt node c.tails) [
   | inr past ↦ rw (le-ltb node c.tails past) (ap (map (option_of c)) (sym (column_from_end c out i node past)))
   | inl high ↦
-      let next = s.down node high here in
+      let next = s.down node high (omega (arith, own, item)) here in
       let d : ℕ = down_of m node in
       let skip = column_skip_to c out i (d - (node + 1)) (node + 1) d (omega (arith, next.below)) (λ y above below same. next.nearest y (omega (arith, above)) below (same ∙ sym own)) in
-      let rest = walk_column c out m i n d s next.low (next.column ∙ own) next.in_down (omega (arith, enough, next.below)) in
+      let rest = walk_column c out m i n d s item next.low (next.column ∙ own) next.in_down (omega (arith, enough, next.below)) in
       rw (lt-ltb node c.tails high) (ap (λ os. option_of c node ∷ os) rest ∙ ap (map (option_of c)) (sym (column_from_take c out i node high own here ∙ ap (λ ks. node ∷ ks) skip)))
 ]
 
@@ -169,10 +163,11 @@ left_all p c os es m keys room i is h free =
     let heads : c.heads ≡ heads_of p = ap (λ (t : Columns). t.heads) is.layout in
     let head : i < c.heads = omega (arith, heads, h) in
     let own = s.table_is.head_columns i head in
-    let next = s.spelled.down i (omega (arith, head, s.spelled.order)) (s.spelled.heads_in i head) in
+    let item : i + 1 < c.heads = omega (arith, heads, h) in
+    let next = s.spelled.down i (omega (arith, head, s.spelled.order)) (omega (arith, own, item)) (s.spelled.heads_in i head) in
     let d : ℕ = down_of m i in
     let skip = column_skip_to c (out_of c es) i (d - c.heads) c.heads d (omega (arith, next.low)) (λ y above below same. next.nearest y (omega (arith, above, head)) below (same ∙ sym own)) in
-    walk_column c (out_of c es) m i (c.tails - d) d s.spelled next.low (next.column ∙ own) next.in_down (omega arith)
+    walk_column c (out_of c es) m i (c.tails - d) d s.spelled item next.low (next.column ∙ own) next.in_down (omega arith)
     ∙ ap (map (option_of c)) (sym skip) ∙ column_is p c os es m keys room i is h free
 
 -- what a step of the iterator takes
@@ -216,7 +211,7 @@ pub live_known : (p : Problem) (c : Columns) (os es : List ℕ) (m : List Link) 
 live_known p c os es m keys room o k is at free =
     let s = state_of p c os es m keys room is in
     let P : Columns → Type 0 = λ t. IsCast p t os (with_all [] (chosen_nodes t es)) (with_all [] (covering_nodes t es)) (commits_of t es) → IsOut t (with_all [] (covering_nodes t es)) (out_of t es) → IsPrimary p t o k → is_covered p os (column_of t k) ≡ false → not (among (out_of t es) k) ≡ is_live p os o in
-    known_test p c os es m k s (omega (arith, at.in_option.0, s.table_is.some)) at.in_option.1
+    known_test p c os es m k s (omega (arith, at.in_option.0, s.table_is.some)) at.in_option.1 (s.table_is.option_columns k at.in_option.0 at.in_option.1)
     ∙ subst P (sym is.layout) (λ cast gone at free.
     let some = some_node p k at.in_option in
     let N : ℕ → Type 0 = λ q. IsNodeAt p k q some.0 in
@@ -257,10 +252,11 @@ next_at p os es m i o node s h free inside live named at =
     let j : ℕ = node - start_of p o in
     let by = node_by p node o j inside (omega (arith, at.low, before)) (omega (arith, at.low)) in
     let high : node < c.tails = omega (arith, by.high, before) in
-    let next = s.spelled.down node high (node_in p os seen nodes commits out node o j s.cast s.out by live) in
+    let item : i + 1 < c.heads = omega (arith, h) in
+    let next = s.spelled.down node high (omega (arith, own, item)) (node_in p os seen nodes commits out node o j s.cast s.out by live) in
     let d : ℕ = down_of m node in
     let skip = column_skip_to c out i (d - (node + 1)) (node + 1) d (omega (arith, next.below)) (λ y above below same. next.nearest y (omega (arith, above)) below (same ∙ sym own)) in
-    walk_column c out m i (c.tails - d) d s.spelled next.low (next.column ∙ own) next.in_down (omega arith)
+    walk_column c out m i (c.tails - d) d s.spelled item next.low (next.column ∙ own) next.in_down (omega arith)
     ∙ ap (map (option_of c)) (sym skip)
     ∙ rest_at p os seen nodes commits out i node o j s.cast s.out h free by own
 

@@ -1,24 +1,79 @@
 -- Nodes taken out in a row, and the walk down a column.
-use Rattle.std.proofs.Common.{◌≡◌, ℕ, zero, suc, ◌+◌, ◌-◌, ◌<◌, ◌≤◌, List, [], ◌∷◌, ◌++◌, Bool, true, false, ◌||◌, refl, arith, sym, ap, ◌∙◌, subst, inl, inr, append_assoc, append-nil}
+use Rattle.std.proofs.Common.{◌≡◌, ℕ, zero, suc, ◌+◌, ◌-◌, ◌<◌, ◌≤◌, List, [], ◌∷◌, ◌++◌, Bool, true, false, not, ◌==◌, ◌||◌, filter, length, refl, arith, sym, ap, ◌∙◌, subst, inl, inr, append_assoc, append-nil}
 use Rattle.std.specs.List.{range_with_len, flat_map}
 use Rattle.std.proofs.lemmas.Bool.{eq-eqb, ne_eqb, cases_Bool, cases_eq, cases_lt, both_ways, false_from_ne_true}
+use Rattle.std.proofs.lemmas.List.{length-append}
+use Rattle.cover_problem.proofs.Among.{filter_fewer}
 use Rattle.dancing_links.specs.declared.link.Link.{Link}
 use Rattle.dancing_links.specs.Columns.{among, Columns, column_of, begin_of, end_of, IsSpelled, column_from, IsTable}
-use Rattle.dancing_links.specs.Keys.{fewer, with_less, with_more}
-use Rattle.dancing_links.specs.Covering.{outs, others, has_colour, hidden_at, hidden_from, covered, AreWhole, IsOpen, Covers}
+use Rattle.dancing_links.specs.Keys.{fewer, more, with_less, with_more}
+use Rattle.dancing_links.specs.Trail.{Trails, HasRoom, count_in}
+use Rattle.dancing_links.specs.Covering.{outs, others, has_colour, hidden_at, hidden_from, AreWhole, IsOpen, Covers}
 use Rattle.dancing_links.specs.Linking.{down_of, unlinked, unlinks}
-use Rattle.dancing_links.proofs.Law.{spelled_unlink, in_other, out_other}
+use Rattle.dancing_links.proofs.Law.{spelled_unlink, spelled_mark, in_other, out_other}
 use Rattle.dancing_links.proofs.Others.{range_step}
 use Rattle.dancing_links.proofs.Round.{range_at, others_at, others_ranges}
 
 -- nodes that can be taken out in turn
 abbrev pub AreIn : Columns → List ℕ → List ℕ → Type 0
 AreIn c out [] = Unit {0}
-AreIn c out (x ∷ xs) = ((c.heads ≤ x) × (x < c.tails) × (among out x ≡ false)) × AreIn c (x ∷ out) xs
+AreIn c out (x ∷ xs) = ((c.heads ≤ x) × (x < c.tails) × (among out x ≡ false) × (column_of c x + 1 < c.heads)) × AreIn c (x ∷ out) xs
 
 pub spelled_unlinks : (c : Columns) (out : List ℕ) (m : List Link) (xs : List ℕ) → IsSpelled c out m → AreIn c out xs → IsSpelled c (outs xs out) (unlinks m xs)
 spelled_unlinks c out m [] s are = s
-spelled_unlinks c out m (x ∷ xs) s are = spelled_unlinks c (x ∷ out) (unlinked m x) xs (spelled_unlink c out m x s are.0.0 are.0.1 are.0.2) are.1
+spelled_unlinks c out m (x ∷ xs) s are = spelled_unlinks c (x ∷ out) (unlinked m x) xs (spelled_unlink c out m x s are.0.0 are.0.1 are.0.3 are.0.2) are.1
+
+-- ---- how many nodes are in
+
+pub same_filter : (p q : ℕ → Bool) (n start : ℕ) → ((k : ℕ) → start ≤ k → k < start + n → p k ≡ q k) → filter p (range_with_len start n) ≡ filter q (range_with_len start n)
+same_filter p q zero start same = refl
+same_filter p q (suc n) start same =
+    let rest = same_filter p q n (start + 1) (λ k low high. same k (omega (arith, low)) (omega (arith, high))) in
+    let here = same start (omega arith) (omega arith) in
+    elim (cases_Bool (q start)) [
+      | inl t ↦ rw (here, t, rest) refl
+      | inr f ↦ rw (here, f, rest) refl
+    ]
+
+pub filter_one_less : (p q : ℕ → Bool) (x n s : ℕ) → ((k : ℕ) → (k ≡ x → ⊥) → p k ≡ q k) → p x ≡ true → q x ≡ false → s ≤ x → x < s + n → length (filter p (range_with_len s n)) ≡ suc (length (filter q (range_with_len s n)))
+filter_one_less p q x zero s same yes_p no_q low high = absurd (omega (arith, low, high))
+filter_one_less p q x (suc n) s same yes_p no_q low high = elim (cases_eq s x) [
+  | inl e ↦
+      let here : p s ≡ true = ap p e ∙ yes_p in
+      let gone : q s ≡ false = ap q e ∙ no_q in
+      let rest : filter p (range_with_len (s + 1) n) ≡ filter q (range_with_len (s + 1) n) = same_filter p q n (s + 1) (λ k above below. same k (λ f. omega (arith, f, e, above))) in
+      rw (here, gone, rest) refl
+  | inr ne ↦
+      let rest = filter_one_less p q x n (s + 1) same yes_p no_q (omega (arith, low, ne)) (omega (arith, high)) in
+      let both : p s ≡ q s = same s ne in
+      elim (cases_Bool (q s)) [
+        | inl t ↦ rw (both, t) (ap suc rest)
+        | inr f ↦ rw (both, f) rest
+      ]
+]
+
+-- a node that is taken out is one less
+count_out : (c : Columns) (out : List ℕ) (x : ℕ) → c.heads ≤ x → x < c.tails → among out x ≡ false → count_in c out ≡ suc (count_in c (x ∷ out))
+unfolding count_in
+count_out c out x low high here =
+    filter_one_less (λ k. not (among out k)) (λ k. not (among (x ∷ out) k)) x (c.tails - c.heads) c.heads
+    (λ k ne. rw (ne_eqb x k (λ e. ne (sym e))) refl)
+    (rw here refl)
+    (rw (eq-eqb x x refl) refl)
+    low (omega (arith, low, high))
+
+pub count_outs : (c : Columns) (out xs : List ℕ) → AreIn c out xs → length xs + count_in c (outs xs out) ≡ count_in c out
+count_outs c out [] are = omega arith
+count_outs c out (x ∷ xs) are = omega (arith, count_out c out x are.0.0 are.0.1 are.0.2, count_outs c (x ∷ out) xs are.1)
+
+not_less : (a b : Bool) → not (a || b) ≡ true → not b ≡ true
+not_less true b h = absurd (both_ways false refl h)
+not_less false b h = h
+
+-- a mark makes no node more
+pub count_mark : (c : Columns) (out : List ℕ) (x : ℕ) → count_in c (x ∷ out) ≤ count_in c out
+unfolding count_in
+count_mark c out x = filter_fewer (λ k. not (among out k)) (λ k. not (among (x ∷ out) k)) (λ k h. not_less (x == k) (among out k) h) (range_with_len c.heads (c.tails - c.heads))
 
 pub unlinks-append : (m : List Link) (xs ys : List ℕ) → unlinks m (xs ++ ys) ≡ unlinks (unlinks m xs) ys
 unlinks-append m [] ys = refl
@@ -34,12 +89,12 @@ outs_same (x ∷ xs) out k h =
     let other = out_other xs x k h in
     outs_same xs (x ∷ out) k other.0 ∙ ap (λ (b : Bool). b || among out k) (ne_eqb x k (λ e. other.1 (sym e)))
 
-range_in : (c : Columns) (out : List ℕ) (n start : ℕ) → c.heads ≤ start → start + n ≤ c.tails → ((j : ℕ) → start ≤ j → j < start + n → among out j ≡ false) → AreIn c out (range_with_len start n)
-range_in c out zero start low high here = tt
-range_in c out (suc n) start low high here =
-    ((low, omega (arith, high), here start (omega arith) (omega arith)), range_in c (start ∷ out) n (start + 1) (omega (arith, low)) (omega (arith, high)) (λ j above below. in_other out start j (here j (omega (arith, above)) (omega (arith, below))) (λ f. omega (arith, f, above))))
+range_in : (c : Columns) (out : List ℕ) (n start : ℕ) → c.heads ≤ start → start + n ≤ c.tails → ((j : ℕ) → start ≤ j → j < start + n → column_of c j + 1 < c.heads) → ((j : ℕ) → start ≤ j → j < start + n → among out j ≡ false) → AreIn c out (range_with_len start n)
+range_in c out zero start low high own here = tt
+range_in c out (suc n) start low high own here =
+    ((low, omega (arith, high), here start (omega arith) (omega arith), own start (omega arith) (omega arith)), range_in c (start ∷ out) n (start + 1) (omega (arith, low)) (omega (arith, high)) (λ j above below. own j (omega (arith, above)) (omega (arith, below))) (λ j above below. in_other out start j (here j (omega (arith, above)) (omega (arith, below))) (λ f. omega (arith, f, above))))
 
-are_in-append : (c : Columns) (out xs ys : List ℕ) → AreIn c out xs → AreIn c (outs xs out) ys → AreIn c out (xs ++ ys)
+pub are_in-append : (c : Columns) (out xs ys : List ℕ) → AreIn c out xs → AreIn c (outs xs out) ys → AreIn c out (xs ++ ys)
 are_in-append c out [] ys are more = more
 are_in-append c out (x ∷ xs) ys are more = (are.0, are_in-append c (x ∷ out) xs ys are.1 more)
 
@@ -50,10 +105,10 @@ others_are_in c out node t low high here =
     let n : ℕ = end_of c node - (node + 1) in
     let after : List ℕ = range_with_len (node + 1) (end_of c node - (node + 1)) in
     let before : List ℕ = range_with_len (begin_of c node) (node - begin_of c node) in
-    let are : AreIn c out after = range_in c out n (node + 1) (omega (arith, low, t.order)) (omega (arith, w.1, w.3)) (λ j above below. here j (omega (arith, w.0, above)) (omega (arith, below, w.1))) in
+    let are : AreIn c out after = range_in c out n (node + 1) (omega (arith, low, t.order)) (omega (arith, w.1, w.3)) (λ j above below. t.option_columns j (omega (arith, low, above)) (omega (arith, below, w.1, w.3))) (λ j above below. here j (omega (arith, w.0, above)) (omega (arith, below, w.1))) in
     let fresh : (j : ℕ) → begin_of c node ≤ j → j < begin_of c node + (node - begin_of c node) → among (outs after out) j ≡ false = (λ j above below.
     outs_same after out j (false_from_ne_true (among after j) (λ yes. let at = range_at n (node + 1) j yes in omega (arith, at.0, below, w.0))) ∙ here j above (omega (arith, below, w.0, w.1))) in
-    let then : AreIn c (outs after out) before = range_in c (outs after out) (node - begin_of c node) (begin_of c node) (omega (arith, w.2, t.order, low)) (omega (arith, w.0, high)) fresh in
+    let then : AreIn c (outs after out) before = range_in c (outs after out) (node - begin_of c node) (begin_of c node) (omega (arith, w.2, t.order, low)) (omega (arith, w.0, high)) (λ j above below. t.option_columns j (omega (arith, above, w.2)) (omega (arith, below, w.0, high))) fresh in
     let P : List ℕ → Type 0 = λ ks. AreIn c out ks in
     subst P (sym (others_ranges c node w.0 w.1)) (are_in-append c out after before are then)
 
@@ -161,8 +216,8 @@ option_after c a b t low less high own =
 pub going_start : (c : Columns) (out : List ℕ) (i a : ℕ) (m : List Link) → IsTable c → i + 1 < c.heads → IsSpelled c out m → IsGoing c out i a m m (down_of m i) []
 unfolding hidden_from
 going_start c out i a m t item s =
-    let next = s.down i (omega (arith, item, s.order)) (s.heads_in i (omega (arith, item))) in
     let own : column_of c i ≡ i = t.head_columns i (omega (arith, item)) in
+    let next = s.down i (omega (arith, item, s.order)) (omega (arith, own, item)) (s.heads_in i (omega (arith, item))) in
     record {
       links = refl;
       are_in = tt;
@@ -189,7 +244,7 @@ going_step c out i a old now node done t item s whole low high g =
     let own : (k : ℕ) → column_of c k ≡ i → among (outs (done ++ hidden_at c a node) out) k ≡ among out k =
     (λ k same. keep k (λ yes. let at = hidden_row c a node k w.0 w.1 yes in at.2 (t.apart node k option high at.0 at.1 (same ∙ sym g.column))) ∙ g.own k same) in
     let node_in : among (outs (done ++ hidden_at c a node) out) node ≡ false = own node g.column ∙ here in
-    let next = spelled.down node high node_in in
+    let next = spelled.down node high (t.option_columns node option high) node_in in
     let d : ℕ = down_of (unlinks now (hidden_at c a node)) node in
     let take = column_from_take c out i node high g.column here in
     let skip = column_skip_to c out i (d - (node + 1)) (node + 1) d (omega (arith, next.below)) (λ y above below same. sym (own y same) ∙ next.nearest y (omega (arith, above)) below (same ∙ sym g.column)) in
@@ -215,29 +270,25 @@ pub going_end : (c : Columns) (out : List ℕ) (i a : ℕ) (old now : List Link)
 unfolding hidden_from
 going_end c out i a old now node done past g = g.links ∙ ap (unlinks old) (going_done c out i a old now node done past g)
 
--- an item that can be covered, once its node in the column of items is out
+-- an item that can be covered, once it is marked
 pub whole_item : (c : Columns) (out : List ℕ) (i : ℕ) → IsTable c → IsOpen c out i → AreWhole c ((c.heads + i) ∷ out) i
 whole_item c out i t can = λ k j low high own here above below.
     let w = t.within k low high in
     let other = out_other out (c.heads + i) k here in
     in_other out (c.heads + i) j (can.whole k j low high own other.0 above below) (λ e. omega (arith, e, w.2, above, can.item))
 
-pub item_out : (c : Columns) (out : List ℕ) (i : ℕ) (m : List Link) → IsTable c → IsOpen c out i → IsSpelled c out m → IsSpelled c ((c.heads + i) ∷ out) (unlinked m (c.heads + i))
-item_out c out i m t can s = spelled_unlink c out m (c.heads + i) s (omega arith) (omega (arith, can.item, t.order)) can.here
+pub item_out : (c : Columns) (out : List ℕ) (i : ℕ) (m : List Link) → IsTable c → IsOpen c out i → IsSpelled c out m → IsSpelled c ((c.heads + i) ∷ out) m
+item_out c out i m t can s = spelled_mark c out m (c.heads + i) s (omega arith) (omega (arith, can.item, t.order)) (t.item_columns i can.item)
 
--- on the way down: what was done, to the links and to the keys
-pub record IsWalk (c : Columns) (out : List ℕ) (i a : ℕ) (old now : List Link) (was is : List ℕ) (node : ℕ) : Type 0 where
+-- on the way down: what was done, to the links, to the keys and to the trail
+pub record IsWalk (c : Columns) (out : List ℕ) (i a : ℕ) (old now : List Link) (was is first trail : List ℕ) (node : ℕ) : Type 0 where
   pub done : List ℕ
   pub going : IsGoing c out i a old now node done
   pub keys : is ≡ fewer c was done
+  pub trail_is : trail ≡ first ++ done
 
-abbrev pub Going : Columns → List Link → ℕ → ℕ → List Link → List ℕ → List ℕ → ℕ → Type 0
-Going c old i a now was is node = (out : List ℕ) → IsSpelled c out old → IsOpen c out i → IsWalk c ((c.heads + i) ∷ out) i a (unlinked old (c.heads + i)) now was is node
-
--- the keys once nodes came back, the last one first
-abbrev pub more : Columns → List ℕ → List ℕ → List ℕ
-more c keys [] = keys
-more c keys (x ∷ xs) = with_more c (more c keys xs) x
+abbrev pub Going : Columns → List Link → ℕ → ℕ → List Link → List ℕ → List ℕ → List ℕ → List ℕ → ℕ → Type 0
+Going c old i a now was is first trail node = (out : List ℕ) → IsSpelled c out old → IsOpen c out i → IsWalk c ((c.heads + i) ∷ out) i a old now was is first trail node
 
 pub fewer-append : (c : Columns) (keys xs ys : List ℕ) → fewer c keys (xs ++ ys) ≡ fewer c (fewer c keys xs) ys
 fewer-append c keys [] ys = refl
@@ -247,22 +298,45 @@ pub more-append : (c : Columns) (keys xs ys : List ℕ) → more c keys (xs ++ y
 more-append c keys [] ys = refl
 more-append c keys (x ∷ xs) ys = ap (λ (k : List ℕ). with_more c k x) (more-append c keys xs ys)
 
-pub cover_start : (c : Columns) (old now : List Link) (was : List ℕ) (i a : ℕ) → IsTable c → now ≡ unlinked old (c.heads + i) → Going c old i a now was was (down_of now i)
-cover_start c old now was i a t e = λ out s can. record {
+pub cover_start : (c : Columns) (old : List Link) (was first : List ℕ) (i a : ℕ) → IsTable c → Going c old i a old was was first first (down_of old i)
+cover_start c old was first i a t = λ out s can. record {
   done = [];
-  going = rw e (going_start c ((c.heads + i) ∷ out) i a (unlinked old (c.heads + i)) t can.item (item_out c out i old t can s));
+  going = going_start c ((c.heads + i) ∷ out) i a old t can.item (item_out c out i old t can s);
   keys = refl;
+  trail_is = sym (append-nil first);
 }
 
-pub cover_step : (c : Columns) (old now new : List Link) (was is less : List ℕ) (i a node : ℕ) → IsTable c → c.heads ≤ node → node < c.tails → new ≡ unlinks now (hidden_at c a node) → less ≡ fewer c is (hidden_at c a node) → Going c old i a now was is node → Going c old i a new was less (down_of new node)
-cover_step c old now new was is less i a node t low high e f going = λ out s can.
+pub cover_step : (c : Columns) (old now new : List Link) (was is less first trail longer : List ℕ) (i a node : ℕ) → IsTable c → c.heads ≤ node → node < c.tails → new ≡ unlinks now (hidden_at c a node) → less ≡ fewer c is (hidden_at c a node) → longer ≡ trail ++ hidden_at c a node → Going c old i a now was is first trail node → Going c old i a new was less first longer (down_of new node)
+cover_step c old now new was is less first trail longer i a node t low high e f h going = λ out s can.
     let w = going out s can in
     record {
       done = w.done ++ hidden_at c a node;
-      going = rw e (going_step c ((c.heads + i) ∷ out) i a (unlinked old (c.heads + i)) now node w.done t can.item (item_out c out i old t can s) (whole_item c out i t can) low high w.going);
+      going = rw e (going_step c ((c.heads + i) ∷ out) i a old now node w.done t can.item (item_out c out i old t can s) (whole_item c out i t can) low high w.going);
       keys = f ∙ ap (λ (k : List ℕ). fewer c k (hidden_at c a node)) w.keys ∙ sym (fewer-append c was w.done (hidden_at c a node));
+      trail_is = h ∙ ap (λ (k : List ℕ). k ++ hidden_at c a node) w.trail_is ∙ append_assoc first w.done (hidden_at c a node);
     }
 
-pub cover_end : (c : Columns) (old now : List Link) (was is : List ℕ) (i a node : ℕ) → c.tails ≤ node → Going c old i a now was is node → Covers c old i a now
-unfolding covered
-cover_end c old now was is i a node past going = λ out s can. let w = going out s can in going_end c ((c.heads + i) ∷ out) i a (unlinked old (c.heads + i)) now node w.done past w.going
+pub cover_end : (c : Columns) (old now : List Link) (was is first trail : List ℕ) (i a node : ℕ) → c.tails ≤ node → Going c old i a now was is first trail node → Covers c old i a now
+cover_end c old now was is first trail i a node past going = λ out s can. let w = going out s can in going_end c ((c.heads + i) ∷ out) i a old now node w.done past w.going
+
+-- what was put on the trail
+pub cover_trail : (c : Columns) (old now : List Link) (was is first trail : List ℕ) (i a node : ℕ) → c.tails ≤ node → Going c old i a now was is first trail node → Trails c old i a first trail
+cover_trail c old now was is first trail i a node past going = λ out s can.
+    let w = going out s can in
+    w.trail_is ∙ ap (λ (done : List ℕ). first ++ done) (going_done c ((c.heads + i) ∷ out) i a old now node w.done past w.going)
+
+-- what is hidden at a node on the way can be taken out
+pub going_next : (c : Columns) (out : List ℕ) (i a : ℕ) (old now : List Link) (node : ℕ) (done : List ℕ) → IsTable c → i + 1 < c.heads → AreWhole c out i → c.heads ≤ node → node < c.tails → IsGoing c out i a old now node done → AreIn c out (done ++ hidden_at c a node)
+going_next c out i a old now node done t item whole low high g =
+    let option = option_node c i node t item low g.column in
+    let here : among out node ≡ false = sym (g.own node g.column) ∙ g.here in
+    are_in-append c out done (hidden_at c a node) g.are_in (hidden_are_in c (outs done out) a node t option high (λ j above below. g.later j high above ∙ whole node j option high g.column here above below))
+
+-- so the trail has room for it
+pub walk_room : (c : Columns) (old now : List Link) (was is first trail : List ℕ) (i a node room : ℕ) → IsTable c → c.heads ≤ node → node < c.tails → HasRoom c old i first room → Going c old i a now was is first trail node → length trail + length (hidden_at c a node) ≤ room
+walk_room c old now was is first trail i a node room t low high r going =
+    let w = going r.out r.spelled r.can in
+    let out : List ℕ = (c.heads + i) ∷ r.out in
+    let all = going_next c out i a old now node w.done t r.can.item (whole_item c r.out i t r.can) low high w.going in
+    let count = count_outs c out (w.done ++ hidden_at c a node) all in
+    omega (arith, count, count_mark c r.out (c.heads + i), r.enough, ap length w.trail_is, length-append first w.done, length-append w.done (hidden_at c a node))

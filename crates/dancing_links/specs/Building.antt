@@ -1,5 +1,5 @@
 -- Columns that are built node by node.
-use Rattle.std.specs.Prelude.{◌≡◌, ℕ, ◌<◌, ◌≤◌, List, [], length, slice_index_or}
+use Rattle.std.specs.Prelude.{◌≡◌, ℕ, ◌<◌, ◌≤◌, ◌+◌, List, [], length, slice_index_or}
 use Rattle.dancing_links.specs.declared.link.Link.{Link}
 use Rattle.dancing_links.specs.Linking.{up_of, down_of}
 use Rattle.dancing_links.specs.Columns.{Columns, column_of, IsNext, IsSpelled}
@@ -7,6 +7,8 @@ use Rattle.dancing_links.specs.Columns.{Columns, column_of, IsNext, IsSpelled}
 -- the links of columns from which nothing is out; those that lead nowhere are 0
 pub record IsBuilt (c : Columns) (m : List Link) : Type 0 where
   pub spelled : IsSpelled c [] m
+  pub items_down : (x : ℕ) → x < c.tails → column_of c x + 1 ≡ c.heads → IsNext c [] x (down_of m x)
+  pub items_up : (x : ℕ) → c.heads ≤ x → x < length c.column → column_of c x + 1 ≡ c.heads → IsNext c [] (up_of m x) x
   pub heads_up : (k : ℕ) → k < c.heads → up_of m k ≡ 0
   pub tails_down : (k : ℕ) → c.tails ≤ k → down_of m k ≡ 0
 

@@ -5,12 +5,14 @@ use Rattle.cover_problem.specs.Onward.{live_options_from}
 use Rattle.cover_problem.specs.Prefix.{is_covered, is_live, is_prefix}
 use Rattle.cover_problem.specs.Problem.{Problem, IsProblem, items_of, names_item}
 use Rattle.dancing_links.specs.declared.link.Link.{Link}
+use Rattle.dancing_links.specs.declared.mark.Mark.{Mark}
 use Rattle.dancing_links.specs.Building.{IsBuilt}
 use Rattle.dancing_links.specs.Columns.{Columns, column_of, option_of, IsLinked, IsOptionNode}
 use Rattle.dancing_links.specs.Committing.{committed, covering}
 use Rattle.dancing_links.specs.Keys.{IsKeyed}
 use Rattle.dancing_links.specs.Covering.{links_all, outs_all, nodes_by}
 use Rattle.dancing_links.specs.Table.{table}
+use Rattle.dancing_links.specs.Trail.{hidden_all}
 
 -- a problem, the options chosen in it, in the order of the choices, and the item by which each was chosen: one of its own, which is covered first
 pub record Choices : Type 0 where
@@ -69,6 +71,26 @@ pub record IsHistory (c : Columns) (nodes : List ℕ) (links : List Link) (keys 
   pub built : IsBuilt c before
   pub links_are : links ≡ links_all c [] before nodes
   pub keyed : IsKeyed c (outs_all c [] nodes) keys
+
+-- what those nodes hid, in that order
+abbrev pub trail_of : Columns → List ℕ → List ℕ
+trail_of c entries = hidden_all c [] (covering_nodes c entries)
+
+-- how long that was before a choice by a node, and once its item was covered
+abbrev pub mark_at : Columns → List ℕ → ℕ → Mark
+mark_at c entries k = record { start = length (trail_of c entries); middle = length (hidden_all c [] (covering_nodes c entries ++ k ∷ [])) }
+
+-- the same for each choice after some
+abbrev pub marks_from : Columns → List ℕ → List ℕ → List Mark
+marks_from c done [] = []
+marks_from c done (k ∷ entries) = mark_at c done k ∷ marks_from c (done ++ k ∷ []) entries
+
+-- the trail has what is hidden, and room for all nodes; what is kept of each choice tells how long it was
+pub record IsTrail (c : Columns) (primary : ℕ) (entries trail : List ℕ) (room : ℕ) (marks : List Mark) (space : ℕ) : Type 0 where
+  pub trail_is : trail ≡ trail_of c entries
+  pub enough : c.tails ≤ room
+  pub marks_are : marks ≡ marks_from c [] entries
+  pub some : primary ≤ space
 
 -- each choice was by an item that no option chosen before it names
 abbrev pub AreFresh : Problem → Columns → List ℕ → List ℕ → Type 0

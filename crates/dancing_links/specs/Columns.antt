@@ -52,15 +52,16 @@ pub record IsNext (c : Columns) (out : List ℕ) (x d : ℕ) : Type 0 where
   pub in_down : among out d ≡ false
   pub nearest : (y : ℕ) → x < y → y < d → column_of c y ≡ column_of c x → among out y ≡ true
 
--- The links of each node that is in lead to its neighbours that are in, where the nodes of a list are out; the heads and tails are always in.
+-- The links of each node that is in, in the column of an item, lead to its neighbours that are in, where the nodes of a list are out; the heads and tails are always in.
+-- The list has the nodes of covered items, too: these are marks, and no link changes by them.
 pub record IsSpelled (c : Columns) (out : List ℕ) (m : List Link) : Type 0 where
   pub count : length m ≡ length c.column
   pub order : c.heads ≤ c.tails
   pub ends : c.tails ≤ length c.column
   pub heads_in : (x : ℕ) → x < c.heads → among out x ≡ false
   pub tails_in : (x : ℕ) → c.tails ≤ x → among out x ≡ false
-  pub down : (x : ℕ) → x < c.tails → among out x ≡ false → IsNext c out x (down_of m x)
-  pub up : (x : ℕ) → c.heads ≤ x → x < length c.column → among out x ≡ false → IsNext c out (up_of m x) x
+  pub down : (x : ℕ) → x < c.tails → column_of c x + 1 < c.heads → among out x ≡ false → IsNext c out x (down_of m x)
+  pub up : (x : ℕ) → c.heads ≤ x → x < length c.column → column_of c x + 1 < c.heads → among out x ≡ false → IsNext c out (up_of m x) x
 
 -- the option of a node
 abbrev pub option_of : Columns → ℕ → ℕ

@@ -1,11 +1,12 @@
 -- Which nodes of the chosen options cover their items: where an item has its colour already, a later node with a colour covers nothing (TAOCP 7.2.2.1).
-use Rattle.std.specs.Prelude.{◌≡◌, ℕ, ◌<◌, ◌+◌, ◌%◌, List, [], ◌∷◌, length, slice_index_or, slice_set, Bool, not, ◌==◌, ◌&&◌, if◌then◌else◌}
+use Rattle.std.specs.Prelude.{◌≡◌, ℕ, ◌<◌, ◌≤◌, ◌+◌, ◌%◌, List, [], ◌∷◌, ◌++◌, length, take, drop, slice_index_or, slice_set, Bool, not, ◌==◌, ◌&&◌, if◌then◌else◌}
 use Rattle.std.specs.List.{All}
 use Rattle.dancing_links.specs.declared.link.Link.{Link}
 use Rattle.dancing_links.specs.Columns.{Columns, column_of, colour_at, IsSpelled}
 use Rattle.dancing_links.specs.Keys.{IsKeyed}
-use Rattle.dancing_links.specs.Covering.{covered_by, outs, IsOpen}
+use Rattle.dancing_links.specs.Covering.{hides, covered_by, outs, IsOpen}
 use Rattle.dancing_links.specs.Linking.{unlinks}
+use Rattle.dancing_links.specs.Trail.{count_in}
 
 -- How many nodes gave each item a colour. The numbers go round at 2 ^ 32, as the machine's do, so that no step needs a test.
 pub record IsCommits (c : Columns) (commits : List ℕ) : Type 0 where
@@ -44,9 +45,27 @@ pub record IsFirst (c : Columns) (front now : List ℕ) (k : ℕ) : Type 0 where
   pub none : slice_index_or front (column_of c k) 0 ≡ 0
   pub commits : now ≡ commit c front k
 
+-- the links before a node covered its item, of which a piece of the trail tells what that hid
+abbrev pub IsBefore : Columns → List Link → List ℕ → ℕ → List ℕ → List Link → Type 0
+IsBefore c old piece k out before = IsSpelled c out before × IsOpen c out (column_of c k) × (old ≡ unlinks before (hides c out k)) × (piece ≡ hides c out k)
+
 -- another node of its column covers the item in its place
-pub record Recovers (c : Columns) (front : List ℕ) (old : List Link) (was : List ℕ) (k next : ℕ) (new : List Link) (now held : List ℕ) : Type 0 where
-  pub links : (out : List ℕ) (before : List Link) → IsSpelled c out before → IsOpen c out (column_of c k) → old ≡ unlinks before (covered_by c out k) → new ≡ unlinks before (covered_by c out next)
-  pub keys : (out : List ℕ) (before : List Link) → IsSpelled c out before → IsOpen c out (column_of c k) → old ≡ unlinks before (covered_by c out k)
-      → IsKeyed c (outs (covered_by c out k) out) was → IsKeyed c (outs (covered_by c out next) out) now
+pub record Recovers (c : Columns) (front : List ℕ) (old : List Link) (was kept piece : List ℕ) (k next : ℕ) (new : List Link) (now trail held : List ℕ) : Type 0 where
+  pub links : (out : List ℕ) (before : List Link) → IsBefore c old piece k out before → new ≡ unlinks before (hides c out next)
+  pub keys : (out : List ℕ) (before : List Link) → IsBefore c old piece k out before → IsKeyed c (outs (covered_by c out k) out) was → IsKeyed c (outs (covered_by c out next) out) now
+  pub trail_is : (out : List ℕ) (before : List Link) → IsBefore c old piece k out before → trail ≡ kept ++ hides c out next
   pub commits : held ≡ commit c front next
+
+-- That is so where the node was the first to cover the item. The trail has what it hid from a place on.
+abbrev pub Recommits : Columns → List ℕ → List Link → List ℕ → List ℕ → ℕ → ℕ → ℕ → List Link → List ℕ → List ℕ → List ℕ → Type 0
+Recommits c commits old was trail start k next new now after held =
+    (front : List ℕ) → IsFirst c front commits k → Recovers c front old was (take start trail) (drop start trail) k next new now after held
+
+-- and the trail has room for it
+pub record HasRoomNext (c : Columns) (old : List Link) (commits kept piece : List ℕ) (k room : ℕ) : Type 0 where
+  pub out : List ℕ
+  pub before : List Link
+  pub front : List ℕ
+  pub first : IsFirst c front commits k
+  pub is_before : IsBefore c old piece k out before
+  pub enough : length kept + count_in c out ≤ room

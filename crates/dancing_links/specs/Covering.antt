@@ -26,11 +26,19 @@ hidden_at c colour node = if has_colour c colour node then [] else others c node
 unfoldable pub hidden_from : Columns → List ℕ → ℕ → ℕ → ℕ → List ℕ
 hidden_from c out i colour start = flat_map (hidden_at c colour) (column_from c out i start)
 
--- what covering an item in a colour takes out: its node in the column of items, and all that is hidden
-unfoldable pub covered : Columns → List ℕ → ℕ → ℕ → List ℕ
-covered c out i colour = (c.heads + i) ∷ hidden_from c ((c.heads + i) ∷ out) i colour c.heads
+-- what covering an item in a colour hides
+abbrev pub hidden : Columns → List ℕ → ℕ → ℕ → List ℕ
+hidden c out i colour = hidden_from c ((c.heads + i) ∷ out) i colour c.heads
 
--- what a node takes out that covers its item: the item gets the node's colour
+-- what is out then: the item's own node, which marks it as covered, and all that is hidden
+unfoldable pub covered : Columns → List ℕ → ℕ → ℕ → List ℕ
+covered c out i colour = (c.heads + i) ∷ hidden c out i colour
+
+-- what a node hides that covers its item: the item gets the node's colour
+abbrev pub hides : Columns → List ℕ → ℕ → List ℕ
+hides c out node = hidden c out (column_of c node) (colour_at c node)
+
+-- what is out then
 abbrev pub covered_by : Columns → List ℕ → ℕ → List ℕ
 covered_by c out node = covered c out (column_of c node) (colour_at c node)
 
@@ -49,13 +57,9 @@ pub record IsOpen (c : Columns) (out : List ℕ) (i : ℕ) : Type 0 where
   pub here : among out (c.heads + i) ≡ false
   pub whole : AreWhole c out i
 
--- covering an item in a colour takes out just what covered says, whatever was out
+-- covering an item in a colour takes just what it hides out of the columns, whatever was out
 abbrev pub Covers : Columns → List Link → ℕ → ℕ → List Link → Type 0
-Covers c old i colour new = (out : List ℕ) → IsSpelled c out old → IsOpen c out i → new ≡ unlinks old (covered c out i colour)
-
--- uncovering is the inverse of covering
-abbrev pub Uncovers : Columns → List Link → ℕ → ℕ → List Link → Type 0
-Uncovers c old i colour new = (out : List ℕ) (before : List Link) → IsSpelled c out before → IsOpen c out i → old ≡ unlinks before (covered c out i colour) → new ≡ before
+Covers c old i colour new = (out : List ℕ) → IsSpelled c out old → IsOpen c out i → new ≡ unlinks old (hidden c out i colour)
 
 -- the items of a range of nodes
 unfoldable pub items_from : Columns → ℕ → ℕ → List ℕ
@@ -77,7 +81,7 @@ outs_all c out (k ∷ ks) = outs_all c (outs (covered_by c out k) out) ks
 -- the links, once nodes cover their items one after the other
 abbrev pub links_all : Columns → List ℕ → List Link → List ℕ → List Link
 links_all c out m [] = m
-links_all c out m (k ∷ ks) = links_all c (outs (covered_by c out k) out) (unlinks m (covered_by c out k)) ks
+links_all c out m (k ∷ ks) = links_all c (outs (covered_by c out k) out) (unlinks m (hides c out k)) ks
 
 -- nodes that can cover their items one after the other
 abbrev pub AreOpen : Columns → List ℕ → List ℕ → Type 0
@@ -87,7 +91,3 @@ AreOpen c out (k ∷ ks) = IsOpen c out (column_of c k) × AreOpen c (outs (cove
 -- to cover items by nodes one after the other takes out just what the history says, whatever was out
 abbrev pub CoversAll : Columns → List Link → List ℕ → List Link → Type 0
 CoversAll c old ks new = (out : List ℕ) → IsSpelled c out old → AreOpen c out ks → new ≡ links_all c out old ks
-
--- uncovering them in the reverse order is the inverse
-abbrev pub UncoversAll : Columns → List Link → List ℕ → List Link → Type 0
-UncoversAll c old ks new = (out : List ℕ) (before : List Link) → IsSpelled c out before → AreOpen c out ks → old ≡ links_all c out before ks → new ≡ before

@@ -1,9 +1,8 @@
 -- Keys, kept beside the links, one for each item: by the least one the branch item is found (TAOCP 7.2.2.1, branching on an item with fewest options).
-use Rattle.std.specs.Prelude.{◌≡◌, ℕ, ◌<◌, ◌+◌, ◌*◌, ◌%◌, List, [], ◌∷◌, length, slice_index_or, slice_set, Bool, true, false, nat_lt, if◌then◌else◌}
+use Rattle.std.specs.Prelude.{◌≡◌, ℕ, ◌<◌, ◌≤◌, Option, MatchOption, ◌+◌, ◌*◌, ◌%◌, List, [], ◌∷◌, length, slice_index_or, slice_set, Bool, true, false, nat_lt, if◌then◌else◌}
 use Rattle.dancing_links.specs.declared.link.Link.{Link}
-use Rattle.dancing_links.specs.Linking.{unlinks}
 use Rattle.dancing_links.specs.Columns.{among, Columns, column_of, column_from, IsSpelled}
-use Rattle.dancing_links.specs.Covering.{covered, outs, IsOpen, outs_all, links_all, AreOpen}
+use Rattle.dancing_links.specs.Covering.{covered, outs, IsOpen, outs_all, AreOpen}
 
 -- The keys once a node leaves its column, and once it is back. They go round at 2 ^ 32, as the machine's do, so that no step needs a test.
 unfoldable pub with_less : Columns → List ℕ → ℕ → List ℕ
@@ -18,14 +17,19 @@ abbrev pub fewer : Columns → List ℕ → List ℕ → List ℕ
 fewer c keys [] = keys
 fewer c keys (x ∷ xs) = fewer c (with_less c keys x) xs
 
--- nodes that come back, the first one first
-abbrev pub more_in_order : Columns → List ℕ → List ℕ → List ℕ
-more_in_order c keys [] = keys
-more_in_order c keys (x ∷ xs) = more_in_order c (with_more c keys x) xs
+-- nodes that come back, the last one first
+abbrev pub more : Columns → List ℕ → List ℕ → List ℕ
+more c keys [] = keys
+more c keys (x ∷ xs) = with_more c (more c keys xs) x
 
 -- the keys once the mark of a covered item is put on one, or taken off
 unfoldable pub with_mark : List ℕ → ℕ → List ℕ
 with_mark keys i = slice_set keys i ((slice_index_or keys i 0 + 2147483648) % 4294967296)
+
+-- the keys once the marks of the items of some nodes are turned, the last one first
+abbrev pub turned : Columns → List ℕ → List ℕ → List ℕ
+turned c keys [] = keys
+turned c keys (k ∷ ks) = with_mark (turned c keys ks) (column_of c k)
 
 -- the mark of a covered item
 abbrev pub mark_of : Bool → ℕ
@@ -50,21 +54,19 @@ least_from least (k ∷ ks) = least_from (if nat_lt k least then k else least) k
 abbrev pub KeysCovered : Columns → List Link → ℕ → ℕ → List ℕ → List ℕ → Type 0
 KeysCovered c links i colour old new = (out : List ℕ) → IsSpelled c out links → IsOpen c out i → IsKeyed c out old → IsKeyed c (outs (covered c out i colour) out) new
 
--- and so does uncovering
-abbrev pub KeysUncovered : Columns → List Link → ℕ → ℕ → List ℕ → List ℕ → Type 0
-KeysUncovered c links i colour old new = (out : List ℕ) (before : List Link) → IsSpelled c out before → IsOpen c out i → links ≡ unlinks before (covered c out i colour)
-    → IsKeyed c (outs (covered c out i colour) out) old → IsKeyed c out new
-
 -- the same for nodes that cover their items one after the other
 abbrev pub KeysCoveredAll : Columns → List Link → List ℕ → List ℕ → List ℕ → Type 0
 KeysCoveredAll c links ks old new = (out : List ℕ) → IsSpelled c out links → AreOpen c out ks → IsKeyed c out old → IsKeyed c (outs_all c out ks) new
-
--- the same of items that are uncovered, the last first
-abbrev pub KeysUncoveredAll : Columns → List Link → List ℕ → List ℕ → List ℕ → Type 0
-KeysUncoveredAll c links ks old new = (out : List ℕ) (before : List Link) → IsSpelled c out before → AreOpen c out ks → links ≡ links_all c out before ks
-    → IsKeyed c (outs_all c out ks) old → IsKeyed c out new
 
 -- the keys while they are made: the nodes from one on are not counted yet
 pub record IsCounting (c : Columns) (node : ℕ) (keys : List ℕ) : Type 0 where
   pub columns : length keys + 1 ≡ c.heads
   pub key : (i : ℕ) → i + 1 < c.heads → slice_index_or keys i 0 + 65536 * length (column_from c [] i node) ≡ i + 65536 * length (column_from c [] i c.heads)
+
+-- the items from one on, below another one, whose keys all have the mark
+abbrev pub AreMarked : List ℕ → ℕ → ℕ → Type 0
+AreMarked keys start end = (k : ℕ) → start ≤ k → k < end → 2147483648 ≤ slice_index_or keys k 0
+
+-- the first item from one on, below a bound, whose key has no mark; none where each has it
+abbrev pub IsFirstUnmarked : List ℕ → ℕ → ℕ → Option ℕ → Type 0
+IsFirstUnmarked keys start bound item = MatchOption item (AreMarked keys start bound) (λ i. (start ≤ i) × (i < bound) × (slice_index_or keys i 0 < 2147483648) × AreMarked keys start i)

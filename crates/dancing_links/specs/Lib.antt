@@ -6,4 +6,5 @@ pub mod Keys
 pub mod Covering
 pub mod Linking
 pub mod Table
+pub mod Trail
 pub mod Walking

@@ -30,12 +30,12 @@ unlinked m x = with_up (with_down m (up_of m x) (down_of m x)) (down_of m x) (up
 unfoldable pub relinked : List Link → ℕ → List Link
 relinked m x = with_up (with_down m (up_of m x) x) (down_of m x) x
 
--- nodes taken out one after the other, and put back in the reverse order
+-- nodes taken out one after the other
 abbrev pub unlinks : List Link → List ℕ → List Link
 unlinks m [] = m
 unlinks m (x ∷ xs) = unlinks (unlinked m x) xs
 
--- those nodes put back in that order
-abbrev pub relinks_in_order : List Link → List ℕ → List Link
-relinks_in_order m [] = m
-relinks_in_order m (x ∷ xs) = relinks_in_order (relinked m x) xs
+-- nodes put back, the last one first
+abbrev pub relinks : List Link → List ℕ → List Link
+relinks m [] = m
+relinks m (x ∷ xs) = relinked (relinks m xs) x

@@ -1,5 +1,5 @@
 -- Walks down a column.
-use Rattle.std.specs.Prelude.{◌≡◌, ℕ, zero, suc, nat_lt, ◌<◌, ◌≤◌, ◌+◌, ◌-◌, List, [], ◌∷◌, if◌then◌else◌, Option, MatchOption}
+use Rattle.std.specs.Prelude.{◌≡◌, ℕ, zero, suc, nat_lt, ◌<◌, ◌≤◌, ◌-◌, List, [], ◌∷◌, if◌then◌else◌}
 use Rattle.dancing_links.specs.declared.link.Link.{Link}
 use Rattle.dancing_links.specs.Linking.{down_of}
 use Rattle.dancing_links.specs.Columns.{Columns, column_of, option_of}
@@ -26,7 +26,3 @@ pub record IsBelowIn (c : Columns) (bound begin end node : ℕ) : Type 0 where
   pub high : node ≤ end
   pub found : node < end → column_of c node < bound
   pub before : (k : ℕ) → begin ≤ k → k < node → bound ≤ column_of c k
-
--- the item of a node in the column of items, if it is one of so many primary items
-abbrev pub IsPrimaryItem : Columns → ℕ → ℕ → Option ℕ → Type 0
-IsPrimaryItem c primary node item = MatchOption item (c.heads + primary ≤ node) (λ i. (node < c.heads + primary) × (i ≡ node - c.heads))

@@ -1,9 +1,9 @@
 //! One key for each item: from low to high its number, how many nodes of its column are in, and whether it is covered. So the
 //! uncovered item with fewest live options, the first of those, has the least key, which a pass without a branch finds.
 
-ghost use Rattle.std.specs.Prelude.{◌≡◌, ◌<◌, ◌≤◌, ◌+◌, ◌/◌, ◌%◌, [], length, nat_lt, if◌then◌else◌, IfOk, MatchOption};
+ghost use Rattle.std.specs.Prelude.{◌≡◌, ◌<◌, ◌≤◌, ◌+◌, ◌/◌, ◌%◌, [], length, not, nat_lt, if◌then◌else◌, IfOk, MatchOption};
 ghost use Rattle.dancing_links.specs.Columns.{IsTable};
-ghost use Rattle.dancing_links.specs.Keys.{with_less, with_more, with_mark, least_from, IsKeyed, IsCounting};
+ghost use Rattle.dancing_links.specs.Keys.{with_less, with_more, with_mark, least_from, IsFirstUnmarked, IsKeyed, IsCounting};
 
 use crate::build::numbers_below;
 use crate::layout::Layout;
@@ -88,6 +88,27 @@ pub fn least_of(keys: &[u32]) -> u32
         least = lesser(*key, least);
     }
     least
+}
+
+/// Whether a key has the mark of a covered item.
+pub fn is_marked(key: u32) -> bool
+    ensures { result ≡ not (nat_lt key 2147483648) }
+{
+    key >= COVERED
+}
+
+/// The first item from one on, below a bound, whose key has no mark; none where each has it.
+pub fn first_unmarked(keys: &[u32], start: usize, bound: usize) -> Option<u16>
+    requires inside { bound ≤ length keys.now }
+    requires small { bound ≤ 65535 }
+    ensures { IsFirstUnmarked keys.now start bound result }
+{
+    for item in start..bound {
+        if !is_marked(keys[item]) {
+            return Some(item as u16);
+        }
+    }
+    None
 }
 
 /// How many live options the key of an uncovered item counts.

@@ -8,14 +8,18 @@ ghost use Rattle.dancing_links.specs.Choices.{Choices, with_child, with_child_if
 ghost use Rattle.dancing_links.specs.Columns.{IsLinked};
 ghost use Rattle.dancing_links.specs.Linking.{down_of};
 ghost use Rattle.dancing_links.specs.Table.{table};
-ghost use Rattle.dancing_links.specs.Walking.{options_left, IsPrimaryItem};
+ghost use Rattle.dancing_links.specs.Walking.{options_left};
 ghost use Rattle.cover_problem.specs.Prefix.{is_covered, is_live, is_prefix};
 
 use crate::build::build_links;
-use crate::commit::{cover_from, cover_others, recommit, uncommit, uncover_from, uncover_others};
-use crate::keys::{build_keys, count_in, item_in, least_of};
+use crate::commit::{
+    cover_from, cover_others, recommit, uncover_from, uncover_one, uncover_others,
+};
+use crate::cover::piece_from;
+use crate::keys::{build_keys, count_in, first_unmarked, is_marked, item_in, least_of};
 use crate::layout::{Layout, layout_of};
 use crate::link::Link;
+use crate::mark::Mark;
 use crate::options::OptionsOf;
 use cover_problem::Problem;
 use std::alloc::{AllocError, Global};
@@ -33,6 +37,10 @@ pub struct Links<'a> {
     keys: Vec<u32>,
     /// How many chosen options give each item a colour.
     commits: Vec<u32>,
+    /// The nodes that left their columns, in the order in which they did; it never grows beyond its room.
+    trail: Vec<u32>,
+    /// How long the trail was at each choice.
+    marks: Vec<Mark>,
     /// The chosen options, in the order of the choices.
     chosen: Vec<u16>,
     /// The node by which each was chosen: the items of its option were covered from its own on.
@@ -42,7 +50,7 @@ pub struct Links<'a> {
 impl<'a> Model for Links<'a> {
     ghost use Rattle.std.specs.Prelude.{vec_capacity, map, ◌≡◌, ◌≤◌};
     ghost use Rattle.dancing_links.specs.Columns.{column_of};
-    ghost use Rattle.dancing_links.specs.Choices.{Choices, IsLinks, commits_of};
+    ghost use Rattle.dancing_links.specs.Choices.{Choices, IsLinks, IsTrail, commits_of};
 
     ghost Value = { Choices };
 
@@ -57,7 +65,10 @@ impl<'a> Model for Links<'a> {
         s.layout s.chosen.items s.entries.items s.links.items s.keys.items
         (vec_capacity s.chosen)
         × (s.problem.now.primary ≤ vec_capacity s.entries) × (s.commits.items
-        ≡ commits_of s.layout s.entries.items) };
+        ≡ commits_of s.layout s.entries.items)
+        × IsTrail s.layout s.problem.now.primary s.entries.items
+        s.trail.items (vec_capacity s.trail) s.marks.items
+        (vec_capacity s.marks) };
 }
 
 impl<'a> Links<'a> {
@@ -68,7 +79,9 @@ impl<'a> Links<'a> {
     {
         let chosen = Vec::with_capacity(alloc, problem.primary())?;
         let entries = Vec::with_capacity(alloc, problem.primary())?;
+        let marks = Vec::with_capacity(alloc, problem.primary())?;
         let layout = layout_of(alloc, problem)?;
+        let trail = Vec::with_capacity(alloc, layout.tails())?;
         let links = build_links(alloc, &layout)?;
         let keys = build_keys(alloc, &layout)?;
         let mut commits = Vec::new(alloc);
@@ -79,6 +92,8 @@ impl<'a> Links<'a> {
             links,
             keys,
             commits,
+            trail,
+            marks,
             chosen,
             entries,
         })
@@ -107,13 +122,16 @@ impl<'a> Links<'a> {
         ensures { self.new ≡ with_choice self.old option }
     {
         let node = primary_node(&self.layout, self.problem, option);
-        cover_from(
+        let start = self.trail.len();
+        let middle = cover_from(
             &self.layout,
             &mut self.links,
             &mut self.keys,
             &mut self.commits,
+            &mut self.trail,
             node,
         );
+        self.marks.push_reserved(Mark { start, middle });
         self.entries.push_reserved(node as u32);
         self.chosen.push_reserved(option);
     }
@@ -133,13 +151,16 @@ impl<'a> Links<'a> {
             return None;
         }
         let option = self.layout.option_at(node);
-        cover_from(
+        let start = self.trail.len();
+        let middle = cover_from(
             &self.layout,
             &mut self.links,
             &mut self.keys,
             &mut self.commits,
+            &mut self.trail,
             node,
         );
+        self.marks.push_reserved(Mark { start, middle });
         self.entries.push_reserved(node as u32);
         self.chosen.push_reserved(option);
         Some(option)
@@ -154,24 +175,30 @@ impl<'a> Links<'a> {
             IsNextChoice before item option result self.new }
     {
         let node = self.entries[self.entries.len() - 1] as usize;
+        let mark = self.marks[self.marks.len() - 1];
+        self.marks.pop();
+        self.entries.pop();
+        self.chosen.pop();
         uncover_others(
             &self.layout,
             &mut self.links,
             &mut self.keys,
             &mut self.commits,
+            piece_from(&self.trail, mark.middle),
             node,
         );
-        self.entries.pop();
-        self.chosen.pop();
+        self.trail.truncate(mark.middle);
         let next = self.links[node].down as usize;
         if next >= self.layout.tails() {
-            uncommit(
+            uncover_one(
                 &self.layout,
                 &mut self.links,
                 &mut self.keys,
                 &mut self.commits,
+                piece_from(&self.trail, mark.start),
                 node,
             );
+            self.trail.truncate(mark.start);
             return None;
         }
         let option = self.layout.option_at(next);
@@ -180,16 +207,24 @@ impl<'a> Links<'a> {
             &mut self.links,
             &mut self.keys,
             &mut self.commits,
+            &mut self.trail,
+            mark.start,
             node,
             next,
         );
+        let middle = self.trail.len();
         cover_others(
             &self.layout,
             &mut self.links,
             &mut self.keys,
             &mut self.commits,
+            &mut self.trail,
             next,
         );
+        self.marks.push_reserved(Mark {
+            start: mark.start,
+            middle,
+        });
         self.entries.push_reserved(next as u32);
         self.chosen.push_reserved(option);
         Some(option)
@@ -202,15 +237,19 @@ impl<'a> Links<'a> {
     {
         let option = self.chosen[self.chosen.len() - 1];
         let node = self.entries[self.entries.len() - 1] as usize;
+        let mark = self.marks[self.marks.len() - 1];
+        self.marks.pop();
+        self.entries.pop();
+        self.chosen.pop();
         uncover_from(
             &self.layout,
             &mut self.links,
             &mut self.keys,
             &mut self.commits,
+            piece_from(&self.trail, mark.start),
             node,
         );
-        self.entries.pop();
-        self.chosen.pop();
+        self.trail.truncate(mark.start);
         option
     }
 
@@ -219,9 +258,7 @@ impl<'a> Links<'a> {
         requires { item < length self.now.problem.names }
         ensures { result ≡ is_covered self.now.problem self.now.chosen item }
     {
-        !self
-            .layout
-            .is_known(&self.links, self.layout.heads() + item as usize)
+        is_marked(self.keys[item as usize])
     }
 
     /// Whether an option clashes with no chosen one: its first primary item is uncovered, and its node there is in.
@@ -260,12 +297,7 @@ impl<'a> Links<'a> {
         ensures uncovered { IfSome result (IsOpen self.now.problem self.now.chosen) }
         ensures item { IfSome result (λ item. item < length self.now.problem.names) }
     {
-        item_below(
-            &self.layout,
-            &self.links,
-            self.problem.primary() as u16,
-            self.layout.heads() - 1,
-        )
+        first_unmarked(&self.keys, 0, self.problem.primary())
     }
 
     /// The next uncovered primary item after an uncovered item; none where no more follows.
@@ -278,12 +310,7 @@ impl<'a> Links<'a> {
         ensures item { IfSome result (λ next. next < length self.now.problem.names) }
         ensures later { IfSome result (λ next. item < next) }
     {
-        item_below(
-            &self.layout,
-            &self.links,
-            self.problem.primary() as u16,
-            self.layout.heads() + item as usize,
-        )
+        first_unmarked(&self.keys, item as usize + 1, self.problem.primary())
     }
 
     /// The live options that name an uncovered item, in file order.
@@ -331,22 +358,6 @@ fn primary_node(layout: &Layout, problem: &Problem, option: u16) -> usize
 {
     let (begin, end) = layout.node_range(option);
     layout.node_below(problem.primary(), begin, end)
-}
-
-/// The item whose node is below a node in the column of items, if it is primary.
-fn item_below(layout: &Layout, links: &[Link], primary: u16, node: usize) -> Option<u16>
-    requires node { node < length links.now }
-    requires below { layout.now.heads ≤ down_of links.now node }
-    requires primary { primary ≤ 1000 }
-    requires heads { layout.now.heads ≤ 1001 }
-    ensures { IsPrimaryItem layout.now primary (down_of links.now node) result }
-{
-    let item = links[node].down as usize - layout.heads();
-    if item < primary as usize {
-        Some(item as u16)
-    } else {
-        None
-    }
 }
 
 /// The option of the node below a node in its column; none at the tail.

@@ -14,11 +14,12 @@ use crate::wanted::Wanted;
 use std::alloc::{AllocError, Global};
 use std::marker::Model;
 
-/// The guests of a site, in the order in which they were put. It is kept at which places the open ones stand, so that no
-/// call looks at guests that ended.
+/// The guests of a site, each at its place. The places of the open ones are kept, so that a walk over these passes none
+/// that ended.
 #[derive(Drop)]
 pub struct Guests {
     items: Vec<Guest>,
+    /// The places of the open ones, ascending.
     places: Vec<usize>,
 }
 
@@ -92,6 +93,7 @@ impl Guests {
     {
         self.places.reserve(1)?;
         self.items.insert(place, guest)?;
+        // There are no more guests than numbers of places, so each place may move on.
         let count = self.items.len();
         prove!(place < count);
         put_place(&mut self.places, place);
@@ -123,7 +125,8 @@ impl Guests {
     pub fn hear(&mut self, place: usize, child: u32, child_result: &ChildResult) -> Heard
         requires within { place < length self.old }
         requires hears { HearsFrom (work_at self.old place) }
-        ensures guests { self.new ≡ change_place (with_heard child child_result.now) self.old place }
+        ensures guests { self.new
+            ≡ change_place (with_heard child child_result.now) self.old place }
         ensures heard { result ≡ frame_says
             (option_map (with_heard child child_result.now) (work_at self.old place)) }
     {

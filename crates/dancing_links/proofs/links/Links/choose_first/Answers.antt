@@ -5,6 +5,7 @@ use Rattle.dancing_links.specs.Choices.{Choices, IsChild, commits_of}
 use Rattle.dancing_links.proofs.Ranges.{table_of}
 use Rattle.dancing_links.proofs.Chosen.{room_left, same_length, held_kept, commits_pushed, links_push, put_back, same_links_of, view_push}
 use Rattle.dancing_links.proofs.Next.{below_head, choice_of}
+use Rattle.dancing_links.proofs.Trailed.{marks_length, middle_pushed, ready_of, room_push, trail_more, trail_pushed}
 use Rattle.dancing_links.proofs.links.Links.choose_first.Goals as goal
 
 pub returns-then-node-tails-clause-first : goal.returns-then-node-tails-clause-first
@@ -20,8 +21,8 @@ returns-then-node-tails-clause-first c =
     let below = below_head p cs os es c.self.inside.links.items c.self.inside.keys.items room c.args.item c.index.result.now c.self.invariant.0 inside free c.index.ensures in
     sym (below.none (omega (arith, c.if-node-tails.true, c.tails.ensures.tails))) ∙ ap (λ (v : Choices). slice_get (live_options_from v.problem v.chosen c.args.item 0) 0) c.self.view_is
 
-pub cover_from-requires-clause-node : goal.cover_from-requires-clause-node
-cover_from-requires-clause-node c =
+pub cover_from-middle-requires-clause-node : goal.cover_from-middle-requires-clause-node
+cover_from-middle-requires-clause-node c =
     let p = c.self.inside.problem.now in
     let cs = c.self.inside.layout in
     let os = c.self.inside.chosen.items in
@@ -34,11 +35,11 @@ cover_from-requires-clause-node c =
     let choice = choice_of p cs os c.args.item 0 c.index.result.now.down c.option_at-option.result t below (omega (arith, c.if-node-tails.false, c.tails.ensures.tails)) c.option_at-option.ensures.option in
     choice.node
 
-pub cover_from-requires-clause-commits : goal.cover_from-requires-clause-commits
-cover_from-requires-clause-commits c = held_kept c.self.inside.problem.now c.self.inside.layout c.self.inside.chosen.items c.self.inside.entries.items c.self.inside.links.items c.self.inside.keys.items (vec_capacity c.self.inside.chosen) c.deref_mut-3.result.now c.self.invariant.0 (c.deref_mut-3.ensures.value ∙ c.self.invariant.2)
+pub cover_from-middle-requires-clause-commits : goal.cover_from-middle-requires-clause-commits
+cover_from-middle-requires-clause-commits c = held_kept c.self.inside.problem.now c.self.inside.layout c.self.inside.chosen.items c.self.inside.entries.items c.self.inside.links.items c.self.inside.keys.items (vec_capacity c.self.inside.chosen) c.deref_mut-3.result.now c.self.invariant.0 (c.deref_mut-3.ensures.value ∙ c.self.invariant.2)
 
-pub push_reserved-requires : goal.push_reserved-requires
-push_reserved-requires c =
+pub push_reserved-requires-2 : goal.push_reserved-requires-2
+push_reserved-requires-2 c =
     let p = c.self.inside.problem.now in
     let cs = c.self.inside.layout in
     let os = c.self.inside.chosen.items in
@@ -53,8 +54,8 @@ push_reserved-requires c =
     let same = same_length p cs os es c.self.inside.links.items c.self.inside.keys.items room c.self.invariant.0 in
     omega (arith, left, same, c.self.invariant.1, c.self.inside.entries.ok.0)
 
-pub push_reserved-requires-2 : goal.push_reserved-requires-2
-push_reserved-requires-2 c =
+pub push_reserved-requires-3 : goal.push_reserved-requires-3
+push_reserved-requires-3 c =
     let p = c.self.inside.problem.now in
     let cs = c.self.inside.layout in
     let os = c.self.inside.chosen.items in
@@ -84,9 +85,10 @@ invariant_of-self c =
     let node = c.index.result.now.down in
     let before = same_links_of p cs os os es es c.self.inside.links.items c.deref_mut.result.now c.self.inside.keys.items c.deref_mut-2.result.now room room refl refl c.deref_mut.ensures.value c.deref_mut-2.ensures.value refl c.self.invariant.0 in
     let held : c.deref_mut-3.result.now ≡ commits_of c.self.inside.layout c.self.inside.entries.items = c.deref_mut-3.ensures.value ∙ c.self.invariant.2 in
-    let commits = commits_pushed cs es node c.deref_mut-3.result.now c.cover_from.new.commits held c.cover_from.ensures.commits in
-    let after = links_push p cs os es c.deref_mut.result.now c.cover_from.new.links c.deref_mut-2.result.now c.cover_from.new.keys c.deref_mut-3.result.now room option node before held choice.child.inside choice.child.live (ap (is_covered p os) choice.column ∙ free) choice.node choice.option c.cover_from.ensures.linked c.cover_from.ensures.links c.cover_from.ensures.keys in
-    (same_links_of p cs (os ++ option ∷ []) c.push_reserved-2.new.self.items (es ++ node ∷ []) c.push_reserved.new.self.items c.cover_from.new.links _ c.cover_from.new.keys _ room _ c.push_reserved-2.ensures.items c.push_reserved.ensures.items (put_back c.cover_from.new.links _ c.self.inside.links.len (omega (arith, c.cover_from.ensures.linked.0, c.self.invariant.0.linked.0, c.self.inside.links.ok.0))) (put_back c.cover_from.new.keys _ c.self.inside.keys.len (omega (arith, c.cover_from.auto.keys, c.deref_mut-2.ensures.len, c.self.inside.keys.ok.0))) c.push_reserved-2.ensures.capacity after, omega (arith, c.self.invariant.1, c.push_reserved.ensures.capacity), put_back c.cover_from.new.commits _ c.self.inside.commits.len (omega (arith, c.cover_from.auto.commits, c.deref_mut-3.ensures.len, c.self.inside.commits.ok.0)) ∙ commits ∙ ap (commits_of cs) (sym c.push_reserved.ensures.items))
+    let commits = commits_pushed cs es node c.deref_mut-3.result.now c.cover_from-middle.new.commits held c.cover_from-middle.ensures.commits in
+    let ready = ready_of p cs os es c.deref_mut.result.now c.deref_mut-2.result.now room option node before choice.child.inside choice.child.live (ap (is_covered p os) choice.column ∙ free) choice.node choice.option in
+    let after = links_push p cs os es c.deref_mut.result.now c.cover_from-middle.new.links c.deref_mut-2.result.now c.cover_from-middle.new.keys c.deref_mut-3.result.now room option node before held choice.child.inside choice.child.live (ap (is_covered p os) choice.column ∙ free) choice.node choice.option c.cover_from-middle.ensures.linked c.cover_from-middle.ensures.links c.cover_from-middle.ensures.keys in
+    (same_links_of p cs (os ++ option ∷ []) c.push_reserved-3.new.self.items (es ++ node ∷ []) c.push_reserved-2.new.self.items c.cover_from-middle.new.links _ c.cover_from-middle.new.keys _ room _ c.push_reserved-3.ensures.items c.push_reserved-2.ensures.items (put_back c.cover_from-middle.new.links _ c.self.inside.links.len (omega (arith, c.cover_from-middle.ensures.linked.0, c.self.invariant.0.linked.0, c.self.inside.links.ok.0))) (put_back c.cover_from-middle.new.keys _ c.self.inside.keys.len (omega (arith, c.cover_from-middle.auto.keys, c.deref_mut-2.ensures.len, c.self.inside.keys.ok.0))) c.push_reserved-3.ensures.capacity after, omega (arith, c.self.invariant.1, c.push_reserved-2.ensures.capacity), put_back c.cover_from-middle.new.commits _ c.self.inside.commits.len (omega (arith, c.cover_from-middle.auto.commits, c.deref_mut-3.ensures.len, c.self.inside.commits.ok.0)) ∙ commits ∙ ap (commits_of cs) (sym c.push_reserved-2.ensures.items), trail_more cs p.primary es c.push_reserved-2.new.self.items c.cover_from-middle.new.trail.items node (vec_capacity c.self.inside.trail) (vec_capacity c.cover_from-middle.new.trail) c.len-start.result c.cover_from-middle.result c.self.inside.marks.items c.push_reserved.new.self.items (vec_capacity c.self.inside.marks) (vec_capacity c.push_reserved.new.self) c.self.invariant.3.enough c.cover_from-middle.ensures.capacity c.self.invariant.3.marks_are c.self.invariant.3.some c.push_reserved.ensures.capacity (omega (arith, c.len-start.ensures, c.self.inside.trail.ok.0, ap length c.self.invariant.3.trail_is)) (middle_pushed cs es c.deref_mut.result.now c.deref_mut-3.result.now c.self.inside.trail.items node c.cover_from-middle.result ready held c.self.invariant.3.trail_is c.cover_from-middle.ensures.middle) (trail_pushed cs es c.deref_mut.result.now c.deref_mut-3.result.now c.self.inside.trail.items c.cover_from-middle.new.trail.items node ready held c.self.invariant.3.trail_is c.cover_from-middle.ensures.trail) c.push_reserved-2.ensures.items c.push_reserved.ensures.items)
 
 pub returns-clause-first : goal.returns-clause-first
 returns-clause-first c =
@@ -129,4 +131,39 @@ returns-clause-chosen c =
     let free : is_covered c.self.inside.problem.now c.self.inside.chosen.items c.args.item ≡ false = ap (λ (v : Choices). is_covered v.problem v.chosen c.args.item) c.self.view_is ∙ c.requires.uncovered in
     let below = below_head p cs os es c.self.inside.links.items c.self.inside.keys.items room c.args.item c.index.result.now c.self.invariant.0 inside free c.index.ensures in
     let choice = choice_of p cs os c.args.item 0 c.index.result.now.down c.option_at-option.result t below (omega (arith, c.if-node-tails.false, c.tails.ensures.tails)) c.option_at-option.ensures.option in
-    view_push c.args.self.now p cs os es c.push_reserved-2.new.self.items c.push_reserved.new.self.items c.option_at-option.result c.index.result.now.down c.args.item c.self.view_is c.push_reserved-2.ensures.items c.push_reserved.ensures.items choice.column
+    view_push c.args.self.now p cs os es c.push_reserved-3.new.self.items c.push_reserved-2.new.self.items c.option_at-option.result c.index.result.now.down c.args.item c.self.view_is c.push_reserved-3.ensures.items c.push_reserved-2.ensures.items choice.column
+
+pub cover_from-middle-requires-clause-room : goal.cover_from-middle-requires-clause-room
+cover_from-middle-requires-clause-room c =
+    let p = c.self.inside.problem.now in
+    let cs = c.self.inside.layout in
+    let os = c.self.inside.chosen.items in
+    let es = c.self.inside.entries.items in
+    let room = vec_capacity c.self.inside.chosen in
+    let t = table_of p cs c.self.invariant.0.is_problem c.self.invariant.0.layout in
+    let inside : c.args.item < length c.self.inside.problem.now.names = omega (arith, c.requires.item, ap (λ (v : Choices). length v.problem.names) c.self.view_is) in
+    let free : is_covered c.self.inside.problem.now c.self.inside.chosen.items c.args.item ≡ false = ap (λ (v : Choices). is_covered v.problem v.chosen c.args.item) c.self.view_is ∙ c.requires.uncovered in
+    let below = below_head p cs os es c.self.inside.links.items c.self.inside.keys.items room c.args.item c.index.result.now c.self.invariant.0 inside free c.index.ensures in
+    let choice = choice_of p cs os c.args.item 0 c.index.result.now.down c.option_at-option.result t below (omega (arith, c.if-node-tails.false, c.tails.ensures.tails)) c.option_at-option.ensures.option in
+    let option = c.option_at-option.result in
+    let node = c.index.result.now.down in
+    let before = same_links_of p cs os os es es c.self.inside.links.items c.deref_mut.result.now c.self.inside.keys.items c.deref_mut-2.result.now room room refl refl c.deref_mut.ensures.value c.deref_mut-2.ensures.value refl c.self.invariant.0 in
+    let held : c.deref_mut-3.result.now ≡ commits_of c.self.inside.layout c.self.inside.entries.items = c.deref_mut-3.ensures.value ∙ c.self.invariant.2 in
+    let ready = ready_of p cs os es c.deref_mut.result.now c.deref_mut-2.result.now room option node before choice.child.inside choice.child.live (ap (is_covered p os) choice.column ∙ free) choice.node choice.option in
+    room_push cs es c.deref_mut.result.now c.deref_mut-3.result.now c.self.inside.trail.items node (vec_capacity c.self.inside.trail) ready held c.self.invariant.3.trail_is c.self.invariant.3.enough
+
+pub push_reserved-requires : goal.push_reserved-requires
+push_reserved-requires c =
+    let p = c.self.inside.problem.now in
+    let cs = c.self.inside.layout in
+    let os = c.self.inside.chosen.items in
+    let es = c.self.inside.entries.items in
+    let room = vec_capacity c.self.inside.chosen in
+    let t = table_of p cs c.self.invariant.0.is_problem c.self.invariant.0.layout in
+    let inside : c.args.item < length c.self.inside.problem.now.names = omega (arith, c.requires.item, ap (λ (v : Choices). length v.problem.names) c.self.view_is) in
+    let free : is_covered c.self.inside.problem.now c.self.inside.chosen.items c.args.item ≡ false = ap (λ (v : Choices). is_covered v.problem v.chosen c.args.item) c.self.view_is ∙ c.requires.uncovered in
+    let below = below_head p cs os es c.self.inside.links.items c.self.inside.keys.items room c.args.item c.index.result.now c.self.invariant.0 inside free c.index.ensures in
+    let choice = choice_of p cs os c.args.item 0 c.index.result.now.down c.option_at-option.result t below (omega (arith, c.if-node-tails.false, c.tails.ensures.tails)) c.option_at-option.ensures.option in
+    let left = room_left p os c.option_at-option.result c.self.invariant.0.is_problem c.self.invariant.0.prefix choice.child.inside choice.child.live in
+    let same = same_length p cs os es c.self.inside.links.items c.self.inside.keys.items room c.self.invariant.0 in
+    omega (arith, left, same, marks_length c.self.inside.layout [] c.self.inside.entries.items, ap length c.self.invariant.3.marks_are, c.self.invariant.3.some, c.self.inside.marks.ok.0)

@@ -1,0 +1,12 @@
+use Rattle.std.proofs.Common.{◌-◌, ap, arith, ◌∙◌, vec_len, vec_capacity}
+use Rattle.dancing_links.specs.Columns.{Columns}
+use Rattle.dancing_links.proofs.Laid.{resized}
+use Rattle.dancing_links.proofs.Built.{links_built, commits_built}
+use Rattle.dancing_links.proofs.Trailed.{trail_built}
+use Rattle.dancing_links.proofs.links.Links.build.Goals as goal
+
+pub invariant_of-result : goal.invariant_of-result
+invariant_of-result c =
+    let p = c.args.problem.now in
+    let cs = c.in_ok-layout.layout in
+    (links_built p cs c.in_ok-chosen.chosen.items c.in_ok-entries.entries.items c.in_ok-links.links.items c.in_ok-keys.keys.items _ c.primary.ensures.problem c.in_ok-layout.ensures (omega (arith, c.in_ok-chosen.ensures.capacity, c.primary.ensures.count)) c.in_ok-chosen.ensures.items c.in_ok-entries.ensures.items c.in_ok-links.ensures c.in_ok-keys.ensures, omega (arith, c.in_ok-entries.ensures.capacity, c.primary-2.ensures.count), commits_built cs c.in_ok-entries.entries.items c.resize.new.self.items c.in_ok-entries.ensures.items (c.in_ok-resize.ensures.items ∙ resized c.new-commits.result.items c.items.result (vec_len c.new-commits.result) (cs.heads - 1) 0 c.new-commits.ensures.items c.new-commits.ensures.len (omega (arith, c.items.ensures, ap (λ (t : Columns). t.heads) c.in_ok-layout.ensures))), trail_built cs p.primary c.in_ok-entries.entries.items c.in_ok-trail.trail.items (vec_capacity c.in_ok-trail.trail) c.in_ok-marks.marks.items (vec_capacity c.in_ok-marks.marks) c.in_ok-entries.ensures.items c.in_ok-trail.ensures.items c.in_ok-marks.ensures.items (omega (arith, c.in_ok-trail.ensures.capacity, c.tails.ensures.tails)) (omega (arith, c.in_ok-marks.ensures.capacity, c.primary-3.ensures.count)))
