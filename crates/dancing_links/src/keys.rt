@@ -16,6 +16,9 @@ const ONE_OPTION: u32 = 65_536;
 /// The mark of a covered item; an uncovered one has a lesser key.
 const COVERED: u32 = 2_147_483_648;
 
+/// How many keys a step looks at.
+const AT_A_TIME: usize = 8;
+
 /// The keys of all items while no node is out; the only error is want of memory.
 pub fn build_keys(alloc: Global, layout: &Layout) -> Result<Vec<u32>, AllocError>
     requires { IsTable layout.now }
@@ -79,15 +82,29 @@ fn lesser(key: u32, other: u32) -> u32
     if key < other { key } else { other }
 }
 
-/// The least of some keys; where there is none, the greatest number of 32 bits.
-pub fn least_of(keys: &[u32]) -> u32
-    ensures { result ≡ least_from 4294967295 keys.now }
+/// The least of a number and some keys.
+#[inline(always)]
+fn least_after(start: u32, keys: &[u32]) -> u32
+    ensures { result ≡ least_from start keys.now }
 {
-    let mut least = u32::MAX;
+    let mut least = start;
     for key in keys {
         least = lesser(*key, least);
     }
     least
+}
+
+/// The least of some keys; where there is none, the greatest number of 32 bits. It takes them eight at a time, and last the last eight,
+/// of which some may have been among those before.
+pub fn least_of(keys: &[u32]) -> u32
+    ensures { result ≡ least_from 4294967295 keys.now }
+{
+    let count = keys.len();
+    if count < AT_A_TIME {
+        return least_after(u32::MAX, keys);
+    }
+    let least = least_after(u32::MAX, &keys[..count - count % AT_A_TIME]);
+    least_after(least, &keys[count - AT_A_TIME..])
 }
 
 /// Whether a key has the mark of a covered item.
