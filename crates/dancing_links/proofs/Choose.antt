@@ -142,7 +142,7 @@ left_trails c old now all left was is first trail held holds e at =
 
 -- ---- and back
 
--- the marks of the last of some nodes are taken off
+-- the marks of some nodes are taken off
 pub record IsBackTo (c : Columns) (done was is held holds : List ℕ) : Type 0 where
   pub kept : IsCommits c holds
   pub keys : is ≡ turned c was (covering c holds done)

@@ -7,6 +7,7 @@ pub mod Keyed
 pub mod Commits
 pub mod Choose
 pub mod Trail
+pub mod Around
 pub mod Present
 pub mod Agreeing
 pub mod Unique

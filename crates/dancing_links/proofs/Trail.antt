@@ -71,7 +71,7 @@ uncovers_by c old new ks trail t e = λ out before s are links same.
 -- ---- keys
 
 -- two numbers of a list are changed in either order, where one change goes before the other as well as after it
-change_twice : (f g : ℕ → ℕ) (xs : List ℕ) (i j : ℕ) → ((n : ℕ) → f (g n) ≡ g (f n)) → set (set xs i (f (get_or xs i 0))) j (g (get_or (set xs i (f (get_or xs i 0))) j 0)) ≡ set (set xs j (g (get_or xs j 0))) i (f (get_or (set xs j (g (get_or xs j 0))) i 0))
+pub change_twice : (f g : ℕ → ℕ) (xs : List ℕ) (i j : ℕ) → ((n : ℕ) → f (g n) ≡ g (f n)) → set (set xs i (f (get_or xs i 0))) j (g (get_or (set xs i (f (get_or xs i 0))) j 0)) ≡ set (set xs j (g (get_or xs j 0))) i (f (get_or (set xs j (g (get_or xs j 0))) i 0))
 change_twice f g [] i j both = refl
 change_twice f g (x ∷ xs) zero zero both = ap (λ n. n ∷ xs) (sym (both x))
 change_twice f g (x ∷ xs) zero (suc j) both = refl

@@ -65,10 +65,6 @@ Covers c old i colour new = (out : List ℕ) → IsSpelled c out old → IsOpen 
 unfoldable pub items_from : Columns → ℕ → ℕ → List ℕ
 items_from c begin end = map (column_of c) (range_with_len begin (end - begin))
 
--- the other nodes of a row, from the one after a node on
-abbrev pub nodes_in_turn : ℕ → ℕ → ℕ → List ℕ
-nodes_in_turn begin end node = in_turn begin end (node_after begin end node) (end - (begin + 1))
-
 -- the nodes of a node's option in turn, from that node on
 abbrev pub nodes_by : Columns → ℕ → List ℕ
 nodes_by c node = node ∷ others c node

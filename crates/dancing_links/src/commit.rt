@@ -5,10 +5,10 @@ ghost use Rattle.std.specs.List.{All};
 ghost use Rattle.dancing_links.specs.Columns.{column_of, colour_at, IsLinked, IsOptionNode};
 ghost use Rattle.dancing_links.specs.Committing.{IsCommits, HasRoomNext, Recommits, commit, uncommit, committed, covering};
 ghost use Rattle.dancing_links.specs.Keys.{KeysCoveredAll, turned};
-ghost use Rattle.dancing_links.specs.Covering.{nodes_in_turn, nodes_by, others, CoversAll};
+ghost use Rattle.dancing_links.specs.Covering.{nodes_by, others, CoversAll};
 ghost use Rattle.dancing_links.specs.Trail.{HasRoomAll, IsMiddle, KeysUncoveredAll, TrailsAll, UncoversAll};
 
-use crate::cover::{cover, node_before, piece_from, purify, restore};
+use crate::cover::{cover, piece_from, purify, restore};
 use crate::keys::turn_mark;
 use crate::layout::Layout;
 use crate::link::Link;
@@ -223,37 +223,8 @@ pub fn cover_others(
     }
 }
 
-/// Takes the marks off the items that the other nodes of a row covered, the one before the node first.
-#[inline(always)]
-fn uncommit_row(
-    layout: &Layout,
-    keys: &mut [u32],
-    commits: &mut [u32],
-    node: usize,
-    begin: usize,
-    end: usize,
-)
-    requires range { (layout.now.heads + layout.now.heads ≤ begin + 1) × (end ≤ layout.now.tails) }
-    requires row { (begin ≤ node) × (node < end) }
-    requires keys { length keys.old + 1 ≡ layout.now.heads }
-    requires commits { IsCommits layout.now commits.old }
-    ensures keys { keys.new ≡ turned layout.now keys.old
-        (covering layout.now commits.new (nodes_in_turn begin end node)) }
-    ensures kept { IsCommits layout.now commits.new }
-    ensures commits { committed layout.now commits.new (nodes_in_turn begin end node)
-        ≡ commits.old }
-{
-    // (for what the getter says: that the table is lawful)
-    let _heads = layout.heads();
-    let mut other = node;
-    for _place in begin + 1..end {
-        other = node_before(begin, end, other);
-        uncommit(layout, keys, commits, other);
-    }
-}
-
-/// Takes the marks off the items that the other nodes of a node's option covered, in the reverse order.
-#[tactic(auto, unfolding(crate::specs::Covering::others))]
+/// Takes the marks off the items that the other nodes of a node's option covered, the next one first: they are different items,
+/// so the order does not matter.
 #[inline(always)]
 fn uncommit_others(layout: &Layout, keys: &mut [u32], commits: &mut [u32], node: usize)
     requires node { (layout.now.heads + layout.now.heads ≤ node + 1) × (node < layout.now.tails) }
@@ -265,8 +236,12 @@ fn uncommit_others(layout: &Layout, keys: &mut [u32], commits: &mut [u32], node:
     ensures commits { committed layout.now commits.new
         (others layout.now node) ≡ commits.old }
 {
-    let (begin, end) = layout.row_of(node);
-    uncommit_row(layout, keys, commits, node, begin, end);
+    let places: &[Place] = layout.places();
+    let mut other = layout.right_among(places, node);
+    while other != node {
+        uncommit(layout, keys, commits, other);
+        other = layout.right_among(places, other);
+    }
 }
 
 /// Uncovers the items that the other nodes of a node's option covered: a piece of the trail has what that hid.

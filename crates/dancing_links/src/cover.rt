@@ -1,9 +1,9 @@
 //! Covering of items: their keys get a mark, and the options that name them leave the columns of their other items, but for those
 //! that give an item the colour that it gets.
 
-ghost use Rattle.std.specs.Prelude.{◌≡◌, ◌<◌, ◌≤◌, ◌+◌, ◌-◌, ◌++◌, drop, length, vec_capacity};
+ghost use Rattle.std.specs.Prelude.{◌≡◌, ◌<◌, ◌≤◌, ◌+◌, ◌++◌, drop, length, vec_capacity};
 ghost use Rattle.std.specs.List.{All};
-ghost use Rattle.dancing_links.specs.Columns.{node_after, IsLinked, IsOptionNode};
+ghost use Rattle.dancing_links.specs.Columns.{IsLinked, IsOptionNode};
 ghost use Rattle.dancing_links.specs.Keys.{fewer, more, KeysCovered};
 ghost use Rattle.dancing_links.specs.Covering.{others, hidden_at, Covers};
 ghost use Rattle.dancing_links.specs.Linking.{unlinks, relinks};
@@ -13,17 +13,6 @@ use crate::keys::{count_less, count_more, turn_mark};
 use crate::layout::Layout;
 use crate::link::Link;
 use crate::place::Place;
-
-/// The node before one in its row; in front of the first comes the last.
-pub fn node_before(begin: usize, end: usize, node: usize) -> usize
-    requires { (begin ≤ node) × (node < end) }
-    ensures node { node ≡ node_after begin end result }
-    ensures row { (begin ≤ result) × (result < end) }
-    ensures inside { begin < node → result + 1 ≡ node }
-    ensures round { node ≡ begin → result + 1 ≡ end }
-{
-    if node == begin { end - 1 } else { node - 1 }
-}
 
 /// Takes the other nodes of a node's option out of their columns, the one to the right first, and puts them on the trail.
 #[tactic(auto, unfolding(crate::specs::Covering::others))]

@@ -3,7 +3,7 @@
 
 ghost use Rattle.std.specs.Prelude.{◌≡◌, ◌==◌, ◌<◌, ◌≤◌, ◌+◌, ◌++◌, length, map, replicate, slice_index, IfOk};
 ghost use Rattle.std.specs.List.{range_with_len, concat, All};
-ghost use Rattle.dancing_links.specs.Columns.{column_of, colour_at, begin_of, end_of, option_of, place_at, IsLinked, IsTable};
+ghost use Rattle.dancing_links.specs.Columns.{column_of, colour_at, option_of, place_at, IsLinked, IsTable};
 ghost use Rattle.dancing_links.specs.Covering.{has_colour};
 ghost use Rattle.dancing_links.specs.Linking.{down_of, up_of, unlinked, relinked};
 ghost use Rattle.dancing_links.specs.Walking.{IsNaming, IsBelowIn};
@@ -306,18 +306,6 @@ impl Layout {
     {
         let _ = &self.places;
         places[node].colour == colour
-    }
-
-    /// The row of a node's option: its first node, and the number after the last.
-    pub fn row_of(&self, node: usize) -> (usize, usize)
-        requires node { (self.now.heads + self.now.heads ≤ node + 1) × (node < self.now.tails) }
-        ensures begin { result.0 ≡ begin_of self.now node }
-        ensures end { result.1 ≡ end_of self.now node }
-        ensures range { (self.now.heads + self.now.heads ≤ result.0 + 1)
-            × (result.1 ≤ self.now.tails) }
-        ensures within { (result.0 ≤ node) × (node < result.1) }
-    {
-        self.node_range(self.options[node])
     }
 
     /// The nodes of an option: the first, and the one after the last.
