@@ -71,9 +71,9 @@ impl<'a> Searcher<'a> {
             (visits self.old.problem prefix.now) fuel prefix.now self.new.found result }
         ensures stopped { result ≡ Visit.Stopped → W.may_stop ≡ true }
     {
-        let depth = self.links.problem().primary();
+        self.links.problem();
         choose_prefix(&mut self.links, prefix);
-        visit_prefix(&mut self.links, depth, fuel, watch)
+        visit_prefix(&mut self.links, fuel, watch)
     }
 
     /// Searches as `search` does, and copies out what it came to; `found` is the cover then, too. It takes the room for a
