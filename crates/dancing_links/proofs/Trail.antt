@@ -1,6 +1,6 @@
 -- The nodes of the trail come back, the last one first.
-use Rattle.std.proofs.Common.{◌≡◌, ℕ, zero, suc, ◌+◌, ◌%◌, ◌≤◌, List, [], ◌∷◌, ◌++◌, length, get_or, set, false, refl, arith, sym, ap, ◌∙◌, subst}
-use Rattle.std.proofs.lemmas.List.{length-append}
+use Rattle.std.proofs.Common.{◌≡◌, ℕ, zero, suc, ◌+◌, ◌%◌, ◌≤◌, List, [], ◌∷◌, ◌++◌, length, take, drop, get_or, set, false, refl, arith, sym, ap, ◌∙◌, subst}
+use Rattle.std.proofs.lemmas.List.{length-append, length-take-le, take-append-drop, take-append-le}
 use Rattle.dancing_links.specs.declared.link.Link.{Link}
 use Rattle.dancing_links.specs.Columns.{among, Columns, column_of, colour_at, IsSpelled, IsTable}
 use Rattle.dancing_links.specs.Keys.{more, with_more, with_mark, turned, IsKeyed}
@@ -163,3 +163,11 @@ room_step c old new held left trail longer k room t covers trails r =
       can = parts.1;
       enough = omega (arith, r.enough, count_all c r.out old xs t r.spelled parts.0, ap length (trails r.out r.spelled parts.0), length-append trail (hidden_all c r.out xs));
     }
+
+-- ---- what is below the top
+
+-- the nodes up to a place are the same, with or without some after them
+pub take_take : (n m : ℕ) (xs : List ℕ) → n ≤ m → m ≤ length xs → take n (take m xs) ≡ take n xs
+take_take n m xs h inside =
+    let fits : n ≤ length (take m xs) = omega (arith, h, length-take-le m xs inside) in
+    sym (take-append-le n (take m xs) (drop m xs) fits) ∙ ap (take n) (take-append-drop m xs)

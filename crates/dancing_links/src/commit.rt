@@ -1,6 +1,6 @@
 //! The nodes of an option cover their items one after the other; an item that has its colour already is not covered again.
 
-ghost use Rattle.std.specs.Prelude.{◌≡◌, ◌<◌, ◌≤◌, ◌+◌, ◌∷◌, [], drop, length, take, vec_capacity};
+ghost use Rattle.std.specs.Prelude.{◌≡◌, ◌<◌, ◌≤◌, ◌+◌, ◌∷◌, [], drop, length, take};
 ghost use Rattle.std.specs.List.{All};
 ghost use Rattle.dancing_links.specs.Columns.{column_of, colour_at, IsLinked, IsOptionNode};
 ghost use Rattle.dancing_links.specs.Committing.{IsCommits, HasRoomNext, Recommits, commit, uncommit, committed, covering};
@@ -8,31 +8,33 @@ ghost use Rattle.dancing_links.specs.Keys.{KeysCoveredAll, turned};
 ghost use Rattle.dancing_links.specs.Covering.{nodes_by, others, CoversAll};
 ghost use Rattle.dancing_links.specs.Trail.{HasRoomAll, IsMiddle, KeysUncoveredAll, TrailsAll, UncoversAll};
 
-use crate::cover::{cover, piece_from, purify, restore};
+use crate::cover::{cover, piece_of, purify, restore};
 use crate::keys::turn_mark;
 use crate::layout::Layout;
 use crate::link::Link;
 use crate::place::Place;
 
-/// A node gives its item its colour: where none did before, the item is covered.
+/// A node gives its item its colour: where none did before, the item is covered. Answers the new top of the trail.
 #[inline(never)]
 fn give(
     layout: &Layout,
     links: &mut [Link],
     keys: &mut [u32],
     commits: &mut [u32],
-    trail: &mut Vec<u32>,
+    trail: &mut [u32],
+    top: usize,
     node: usize,
     colour: u16,
-)
+) -> usize
     requires node { (layout.now.heads + layout.now.heads ≤ node + 1) × (node < layout.now.tails) }
     requires colour { (0 < colour) × (colour ≡ colour_at layout.now node) }
     requires linked { IsLinked layout.now links.old }
     requires keys { length keys.old + 1 ≡ layout.now.heads }
     requires commits { IsCommits layout.now commits.old }
+    requires top { top ≤ length trail.old }
     requires room { HasRoomAll layout.now links.old
-        (covering layout.now commits.old (node ∷ [])) trail.old.items
-        (vec_capacity trail.old) }
+        (covering layout.now commits.old (node ∷ [])) (take top trail.old)
+        (length trail.old) }
     ensures linked { IsLinked layout.now links.new }
     ensures links { CoversAll layout.now links.old
         (covering layout.now commits.old (node ∷ [])) links.new }
@@ -40,15 +42,18 @@ fn give(
         (covering layout.now commits.old (node ∷ [])) keys.old keys.new }
     ensures commits { commits.new ≡ commit layout.now commits.old node }
     ensures trail { TrailsAll layout.now links.old
-        (covering layout.now commits.old (node ∷ [])) trail.old.items
-        trail.new.items }
-    ensures capacity { vec_capacity trail.new ≡ vec_capacity trail.old }
+        (covering layout.now commits.old (node ∷ [])) (take top trail.old)
+        (take result trail.new) }
+    ensures top { result ≤ length trail.new }
 {
     let item = layout.item_at(node);
-    if commits[item] == 0 {
-        purify(layout, links, keys, trail, item, colour);
-    }
+    let is_first = commits[item] == 0;
     commits[item] = commits[item].wrapping_add(1);
+    if is_first {
+        purify(layout, links, keys, trail, top, item, colour)
+    } else {
+        top
+    }
 }
 
 /// Takes back that a node gave its item its colour: where none did before, the item gets its mark off.
@@ -69,22 +74,25 @@ fn take(layout: &Layout, keys: &mut [u32], commits: &mut [u32], node: usize, col
     }
 }
 
-/// Lets a node cover its item. One with a colour gives it to the item, and covers nothing where that was done before.
+/// Lets a node cover its item. One with a colour gives it to the item, and covers nothing where that was done before. Answers the
+/// new top of the trail.
 pub fn commit(
     layout: &Layout,
     links: &mut [Link],
     keys: &mut [u32],
     commits: &mut [u32],
-    trail: &mut Vec<u32>,
+    trail: &mut [u32],
+    top: usize,
     node: usize,
-)
+) -> usize
     requires node { (layout.now.heads + layout.now.heads ≤ node + 1) × (node < layout.now.tails) }
     requires linked { IsLinked layout.now links.old }
     requires keys { length keys.old + 1 ≡ layout.now.heads }
     requires commits { IsCommits layout.now commits.old }
+    requires top { top ≤ length trail.old }
     requires room { HasRoomAll layout.now links.old
-        (covering layout.now commits.old (node ∷ [])) trail.old.items
-        (vec_capacity trail.old) }
+        (covering layout.now commits.old (node ∷ [])) (take top trail.old)
+        (length trail.old) }
     ensures linked { IsLinked layout.now links.new }
     ensures links { CoversAll layout.now links.old
         (covering layout.now commits.old (node ∷ [])) links.new }
@@ -92,15 +100,15 @@ pub fn commit(
         (covering layout.now commits.old (node ∷ [])) keys.old keys.new }
     ensures commits { commits.new ≡ commit layout.now commits.old node }
     ensures trail { TrailsAll layout.now links.old
-        (covering layout.now commits.old (node ∷ [])) trail.old.items
-        trail.new.items }
-    ensures capacity { vec_capacity trail.new ≡ vec_capacity trail.old }
+        (covering layout.now commits.old (node ∷ [])) (take top trail.old)
+        (take result trail.new) }
+    ensures top { result ≤ length trail.new }
 {
     let colour = layout.colour_at(node);
     if colour == 0 {
-        cover(layout, links, keys, trail, layout.item_at(node));
+        cover(layout, links, keys, trail, top, layout.item_at(node))
     } else {
-        give(layout, links, keys, commits, trail, node, colour);
+        give(layout, links, keys, commits, trail, top, node, colour)
     }
 }
 
@@ -149,17 +157,18 @@ pub fn uncover_one(
 }
 
 /// Lets a node cover its item in place of another one of its column, which covered it last, and put what it hid on the trail from
-/// a place on. Where neither has a colour, nothing changes.
+/// a place on. Where neither has a colour, nothing changes. Answers the new top of the trail.
 pub fn recommit(
     layout: &Layout,
     links: &mut [Link],
     keys: &mut [u32],
     commits: &mut [u32],
-    trail: &mut Vec<u32>,
+    trail: &mut [u32],
     start: usize,
+    top: usize,
     last: usize,
     next: usize,
-)
+) -> usize
     requires last { (layout.now.heads + layout.now.heads ≤ last + 1) × (last < layout.now.tails) }
     requires next { (layout.now.heads + layout.now.heads ≤ next + 1) × (next < layout.now.tails) }
     requires column { column_of layout.now next
@@ -167,40 +176,44 @@ pub fn recommit(
     requires linked { IsLinked layout.now links.old }
     requires keys { length keys.old + 1 ≡ layout.now.heads }
     requires commits { IsCommits layout.now commits.old }
-    requires start { start ≤ length trail.old.items }
-    requires trail { All (IsOptionNode layout.now) (drop start trail.old.items) }
+    requires start { (start ≤ top) × (top ≤ length trail.old) }
+    requires trail { All (IsOptionNode layout.now) (drop start (take top trail.old)) }
     requires room { HasRoomNext layout.now links.old commits.old
-        (take start trail.old.items) (drop start trail.old.items) last
-        (vec_capacity trail.old) }
+        (take start (take top trail.old)) (drop start (take top trail.old)) last
+        (length trail.old) }
     ensures linked { IsLinked layout.now links.new }
     ensures recovers { Recommits layout.now commits.old links.old keys.old
-        trail.old.items start last next links.new keys.new trail.new.items commits.new }
-    ensures capacity { vec_capacity trail.new ≡ vec_capacity trail.old }
+        (take top trail.old) start last next links.new keys.new (take result trail.new)
+        commits.new }
+    ensures top { result ≤ length trail.new }
 {
     if layout.colour_at(last) != 0 || layout.colour_at(next) != 0 {
-        uncover_one(layout, links, keys, commits, piece_from(trail, start), last);
-        trail.truncate(start);
-        commit(layout, links, keys, commits, trail, next);
+        let piece = piece_of(trail, start, top);
+        uncover_one(layout, links, keys, commits, piece, last);
+        return commit(layout, links, keys, commits, trail, start, next);
     }
+    top
 }
 
-/// Lets the other nodes of a node's option cover their items, the next one first.
+/// Lets the other nodes of a node's option cover their items, the next one first; answers the new top of the trail.
 #[inline(always)]
 pub fn cover_others(
     layout: &Layout,
     links: &mut [Link],
     keys: &mut [u32],
     commits: &mut [u32],
-    trail: &mut Vec<u32>,
+    trail: &mut [u32],
+    top: usize,
     node: usize,
-)
+) -> usize
     requires node { (layout.now.heads + layout.now.heads ≤ node + 1) × (node < layout.now.tails) }
     requires linked { IsLinked layout.now links.old }
     requires keys { length keys.old + 1 ≡ layout.now.heads }
     requires commits { IsCommits layout.now commits.old }
+    requires top { top ≤ length trail.old }
     requires room { HasRoomAll layout.now links.old
-        (covering layout.now commits.old (others layout.now node)) trail.old.items
-        (vec_capacity trail.old) }
+        (covering layout.now commits.old (others layout.now node)) (take top trail.old)
+        (length trail.old) }
     ensures linked { IsLinked layout.now links.new }
     ensures links { CoversAll layout.now links.old
         (covering layout.now commits.old (others layout.now node))
@@ -211,16 +224,18 @@ pub fn cover_others(
     ensures commits { commits.new
         ≡ committed layout.now commits.old (others layout.now node) }
     ensures trail { TrailsAll layout.now links.old
-        (covering layout.now commits.old (others layout.now node)) trail.old.items
-        trail.new.items }
-    ensures capacity { vec_capacity trail.new ≡ vec_capacity trail.old }
+        (covering layout.now commits.old (others layout.now node)) (take top trail.old)
+        (take result trail.new) }
+    ensures top { result ≤ length trail.new }
 {
     let places: &[Place] = layout.places();
+    let mut top = top;
     let mut other = layout.right_among(places, node);
     while other != node {
-        commit(layout, links, keys, commits, trail, other);
+        top = commit(layout, links, keys, commits, trail, top, other);
         other = layout.right_among(places, other);
     }
+    top
 }
 
 /// Takes the marks off the items that the other nodes of a node's option covered, the next one first: they are different items,
@@ -276,22 +291,25 @@ pub fn uncover_others(
     uncommit_others(layout, keys, commits, node);
 }
 
-/// Lets the nodes of a node's option cover their items: itself first, then the others from the next one on.
+/// Lets the nodes of a node's option cover their items: itself first, then the others from the next one on. Answers the top of
+/// the trail once it did, and once all did.
 pub fn cover_from(
     layout: &Layout,
     links: &mut [Link],
     keys: &mut [u32],
     commits: &mut [u32],
-    trail: &mut Vec<u32>,
+    trail: &mut [u32],
+    top: usize,
     node: usize,
-) -> usize
+) -> (usize, usize)
     requires node { (layout.now.heads + layout.now.heads ≤ node + 1) × (node < layout.now.tails) }
     requires linked { IsLinked layout.now links.old }
     requires keys { length keys.old + 1 ≡ layout.now.heads }
     requires commits { IsCommits layout.now commits.old }
+    requires top { top ≤ length trail.old }
     requires room { HasRoomAll layout.now links.old
-        (covering layout.now commits.old (nodes_by layout.now node)) trail.old.items
-        (vec_capacity trail.old) }
+        (covering layout.now commits.old (nodes_by layout.now node)) (take top trail.old)
+        (length trail.old) }
     ensures linked { IsLinked layout.now links.new }
     ensures links { CoversAll layout.now links.old
         (covering layout.now commits.old (nodes_by layout.now node))
@@ -302,18 +320,17 @@ pub fn cover_from(
     ensures commits { commits.new
         ≡ committed layout.now commits.old (nodes_by layout.now node) }
     ensures trail { TrailsAll layout.now links.old
-        (covering layout.now commits.old (nodes_by layout.now node)) trail.old.items
-        trail.new.items }
+        (covering layout.now commits.old (nodes_by layout.now node)) (take top trail.old)
+        (take result.1 trail.new) }
     ensures middle { IsMiddle layout.now links.old
-        (covering layout.now commits.old (node ∷ [])) trail.old.items result }
-    ensures capacity { vec_capacity trail.new ≡ vec_capacity trail.old }
+        (covering layout.now commits.old (node ∷ [])) (take top trail.old) result.0 }
+    ensures top { result.1 ≤ length trail.new }
 {
     // (for what the getter says: that the table is lawful)
     let _heads = layout.heads();
-    commit(layout, links, keys, commits, trail, node);
-    let middle = trail.len();
-    cover_others(layout, links, keys, commits, trail, node);
-    middle
+    let middle = commit(layout, links, keys, commits, trail, top, node);
+    let top = cover_others(layout, links, keys, commits, trail, middle, node);
+    (middle, top)
 }
 
 /// Uncovers those items, in the reverse order: a piece of the trail has what that hid.

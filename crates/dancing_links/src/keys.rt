@@ -94,8 +94,8 @@ fn least_after(start: u32, keys: &[u32]) -> u32
     least
 }
 
-/// The least of some keys; where there is none, the greatest number of 32 bits. It takes them eight at a time, and last the last eight,
-/// of which some may have been among those before.
+/// The least of some keys; where there is none, the greatest number of 32 bits. It takes them eight at a time, and last the last
+/// eight, of which some may have been among those before.
 pub fn least_of(keys: &[u32]) -> u32
     ensures { result ≡ least_from 4294967295 keys.now }
 {

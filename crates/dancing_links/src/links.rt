@@ -15,7 +15,7 @@ use crate::build::build_links;
 use crate::commit::{
     cover_from, cover_others, recommit, uncover_from, uncover_one, uncover_others,
 };
-use crate::cover::piece_from;
+use crate::cover::piece_of;
 use crate::keys::{build_keys, count_in, first_unmarked, is_marked, item_in, least_of};
 use crate::layout::{Layout, layout_of};
 use crate::link::Link;
@@ -37,8 +37,10 @@ pub struct Links<'a> {
     keys: Vec<u32>,
     /// How many chosen options give each item a colour.
     commits: Vec<u32>,
-    /// The nodes that left their columns, in the order in which they did; it never grows beyond its room.
+    /// The nodes that left their columns, in the order in which they did, and room for all others.
     trail: Vec<u32>,
+    /// How many nodes are on the trail.
+    out: usize,
     /// How long the trail was at each choice.
     marks: Vec<Mark>,
     /// The chosen options, in the order of the choices.
@@ -48,7 +50,7 @@ pub struct Links<'a> {
 }
 
 impl<'a> Model for Links<'a> {
-    ghost use Rattle.std.specs.Prelude.{vec_capacity, map, ◌≡◌, ◌≤◌};
+    ghost use Rattle.std.specs.Prelude.{vec_capacity, length, map, take, ◌≡◌, ◌≤◌};
     ghost use Rattle.dancing_links.specs.Columns.{column_of};
     ghost use Rattle.dancing_links.specs.Choices.{Choices, IsLinks, IsTrail, commits_of};
 
@@ -67,8 +69,8 @@ impl<'a> Model for Links<'a> {
         × (s.problem.now.primary ≤ vec_capacity s.entries) × (s.commits.items
         ≡ commits_of s.layout s.entries.items)
         × IsTrail s.layout s.problem.now.primary s.entries.items
-        s.trail.items (vec_capacity s.trail) s.marks.items
-        (vec_capacity s.marks) };
+        (take s.out s.trail.items) (length s.trail.items) s.marks.items
+        (vec_capacity s.marks) × (s.out ≤ length s.trail.items) };
 }
 
 impl<'a> Links<'a> {
@@ -81,7 +83,8 @@ impl<'a> Links<'a> {
         let entries = Vec::with_capacity(alloc, problem.primary())?;
         let marks = Vec::with_capacity(alloc, problem.primary())?;
         let layout = layout_of(alloc, problem)?;
-        let trail = Vec::with_capacity(alloc, layout.tails())?;
+        let mut trail = Vec::new(alloc);
+        trail.resize(layout.tails(), 0)?;
         let links = build_links(alloc, &layout)?;
         let keys = build_keys(alloc, &layout)?;
         let mut commits = Vec::new(alloc);
@@ -93,6 +96,7 @@ impl<'a> Links<'a> {
             keys,
             commits,
             trail,
+            out: 0,
             marks,
             chosen,
             entries,
@@ -122,15 +126,17 @@ impl<'a> Links<'a> {
         ensures { self.new ≡ with_choice self.old option }
     {
         let node = primary_node(&self.layout, self.problem, option);
-        let start = self.trail.len();
-        let middle = cover_from(
+        let start = self.out;
+        let (middle, out) = cover_from(
             &self.layout,
             &mut self.links,
             &mut self.keys,
             &mut self.commits,
             &mut self.trail,
+            start,
             node,
         );
+        self.out = out;
         self.marks.push_reserved(Mark { start, middle });
         self.entries.push_reserved(node as u32);
         self.chosen.push_reserved(option);
@@ -151,15 +157,17 @@ impl<'a> Links<'a> {
             return None;
         }
         let option = self.layout.option_at(node);
-        let start = self.trail.len();
-        let middle = cover_from(
+        let start = self.out;
+        let (middle, out) = cover_from(
             &self.layout,
             &mut self.links,
             &mut self.keys,
             &mut self.commits,
             &mut self.trail,
+            start,
             node,
         );
+        self.out = out;
         self.marks.push_reserved(Mark { start, middle });
         self.entries.push_reserved(node as u32);
         self.chosen.push_reserved(option);
@@ -184,10 +192,9 @@ impl<'a> Links<'a> {
             &mut self.links,
             &mut self.keys,
             &mut self.commits,
-            piece_from(&self.trail, mark.middle),
+            piece_of(&self.trail, mark.middle, self.out),
             node,
         );
-        self.trail.truncate(mark.middle);
         let next = self.links[node].down as usize;
         if next >= self.layout.tails() {
             uncover_one(
@@ -195,32 +202,34 @@ impl<'a> Links<'a> {
                 &mut self.links,
                 &mut self.keys,
                 &mut self.commits,
-                piece_from(&self.trail, mark.start),
+                piece_of(&self.trail, mark.start, mark.middle),
                 node,
             );
-            self.trail.truncate(mark.start);
+            self.out = mark.start;
             return None;
         }
         let option = self.layout.option_at(next);
-        recommit(
+        let middle = recommit(
             &self.layout,
             &mut self.links,
             &mut self.keys,
             &mut self.commits,
             &mut self.trail,
             mark.start,
+            mark.middle,
             node,
             next,
         );
-        let middle = self.trail.len();
-        cover_others(
+        let out = cover_others(
             &self.layout,
             &mut self.links,
             &mut self.keys,
             &mut self.commits,
             &mut self.trail,
+            middle,
             next,
         );
+        self.out = out;
         self.marks.push_reserved(Mark {
             start: mark.start,
             middle,
@@ -246,10 +255,10 @@ impl<'a> Links<'a> {
             &mut self.links,
             &mut self.keys,
             &mut self.commits,
-            piece_from(&self.trail, mark.start),
+            piece_of(&self.trail, mark.start, self.out),
             node,
         );
-        self.trail.truncate(mark.start);
+        self.out = mark.start;
         option
     }
 

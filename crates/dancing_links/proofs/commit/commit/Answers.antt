@@ -1,4 +1,4 @@
-use Rattle.std.proofs.Common.{ℕ, List, sym, subst, ◌∙◌, vec_capacity}
+use Rattle.std.proofs.Common.{ℕ, List, sym, subst, ◌∙◌, length, take}
 use Rattle.dancing_links.specs.Columns.{Columns, column_of}
 use Rattle.dancing_links.specs.Covering.{covered, outs, IsOpen}
 use Rattle.dancing_links.specs.Keys.{IsKeyed}
@@ -24,9 +24,9 @@ pub cover-requires-clause-room : goal.cover-requires-clause-room
 cover-requires-clause-room c =
     let cs : Columns = c.args.layout.now in
     let plain = sym c.colour_at-colour.ensures.colour ∙ c.if-colour-eq0.true in
-    room_item cs c.args.links.now c.args.commits.now c.args.trail.now.items c.args.node c.item_at.result (vec_capacity c.args.trail.now) (repeated_plain cs c.args.commits.now c.args.node plain) c.item_at.ensures.item c.requires.room
+    room_item cs c.args.links.now c.args.commits.now (take c.args.top c.args.trail.now) c.args.node c.item_at.result (length c.args.trail.now) (repeated_plain cs c.args.commits.now c.args.node plain) c.item_at.ensures.item c.requires.room
 
 pub returns-then-colour-eq0-clause-trail : goal.returns-then-colour-eq0-clause-trail
 returns-then-colour-eq0-clause-trail c =
     let plain = sym c.colour_at-colour.ensures.colour ∙ c.if-colour-eq0.true in
-    new_trails c.args.layout.now c.args.links.now c.item_at.result 0 c.args.node c.args.trail.now.items c.cover.new.trail.items c.args.commits.now (repeated_plain c.args.layout.now c.args.commits.now c.args.node plain) c.item_at.ensures.item (sym plain) c.cover.ensures.trail
+    new_trails c.args.layout.now c.args.links.now c.item_at.result 0 c.args.node (take c.args.top c.args.trail.now) (take c.cover.result c.cover.new.trail) c.args.commits.now (repeated_plain c.args.layout.now c.args.commits.now c.args.node plain) c.item_at.ensures.item (sym plain) c.cover.ensures.trail

@@ -1,4 +1,5 @@
-use Rattle.std.proofs.Common.{List, ℕ, ◌∷◌, [], sym, subst, vec_capacity, arith, ap, length}
+use Rattle.std.proofs.Common.{List, ℕ, ◌∷◌, [], sym, subst, ◌≡◌, arith, ap, length, take}
+use Rattle.std.proofs.lemmas.List.{length-take-le}
 use Rattle.dancing_links.specs.Committing.{commit, covering}
 use Rattle.dancing_links.specs.Keys.{KeysCoveredAll}
 use Rattle.dancing_links.specs.Covering.{others, CoversAll}
@@ -13,42 +14,43 @@ returns-clause-links c =
     let cs = c.args.layout.now in
     let was = c.args.commits.now in
     let node = c.args.node in
-    let P : List ℕ → Type 0 = λ commits. CoversAll cs c.commit.new.links (covering cs commits (others cs node)) c.cover_others.new.links in
-    let Q : List ℕ → Type 0 = λ nodes. CoversAll cs c.args.links.now nodes c.cover_others.new.links in
+    let P : List ℕ → Type 0 = λ commits. CoversAll cs c.commit-middle.new.links (covering cs commits (others cs node)) c.cover_others-top.new.links in
+    let Q : List ℕ → Type 0 = λ nodes. CoversAll cs c.args.links.now nodes c.cover_others-top.new.links in
     subst Q (sym (covering_one cs was node (others cs node)))
-    (covers_both cs c.args.links.now c.commit.new.links c.cover_others.new.links (covering cs was (node ∷ [])) (covering cs (commit cs was node) (others cs node)) c.heads-heads.ensures.table c.commit.ensures.links (subst P c.commit.ensures.commits c.cover_others.ensures.links))
+    (covers_both cs c.args.links.now c.commit-middle.new.links c.cover_others-top.new.links (covering cs was (node ∷ [])) (covering cs (commit cs was node) (others cs node)) c.heads-heads.ensures.table c.commit-middle.ensures.links (subst P c.commit-middle.ensures.commits c.cover_others-top.ensures.links))
 
 pub returns-clause-keys : goal.returns-clause-keys
 returns-clause-keys c =
     let cs = c.args.layout.now in
     let was = c.args.commits.now in
     let node = c.args.node in
-    let P : List ℕ → Type 0 = λ commits. KeysCoveredAll cs c.commit.new.links (covering cs commits (others cs node)) c.commit.new.keys c.cover_others.new.keys in
-    let Q : List ℕ → Type 0 = λ nodes. KeysCoveredAll cs c.args.links.now nodes c.args.keys.now c.cover_others.new.keys in
+    let P : List ℕ → Type 0 = λ commits. KeysCoveredAll cs c.commit-middle.new.links (covering cs commits (others cs node)) c.commit-middle.new.keys c.cover_others-top.new.keys in
+    let Q : List ℕ → Type 0 = λ nodes. KeysCoveredAll cs c.args.links.now nodes c.args.keys.now c.cover_others-top.new.keys in
     subst Q (sym (covering_one cs was node (others cs node)))
-    (keys_both cs c.args.links.now c.commit.new.links (covering cs was (node ∷ [])) (covering cs (commit cs was node) (others cs node)) c.args.keys.now c.commit.new.keys c.cover_others.new.keys c.heads-heads.ensures.table c.commit.ensures.links c.commit.ensures.keys (subst P c.commit.ensures.commits c.cover_others.ensures.keys))
+    (keys_both cs c.args.links.now c.commit-middle.new.links (covering cs was (node ∷ [])) (covering cs (commit cs was node) (others cs node)) c.args.keys.now c.commit-middle.new.keys c.cover_others-top.new.keys c.heads-heads.ensures.table c.commit-middle.ensures.links c.commit-middle.ensures.keys (subst P c.commit-middle.ensures.commits c.cover_others-top.ensures.keys))
 
-pub commit-requires-clause-room : goal.commit-requires-clause-room
-commit-requires-clause-room c = room_first c.args.layout.now c.args.links.now c.args.commits.now (others c.args.layout.now c.args.node) c.args.trail.now.items c.args.node (vec_capacity c.args.trail.now) c.requires.room
+pub commit-middle-requires-clause-room : goal.commit-middle-requires-clause-room
+commit-middle-requires-clause-room c = room_first c.args.layout.now c.args.links.now c.args.commits.now (others c.args.layout.now c.args.node) (take c.args.top c.args.trail.now) c.args.node (length c.args.trail.now) c.requires.room
 
-pub cover_others-requires-clause-room : goal.cover_others-requires-clause-room
-cover_others-requires-clause-room c =
+pub cover_others-top-requires-clause-room : goal.cover_others-top-requires-clause-room
+cover_others-top-requires-clause-room c =
     let cs = c.args.layout.now in
     let was = c.args.commits.now in
     let node = c.args.node in
-    let S : ℕ → Type 0 = λ room. HasRoomAll cs c.commit.new.links (covering cs (commit cs was node) (others cs node)) c.commit.new.trail.items room in
-    let T : List ℕ → Type 0 = λ commits. HasRoomAll cs c.commit.new.links (covering cs commits (others cs node)) c.commit.new.trail.items (vec_capacity c.commit.new.trail) in
-    subst T (sym c.commit.ensures.commits) (subst S (sym c.commit.ensures.capacity) (room_step cs c.args.links.now c.commit.new.links was (others cs node) c.args.trail.now.items c.commit.new.trail.items node (vec_capacity c.args.trail.now) c.heads-heads.ensures.table c.commit.ensures.links c.commit.ensures.trail c.requires.room))
+    let S : ℕ → Type 0 = λ room. HasRoomAll cs c.commit-middle.new.links (covering cs (commit cs was node) (others cs node)) (take c.commit-middle.result c.commit-middle.new.trail) room in
+    let T : List ℕ → Type 0 = λ commits. HasRoomAll cs c.commit-middle.new.links (covering cs commits (others cs node)) (take c.commit-middle.result c.commit-middle.new.trail) (length c.commit-middle.new.trail) in
+    let long : length c.args.trail.now ≡ length c.commit-middle.new.trail = omega (arith, c.commit-middle.auto.trail) in
+    subst T (sym c.commit-middle.ensures.commits) (subst S long (room_step cs c.args.links.now c.commit-middle.new.links was (others cs node) (take c.args.top c.args.trail.now) (take c.commit-middle.result c.commit-middle.new.trail) node (length c.args.trail.now) c.heads-heads.ensures.table c.commit-middle.ensures.links c.commit-middle.ensures.trail c.requires.room))
 
 pub returns-clause-trail : goal.returns-clause-trail
 returns-clause-trail c =
     let cs = c.args.layout.now in
     let was = c.args.commits.now in
     let node = c.args.node in
-    let P : List ℕ → Type 0 = λ commits. TrailsAll cs c.commit.new.links (covering cs commits (others cs node)) c.commit.new.trail.items c.cover_others.new.trail.items in
-    let Q : List ℕ → Type 0 = λ nodes. TrailsAll cs c.args.links.now nodes c.args.trail.now.items c.cover_others.new.trail.items in
+    let P : List ℕ → Type 0 = λ commits. TrailsAll cs c.commit-middle.new.links (covering cs commits (others cs node)) (take c.commit-middle.result c.commit-middle.new.trail) (take c.cover_others-top.result c.cover_others-top.new.trail) in
+    let Q : List ℕ → Type 0 = λ nodes. TrailsAll cs c.args.links.now nodes (take c.args.top c.args.trail.now) (take c.cover_others-top.result c.cover_others-top.new.trail) in
     subst Q (sym (covering_one cs was node (others cs node)))
-    (trails_both cs c.args.links.now c.commit.new.links (covering cs was (node ∷ [])) (covering cs (commit cs was node) (others cs node)) c.args.trail.now.items c.commit.new.trail.items c.cover_others.new.trail.items c.heads-heads.ensures.table c.commit.ensures.links c.commit.ensures.trail (subst P c.commit.ensures.commits c.cover_others.ensures.trail))
+    (trails_both cs c.args.links.now c.commit-middle.new.links (covering cs was (node ∷ [])) (covering cs (commit cs was node) (others cs node)) (take c.args.top c.args.trail.now) (take c.commit-middle.result c.commit-middle.new.trail) (take c.cover_others-top.result c.cover_others-top.new.trail) c.heads-heads.ensures.table c.commit-middle.ensures.links c.commit-middle.ensures.trail (subst P c.commit-middle.ensures.commits c.cover_others-top.ensures.trail))
 
 pub returns-clause-middle : goal.returns-clause-middle
-returns-clause-middle c = λ out s are. omega (arith, c.len-middle.ensures, c.commit.new.trail.ok.0, ap length (c.commit.ensures.trail out s are))
+returns-clause-middle c = λ out s are. omega (arith, length-take-le c.commit-middle.result c.commit-middle.new.trail c.commit-middle.ensures.top, ap length (c.commit-middle.ensures.trail out s are))

@@ -1,4 +1,4 @@
-use Rattle.std.proofs.Common.{List, ℕ, refl, arith, sym, subst, ◌∙◌, vec_capacity}
+use Rattle.std.proofs.Common.{◌≡◌, List, ℕ, refl, arith, sym, subst, length, take}
 use Rattle.dancing_links.specs.Columns.{place_at}
 use Rattle.dancing_links.specs.Committing.{IsCommits, commit, covering}
 use Rattle.dancing_links.specs.Trail.{HasRoomAll}
@@ -14,15 +14,15 @@ loop-other-init c =
     let cs = c.args.layout.now in
     let t = c.right_among-other.ensures.table in
     let start = round_start cs c.args.node c.right_among-other.result t (omega (arith, c.requires.node.0, t.some)) c.requires.node.1 c.right_among-other.ensures.right in
-    let P : List ℕ → Type 0 = λ nodes. IsLeft cs c.args.links.now c.args.links.now (others cs c.args.node) nodes c.args.keys.now c.args.keys.now c.args.trail.now.items c.args.trail.now.items c.args.commits.now c.args.commits.now in
-    let R : List ℕ → Type 0 = λ nodes. HasRoomAll cs c.args.links.now (covering cs c.args.commits.now nodes) c.args.trail.now.items (vec_capacity c.args.trail.now) in
+    let P : List ℕ → Type 0 = λ nodes. IsLeft cs c.args.links.now c.args.links.now (others cs c.args.node) nodes c.args.keys.now c.args.keys.now (take c.args.top c.args.trail.now) (take c.args.top c.args.trail.now) c.args.commits.now c.args.commits.now in
+    let R : List ℕ → Type 0 = λ nodes. HasRoomAll cs c.args.links.now (covering cs c.args.commits.now nodes) (take c.args.top c.args.trail.now) (length c.args.trail.now) in
     record {
       linked = c.requires.linked;
       kept = c.requires.commits;
       round = start.0;
-      left = subst P (sym start.1) (left_start cs c.args.links.now (others cs c.args.node) c.args.keys.now c.args.trail.now.items c.args.commits.now);
+      left = subst P (sym start.1) (left_start cs c.args.links.now (others cs c.args.node) c.args.keys.now (take c.args.top c.args.trail.now) c.args.commits.now);
       room = subst R (sym start.1) c.requires.room;
-      capacity = refl;
+      top = c.requires.top;
     }
 
 pub loop-other-smaller : goal.loop-other-smaller
@@ -39,51 +39,52 @@ loop-other-preserved c =
     let t = c.right_among-other.ensures.table in
     let on = round_step cs c.args.node other next t c.loop-other.invariant.round c.loop-other-test.true c.right_among-other-in-loop-other.ensures.right in
     let left : List ℕ = to_come cs c.args.node next in
-    let P : List ℕ → Type 0 = λ nodes. IsLeft cs c.args.links.now c.loop-other.links all nodes c.args.keys.now c.loop-other.keys c.args.trail.now.items c.loop-other.trail.items c.args.commits.now c.loop-other.commits in
-    let step = left_step cs c.args.links.now c.loop-other.links c.commit.new.links all left c.args.keys.now c.loop-other.keys c.commit.new.keys c.args.trail.now.items c.loop-other.trail.items c.commit.new.trail.items c.args.commits.now c.loop-other.commits other t c.commit.ensures.links c.commit.ensures.keys c.commit.ensures.trail (subst P on.come c.loop-other.invariant.left) in
-    let Q : List ℕ → Type 0 = λ commits. IsLeft cs c.args.links.now c.commit.new.links all left c.args.keys.now c.commit.new.keys c.args.trail.now.items c.commit.new.trail.items c.args.commits.now commits in
+    let P : List ℕ → Type 0 = λ nodes. IsLeft cs c.args.links.now c.loop-other.links all nodes c.args.keys.now c.loop-other.keys (take c.args.top c.args.trail.now) (take c.loop-other.top c.loop-other.trail) c.args.commits.now c.loop-other.commits in
+    let step = left_step cs c.args.links.now c.loop-other.links c.commit-top.new.links all left c.args.keys.now c.loop-other.keys c.commit-top.new.keys (take c.args.top c.args.trail.now) (take c.loop-other.top c.loop-other.trail) (take c.commit-top.result c.commit-top.new.trail) c.args.commits.now c.loop-other.commits other t c.commit-top.ensures.links c.commit-top.ensures.keys c.commit-top.ensures.trail (subst P on.come c.loop-other.invariant.left) in
+    let Q : List ℕ → Type 0 = λ commits. IsLeft cs c.args.links.now c.commit-top.new.links all left c.args.keys.now c.commit-top.new.keys (take c.args.top c.args.trail.now) (take c.commit-top.result c.commit-top.new.trail) c.args.commits.now commits in
     let R : List ℕ → Type 0 = λ commits. IsCommits cs commits in
-    let S : ℕ → Type 0 = λ room. HasRoomAll cs c.commit.new.links (covering cs (commit cs c.loop-other.commits other) left) c.commit.new.trail.items room in
-    let T : List ℕ → Type 0 = λ commits. HasRoomAll cs c.commit.new.links (covering cs commits left) c.commit.new.trail.items (vec_capacity c.commit.new.trail) in
-    let U : List ℕ → Type 0 = λ nodes. HasRoomAll cs c.loop-other.links (covering cs c.loop-other.commits nodes) c.loop-other.trail.items (vec_capacity c.loop-other.trail) in
+    let S : ℕ → Type 0 = λ room. HasRoomAll cs c.commit-top.new.links (covering cs (commit cs c.loop-other.commits other) left) (take c.commit-top.result c.commit-top.new.trail) room in
+    let T : List ℕ → Type 0 = λ commits. HasRoomAll cs c.commit-top.new.links (covering cs commits left) (take c.commit-top.result c.commit-top.new.trail) (length c.commit-top.new.trail) in
+    let U : List ℕ → Type 0 = λ nodes. HasRoomAll cs c.loop-other.links (covering cs c.loop-other.commits nodes) (take c.loop-other.top c.loop-other.trail) (length c.loop-other.trail) in
+    let long : length c.loop-other.trail ≡ length c.commit-top.new.trail = omega (arith, c.commit-top.auto.trail) in
     record {
-      linked = c.commit.ensures.linked;
-      kept = subst R (sym c.commit.ensures.commits) (commit_kept cs c.loop-other.commits other c.loop-other.invariant.kept);
+      linked = c.commit-top.ensures.linked;
+      kept = subst R (sym c.commit-top.ensures.commits) (commit_kept cs c.loop-other.commits other c.loop-other.invariant.kept);
       round = on.round;
-      left = subst Q (sym c.commit.ensures.commits) step;
-      room = subst T (sym c.commit.ensures.commits) (subst S (sym c.commit.ensures.capacity) (room_step cs c.loop-other.links c.commit.new.links c.loop-other.commits left c.loop-other.trail.items c.commit.new.trail.items other (vec_capacity c.loop-other.trail) t c.commit.ensures.links c.commit.ensures.trail (subst U on.come c.loop-other.invariant.room)));
-      capacity = c.commit.ensures.capacity ∙ c.loop-other.invariant.capacity;
+      left = subst Q (sym c.commit-top.ensures.commits) step;
+      room = subst T (sym c.commit-top.ensures.commits) (subst S long (room_step cs c.loop-other.links c.commit-top.new.links c.loop-other.commits left (take c.loop-other.top c.loop-other.trail) (take c.commit-top.result c.commit-top.new.trail) other (length c.loop-other.trail) t c.commit-top.ensures.links c.commit-top.ensures.trail (subst U on.come c.loop-other.invariant.room)));
+      top = c.commit-top.ensures.top;
     }
 
 pub returns-clause-links : goal.returns-clause-links
 returns-clause-links c =
     let cs = c.args.layout.now in
     let none = round_end cs c.args.node c.loop-other.other c.loop-other-test.false in
-    left_links cs c.args.links.now c.loop-other.links (others cs c.args.node) _ c.args.keys.now c.loop-other.keys c.args.trail.now.items c.loop-other.trail.items c.args.commits.now c.loop-other.commits none c.loop-other.invariant.left
+    left_links cs c.args.links.now c.loop-other.links (others cs c.args.node) _ c.args.keys.now c.loop-other.keys (take c.args.top c.args.trail.now) (take c.loop-other.top c.loop-other.trail) c.args.commits.now c.loop-other.commits none c.loop-other.invariant.left
 
 pub returns-clause-keys : goal.returns-clause-keys
 returns-clause-keys c =
     let cs = c.args.layout.now in
     let none = round_end cs c.args.node c.loop-other.other c.loop-other-test.false in
-    left_keys cs c.args.links.now c.loop-other.links (others cs c.args.node) _ c.args.keys.now c.loop-other.keys c.args.trail.now.items c.loop-other.trail.items c.args.commits.now c.loop-other.commits none c.loop-other.invariant.left
+    left_keys cs c.args.links.now c.loop-other.links (others cs c.args.node) _ c.args.keys.now c.loop-other.keys (take c.args.top c.args.trail.now) (take c.loop-other.top c.loop-other.trail) c.args.commits.now c.loop-other.commits none c.loop-other.invariant.left
 
 pub returns-clause-commits : goal.returns-clause-commits
 returns-clause-commits c =
     let cs = c.args.layout.now in
     let none = round_end cs c.args.node c.loop-other.other c.loop-other-test.false in
-    left_commits cs c.args.links.now c.loop-other.links (others cs c.args.node) _ c.args.keys.now c.loop-other.keys c.args.trail.now.items c.loop-other.trail.items c.args.commits.now c.loop-other.commits none c.loop-other.invariant.left
+    left_commits cs c.args.links.now c.loop-other.links (others cs c.args.node) _ c.args.keys.now c.loop-other.keys (take c.args.top c.args.trail.now) (take c.loop-other.top c.loop-other.trail) c.args.commits.now c.loop-other.commits none c.loop-other.invariant.left
 
 pub returns-clause-trail : goal.returns-clause-trail
 returns-clause-trail c =
     let cs = c.args.layout.now in
     let none = round_end cs c.args.node c.loop-other.other c.loop-other-test.false in
-    left_trails cs c.args.links.now c.loop-other.links (others cs c.args.node) _ c.args.keys.now c.loop-other.keys c.args.trail.now.items c.loop-other.trail.items c.args.commits.now c.loop-other.commits none c.loop-other.invariant.left
+    left_trails cs c.args.links.now c.loop-other.links (others cs c.args.node) _ c.args.keys.now c.loop-other.keys (take c.args.top c.args.trail.now) (take c.loop-other.top c.loop-other.trail) c.args.commits.now c.loop-other.commits none c.loop-other.invariant.left
 
-pub commit-requires-clause-room : goal.commit-requires-clause-room
-commit-requires-clause-room c =
+pub commit-top-requires-clause-room : goal.commit-top-requires-clause-room
+commit-top-requires-clause-room c =
     let cs = c.args.layout.now in
     let other : ℕ = c.loop-other.other in
     let next : ℕ = (place_at cs c.loop-other.other).right in
     let on = round_step cs c.args.node other next c.right_among-other.ensures.table c.loop-other.invariant.round c.loop-other-test.true refl in
-    let U : List ℕ → Type 0 = λ nodes. HasRoomAll cs c.loop-other.links (covering cs c.loop-other.commits nodes) c.loop-other.trail.items (vec_capacity c.loop-other.trail) in
-    room_first cs c.loop-other.links c.loop-other.commits (to_come cs c.args.node next) c.loop-other.trail.items other (vec_capacity c.loop-other.trail) (subst U on.come c.loop-other.invariant.room)
+    let U : List ℕ → Type 0 = λ nodes. HasRoomAll cs c.loop-other.links (covering cs c.loop-other.commits nodes) (take c.loop-other.top c.loop-other.trail) (length c.loop-other.trail) in
+    room_first cs c.loop-other.links c.loop-other.commits (to_come cs c.args.node next) (take c.loop-other.top c.loop-other.trail) other (length c.loop-other.trail) (subst U on.come c.loop-other.invariant.room)

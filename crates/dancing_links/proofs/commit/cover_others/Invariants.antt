@@ -1,4 +1,4 @@
-use Rattle.std.proofs.Common.{◌≡◌, vec_capacity}
+use Rattle.std.proofs.Common.{◌≤◌, length, take}
 use Rattle.dancing_links.specs.Columns.{IsLinked, begin_of, end_of}
 use Rattle.dancing_links.specs.Committing.{IsCommits, covering}
 use Rattle.dancing_links.specs.Trail.{HasRoomAll}
@@ -12,9 +12,9 @@ invariant-loop-other l = record {
   linked : IsLinked l.layout l.links;
   kept : IsCommits l.layout l.commits;
   round : IsRound l.layout l.node l.other;
-  left : IsLeft l.layout l.fn.links l.links (others l.layout l.node) (to_come l.layout l.node l.other) l.fn.keys l.keys l.fn.trail.items l.trail.items l.fn.commits l.commits;
-  room : HasRoomAll l.layout l.links (covering l.layout l.commits (to_come l.layout l.node l.other)) l.trail.items (vec_capacity l.trail);
-  capacity : vec_capacity l.trail ≡ vec_capacity l.fn.trail;
+  left : IsLeft l.layout l.fn.links l.links (others l.layout l.node) (to_come l.layout l.node l.other) l.fn.keys l.keys (take l.fn.top l.fn.trail) (take l.top l.trail) l.fn.commits l.commits;
+  room : HasRoomAll l.layout l.links (covering l.layout l.commits (to_come l.layout l.node l.other)) (take l.top l.trail) (length l.trail);
+  top : l.top ≤ length l.trail;
 }
 
 abbrev pub decreases-loop-other : goal.decreases-loop-other

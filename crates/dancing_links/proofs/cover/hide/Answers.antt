@@ -1,11 +1,10 @@
-use Rattle.std.proofs.Common.{List, ℕ, [], ◌∷◌, ◌++◌, refl, arith, ap, sym, ◌∙◌, append_assoc, append-nil, length}
+use Rattle.std.proofs.Common.{List, ℕ, [], ◌∷◌, ◌++◌, refl, arith, ap, sym, ◌∙◌, append_assoc, append-nil, length, take, ◌+◌, ◌<◌}
 use Rattle.dancing_links.specs.declared.link.Link.{Link}
 use Rattle.dancing_links.specs.Keys.{fewer}
 use Rattle.dancing_links.specs.Linking.{unlinks}
 use Rattle.dancing_links.proofs.Others.{to_come, round_start, round_step, round_end}
-use Rattle.std.proofs.lemmas.List.{length-append}
+use Rattle.std.proofs.lemmas.List.{take_more_set}
 use Rattle.dancing_links.specs.Columns.{place_at}
-use Rattle.dancing_links.specs.Covering.{others}
 use Rattle.dancing_links.proofs.cover.hide.Goals as goal
 
 pub loop-other-init : goal.loop-other-init
@@ -17,8 +16,8 @@ loop-other-init c =
       round = start.0;
       links = ap (unlinks c.args.links.now) start.1;
       keys = ap (fewer cs c.args.keys.now) start.1;
-      trail = ap (λ (xs : List ℕ). c.args.trail.now.items ++ xs) start.1;
-      capacity = refl;
+      trail = ap (λ (xs : List ℕ). take c.args.top c.args.trail.now ++ xs) start.1;
+      top = ap (λ (xs : List ℕ). c.args.top + length xs) start.1;
     }
 
 pub loop-other-smaller : goal.loop-other-smaller
@@ -31,13 +30,15 @@ loop-other-preserved c =
     let cs = c.args.layout.now in
     let next : ℕ = c.right_among-other-in-loop-other.result in
     let step = round_step c.args.layout.now c.args.node c.loop-other.other c.right_among-other-in-loop-other.result c.right_among-other.ensures.table c.loop-other.invariant.round c.loop-other-test.true c.right_among-other-in-loop-other.ensures.right in
+    let inside : c.loop-other.top < length c.loop-other.trail = omega (arith, ap length step.come, c.loop-other.invariant.top, c.requires.room, c.loop-other.auto.trail) in
+    let pushed = take_more_set c.loop-other.trail c.loop-other.top c.loop-other.other inside in
     record {
       linked = c.unlink.ensures.linked;
       round = step.round;
       links = ap (λ (m : List Link). unlinks m (to_come cs c.args.node next)) c.unlink.ensures.links ∙ sym (ap (unlinks c.loop-other.links) step.come) ∙ c.loop-other.invariant.links;
       keys = ap (λ (k : List ℕ). fewer cs k (to_come cs c.args.node next)) c.count_less.ensures ∙ sym (ap (fewer cs c.loop-other.keys) step.come) ∙ c.loop-other.invariant.keys;
-      trail = ap (λ (xs : List ℕ). xs ++ to_come cs c.args.node next) c.push_reserved.ensures.items ∙ append_assoc c.loop-other.trail.items (c.loop-other.other ∷ []) (to_come cs c.args.node next) ∙ sym (ap (λ (xs : List ℕ). c.loop-other.trail.items ++ xs) step.come) ∙ c.loop-other.invariant.trail;
-      capacity = c.push_reserved.ensures.capacity ∙ c.loop-other.invariant.capacity;
+      trail = ap (λ (xs : List ℕ). xs ++ to_come cs c.args.node next) pushed ∙ append_assoc (take c.loop-other.top c.loop-other.trail) (c.loop-other.other ∷ []) (to_come cs c.args.node next) ∙ sym (ap (λ (xs : List ℕ). take c.loop-other.top c.loop-other.trail ++ xs) step.come) ∙ c.loop-other.invariant.trail;
+      top = omega (arith, ap length step.come, c.loop-other.invariant.top);
     }
 
 pub returns-clause-links : goal.returns-clause-links
@@ -50,13 +51,18 @@ returns-clause-keys c =
     let none = round_end c.args.layout.now c.args.node c.loop-other.other c.loop-other-test.false in
     sym (ap (fewer c.args.layout.now c.loop-other.keys) none) ∙ c.loop-other.invariant.keys
 
-pub push_reserved-requires : goal.push_reserved-requires
-push_reserved-requires c =
+pub bounds-trail-top : goal.bounds-trail-top
+bounds-trail-top c =
     let cs = c.args.layout.now in
     let step = round_step cs c.args.node c.loop-other.other (place_at cs c.loop-other.other).right c.right_among-other.ensures.table c.loop-other.invariant.round c.loop-other-test.true refl in
-    omega (arith, ap length step.come, ap length c.loop-other.invariant.trail, length-append c.loop-other.trail.items (to_come cs c.args.node c.loop-other.other), length-append c.args.trail.now.items (others cs c.args.node), c.requires.room, c.loop-other.invariant.capacity, c.loop-other.trail.ok.0)
+    omega (arith, ap length step.come, c.loop-other.invariant.top, c.requires.room)
 
 pub returns-clause-trail : goal.returns-clause-trail
 returns-clause-trail c =
     let none = round_end c.args.layout.now c.args.node c.loop-other.other c.loop-other-test.false in
-    sym (append-nil c.loop-other.trail.items) ∙ sym (ap (λ (xs : List ℕ). c.loop-other.trail.items ++ xs) none) ∙ c.loop-other.invariant.trail
+    sym (append-nil (take c.loop-other.top c.loop-other.trail)) ∙ sym (ap (λ (xs : List ℕ). take c.loop-other.top c.loop-other.trail ++ xs) none) ∙ c.loop-other.invariant.trail
+
+pub returns-clause-top : goal.returns-clause-top
+returns-clause-top c =
+    let none = round_end c.args.layout.now c.args.node c.loop-other.other c.loop-other-test.false in
+    omega (arith, ap length none, c.loop-other.invariant.top, c.requires.room)

@@ -1,4 +1,4 @@
-use Rattle.std.proofs.Common.{◌≡◌, ◌++◌, vec_capacity}
+use Rattle.std.proofs.Common.{◌≡◌, ◌+◌, ◌++◌, length, take}
 use Rattle.dancing_links.specs.Columns.{IsLinked, begin_of, end_of}
 use Rattle.dancing_links.specs.Keys.{fewer}
 use Rattle.dancing_links.specs.Covering.{others}
@@ -11,8 +11,8 @@ invariant-loop-other l = record {
   linked : IsLinked l.layout l.links;
   round : IsRound l.layout l.node l.other;
   links : unlinks l.links (to_come l.layout l.node l.other) ≡ unlinks l.fn.links (others l.layout l.node);
-  trail : l.trail.items ++ to_come l.layout l.node l.other ≡ l.fn.trail.items ++ others l.layout l.node;
-  capacity : vec_capacity l.trail ≡ vec_capacity l.fn.trail;
+  trail : take l.top l.trail ++ to_come l.layout l.node l.other ≡ take l.fn.top l.fn.trail ++ others l.layout l.node;
+  top : l.top + length (to_come l.layout l.node l.other) ≡ l.fn.top + length (others l.layout l.node);
   keys : fewer l.layout l.keys (to_come l.layout l.node l.other) ≡ fewer l.layout l.fn.keys (others l.layout l.node);
 }
 

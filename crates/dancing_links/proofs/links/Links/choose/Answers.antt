@@ -1,7 +1,8 @@
-use Rattle.std.proofs.Common.{◌≡◌, ◌<◌, length, true, arith, ap, refl, sym, ◌∙◌, [], ◌∷◌, ◌++◌, vec_capacity}
+use Rattle.std.proofs.Common.{◌≡◌, ◌<◌, length, true, arith, ap, refl, sym, ◌∙◌, [], ◌∷◌, ◌++◌, take, drop, vec_capacity}
+use Rattle.std.proofs.lemmas.List.{length-take-le}
 use Rattle.cover_problem.specs.Prefix.{is_live}
 use Rattle.cover_problem.proofs.Prefixes.{live_at}
-use Rattle.dancing_links.specs.Choices.{Choices, commits_of, first_primary}
+use Rattle.dancing_links.specs.Choices.{Choices, commits_of, first_primary, trail_of}
 use Rattle.dancing_links.specs.Columns.{column_of}
 use Rattle.dancing_links.proofs.Ranges.{table_of}
 use Rattle.dancing_links.proofs.Chosen.{room_left, same_length, held_kept, commits_pushed, links_push, put_back, same_linked, same_links_of, view_push}
@@ -60,7 +61,9 @@ invariant_of-self c =
     let ready = ready_of p cs os es c.deref_mut.result.now c.deref_mut-2.result.now room c.args.option node before inside live free first.in_option first.own in
     let after = links_push p cs os es c.deref_mut.result.now c.cover_from-middle.new.links c.deref_mut-2.result.now c.cover_from-middle.new.keys c.deref_mut-3.result.now room c.args.option node before held inside live free first.in_option first.own c.cover_from-middle.ensures.linked c.cover_from-middle.ensures.links c.cover_from-middle.ensures.keys in
     let commits = commits_pushed cs es node c.deref_mut-3.result.now c.cover_from-middle.new.commits held c.cover_from-middle.ensures.commits in
-    (same_links_of p cs (os ++ c.args.option ∷ []) c.push_reserved-3.new.self.items (es ++ node ∷ []) c.push_reserved-2.new.self.items c.cover_from-middle.new.links _ c.cover_from-middle.new.keys _ room _ c.push_reserved-3.ensures.items c.push_reserved-2.ensures.items (put_back c.cover_from-middle.new.links _ c.self.inside.links.len (omega (arith, c.cover_from-middle.ensures.linked.0, c.self.invariant.0.linked.0, c.self.inside.links.ok.0))) (put_back c.cover_from-middle.new.keys _ c.self.inside.keys.len (omega (arith, c.cover_from-middle.auto.keys, c.deref_mut-2.ensures.len, c.self.inside.keys.ok.0))) c.push_reserved-3.ensures.capacity after, omega (arith, c.self.invariant.1, c.push_reserved-2.ensures.capacity), put_back c.cover_from-middle.new.commits _ c.self.inside.commits.len (omega (arith, c.cover_from-middle.auto.commits, c.deref_mut-3.ensures.len, c.self.inside.commits.ok.0)) ∙ commits ∙ ap (commits_of cs) (sym c.push_reserved-2.ensures.items), trail_more cs p.primary es c.push_reserved-2.new.self.items c.cover_from-middle.new.trail.items node (vec_capacity c.self.inside.trail) (vec_capacity c.cover_from-middle.new.trail) c.len-start.result c.cover_from-middle.result c.self.inside.marks.items c.push_reserved.new.self.items (vec_capacity c.self.inside.marks) (vec_capacity c.push_reserved.new.self) c.self.invariant.3.enough c.cover_from-middle.ensures.capacity c.self.invariant.3.marks_are c.self.invariant.3.some c.push_reserved.ensures.capacity (omega (arith, c.len-start.ensures, c.self.inside.trail.ok.0, ap length c.self.invariant.3.trail_is)) (middle_pushed cs es c.deref_mut.result.now c.deref_mut-3.result.now c.self.inside.trail.items node c.cover_from-middle.result ready held c.self.invariant.3.trail_is c.cover_from-middle.ensures.middle) (trail_pushed cs es c.deref_mut.result.now c.deref_mut-3.result.now c.self.inside.trail.items c.cover_from-middle.new.trail.items node ready held c.self.invariant.3.trail_is c.cover_from-middle.ensures.trail) c.push_reserved-2.ensures.items c.push_reserved.ensures.items)
+    let trail_now : take c.self.inside.out c.deref_mut-4.result.now ≡ trail_of c.self.inside.layout c.self.inside.entries.items = ap (take c.self.inside.out) c.deref_mut-4.ensures.value ∙ c.self.invariant.3.trail_is in
+    let trail_back = put_back c.cover_from-middle.new.trail (drop (length c.cover_from-middle.new.trail) c.self.inside.trail.items) c.self.inside.trail.len (omega (arith, c.cover_from-middle.auto.trail, c.deref_mut-4.ensures.len, c.self.inside.trail.ok.0)) in
+    (same_links_of p cs (os ++ c.args.option ∷ []) c.push_reserved-3.new.self.items (es ++ node ∷ []) c.push_reserved-2.new.self.items c.cover_from-middle.new.links _ c.cover_from-middle.new.keys _ room _ c.push_reserved-3.ensures.items c.push_reserved-2.ensures.items (put_back c.cover_from-middle.new.links _ c.self.inside.links.len (omega (arith, c.cover_from-middle.ensures.linked.0, c.self.invariant.0.linked.0, c.self.inside.links.ok.0))) (put_back c.cover_from-middle.new.keys _ c.self.inside.keys.len (omega (arith, c.cover_from-middle.auto.keys, c.deref_mut-2.ensures.len, c.self.inside.keys.ok.0))) c.push_reserved-3.ensures.capacity after, omega (arith, c.self.invariant.1, c.push_reserved-2.ensures.capacity), put_back c.cover_from-middle.new.commits _ c.self.inside.commits.len (omega (arith, c.cover_from-middle.auto.commits, c.deref_mut-3.ensures.len, c.self.inside.commits.ok.0)) ∙ commits ∙ ap (commits_of cs) (sym c.push_reserved-2.ensures.items), trail_more cs p.primary es c.push_reserved-2.new.self.items _ node (length c.self.inside.trail.items) _ c.self.inside.out c.cover_from-middle.result.0 c.self.inside.marks.items c.push_reserved.new.self.items (vec_capacity c.self.inside.marks) (vec_capacity c.push_reserved.new.self) c.self.invariant.3.enough (omega (arith, ap length trail_back, c.cover_from-middle.auto.trail, ap length c.deref_mut-4.ensures.value)) c.self.invariant.3.marks_are c.self.invariant.3.some c.push_reserved.ensures.capacity (omega (arith, length-take-le c.self.inside.out c.self.inside.trail.items c.self.invariant.4, ap length c.self.invariant.3.trail_is)) (middle_pushed cs es c.deref_mut.result.now c.deref_mut-3.result.now (take c.self.inside.out c.deref_mut-4.result.now) node c.cover_from-middle.result.0 ready held trail_now c.cover_from-middle.ensures.middle) (ap (take c.cover_from-middle.result.1) trail_back ∙ trail_pushed cs es c.deref_mut.result.now c.deref_mut-3.result.now (take c.self.inside.out c.deref_mut-4.result.now) (take c.cover_from-middle.result.1 c.cover_from-middle.new.trail) node ready held trail_now c.cover_from-middle.ensures.trail) c.push_reserved-2.ensures.items c.push_reserved.ensures.items, omega (arith, c.cover_from-middle.ensures.top, ap length trail_back))
 
 pub returns : goal.returns
 returns c =
@@ -81,7 +84,7 @@ cover_from-middle-requires-clause-room c =
     let held : c.deref_mut-3.result.now ≡ commits_of c.self.inside.layout c.self.inside.entries.items = c.deref_mut-3.ensures.value ∙ c.self.invariant.2 in
     let before = same_links_of p cs os os es es c.self.inside.links.items c.deref_mut.result.now c.self.inside.keys.items c.deref_mut-2.result.now room room refl refl c.deref_mut.ensures.value c.deref_mut-2.ensures.value refl c.self.invariant.0 in
     let ready = ready_of p cs os es c.deref_mut.result.now c.deref_mut-2.result.now room c.args.option node before inside live free first.in_option first.own in
-    room_push cs es c.deref_mut.result.now c.deref_mut-3.result.now c.self.inside.trail.items node (vec_capacity c.self.inside.trail) ready held c.self.invariant.3.trail_is c.self.invariant.3.enough
+    room_push cs es c.deref_mut.result.now c.deref_mut-3.result.now (take c.self.inside.out c.deref_mut-4.result.now) node (length c.deref_mut-4.result.now) ready held (ap (take c.self.inside.out) c.deref_mut-4.ensures.value ∙ c.self.invariant.3.trail_is) (omega (arith, c.self.invariant.3.enough, ap length c.deref_mut-4.ensures.value))
 
 pub push_reserved-requires : goal.push_reserved-requires
 push_reserved-requires c =
