@@ -1,5 +1,6 @@
 pub mod Among
 pub mod Apart
+pub mod Basics
 pub mod Checks
 pub mod Clashes
 pub mod Colours

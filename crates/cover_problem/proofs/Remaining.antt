@@ -1,13 +1,10 @@
 -- Going over the live options and the open items one by one.
 use Rattle.std.proofs.Common.{◌≡◌, ℕ, suc, ◌+◌, ◌-◌, ◌<◌, ◌≤◌, List, [], ◌∷◌, length, true, false, refl, arith}
-use Rattle.std.specs.List.{range_with_len}
 use Rattle.cover_problem.specs.Problem.{Problem}
 use Rattle.cover_problem.specs.Prefix.{is_covered}
 use Rattle.cover_problem.specs.Branching.{is_choice, live_options, open_items}
 use Rattle.cover_problem.specs.Onward.{live_options_from, open_items_from}
-
-range_step : (a n k : ℕ) → n ≡ suc k → range_with_len a n ≡ a ∷ range_with_len (a + 1) k
-range_step a n k e = rw e refl
+use Rattle.cover_problem.proofs.Basics.{range_step}
 
 pub live_options_from_take : (p : Problem) (xs : List ℕ) (i o : ℕ) → o < length p.options → is_choice p xs i o ≡ true → live_options_from p xs i o ≡ o ∷ live_options_from p xs i (o + 1)
 unfolding live_options_from

@@ -26,7 +26,8 @@ use Rattle.root_registry.specs.RegistryStep.{RootAnswers, RootHears}
 use Rattle.node_core.specs.NodeStep.{HearStep}
 use Rattle.cover_world.specs.Worlds.{World, WorldMove, Acts, Restarts, SiteStep, WorldStep, Run, stay, go, EachStep}
 use Rattle.cover_world.specs.Safety.{HasChild, NoneLate, attempt_in, attempt_of, attempt_at}
-use Rattle.cover_world.proofs.Grows.{Grows, get_front, get_changed}
+use Rattle.cover_problem.proofs.Basics.{get_front}
+use Rattle.cover_world.proofs.Grows.{Grows, get_changed}
 use Rattle.cover_world.proofs.Steps.{judged_enters}
 use Rattle.cover_world.proofs.Later.{get_set, Later, Gone, same_child, not_gone, step_keeps, run_keeps}
 use Rattle.steal_return.specs.Returns.{Enters, Holds, Judgement, Refuses, judged}

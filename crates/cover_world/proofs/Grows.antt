@@ -1,6 +1,7 @@
 -- Own children only grow: a name keeps its parent and prefix, its attempt never falls, and a final status stays.
 use Rattle.std.proofs.Common.{◌≡◌, ◌≢◌, ◌⊎◌, ℕ, zero, suc, ◌≤◌, Bool, true, List, [], ◌∷◌, ◌++◌, map, Some, slice_get, refl, sym, ap, ◌∙◌, subst, inl, inr, ⊎_elim, true≢false, arith, option_map}
 use Rattle.std.proofs.lemmas.Option.{none-some}
+use Rattle.cover_problem.proofs.Basics.{get_front}
 use Rattle.spawn_frame.specs.declared.child_result.ChildResult.{ChildResult}
 use Rattle.spawn_frame.specs.declared.status.Status.{Status}
 use Rattle.spawn_frame.specs.declared.status.Status.TheVariants.{Done, Aborted}
@@ -71,11 +72,6 @@ own_then xs ys zs g h = record {
       let b = h.each k a.now a.is in
       record { now = b.now; is = b.is; grows = grows_then c a.now b.now a.grows b.grows };
 }
-
-pub get_front : (xs ys : List Entry) (k : ℕ) (c : Entry) → slice_get xs k ≡ Some c → slice_get (xs ++ ys) k ≡ Some c
-get_front [] ys k c e = absurd (none-some c e)
-get_front (x ∷ xs) ys zero c e = e
-get_front (x ∷ xs) ys (suc k) c e = get_front xs ys k c e
 
 pub own_append : (xs ys : List Entry) → OwnGrows xs (xs ++ ys)
 own_append xs ys = record { each = λ k c e. record { now = c; is = get_front xs ys k c e; grows = grows_same c } }

@@ -11,7 +11,8 @@ use Rattle.dancing_links.specs.Covering.{has_colour}
 use Rattle.dancing_links.specs.Table.{table}
 use Rattle.dancing_links.proofs.Agreeing.{IsCovering, IsAmong, covers_some, covers_by}
 use Rattle.dancing_links.proofs.Entries.{IsSeen, some_node, node_named}
-use Rattle.dancing_links.proofs.Present.{covers, bars, is_dead, dead_at, dead_by, same_flags}
+use Rattle.dancing_links.proofs.Present.{covers, bars, is_dead, dead_at, dead_by}
+use Rattle.cover_problem.proofs.Basics.{same_truth}
 use Rattle.dancing_links.proofs.Tables.{IsNodeAt, node_by, node_colour, place_of, start_of}
 
 -- the node of an option in the column of an item that it names
@@ -58,7 +59,7 @@ cover_of p os seen nodes commits q i cast chosen named =
 
 -- the items that are covered are those of chosen options
 pub cast_names : (p : Problem) (os seen nodes commits : List ℕ) (i : ℕ) → IsCast p (table p) os seen nodes commits → covers (table p) nodes i ≡ is_covered p os i
-cast_names p os seen nodes commits i cast = same_flags (covers (table p) nodes i) (is_covered p os i)
+cast_names p os seen nodes commits i cast = same_truth (covers (table p) nodes i) (is_covered p os i)
     (λ hit.
     let c : Columns = table p in
     let x = covers_some c nodes i hit in

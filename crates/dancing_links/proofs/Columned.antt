@@ -12,7 +12,8 @@ use Rattle.dancing_links.specs.Table.{starts, heads_of, base_of, tails_of, table
 use Rattle.dancing_links.proofs.Walk.{column_skip_to}
 use Rattle.dancing_links.proofs.Nodes.{column_item, starts_first, starts_end}
 use Rattle.dancing_links.proofs.Parts.{options_part}
-use Rattle.dancing_links.proofs.Present.{IsOut, covers, is_dead, same_flags}
+use Rattle.dancing_links.proofs.Present.{IsOut, covers, is_dead}
+use Rattle.cover_problem.proofs.Basics.{same_truth}
 use Rattle.dancing_links.proofs.Tables.{start_of, IsNodeAt, node_by, option_distinct}
 use Rattle.dancing_links.proofs.Cast.{IsCast, cast_names, node_live}
 
@@ -37,7 +38,7 @@ column_options p os seen nodes commits out i cast gone h free =
     let high : k < c.tails = omega (arith, at.high, hj) in
     let new : covers c nodes (column_of c k) ≡ false = ap (covers c nodes) own ∙ cast_names p os seen nodes commits i cast ∙ free in
     let e : o ≡ 0 + o = omega arith in
-    ap not (same_flags (among out k) (is_dead c nodes k) (gone.out_dead k low high) (gone.dead_out k low high new))
+    ap not (same_truth (among out k) (is_dead c nodes k) (gone.out_dead k low high) (gone.dead_out k low high new))
     ∙ node_live p os seen nodes commits k o j cast at ∙ ap (is_live p os) e)
     (λ o ho. let e : 0 + o ≡ o = omega arith in ap (λ n. names_item p n i) e)
     (λ o ho. option_distinct p o cast.is_problem ho)
@@ -78,7 +79,7 @@ column_options_from p os seen nodes commits out i start cast gone h free within 
     let low : c.heads + c.heads ≤ k + 1 = omega (arith, at.low, at.node) in
     let high : k < c.tails = omega (arith, at.high, at.place_in, at.node) in
     let new : covers c nodes (column_of c k) ≡ false = ap (covers c nodes) own ∙ cast_names p os seen nodes commits i cast ∙ free in
-    ap not (same_flags (among out k) (is_dead c nodes k) (gone.out_dead k low high) (gone.dead_out k low high new)) ∙ node_live p os seen nodes commits k (start + o) j cast at)
+    ap not (same_truth (among out k) (is_dead c nodes k) (gone.out_dead k low high) (gone.dead_out k low high new)) ∙ node_live p os seen nodes commits k (start + o) j cast at)
     (λ o lt. ap (λ (xs : List ℕ). is_in xs i) (sym (items o)))
     (λ o lt. ap is_distinct (items o) ∙ option_distinct p (start + o) cast.is_problem (inside o lt))
     ∙ ap (λ n. filter (λ o. is_live p os o && names_item p o i) (range_with_len start n)) size

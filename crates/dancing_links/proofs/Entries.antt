@@ -14,7 +14,7 @@ use Rattle.dancing_links.specs.Columns.{Columns, among, column_of, colour_at, op
 use Rattle.dancing_links.specs.Covering.{in_turn, others, items_from, nodes_by}
 use Rattle.dancing_links.specs.Table.{table, base_of}
 use Rattle.dancing_links.proofs.Agreeing.{Agrees, AreAgreed}
-use Rattle.dancing_links.proofs.Others.{range_step}
+use Rattle.cover_problem.proofs.Basics.{range_step}
 use Rattle.dancing_links.proofs.Parts.{range_split, map_append}
 use Rattle.dancing_links.proofs.Prefixed.{distinct-append, prefix_front, last_live}
 use Rattle.dancing_links.proofs.Present.{with_all}

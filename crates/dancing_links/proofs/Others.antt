@@ -1,13 +1,9 @@
 -- Going over the other nodes of an option, from the next one on.
 use Rattle.std.proofs.Common.{◌≡◌, ℕ, suc, ◌+◌, ◌-◌, ◌<◌, ◌≤◌, ◌⊎◌, List, [], ◌∷◌, refl, arith, ap, ◌∙◌, sym, inl, inr, if◌then◌else◌}
-use Rattle.std.specs.List.{range_with_len}
 use Rattle.std.specs.Prelude.{nat_lt}
 use Rattle.std.proofs.lemmas.Bool.{eq-eqb, ne_eqb, cases_eq, cases_lt, lt-ltb, le-ltb}
 use Rattle.dancing_links.specs.Columns.{Columns, begin_of, end_of, node_after, place_at, IsOptionNode, IsTable}
 use Rattle.dancing_links.specs.Covering.{in_turn, others}
-
-pub range_step : (a n k : ℕ) → n ≡ suc k → range_with_len a n ≡ a ∷ range_with_len (a + 1) k
-range_step a n k e = rw e refl
 
 -- ---- going round a row
 

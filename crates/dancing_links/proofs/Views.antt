@@ -19,7 +19,8 @@ use Rattle.dancing_links.proofs.Keyed.{few}
 use Rattle.dancing_links.proofs.Walk.{column_skip_to, column_from_take, column_from_end}
 use Rattle.dancing_links.proofs.Nodes.{starts_next, first_at}
 use Rattle.dancing_links.proofs.Tables.{IsNodeAt, start_of, node_by, table_is, place_of}
-use Rattle.dancing_links.proofs.Present.{IsOut, covers, is_dead, with_all, same_flags}
+use Rattle.dancing_links.proofs.Present.{IsOut, covers, is_dead, with_all}
+use Rattle.cover_problem.proofs.Basics.{same_truth}
 use Rattle.dancing_links.proofs.State.{IsState, state_of, item_gone, known_test}
 use Rattle.dancing_links.proofs.Cast.{IsCast, cast_names, node_live}
 use Rattle.dancing_links.proofs.Entries.{some_node}
@@ -203,7 +204,7 @@ live_test p os seen nodes commits out node o j cast gone at free =
     let low : c.heads + c.heads ≤ node + 1 = omega (arith, at.low, at.node) in
     let high : node < c.tails = omega (arith, at.high, at.place_in, at.node) in
     let new : covers c nodes (column_of c node) ≡ false = cast_names p os seen nodes commits (column_of c node) cast ∙ free in
-    ap not (same_flags (among out node) (is_dead c nodes node) (gone.out_dead node low high) (gone.dead_out node low high new))
+    ap not (same_truth (among out node) (is_dead c nodes node) (gone.out_dead node low high) (gone.dead_out node low high new))
     ∙ node_live p os seen nodes commits node o j cast at
 
 -- an option is live where its first primary item is uncovered, and its node there is known from above

@@ -11,7 +11,7 @@ use Rattle.dancing_links.specs.Trail.{Trails, HasRoom, count_in}
 use Rattle.dancing_links.specs.Covering.{outs, others, has_colour, hidden_at, hidden_from, AreWhole, IsOpen, Covers}
 use Rattle.dancing_links.specs.Linking.{down_of, unlinked, unlinks}
 use Rattle.dancing_links.proofs.Law.{spelled_unlink, spelled_mark, in_other, out_other}
-use Rattle.dancing_links.proofs.Others.{range_step}
+use Rattle.cover_problem.proofs.Basics.{range_step}
 use Rattle.dancing_links.proofs.Round.{range_at, others_at, others_ranges}
 
 -- nodes that can be taken out in turn

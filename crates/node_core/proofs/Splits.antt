@@ -1,6 +1,5 @@
 -- A unit that is split by its branch item.
-use Rattle.std.proofs.Common.{◌≡◌, ℕ, List, [], ◌∷◌, ◌++◌, length, Some, None, ap}
-use Rattle.std.proofs.lemmas.List.{length-map}
+use Rattle.std.proofs.Common.{◌≡◌, ℕ, List, [], Some, None, ap}
 use Rattle.cover_problem.specs.Branching.{branch_item, children, children_at, live_options}
 use Rattle.cover_problem.specs.Problem.{Problem}
 use Rattle.spawn_frame.specs.Tables.{longer_prefixes}
@@ -13,7 +12,3 @@ children_by problem prefix item e = ap (children_at problem prefix) e
 -- a complete prefix has none
 pub children_none : (problem : Problem) (prefix : List ℕ) → branch_item problem prefix ≡ None → children problem prefix ≡ []
 children_none problem prefix e = ap (children_at problem prefix) e
-
--- there are as many as options
-pub children_count : (prefix options : List ℕ) → length (longer_prefixes prefix options) ≡ length options
-children_count prefix options = length-map options (λ o. prefix ++ o ∷ [])

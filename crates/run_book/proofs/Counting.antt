@@ -4,6 +4,7 @@ use Rattle.std.proofs.lemmas.List.{length-map, map-append}
 use Rattle.std.specs.Prelude.{slice_get, if◌then◌else◌, ◌==◌}
 use mathlib.Core.Logic.{dite}
 use native.Mathlib.Decide.{ℕ_discrete}
+use Rattle.cover_problem.proofs.Basics.{get_front}
 use Rattle.run_book.specs.Entries.{Entry, Placed}
 use Rattle.run_book.specs.Places.{AllStand, AreBelow, places, times}
 
@@ -23,11 +24,6 @@ times_append k (x ∷ xs) ys = let r = times_append k xs ys in omega arith
 -- one place more is counted
 pub times_push : (k : ℕ) (ts : List Placed) (t : Placed) → times k (places (ts ++ t ∷ [])) ≡ times k (places ts) + times k (t.place ∷ [])
 times_push k ts t = ap (times k) (map-append (λ p. p.place) ts (t ∷ [])) ∙ times_append k (places ts) (t.place ∷ [])
-
-pub get_front : (xs ys : List Entry) (k : ℕ) (p : Entry) → slice_get xs k ≡ Some p → slice_get (xs ++ ys) k ≡ Some p
-get_front [] ys k p e = absurd (cc)
-get_front (x ∷ xs) ys zero p e = e
-get_front (x ∷ xs) ys (suc k) p e = get_front xs ys k p e
 
 pub get_below : (xs : List Entry) (k : ℕ) (p : Entry) → slice_get xs k ≡ Some p → k < length xs
 get_below [] k p e = absurd (cc)

@@ -7,7 +7,8 @@ use native.Mathlib.Decide.{ℕ_discrete}
 use lib.ListN.{get_elem?}
 use Rattle.atomic_table.proofs.Lists.{at_set}
 use Rattle.crossbeam_queue.specs.Fifo.{Forks, Learns, Merges}
-use Rattle.run_book.proofs.Counting.{get_below, get_front, get_last, hit, miss, stand_below, stand_front, stand_push, times_push}
+use Rattle.cover_problem.proofs.Basics.{get_front}
+use Rattle.run_book.proofs.Counting.{get_below, get_last, hit, miss, stand_below, stand_front, stand_push, times_push}
 use Rattle.run_book.specs.Entries.{Entry, Placed}
 use Rattle.run_book.specs.Places.{places, times}
 use Rattle.run_book.specs.Tickets.{AreApart, AreTickets, Fits, IsKeeper, Knows, KeepsApart, back_of, entered, keeper_of_none, log_of, receipt_of, spent, with_back}

@@ -1,14 +1,10 @@
 -- Lists of options that are compared from the last one on, or written in that order.
-use Rattle.std.proofs.Common.{◌≡◌, ℕ, Bool, true, false, List, [], ◌∷◌, ◌++◌, reverse, refl, sym, ap, ◌∙◌}
+use Rattle.std.proofs.Common.{◌≡◌, ℕ, false, List, [], ◌∷◌, ◌++◌, reverse, refl, sym, ap, ◌∙◌}
 use Rattle.std.specs.Str.{bytes_eq}
 use Rattle.std.proofs.lemmas.Bool.{false_from_ne_true}
 use Rattle.std.proofs.lemmas.List.{append_cancel_right, reverse-append}
 use Rattle.std.proofs.lemmas.Slice.Eq.{bytes_eq-Decides}
-
-same_truth : (a b : Bool) → (a ≡ true → b ≡ true) → (b ≡ true → a ≡ true) → a ≡ b
-same_truth true b f g = sym (f refl)
-same_truth false true f g = g refl
-same_truth false false f g = refl
+use Rattle.cover_problem.proofs.Basics.{same_truth}
 
 same_ends : (xs ys : List ℕ) (x : ℕ) → bytes_eq (xs ++ x ∷ []) (ys ++ x ∷ []) ≡ bytes_eq xs ys
 same_ends xs ys x = same_truth (bytes_eq (xs ++ x ∷ []) (ys ++ x ∷ [])) (bytes_eq xs ys)

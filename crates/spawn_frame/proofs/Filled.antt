@@ -104,7 +104,7 @@ page_child pages k page d h there is =
 
 -- ---- one child changed
 
-change_front : (f : Work → Work) (own more : List Child) (k : ℕ) → k < length own → change_child f (own ++ more) k ≡ change_child f own k ++ more
+pub change_front : (f : Work → Work) (own more : List Child) (k : ℕ) → k < length own → change_child f (own ++ more) k ≡ change_child f own k ++ more
 change_front f [] more k within = absurd (omega (arith, within))
 change_front f (c ∷ cs) more zero within = refl
 change_front f (c ∷ cs) more (suc k) within = ap (λ l. c ∷ l) (change_front f cs more k (omega (arith, within)))

@@ -22,6 +22,7 @@ use Rattle.spawn_frame.specs.declared.wanted.Wanted.{Wanted}
 use Rattle.spawn_frame.specs.declared.wanted.Wanted.TheVariants as wants
 use Rattle.spawn_frame.specs.declared.work.Work.{Work}
 use Rattle.spawn_frame.proofs.Frames.{same_heard}
+use Rattle.spawn_frame.proofs.Kept.{each_weaker}
 use Rattle.spawn_frame.proofs.Lookups.{guest_at}
 use Rattle.spawn_frame.proofs.Sames.{name_path}
 
@@ -119,32 +120,28 @@ ripe_is unit w own h = go w.status refl
     go (Settled result) e = refl
     go Dropped e = refl
 
-each_implied : (P Q : Guest → Type 0) → ((g : Guest) → P g → Q g) → (gs : List Guest) → AllByRecursion P gs → AllByRecursion Q gs
-each_implied P Q f [] p = tt
-each_implied P Q f (g ∷ gs) p = (f g p.0, each_implied P Q f gs p.1)
-
 pub wanted_is : (site : Site) (limit : ℕ) (own : List Child) (guests : List Guest) → IsTable (table_of site limit own guests) own guests → (wanted : Wanted)
     → either_unit (last_wanted wanted 0 own) (first_wanted wanted guests) ≡ wanted_unit wanted (table_of site limit own guests)
 wanted_is site limit own guests h wants.Ready =
     let test : WorkUnit → Entry → Bool = λ unit entry. is_ready entry.status in
     let last = last_is wants.Ready test own 0 (λ i c at. refl) in
-    let first = first_is wants.Ready test guests (each_implied (λ g. IsUnit (units.Guest g.name g.work.attempt) g.work (map child_entry own)) (λ g. is_wanted wants.Ready g.work ≡ is_ready g.work.status) (λ g p. refl) guests h.guest_units) in
+    let first = first_is wants.Ready test guests (each_weaker (λ g. IsUnit (units.Guest g.name g.work.attempt) g.work (map child_entry own)) (λ g. is_wanted wants.Ready g.work ≡ is_ready g.work.status) (λ g p. refl) guests h.guest_units) in
     λ i. either_unit (last i) (first i)
 wanted_is site limit own guests h wants.Ripe =
     let es : List Entry = map child_entry own in
     let test : WorkUnit → Entry → Bool = λ unit entry. is_split entry.status && is_some (frame_result (frame unit es)) in
     let last = last_is wants.Ripe test own 0 (λ i c at. ripe_is (units.Own i) c.work es (h.own_units i c at) ∙ ap (λ k. test (units.Own k) (child_entry c)) (omega arith)) in
-    let first = first_is wants.Ripe test guests (each_implied (λ g. IsUnit (units.Guest g.name g.work.attempt) g.work es) (λ g. is_wanted wants.Ripe g.work ≡ test (units.Guest g.name g.work.attempt) (entry_of None g.work)) (λ g p. ripe_is (units.Guest g.name g.work.attempt) g.work es p) guests h.guest_units) in
+    let first = first_is wants.Ripe test guests (each_weaker (λ g. IsUnit (units.Guest g.name g.work.attempt) g.work es) (λ g. is_wanted wants.Ripe g.work ≡ test (units.Guest g.name g.work.attempt) (entry_of None g.work)) (λ g p. ripe_is (units.Guest g.name g.work.attempt) g.work es p) guests h.guest_units) in
     λ i. either_unit (last i) (first i)
 wanted_is site limit own guests h wants.Here =
     let test : WorkUnit → Entry → Bool = λ unit entry. is_here entry.status in
     let last = last_is wants.Here test own 0 (λ i c at. refl) in
-    let first = first_is wants.Here test guests (each_implied (λ g. IsUnit (units.Guest g.name g.work.attempt) g.work (map child_entry own)) (λ g. is_wanted wants.Here g.work ≡ is_here g.work.status) (λ g p. refl) guests h.guest_units) in
+    let first = first_is wants.Here test guests (each_weaker (λ g. IsUnit (units.Guest g.name g.work.attempt) g.work (map child_entry own)) (λ g. is_wanted wants.Here g.work ≡ is_here g.work.status) (λ g p. refl) guests h.guest_units) in
     λ i. either_unit (last i) (first i)
 wanted_is site limit own guests h wants.Out =
     let test : WorkUnit → Entry → Bool = λ unit entry. is_out entry.status in
     let last = last_is wants.Out test own 0 (λ i c at. refl) in
-    let first = first_is wants.Out test guests (each_implied (λ g. IsUnit (units.Guest g.name g.work.attempt) g.work (map child_entry own)) (λ g. is_wanted wants.Out g.work ≡ is_out g.work.status) (λ g p. refl) guests h.guest_units) in
+    let first = first_is wants.Out test guests (each_weaker (λ g. IsUnit (units.Guest g.name g.work.attempt) g.work (map child_entry own)) (λ g. is_wanted wants.Out g.work ≡ is_out g.work.status) (λ g p. refl) guests h.guest_units) in
     λ i. either_unit (last i) (first i)
 
 -- ---- parents

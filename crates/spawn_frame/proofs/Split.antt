@@ -23,6 +23,7 @@ use Rattle.spawn_frame.specs.declared.work.Work.{Work}
 use Rattle.spawn_frame.proofs.Admitted.{find_child}
 use Rattle.spawn_frame.proofs.Briefs.{briefs, same_child, same_frame}
 use Rattle.spawn_frame.proofs.Ended.{each_told}
+use Rattle.spawn_frame.proofs.Filled.{change_front}
 use Rattle.spawn_frame.proofs.Found.{unit_work}
 use Rattle.spawn_frame.proofs.Grown.{links_kept, origins_kept, path_in, path_work}
 use Rattle.spawn_frame.proofs.Kept.{ascending_kept, child_briefs, each_weaker, guest_there, keys_kept, length_changed, still_there, was_there}
@@ -37,11 +38,6 @@ split_suits (units.Own serial) = refl
 split_suits (units.Guest name attempt) = refl
 
 -- ---- lists with others behind them
-
-change_front : (f : Work → Work) (xs ys : List Child) (k : ℕ) → k < length xs → change_child f (xs ++ ys) k ≡ change_child f xs k ++ ys
-change_front f [] ys k h = absurd (omega (arith, h))
-change_front f (x ∷ xs) ys zero h = refl
-change_front f (x ∷ xs) ys (suc k) h = ap (λ l. x ∷ l) (change_front f xs ys k (omega (arith, h)))
 
 front_or_behind : {X : Type 0} (xs ys : List X) (j : ℕ) (d : X) → slice_get (xs ++ ys) j ≡ Some d → (slice_get xs j ≡ Some d) ⊎ ((i : ℕ) × (length xs ≤ j) × (slice_get ys i ≡ Some d))
 front_or_behind [] ys j d at = inr (j, omega arith, at)
