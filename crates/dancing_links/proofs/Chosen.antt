@@ -310,10 +310,6 @@ view_push v p c os es xs ks o k i view chosen entries item =
 pub same_length : (p : Problem) (c : Columns) (os es : List ℕ) (m : List Link) (keys : List ℕ) (room : ℕ) → IsLinks p c os es m keys room → length es ≡ length os
 same_length p c os es m keys room is = sym (length-map es (option_of c)) ∙ ap length is.options
 
--- a node that the code reads is one of an option
-pub entry_node : (c : Columns) (es : List ℕ) (n k : ℕ) → All (IsOptionNode c) es → n < length es → k ≡ get_or es n k → IsOptionNode c k
-entry_node c es n k each inside e = let P : ℕ → Type 0 = λ j. IsOptionNode c j in subst P (sym e) (each n k inside)
-
 same_child : (a b : Choices) (i j o q : ℕ) → with_child a i o ≡ with_child b j q → (a ≡ b) × (i ≡ j) × (o ≡ q)
 same_child a b i j o q e =
     let problem : a.problem ≡ b.problem = ap (λ (v : Choices). v.problem) e in
@@ -330,12 +326,6 @@ next_choice a b i j o q next after e is =
     let Q : ℕ → Type 0 = λ n. IsNextChoice b n o next after in
     let R : ℕ → Type 0 = λ n. IsNextChoice b j n next after in
     subst R same.2 (subst Q same.1 (subst P same.0 is))
-
-pub same_history_of : (c : Columns) (is : List ℕ) (m n : List Link) (was now : List ℕ) → n ≡ m → now ≡ was → IsHistory c is m was → IsHistory c is n now
-same_history_of c is m n was now e f h =
-    let P : List Link → Type 0 = λ links. IsHistory c is links now in
-    let Q : List ℕ → Type 0 = λ keys. IsHistory c is m keys in
-    subst P (sym e) (subst Q (sym f) h)
 
 pub same_linked : (c : Columns) (m n : List Link) → n ≡ m → IsLinked c m → IsLinked c n
 same_linked c m n e linked = let P : List Link → Type 0 = λ links. IsLinked c links in subst P (sym e) linked

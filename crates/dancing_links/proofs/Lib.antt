@@ -17,6 +17,7 @@ pub mod Nodes
 pub mod Parts
 pub mod Tables
 pub mod Laid
+pub mod Last
 pub mod Building
 pub mod Prefixed
 pub mod Ranges

@@ -1,5 +1,5 @@
 -- The node below the one of the last choice, once the other items of its option are uncovered.
-use Rattle.std.proofs.Common.{◌≡◌, ℕ, ◌+◌, ◌-◌, ◌<◌, ◌≤◌, List, [], ◌∷◌, ◌++◌, length, true, false, ◌||◌, Bool, get_or, map, refl, arith, sym, ap, ◌∙◌, subst, slice_get, Some, None}
+use Rattle.std.proofs.Common.{◌≡◌, ℕ, ◌+◌, ◌-◌, ◌<◌, ◌≤◌, List, [], ◌∷◌, ◌++◌, length, true, false, ◌||◌, Bool, get_or, map, refl, arith, sym, ap, ◌∙◌, subst, append_assoc, slice_get, Some, None}
 use Rattle.std.proofs.lemmas.Bool.{ne_eqb, false_from_ne_true}
 use Rattle.std.proofs.lemmas.List.{get_or_default}
 use Rattle.cover_problem.specs.Onward.{live_options_from}
@@ -16,12 +16,12 @@ use Rattle.dancing_links.specs.Table.{table, heads_of}
 use Rattle.dancing_links.proofs.Walk.{outs_same, option_node, column_skip_to, column_from_take, column_from_end}
 use Rattle.dancing_links.proofs.Round.{others_at}
 use Rattle.dancing_links.proofs.Choose.{spelled_all, open_parts, out_append}
-use Rattle.dancing_links.proofs.Present.{IsOut, with_all, out_start, out_all, open_by, hidden_by}
+use Rattle.dancing_links.proofs.Present.{AreNew, IsOut, dead_named, dead_stay, hidden_by, new_rest, open_by, out_all, out_start, out_step, with_all}
 use Rattle.dancing_links.proofs.Prefixed.{last_live}
 use Rattle.dancing_links.proofs.Tables.{IsNodeAt}
 use Rattle.dancing_links.proofs.Entries.{some_node}
 use Rattle.dancing_links.proofs.Cast.{IsCast}
-use Rattle.dancing_links.proofs.Chosen.{IsFrame, frame_cast, frame_table, frame_new, frame_front, last_free, push_open}
+use Rattle.dancing_links.proofs.Chosen.{IsFrame, covering_push, frame_cast, frame_of, frame_table, frame_new, frame_front, last_free, push_open}
 use Rattle.dancing_links.proofs.State.{frame_names, state_of}
 use Rattle.dancing_links.proofs.Views.{column_is, head_child, node_in, rest_at}
 
@@ -123,6 +123,17 @@ last_of p c os es room o k f =
     let rest = rest_of p c os seen nodes (commits_of c es) (out_of c es) i k o f.layout cast gone named free live front.1 front.2 refl in
     record { item = item; named = named; free = free; live = live; can = can; here = rest.0; rest = rest.1 }
 
+-- the node below that of the last choice, where what is out in its column is as it was before
+below_in : (p : Problem) (c : Columns) (os es gone : List ℕ) (m : List Link) (o k : ℕ) → IsTable c → IsLast p c os es (column_of c k) o k → k < c.tails → IsSpelled c gone m → ((y : ℕ) → column_of c y ≡ column_of c k → among gone y ≡ among (out_of c es) y) → IsBelow p c os (column_of c k) (o + 1) (down_of m k)
+below_in p c os es gone m o k t last inside spelled own =
+    let i : ℕ = column_of c k in
+    let out : List ℕ = out_of c es in
+    let next = spelled.down k inside last.item (own k refl ∙ last.here) in
+    let d : ℕ = down_of m k in
+    let skip = column_skip_to c out i (d - (k + 1)) (k + 1) d (omega (arith, next.below)) (λ y above below same. sym (own y same) ∙ next.nearest y (omega (arith, above)) below same) in
+    let rest : live_options_from p os (column_of c k) (o + 1) ≡ map (option_of c) (column_from c (out_of c es) (column_of c k) (down_of m k)) = sym last.rest ∙ ap (map (option_of c)) skip in
+    below_by p c os out i (o + 1) d t last.item next.low next.column (sym (own d next.column) ∙ next.in_down) rest
+
 pub below_last : (p : Problem) (c : Columns) (os es : List ℕ) (mid : List Link) (half : List ℕ) (room o k : ℕ) → IsFrame p c (os ++ o ∷ []) (es ++ k ∷ []) room → IsHistory c (covering_nodes c es ++ k ∷ []) mid half → IsBelow p c os (column_of c k) (o + 1) (down_of mid k)
 below_last p c os es mid half room o k f h =
     let t = frame_table p c (os ++ o ∷ []) (es ++ k ∷ []) room f in
@@ -136,19 +147,27 @@ below_last p c os es mid half room o k f h =
     let Q : List ℕ → Type 0 = λ gone. IsSpelled c gone mid in
     let spelled = subst Q both (subst P (sym h.links_are) (spelled_all c [] h.before (covering_nodes c es ++ k ∷ []) t h.built.spelled first)) in
     let own : (y : ℕ) → column_of c y ≡ column_of c k → among (outs (covered_by c (out_of c es) k) (out_of c es)) y ≡ among (out_of c es) y = (λ y same. own_kept c out i (colour_at c k) y t last.can same) in
-    let next = spelled.down k front.1.1 last.item (own k refl ∙ last.here) in
-    let d : ℕ = down_of mid k in
-    let skip = column_skip_to c out i (d - (k + 1)) (k + 1) d (omega (arith, next.below)) (λ y above below same. sym (own y same) ∙ next.nearest y (omega (arith, above)) below same) in
-    let rest : live_options_from p os (column_of c k) (o + 1) ≡ map (option_of c) (column_from c (out_of c es) (column_of c k) (down_of mid k)) = sym last.rest ∙ ap (map (option_of c)) skip in
-    below_by p c os out i (o + 1) d t last.item next.low next.column (sym (own d next.column) ∙ next.in_down) rest
+    below_in p c os es (outs (covered_by c (out_of c es) k) (out_of c es)) mid o k t last front.1.1 spelled own
 
--- the same, as the code reads it
-pub below_read : (p : Problem) (c : Columns) (os es : List ℕ) (mid read : List Link) (half : List ℕ) (room o k : ℕ) (link : Link) → IsFrame p c (os ++ o ∷ []) (es ++ k ∷ []) room → IsHistory c (covering_nodes c es ++ k ∷ []) mid half → length mid ≡ length c.column → read ≡ mid → link ≡ get_or read k link → IsBelow p c os (column_of c k) (o + 1) link.down
-below_read p c os es mid read half room o k link f h count same e =
+-- below that node while the others of its option cover their items, too, if it has no colour
+pub below_covered : (p : Problem) (c : Columns) (os es : List ℕ) (m : List Link) (keys : List ℕ) (room o k : ℕ) → IsLinks p c (os ++ o ∷ []) (es ++ k ∷ []) m keys room → colour_at c k ≡ 0 → IsBelow p c os (column_of c k) (o + 1) (down_of m k)
+below_covered p c os es m keys room o k is none =
+    let f = frame_of p c (os ++ o ∷ []) (es ++ k ∷ []) m keys room is in
     let t = frame_table p c (os ++ o ∷ []) (es ++ k ∷ []) room f in
-    let node = (frame_front p c os es room o k f).1 in
-    let inside : k < length mid = omega (arith, count, t.ends, node.1) in
-    let D : Link → ℕ = λ l. l.down in
-    let down : link.down ≡ down_of mid k = ap D (e ∙ ap (λ (m : List Link). get_or m k link) same ∙ get_or_default mid k link (record { up = 0; down = 0 }) inside) in
-    let P : ℕ → Type 0 = λ n. IsBelow p c os (column_of c k) (o + 1) n in
-    subst P (sym down) (below_last p c os es mid half room o k f h)
+    let front = frame_front p c os es room o k f in
+    let i : ℕ = column_of c k in
+    let out : List ℕ = out_of c es in
+    let last = last_of p c os es room o k f in
+    let nodes : List ℕ = with_all [] (covering_nodes c es) in
+    let rest : List ℕ = covering c (commit c (commits_of c es) k) (others c k) in
+    let all : covering_nodes c (es ++ k ∷ []) ≡ covering_nodes c es ++ k ∷ covering c (commit c (commits_of c es) k) (others c k) = covering_push p c os es room k front.0 last.free ∙ append_assoc (covering_nodes c es) (k ∷ []) rest in
+    let N : List ℕ → Type 0 = λ ks. AreNew c [] ks in
+    let new = new_rest c [] (covering_nodes c es) (k ∷ rest) (subst N all (frame_new p c (os ++ o ∷ []) (es ++ k ∷ []) room f)) in
+    let gone : IsOut c (with_all [] (covering_nodes c es)) (out_of c es) = out_all c [] [] (covering_nodes c es) t (out_start c) (frame_new p c os es room front.0) in
+    let after = out_step c nodes out k t gone new.0.0 new.0.1 in
+    let both : outs_all c [] (covering_nodes c (es ++ k ∷ [])) ≡ outs_all c (outs (covered_by c (out_of c es) k) (out_of c es)) (covering c (commit c (commits_of c es) k) (others c k)) = ap (outs_all c []) all ∙ out_append c [] (covering_nodes c es) (k ∷ rest) in
+    let P : List ℕ → Type 0 = λ gone. IsSpelled c gone m in
+    let spelled = subst P both (state_of p c (os ++ o ∷ []) (es ++ k ∷ []) m keys room is).spelled in
+    let own : (y : ℕ) → column_of c y ≡ column_of c k → among (outs_all c (outs (covered_by c (out_of c es) k) (out_of c es)) (covering c (commit c (commits_of c es) k) (others c k))) y ≡ among (out_of c es) y = (λ y same.
+    dead_stay c (k ∷ nodes) (outs (covered_by c out k) out) rest y t after new.1 (omega (arith, last.item, same)) (λ node. dead_named c nodes k y t node same none) ∙ own_kept c out i (colour_at c k) y t last.can same) in
+    below_in p c os es (outs_all c (outs (covered_by c (out_of c es) k) (out_of c es)) rest) m o k t last front.1.1 spelled own

@@ -1,12 +1,12 @@
 -- Which nodes are out once nodes cover their items: those of options that name such an item, and give it not the same colour.
-use Rattle.std.proofs.Common.{◌≡◌, ℕ, zero, suc, ◌+◌, ◌-◌, ◌<◌, ◌≤◌, List, [], ◌∷◌, ◌++◌, Bool, true, false, not, ◌==◌, ◌&&◌, filter, refl, arith, sym, ap, ◌∙◌, inl, inr, ◌⊎◌}
+use Rattle.std.proofs.Common.{◌≡◌, ℕ, zero, suc, ◌+◌, ◌-◌, ◌<◌, ◌≤◌, List, [], ◌∷◌, ◌++◌, Bool, true, false, not, ◌==◌, ◌&&◌, ◌||◌, filter, refl, arith, sym, ap, ◌∙◌, inl, inr, ◌⊎◌}
 use Rattle.std.specs.List.{range_with_len, list_any, flat_map}
-use Rattle.std.proofs.lemmas.Bool.{eq-eqb, eqb-true, eqb-false, cases_Bool, cases_eq, both_ways, or_cases, or_left, or_right, and_parts, and_from, not-true, not_from_false, false_from_ne_true}
-use Rattle.dancing_links.specs.Columns.{among, Columns, column_of, colour_at, begin_of, end_of, column_from, IsTable}
+use Rattle.std.proofs.lemmas.Bool.{eq-eqb, eqb-true, eqb-false, ne_eqb, cases_Bool, cases_eq, both_ways, or_cases, or_left, or_right, and_parts, and_from, not-true, not_from_false, false_from_ne_true}
+use Rattle.dancing_links.specs.Columns.{among, Columns, column_of, colour_at, begin_of, end_of, column_from, IsTable, IsOptionNode}
 use Rattle.dancing_links.specs.Covering.{outs, others, has_colour, hidden_at, hidden_from, covered, covered_by, IsOpen, AreOpen, outs_all}
 use Rattle.dancing_links.proofs.Law.{in_other}
 use Rattle.dancing_links.proofs.Round.{among-append, others_at, others_has}
-use Rattle.dancing_links.proofs.Walk.{option_node, hidden_other, hidden_others}
+use Rattle.dancing_links.proofs.Walk.{option_node, hidden_other, hidden_others, outs_same}
 
 pub outs_kept : (xs out : List ℕ) (k : ℕ) → among out k ≡ true → among (outs xs out) k ≡ true
 outs_kept [] out k h = h
@@ -254,8 +254,42 @@ pub out_all : (c : Columns) (nodes out ks : List ℕ) → IsTable c → IsOut c 
 out_all c nodes out [] t o new = o
 out_all c nodes out (k ∷ ks) t o new = out_all c (k ∷ nodes) (outs (covered_by c out k) out) ks t (out_step c nodes out k t o new.0.0 new.0.1) new.1
 
-pub same_flags : (a b : Bool) → (a ≡ true → b ≡ true) → (b ≡ true → a ≡ true) → a ≡ b
-same_flags a b to from = elim (cases_Bool a) [
-  | inl t ↦ t ∙ sym (to t)
-  | inr f ↦ f ∙ sym (false_from_ne_true b (λ t. both_ways a f (from t)))
-]
+pub new_rest : (c : Columns) (nodes xs ys : List ℕ) → AreNew c nodes (xs ++ ys) → AreNew c (with_all nodes xs) ys
+new_rest c nodes [] ys new = new
+new_rest c nodes (x ∷ xs) ys new = new_rest c (x ∷ nodes) xs ys new.1
+
+-- ---- what stays as it is
+
+-- a node without a colour bars all options that name its item
+pub dead_named : (c : Columns) (nodes : List ℕ) (k y : ℕ) → IsTable c → IsOptionNode c y → column_of c y ≡ column_of c k → colour_at c k ≡ 0 → is_dead c (k ∷ nodes) y ≡ true
+dead_named c nodes k y t node own none =
+    let w = t.within y node.0 node.1 in
+    let bar : ((column_of c k == column_of c y) && not (has_colour c (colour_at c k) y)) ≡ true = and_from (column_of c k == column_of c y) (not (has_colour c (colour_at c k) y)) (eq-eqb (column_of c k) (column_of c y) (sym own)) (ap (λ (a : ℕ). not (has_colour c a y)) none) in
+    dead_by c (k ∷ nodes) (begin_of c y) (end_of c y - begin_of c y) y w.0 (omega (arith, w.0, w.1)) (or_left ((column_of c k == column_of c y) && not (has_colour c (colour_at c k) y)) (bars c nodes y) bar)
+
+-- covering one item more takes no node of an option out that was dead before
+dead_stays : (c : Columns) (nodes out : List ℕ) (n y : ℕ) → IsTable c → IsOut c nodes out → column_of c n + 1 < c.heads → covers c nodes (column_of c n) ≡ false → column_of c y + 1 < c.heads → (IsOptionNode c y → is_dead c nodes y ≡ true) → among (outs (covered_by c out n) out) y ≡ among out y
+unfolding covered
+dead_stays c nodes out n y t o item new named dead =
+    let i : ℕ = column_of c n in
+    let x : ℕ = c.heads + i in
+    let hidden : List ℕ = hidden_from c (x ∷ out) i (colour_at c n) c.heads in
+    let own = t.item_columns i item in
+    let other : x ≡ y → ⊥ = (λ e. omega (arith, own, ap (column_of c) e, named)) in
+    let never : among hidden y ≡ false = false_from_ne_true (among hidden y) (λ hid.
+    let at = hidden_by c (x ∷ out) i (colour_at c n) y t hid in
+    let low = option_node c i at.node t item at.low at.own in
+    let w = t.within at.node low at.high in
+    let in_option = others_at c at.node y w.0 w.1 at.other in
+    let same = t.same at.node y low at.high in_option.0 in_option.1 in
+    let was : is_dead c nodes at.node ≡ true = sym (dead_same c nodes at.node y same.0 same.1) ∙ dead (omega (arith, w.2, in_option.0), omega (arith, w.3, in_option.1)) in
+    let gone = o.dead_out at.node low at.high (ap (covers c nodes) at.own ∙ new) was in
+    both_ways (among (x ∷ out) at.node) at.here (or_right (x == at.node) (among out at.node) gone)) in
+    outs_same hidden (x ∷ out) y never ∙ ap (λ (b : Bool). b || among out y) (ne_eqb x y other)
+
+-- nor does covering several
+pub dead_stay : (c : Columns) (nodes out ks : List ℕ) (y : ℕ) → IsTable c → IsOut c nodes out → AreNew c nodes ks → column_of c y + 1 < c.heads → (IsOptionNode c y → is_dead c nodes y ≡ true) → among (outs_all c out ks) y ≡ among out y
+dead_stay c nodes out [] y t o new named dead = refl
+dead_stay c nodes out (k ∷ ks) y t o new named dead =
+    dead_stay c (k ∷ nodes) (outs (covered_by c out k) out) ks y t (out_step c nodes out k t o new.0.0 new.0.1) new.1 named (λ node. dead_more c k nodes y (dead node))
+    ∙ dead_stays c nodes out k y t o new.0.0 new.0.1 named dead

@@ -163,30 +163,15 @@ cut_of c primary es all k trail room marks front mark space is e f =
     let M : Mark → ℕ = λ m. m.middle in
     record { front_is = last.0; start = ap S last.1; middle = ap M last.1; trail_is = is.trail_is ∙ ap (trail_of c) e }
 
-pub cut_inside : (c : Columns) (es : List ℕ) (k : ℕ) (trail : List ℕ) (mark : Mark) (front : List Mark) → IsCut c es k trail mark front → mark.start ≤ length trail
-cut_inside c es k trail mark front cut = omega (arith, cut.start, ap length (cut.trail_is ∙ trail_push c es k), length-append (trail_of c es) (hidden_all c (out_of c es) (covering c (commits_of c es) (nodes_by c k))))
-
 -- the piece from the choice on
 pub cut_piece : (c : Columns) (es : List ℕ) (k : ℕ) (trail : List ℕ) (mark : Mark) (front : List Mark) → IsCut c es k trail mark front → drop mark.start trail ≡ hidden_all c (out_of c es) (covering c (commits_of c es) (nodes_by c k))
 cut_piece c es k trail mark front cut = rest_from trail (trail_of c es) (hidden_all c (out_of c es) (covering c (commits_of c es) (nodes_by c k))) mark.start (cut.trail_is ∙ trail_push c es k) cut.start
-
--- and the trail before it
-pub cut_front : (c : Columns) (es : List ℕ) (k : ℕ) (trail : List ℕ) (mark : Mark) (front : List Mark) → IsCut c es k trail mark front → take mark.start trail ≡ trail_of c es
-cut_front c es k trail mark front cut = front_of trail (trail_of c es) (hidden_all c (out_of c es) (covering c (commits_of c es) (nodes_by c k))) mark.start (cut.trail_is ∙ trail_push c es k) cut.start
 
 -- all of it are nodes of options
 pub cut_options : (p : Problem) (c : Columns) (os es : List ℕ) (m : List Link) (keys : List ℕ) (room o k : ℕ) (trail : List ℕ) (mark : Mark) (front : List Mark) (n : ℕ) → IsLinks p c (os ++ o ∷ []) (es ++ k ∷ []) m keys room → IsCut c es k trail mark front → All (IsOptionNode c) (drop n trail)
 cut_options p c os es m keys room o k trail mark front n is cut =
     let f = frame_of p c (os ++ o ∷ []) (es ++ k ∷ []) m keys room is in
     piece_options c (covering_nodes c (es ++ k ∷ [])) m keys trail n (frame_table p c (os ++ o ∷ []) (es ++ k ∷ []) room f) (frame_open p c (os ++ o ∷ []) (es ++ k ∷ []) room f) is.history cut.trail_is
-
-pub trail_less : (c : Columns) (primary : ℕ) (es all : List ℕ) (k : ℕ) (trail less : List ℕ) (room narrow : ℕ) (marks front : List Mark) (mark : Mark) (space spare : ℕ) → IsTrail c primary all trail room marks space → IsCut c es k trail mark front → less ≡ take mark.start trail → narrow ≡ room → spare ≡ space → IsTrail c primary es less narrow front spare
-trail_less c primary es all k trail less room narrow marks front mark space spare is cut e f g = record {
-  trail_is = e ∙ cut_front c es k trail mark front cut;
-  enough = omega (arith, is.enough, f);
-  marks_are = cut.front_is;
-  some = omega (arith, is.some, g);
-}
 
 -- nothing is on the trail where nothing is chosen
 pub trail_built : (c : Columns) (primary : ℕ) (es trail : List ℕ) (room : ℕ) (marks : List Mark) (space : ℕ) → es ≡ [] → trail ≡ [] → marks ≡ [] → c.tails ≤ room → primary ≤ space → IsTrail c primary es trail room marks space
@@ -280,12 +265,3 @@ trail_others p c os es room o k m keys held trail longer f h e g trails =
     let P : List ℕ → Type 0 = λ commits. TrailsAll c m (covering c commits (others c k)) trail longer in
     let more : List ℕ = hidden_all c (outs_all c [] (covering_nodes c es ++ k ∷ [])) (covering c (commit c (commits_of c es) k) (others c k)) in
     (subst P e trails) (outs_all c [] nodes) (history_spelled c nodes m keys t parts.0 h) parts.1 ∙ ap (λ (xs : List ℕ). xs ++ more) g ∙ sym (trail_split p c os es room o k f)
-
--- nothing comes in its place
-pub trail_half : (c : Columns) (primary : ℕ) (es : List ℕ) (k : ℕ) (trail half less : List ℕ) (mark : Mark) (front : List Mark) (room narrow space spare : ℕ) → IsCut c es k trail mark front → IsHalf c es k half mark.start → less ≡ take mark.start half → c.tails ≤ room → narrow ≡ room → primary ≤ space → spare ≡ space → IsTrail c primary es less narrow front spare
-trail_half c primary es k trail half less mark front room narrow space spare cut at e enough f some g = record {
-  trail_is = e ∙ at.front;
-  enough = omega (arith, enough, f);
-  marks_are = cut.front_is;
-  some = omega (arith, some, g);
-}

@@ -334,6 +334,7 @@ pub fn cover_from(
 }
 
 /// Uncovers those items, in the reverse order: a piece of the trail has what that hid.
+#[inline(always)]
 pub fn uncover_from(
     layout: &Layout,
     links: &mut [Link],

@@ -1,11 +1,11 @@
 //! The links of a problem in which options are chosen.
 
-ghost use Rattle.std.specs.Prelude.{◌≡◌, ℕ, ◌+◌, ◌-◌, ◌<◌, ◌≤◌, [], length, IfOk, IfSome, true, false, slice_get};
+ghost use Rattle.std.specs.Prelude.{◌≡◌, ℕ, ◌+◌, ◌-◌, ◌<◌, ◌≤◌, ◌==◌, ◌&&◌, [], length, not, nat_lt, IfOk, IfSome, true, false, slice_get};
 ghost use Rattle.cover_problem.specs.Branching.{branch_item, live_options, IsOpen};
 ghost use Rattle.cover_problem.specs.Onward.{open_items_from, live_options_from};
 ghost use Rattle.cover_problem.specs.Problem.{IsProblem};
 ghost use Rattle.dancing_links.specs.Choices.{Choices, with_child, with_child_if, with_choice, IsChild, IsNextChoice, IsPrimary};
-ghost use Rattle.dancing_links.specs.Columns.{IsLinked};
+ghost use Rattle.dancing_links.specs.Columns.{colour_at, IsLinked};
 ghost use Rattle.dancing_links.specs.Linking.{down_of};
 ghost use Rattle.dancing_links.specs.Table.{table};
 ghost use Rattle.dancing_links.specs.Walking.{options_left};
@@ -187,53 +187,32 @@ impl<'a> Links<'a> {
         self.marks.pop();
         self.entries.pop();
         self.chosen.pop();
-        uncover_others(
-            &self.layout,
-            &mut self.links,
-            &mut self.keys,
-            &mut self.commits,
-            piece_of(&self.trail, mark.middle, self.out),
-            node,
-        );
-        let next = self.links[node].down as usize;
-        if next >= self.layout.tails() {
-            uncover_one(
-                &self.layout,
-                &mut self.links,
-                &mut self.keys,
-                &mut self.commits,
-                piece_of(&self.trail, mark.start, mark.middle),
-                node,
-            );
+        let layout = &self.layout;
+        let links: &mut [Link] = &mut self.links;
+        let keys: &mut [u32] = &mut self.keys;
+        let commits: &mut [u32] = &mut self.commits;
+        let trail: &mut [u32] = &mut self.trail;
+        if is_last(layout, links, node) {
+            // What the item hid and what the others hid comes back in one pass, in place of two.
+            let all = piece_of(trail, mark.start, self.out);
+            uncover_from(layout, links, keys, commits, all, node);
             self.out = mark.start;
             return None;
         }
-        let option = self.layout.option_at(next);
-        let middle = recommit(
-            &self.layout,
-            &mut self.links,
-            &mut self.keys,
-            &mut self.commits,
-            &mut self.trail,
-            mark.start,
-            mark.middle,
-            node,
-            next,
-        );
-        let out = cover_others(
-            &self.layout,
-            &mut self.links,
-            &mut self.keys,
-            &mut self.commits,
-            &mut self.trail,
-            middle,
-            next,
-        );
-        self.out = out;
-        self.marks.push_reserved(Mark {
-            start: mark.start,
-            middle,
-        });
+        let others = piece_of(trail, mark.middle, self.out);
+        uncover_others(layout, links, keys, commits, others, node);
+        let next = links[node].down as usize;
+        if next >= layout.tails() {
+            let own = piece_of(trail, mark.start, mark.middle);
+            uncover_one(layout, links, keys, commits, own, node);
+            self.out = mark.start;
+            return None;
+        }
+        let option = layout.option_at(next);
+        let (start, half) = (mark.start, mark.middle);
+        let middle = recommit(layout, links, keys, commits, trail, start, half, node, next);
+        self.out = cover_others(layout, links, keys, commits, trail, middle, next);
+        self.marks.push_reserved(Mark { start, middle });
         self.entries.push_reserved(next as u32);
         self.chosen.push_reserved(option);
         Some(option)
@@ -250,14 +229,11 @@ impl<'a> Links<'a> {
         self.marks.pop();
         self.entries.pop();
         self.chosen.pop();
-        uncover_from(
-            &self.layout,
-            &mut self.links,
-            &mut self.keys,
-            &mut self.commits,
-            piece_of(&self.trail, mark.start, self.out),
-            node,
-        );
+        let links: &mut [Link] = &mut self.links;
+        let keys: &mut [u32] = &mut self.keys;
+        let commits: &mut [u32] = &mut self.commits;
+        let all = piece_of(&self.trail, mark.start, self.out);
+        uncover_from(&self.layout, links, keys, commits, all, node);
         self.out = mark.start;
         option
     }
@@ -367,6 +343,19 @@ fn primary_node(layout: &Layout, problem: &Problem, option: u16) -> usize
 {
     let (begin, end) = layout.node_range(option);
     layout.node_below(problem.primary(), begin, end)
+}
+
+/// Whether a node without a colour is the last one of its column that is in. While it covers its item, covering others doesn't
+/// change that.
+#[inline(always)]
+fn is_last(layout: &Layout, links: &[Link], node: usize) -> bool
+    requires node { (layout.now.heads + layout.now.heads ≤ node + 1) × (node < layout.now.tails) }
+    requires linked { IsLinked layout.now links.now }
+    ensures { result ≡ not (nat_lt (down_of links.now node) layout.now.tails)
+        && colour_at layout.now node == 0 }
+{
+    let tails = layout.tails();
+    links[node].down as usize >= tails && layout.colour_at(node) == 0
 }
 
 /// The option of the node below a node in its column; none at the tail.

@@ -1,103 +1,58 @@
-use Rattle.std.proofs.Common.{◌≡◌, ℕ, ◌<◌, ◌≤◌, ◌-◌, take, drop, ◌∙◌, length, arith, ap, sym, refl, [], ◌∷◌, ◌++◌, vec_capacity, map, List, subst}
-use Rattle.std.proofs.lemmas.List.{length-take-le}
-use Rattle.std.proofs.lemmas.Grind.{common_steps}
-use Rattle.dancing_links.specs.Choices.{Choices, commits_of}
+use Rattle.std.proofs.Common.{◌≡◌, ℕ, ◌-◌, ◌<◌, ◌∙◌, drop, get_or, length, map, take, vec_capacity, ap, arith, refl, sym}
+use Rattle.std.proofs.lemmas.List.{get_or_default}
+use Rattle.dancing_links.specs.Choices.{Choices, with_child}
 use Rattle.dancing_links.specs.Columns.{column_of}
-use Rattle.dancing_links.proofs.Chosen.{choices_by, commits_popped, entry_node, frame_of, held_kept, links_pop, put_back, same_links_of, same_length, view_push}
-use Rattle.std.specs.List.{All}
-use Rattle.dancing_links.specs.Columns.{IsOptionNode}
-use Rattle.dancing_links.proofs.Trail.{take_take}
-use Rattle.dancing_links.proofs.Trailed.{cut_of, cut_inside, cut_piece, cut_options, marks_length, trail_less}
+use Rattle.dancing_links.proofs.Chosen.{choices_by, put_back, same_links_of}
+use Rattle.dancing_links.proofs.Last.{IsLastChoice, all_back, last_choice, piece_options, trail_back}
 use Rattle.dancing_links.proofs.links.Links.undo.Goals as goal
+use Rattle.dancing_links.proofs.links.Links.undo.Goals.{After-deref}
 
-pub uncover_from-requires-clause-node : goal.uncover_from-requires-clause-node
-uncover_from-requires-clause-node c =
-    let some : 0 < length c.self.inside.chosen.items = omega (arith, c.requires, ap (λ (v : Choices). length v.chosen) c.self.view_is) in
-    let same = same_length c.self.inside.problem.now c.self.inside.layout c.self.inside.chosen.items c.self.inside.entries.items c.self.inside.links.items c.self.inside.keys.items (vec_capacity c.self.inside.chosen) c.self.invariant.0 in
-    entry_node c.self.inside.layout c.self.inside.entries.items (c.len-2.result - 1) c.index.result.now c.self.invariant.0.each_node (omega (arith, some, same, c.len-2.ensures, c.self.inside.entries.ok.0)) c.index.ensures
+last_of : (c : After-deref) → IsLastChoice c.self.inside.problem.now c.self.inside.layout c.pop-3.new.self.items c.pop-2.new.self.items (get_or c.self.inside.chosen.items (c.self.inside.chosen.len - 1) 0) c.index.result.now c.deref_mut-links.result.now c.deref_mut-keys.result.now c.deref_mut-commits.result.now c.deref.result.now c.self.inside.out (vec_capacity c.self.inside.chosen) c.index-mark.result.now c.pop.new.self.items c.args.self.now
+last_of c =
+    let s = c.self.inside in
+    let i = c.self.invariant in
+    last_choice s.problem.now s.layout c.pop-3.new.self.items c.pop-2.new.self.items s.chosen.items s.entries.items c.index.result.now s.chosen.len s.entries.len s.marks.len c.len-2.result c.len-3.result
+    s.links.items c.deref_mut-links.result.now s.keys.items c.deref_mut-keys.result.now s.commits.items c.deref_mut-commits.result.now s.trail.items c.deref.result.now s.out (vec_capacity s.chosen) _ _ s.marks.items c.pop.new.self.items c.index-mark.result.now c.args.self.now
+    c.self.view_is c.requires i.0 i.2 i.3 i.4 (omega (arith, s.chosen.ok.0)) (omega (arith, s.entries.ok.0)) (omega (arith, s.marks.ok.0)) c.len-2.ensures c.len-3.ensures c.pop-3.ensures.rest c.pop-2.ensures.rest c.pop.ensures.rest c.index.ensures c.index-mark.ensures
+    c.deref_mut-links.ensures.value c.deref_mut-keys.ensures.value c.deref_mut-commits.ensures.value c.deref.ensures.value
+
+pub piece_of-all-requires : goal.piece_of-all-requires
+piece_of-all-requires c = let last = last_of (goal.at.piece_of-all-requires c).After-deref in (omega (arith, last.first, last.second), last.inside)
 
 pub uncover_from-requires-clause-commits : goal.uncover_from-requires-clause-commits
-uncover_from-requires-clause-commits c = held_kept c.self.inside.problem.now c.self.inside.layout c.self.inside.chosen.items c.self.inside.entries.items c.self.inside.links.items c.self.inside.keys.items (vec_capacity c.self.inside.chosen) c.deref_mut-3.result.now c.self.invariant.0 (c.deref_mut-3.ensures.value ∙ c.self.invariant.2)
+uncover_from-requires-clause-commits c = (last_of (goal.at.uncover_from-requires-clause-commits c).After-deref).kept
+
+pub uncover_from-requires-clause-node : goal.uncover_from-requires-clause-node
+uncover_from-requires-clause-node c = (last_of (goal.at.uncover_from-requires-clause-node c).After-deref).node
+
+pub uncover_from-requires-clause-trail : goal.uncover_from-requires-clause-trail
+uncover_from-requires-clause-trail c = piece_options _ _ _ _ _ _ _ _ _ _ _ _ _ c.index-mark.result.now.start _ _ _ (last_of (goal.at.uncover_from-requires-clause-trail c).After-deref) c.piece_of-all.ensures
 
 pub invariant_of-self : goal.invariant_of-self
 invariant_of-self c =
-    let p = c.self.inside.problem.now in
-    let cs = c.self.inside.layout in
-    let os = c.pop-3.new.self.items in
-    let es = c.pop-2.new.self.items in
-    let o : ℕ = c.index-option.result.now in
-    let k : ℕ = c.index.result.now in
-    let some : 0 < length c.self.inside.chosen.items = omega (arith, c.requires, ap (λ (v : Choices). length v.chosen) c.self.view_is) in
-    let same = same_length c.self.inside.problem.now c.self.inside.layout c.self.inside.chosen.items c.self.inside.entries.items c.self.inside.links.items c.self.inside.keys.items (vec_capacity c.self.inside.chosen) c.self.invariant.0 in
-    let some_entry : 0 < length c.self.inside.entries.items = omega (arith, some, same) in
-    let some_mark : 0 < length c.self.inside.marks.items = omega (arith, some, same, marks_length c.self.inside.layout [] c.self.inside.entries.items, ap length c.self.invariant.3.marks_are) in
-    let room = vec_capacity c.self.inside.chosen in
-    let e : c.self.inside.chosen.items ≡ c.pop-3.new.self.items ++ c.index-option.result.now ∷ [] = grind (arith, common_steps) in
-    let f : c.self.inside.entries.items ≡ c.pop-2.new.self.items ++ c.index.result.now ∷ [] = grind (arith, common_steps) in
-    let before = same_links_of p cs c.self.inside.chosen.items (os ++ o ∷ []) c.self.inside.entries.items (es ++ k ∷ []) c.self.inside.links.items c.deref_mut.result.now c.self.inside.keys.items c.deref_mut-2.result.now room room (sym e) (sym f) c.deref_mut.ensures.value c.deref_mut-2.ensures.value refl c.self.invariant.0 in
-    let h : c.self.inside.marks.items ≡ c.pop.new.self.items ++ c.index-mark.result.now ∷ [] = grind (arith, common_steps) in
-    let cut = cut_of cs p.primary es c.self.inside.entries.items k (take c.self.inside.out c.self.inside.trail.items) (length c.self.inside.trail.items) c.self.inside.marks.items c.pop.new.self.items c.index-mark.result.now (vec_capacity c.self.inside.marks) c.self.invariant.3 f h in
-    let inside : c.index-mark.result.now.start ≤ c.self.inside.out = omega (arith, cut_inside cs es k (take c.self.inside.out c.self.inside.trail.items) c.index-mark.result.now c.pop.new.self.items cut, length-take-le c.self.inside.out c.self.inside.trail.items c.self.invariant.4) in
-    let piece_is : c.piece_of.result.now ≡ drop c.index-mark.result.now.start (take c.self.inside.out c.self.inside.trail.items) = c.piece_of.ensures ∙ ap (λ (xs : List ℕ). drop c.index-mark.result.now.start (take c.self.inside.out xs)) c.deref.ensures.value in
-    let held : c.deref_mut-3.result.now ≡ commits_of c.self.inside.layout (c.pop-2.new.self.items ++ c.index.result.now ∷ []) = c.deref_mut-3.ensures.value ∙ c.self.invariant.2 ∙ ap (commits_of cs) f in
-    let popped = commits_popped p cs os es room o k c.deref_mut-3.result.now c.uncover_from.new.commits (frame_of p cs (os ++ o ∷ []) (es ++ k ∷ []) c.deref_mut.result.now c.deref_mut-2.result.now room before) held c.uncover_from.ensures.kept c.uncover_from.ensures.commits in
-    let after = links_pop p cs os es c.deref_mut.result.now c.uncover_from.new.links c.deref_mut-2.result.now c.uncover_from.new.keys c.uncover_from.new.commits c.piece_of.result.now room o k before popped c.uncover_from.ensures.linked c.uncover_from.ensures.links c.uncover_from.ensures.keys (piece_is ∙ cut_piece cs es k (take c.self.inside.out c.self.inside.trail.items) c.index-mark.result.now c.pop.new.self.items cut) in
-    (same_links_of p cs os os es es c.uncover_from.new.links _ c.uncover_from.new.keys _ room _ refl refl (put_back c.uncover_from.new.links _ c.self.inside.links.len (omega (arith, c.uncover_from.ensures.linked.0, c.self.invariant.0.linked.0, c.self.inside.links.ok.0))) (put_back c.uncover_from.new.keys _ c.self.inside.keys.len (omega (arith, c.uncover_from.auto.keys, c.deref_mut-2.ensures.len, c.self.inside.keys.ok.0))) c.pop-3.ensures.capacity after, omega (arith, c.self.invariant.1, c.pop-2.ensures.capacity), put_back c.uncover_from.new.commits _ c.self.inside.commits.len (omega (arith, c.uncover_from.auto.commits, c.deref_mut-3.ensures.len, c.self.inside.commits.ok.0)) ∙ popped, trail_less cs p.primary es c.self.inside.entries.items k (take c.self.inside.out c.self.inside.trail.items) (take c.index-mark.result.now.start c.self.inside.trail.items) (length c.self.inside.trail.items) (length c.self.inside.trail.items) c.self.inside.marks.items c.pop.new.self.items c.index-mark.result.now (vec_capacity c.self.inside.marks) (vec_capacity c.pop.new.self) c.self.invariant.3 cut (sym (take_take c.index-mark.result.now.start c.self.inside.out c.self.inside.trail.items inside c.self.invariant.4)) refl c.pop.ensures.capacity, omega (arith, inside, c.self.invariant.4))
+    let i = c.self.invariant in
+    let u = c.uncover_from in
+    let last = last_of (goal.at.invariant_of-self c).After-deref in
+    let back = all_back _ _ _ _ _ _ _ u.new.links _ u.new.keys _ u.new.commits _ _ _ _ _ _ _ last c.piece_of-all.ensures u.ensures.linked u.ensures.links u.ensures.keys u.ensures.kept u.ensures.commits in
+    let links = put_back c.uncover_from.new.links (drop (length c.uncover_from.new.links) c.self.inside.links.items) c.self.inside.links.len (omega (arith, c.uncover_from.ensures.linked.0, c.self.invariant.0.linked.0, c.self.inside.links.ok.0)) in
+    let keys = put_back c.uncover_from.new.keys (drop (length c.uncover_from.new.keys) c.self.inside.keys.items) c.self.inside.keys.len (omega (arith, c.uncover_from.auto.keys, c.deref_mut-keys.ensures.len, c.self.inside.keys.ok.0)) in
+    let commits = put_back c.uncover_from.new.commits (drop (length c.uncover_from.new.commits) c.self.inside.commits.items) c.self.inside.commits.len (omega (arith, c.uncover_from.auto.commits, c.deref_mut-commits.ensures.len, c.self.inside.commits.ok.0)) in
+    let trail = sym c.deref.ensures.value in (
+      same_links_of _ _ _ _ _ _ _ _ _ _ _ _ refl refl links keys c.pop-3.ensures.capacity back.links_are,
+      omega (arith, c.self.invariant.1, c.pop-2.ensures.capacity),
+      commits ∙ back.held,
+      trail_back _ _ _ _ _ _ _ _ _ _ _ _ _ _ _ _ _ _ _ _ last i.3.enough i.3.some (ap (take c.index-mark.result.now.start) trail) refl c.pop.ensures.capacity,
+      omega (arith, last.first, last.second, last.inside, ap length trail),
+    )
 
 pub returns : goal.returns
 returns c =
-    let p = c.self.inside.problem.now in
+    let s = c.self.inside in
     let cs = c.self.inside.layout in
-    let os = c.pop-3.new.self.items in
-    let es = c.pop-2.new.self.items in
-    let o : ℕ = c.index-option.result.now in
     let k : ℕ = c.index.result.now in
-    let some : 0 < length c.self.inside.chosen.items = omega (arith, c.requires, ap (λ (v : Choices). length v.chosen) c.self.view_is) in
-    let same = same_length c.self.inside.problem.now c.self.inside.layout c.self.inside.chosen.items c.self.inside.entries.items c.self.inside.links.items c.self.inside.keys.items (vec_capacity c.self.inside.chosen) c.self.invariant.0 in
-    let some_entry : 0 < length c.self.inside.entries.items = omega (arith, some, same) in
-    let e : c.self.inside.chosen.items ≡ c.pop-3.new.self.items ++ c.index-option.result.now ∷ [] = grind (arith, common_steps) in
-    let f : c.self.inside.entries.items ≡ c.pop-2.new.self.items ++ c.index.result.now ∷ [] = grind (arith, common_steps) in
-    (column_of cs k, sym c.self.view_is ∙ view_push (choices_by p os (map (column_of cs) es)) p cs os es c.self.inside.chosen.items c.self.inside.entries.items o k (column_of cs k) refl e f refl)
-
-pub piece_of-requires : goal.piece_of-requires
-piece_of-requires c =
-    let p = c.self.inside.problem.now in
-    let cs = c.self.inside.layout in
-    let os = c.pop-3.new.self.items in
-    let es = c.pop-2.new.self.items in
     let o : ℕ = c.index-option.result.now in
-    let k : ℕ = c.index.result.now in
+    let last = last_of (goal.at.returns c).After-deref in
     let some : 0 < length c.self.inside.chosen.items = omega (arith, c.requires, ap (λ (v : Choices). length v.chosen) c.self.view_is) in
-    let same = same_length c.self.inside.problem.now c.self.inside.layout c.self.inside.chosen.items c.self.inside.entries.items c.self.inside.links.items c.self.inside.keys.items (vec_capacity c.self.inside.chosen) c.self.invariant.0 in
-    let some_entry : 0 < length c.self.inside.entries.items = omega (arith, some, same) in
-    let some_mark : 0 < length c.self.inside.marks.items = omega (arith, some, same, marks_length c.self.inside.layout [] c.self.inside.entries.items, ap length c.self.invariant.3.marks_are) in
-    let room = vec_capacity c.self.inside.chosen in
-    let e : c.self.inside.chosen.items ≡ c.pop-3.new.self.items ++ c.index-option.result.now ∷ [] = grind (arith, common_steps) in
-    let f : c.self.inside.entries.items ≡ c.pop-2.new.self.items ++ c.index.result.now ∷ [] = grind (arith, common_steps) in
-    let before = same_links_of p cs c.self.inside.chosen.items (os ++ o ∷ []) c.self.inside.entries.items (es ++ k ∷ []) c.self.inside.links.items c.deref_mut.result.now c.self.inside.keys.items c.deref_mut-2.result.now room room (sym e) (sym f) c.deref_mut.ensures.value c.deref_mut-2.ensures.value refl c.self.invariant.0 in
-    let h : c.self.inside.marks.items ≡ c.pop.new.self.items ++ c.index-mark.result.now ∷ [] = grind (arith, common_steps) in
-    let cut = cut_of cs p.primary es c.self.inside.entries.items k (take c.self.inside.out c.self.inside.trail.items) (length c.self.inside.trail.items) c.self.inside.marks.items c.pop.new.self.items c.index-mark.result.now (vec_capacity c.self.inside.marks) c.self.invariant.3 f h in
-    let inside : c.index-mark.result.now.start ≤ c.self.inside.out = omega (arith, cut_inside cs es k (take c.self.inside.out c.self.inside.trail.items) c.index-mark.result.now c.pop.new.self.items cut, length-take-le c.self.inside.out c.self.inside.trail.items c.self.invariant.4) in
-    (inside, omega (arith, c.self.invariant.4, ap length c.deref.ensures.value))
-
-pub uncover_from-requires-clause-trail : goal.uncover_from-requires-clause-trail
-uncover_from-requires-clause-trail c =
-    let p = c.self.inside.problem.now in
-    let cs = c.self.inside.layout in
-    let os = c.pop-3.new.self.items in
-    let es = c.pop-2.new.self.items in
-    let o : ℕ = c.index-option.result.now in
-    let k : ℕ = c.index.result.now in
-    let some : 0 < length c.self.inside.chosen.items = omega (arith, c.requires, ap (λ (v : Choices). length v.chosen) c.self.view_is) in
-    let same = same_length c.self.inside.problem.now c.self.inside.layout c.self.inside.chosen.items c.self.inside.entries.items c.self.inside.links.items c.self.inside.keys.items (vec_capacity c.self.inside.chosen) c.self.invariant.0 in
-    let some_entry : 0 < length c.self.inside.entries.items = omega (arith, some, same) in
-    let some_mark : 0 < length c.self.inside.marks.items = omega (arith, some, same, marks_length c.self.inside.layout [] c.self.inside.entries.items, ap length c.self.invariant.3.marks_are) in
-    let room = vec_capacity c.self.inside.chosen in
-    let e : c.self.inside.chosen.items ≡ c.pop-3.new.self.items ++ c.index-option.result.now ∷ [] = grind (arith, common_steps) in
-    let f : c.self.inside.entries.items ≡ c.pop-2.new.self.items ++ c.index.result.now ∷ [] = grind (arith, common_steps) in
-    let before = same_links_of p cs c.self.inside.chosen.items (os ++ o ∷ []) c.self.inside.entries.items (es ++ k ∷ []) c.self.inside.links.items c.deref_mut.result.now c.self.inside.keys.items c.deref_mut-2.result.now room room (sym e) (sym f) c.deref_mut.ensures.value c.deref_mut-2.ensures.value refl c.self.invariant.0 in
-    let h : c.self.inside.marks.items ≡ c.pop.new.self.items ++ c.index-mark.result.now ∷ [] = grind (arith, common_steps) in
-    let cut = cut_of cs p.primary es c.self.inside.entries.items k (take c.self.inside.out c.self.inside.trail.items) (length c.self.inside.trail.items) c.self.inside.marks.items c.pop.new.self.items c.index-mark.result.now (vec_capacity c.self.inside.marks) c.self.invariant.3 f h in
-    let piece_is : c.piece_of.result.now ≡ drop c.index-mark.result.now.start (take c.self.inside.out c.self.inside.trail.items) = c.piece_of.ensures ∙ ap (λ (xs : List ℕ). drop c.index-mark.result.now.start (take c.self.inside.out xs)) c.deref.ensures.value in
-    let P : List ℕ → Type 0 = λ xs. All (IsOptionNode c.self.inside.layout) xs in
-    subst P (sym piece_is) (cut_options p cs os es c.deref_mut.result.now c.deref_mut-2.result.now room o k (take c.self.inside.out c.self.inside.trail.items) c.index-mark.result.now c.pop.new.self.items c.index-mark.result.now.start before cut)
+    let place : c.len.result - 1 ≡ c.self.inside.chosen.len - 1 = omega (arith, c.len.ensures) in
+    let read : get_or c.self.inside.chosen.items (c.self.inside.chosen.len - 1) 0 ≡ c.index-option.result.now = sym (c.index-option.ensures ∙ get_or_default s.chosen.items (c.len.result - 1) o 0 (omega (arith, some, c.len.ensures, c.self.inside.chosen.ok.0)) ∙ ap (λ (j : ℕ). get_or s.chosen.items j 0) place) in
+    (column_of cs k, last.view_is ∙ ap (λ (n : ℕ). with_child (choices_by s.problem.now c.pop-3.new.self.items (map (column_of cs) c.pop-2.new.self.items)) (column_of cs k) n) read)
