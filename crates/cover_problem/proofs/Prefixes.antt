@@ -34,7 +34,7 @@ agree_live p xs o each =
 pub covered_more : (p : Problem) (xs : List ℕ) (o i : ℕ) → is_covered p (xs ++ o ∷ []) i ≡ (is_covered p xs i || (names_item p o i || false))
 covered_more p xs o i = list_any-append (λ q. names_item p q i) xs (o ∷ [])
 
-apart_more : (p : Problem) (xs : List ℕ) (o : ℕ) → are_apart p xs ≡ true → is_live p xs o ≡ true → are_apart p (xs ++ o ∷ []) ≡ true
+pub apart_more : (p : Problem) (xs : List ℕ) (o : ℕ) → are_apart p xs ≡ true → is_live p xs o ≡ true → are_apart p (xs ++ o ∷ []) ≡ true
 apart_more p [] o apart live = refl
 apart_more p (y ∷ ys) o apart live =
     let parts = and_parts (is_live p ys y) (are_apart p ys) apart in

@@ -10,6 +10,7 @@ mod check;
 mod laws;
 mod limits;
 mod lists;
+mod marking;
 mod prefix;
 mod problem;
 mod verdict;

@@ -1,11 +1,12 @@
 ghost use Rattle.std.specs.Prelude.{◌≡◌, ◌<◌, ◌≤◌, ◌+◌, length, not, ◌&&◌, ◌↔◌, IfOk, IsTrue};
 ghost use Rattle.cover_problem.specs.ExactCover.{in_order};
 ghost use Rattle.cover_problem.specs.Problem.{names_item, colour_of};
-ghost use Rattle.cover_problem.specs.Prefix.{are_options, is_covered, agree, clash, is_live, are_apart, is_prefix, AreOptions, InFileOrder};
+ghost use Rattle.cover_problem.specs.Prefix.{are_options, is_covered, agree, clash, is_live, is_prefix, AreOptions, InFileOrder};
 ghost use Rattle.std.specs.List.Sorted.{IsStrictlyIncreasing};
 
 use crate::laws::in_order_is_in_file_order;
 use crate::lists::Numbers;
+use crate::marking::are_apart;
 use crate::problem::Problem;
 use std::alloc::{AllocError, Global};
 
@@ -96,18 +97,12 @@ pub fn are_options(problem: &Problem, numbers: &[u16]) -> bool
 }
 
 /// Whether these are options of the problem, no two of which clash.
+///
+/// It takes no memory but 4 KB of the stack, and time of the order of the items of the list's options.
 pub fn is_prefix(problem: &Problem, options: &[u16]) -> bool
     ensures { result ≡ is_prefix problem.now options.now }
 {
-    if !are_options(problem, options) {
-        return false;
-    }
-    for (place, option) in options.iter().enumerate() {
-        if !is_live(problem, &options[place + 1..], *option) {
-            return false;
-        }
-    }
-    true
+    are_options(problem, options) && are_apart(problem, options)
 }
 
 fn ascends(numbers: &[u16]) -> bool
