@@ -1,4 +1,4 @@
-ghost use Rattle.std.specs.Prelude.{◌≡◌, ◌<◌, ◌≤◌, ℕ, List, [], length, Some, true, IfOk, IfErr, IfSome, OnOk, OnErr, vec_capacity};
+ghost use Rattle.std.specs.Prelude.{◌≡◌, ◌<◌, ◌≤◌, ℕ, List, [], length, Some, None, Ok, true, IfOk, IfErr, IfSome, OnOk, OnErr, vec_capacity};
 ghost use Rattle.cover_problem.specs.Prefix.{is_prefix, IsBarren, IsCoverOver};
 ghost use Rattle.cover_problem.specs.Problem.{IsProblem};
 ghost use Rattle.cover_problem.specs.Search.{Covers, first, outcome, visits};
@@ -125,6 +125,7 @@ impl<'a> Searcher<'a> {
             found.0 ≡ finding_by prefix.items fuel (outcome self.old.problem prefix.items fuel))) }
         ensures visits { IfOk result (λ ended. IfSome ended (λ found.
             found.1 ≡ took found.0.outcome (visits self.old.problem prefix.items) fuel)) }
+        ensures stopped { result ≡ Ok None → W.may_stop ≡ true }
         ensures unchanged { OnErr result (self.new ≡ self.old) }
         ensures back { IfErr result (λ list. list.items ≡ prefix.items) }
     {
