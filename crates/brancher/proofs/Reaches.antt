@@ -5,7 +5,7 @@ use Rattle.std.proofs.lemmas.List.{length-append}
 use Rattle.cover_problem.specs.Branching.{branch_item}
 use Rattle.cover_problem.specs.Onward.{live_options_from}
 use Rattle.cover_problem.specs.Search.{first, visits}
-use Rattle.dancing_links.specs.Choices.{Choices, IsChild, IsNextChoice, with_child, with_child_if}
+use Rattle.choices.specs.Choices.{Choices, IsChild, IsNextChoice, with_child, with_child_if}
 use Rattle.brancher.specs.Reach.{IsSoFar, IsReached, at_root, at_child, IsBarrenAt, IsEnded}
 use Rattle.brancher.proofs.Visits.{so_far_start, so_far_found, so_far_spent, so_far_barren, so_far_next, so_far_end}
 

@@ -13,7 +13,7 @@ use Rattle.cover_problem.proofs.Prefixes.{open_few}
 use Rattle.cover_problem.proofs.Remaining.{live_options_from_end, live_options_start}
 use Rattle.cover_problem.proofs.Steps.{within_some, left_end, left_barren, left_found, left_spent}
 use Rattle.cover_problem.proofs.Unbounded.{stable}
-use Rattle.dancing_links.specs.Choices.{IsChild}
+use Rattle.choices.specs.Choices.{IsChild}
 use Rattle.brancher.specs.Reach.{IsSoFar}
 use Rattle.brancher.proofs.Lefts.{options_left, options_next}
 

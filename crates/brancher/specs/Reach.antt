@@ -3,7 +3,7 @@ use Rattle.std.specs.Prelude.{◌≡◌, ℕ, ◌+◌, List, Bool, true, false, 
 use Rattle.cover_problem.specs.Onward.{live_options_from, first_among, visits_among}
 use Rattle.cover_problem.specs.Problem.{Problem}
 use Rattle.cover_problem.specs.Search.{first, visits}
-use Rattle.dancing_links.specs.Choices.{Choices, IsChild, with_child}
+use Rattle.choices.specs.Choices.{Choices, IsChild, with_child}
 
 -- A visit of a prefix that began with so much fuel is done with some of its children: these options are still to be put to it, with so much left.
 pub record IsSoFar (problem : Problem) (prefix : List ℕ) (fuel left : ℕ) (options : List ℕ) : Type 0 where

@@ -6,6 +6,7 @@ ghost use Rattle.cover_problem.specs.Branching.{live_options, branch_item};
 ghost use Rattle.brancher.specs.Branch.{branch_told, IsOpenBranch};
 
 use crate::ways::Branch;
+use choices::Branching;
 use dancing_links::Links;
 use std::alloc::AllocError;
 
@@ -41,18 +42,27 @@ pub fn choose_prefix(links: &mut Links, prefix: &[u16])
     ensures problem { links.new.problem ≡ links.old.problem }
     ensures chosen { links.new.chosen ≡ prefix.now }
 {
-    undo_all(links);
+    put_prefix(links, prefix);
+}
+
+/// Puts a prefix in place of what is chosen in any state that a search branches over.
+pub(crate) fn put_prefix<B: Branching>(state: &mut B, prefix: &[u16])
+    requires { is_prefix (B.choices state.old).problem prefix.now ≡ true }
+    ensures problem { (B.choices state.new).problem ≡ (B.choices state.old).problem }
+    ensures chosen { (B.choices state.new).chosen ≡ prefix.now }
+{
+    undo_all(state);
     for option in prefix {
-        links.choose(*option);
+        state.choose(*option);
     }
 }
 
 /// Takes all choices back.
-fn undo_all(links: &mut Links)
-    ensures problem { links.new.problem ≡ links.old.problem }
-    ensures chosen { links.new.chosen ≡ [] }
+fn undo_all<B: Branching>(state: &mut B)
+    ensures problem { (B.choices state.new).problem ≡ (B.choices state.old).problem }
+    ensures chosen { (B.choices state.new).chosen ≡ [] }
 {
-    while !links.chosen().is_empty() {
-        links.undo();
+    while !state.chosen().is_empty() {
+        state.undo();
     }
 }

@@ -4,10 +4,9 @@ ghost use Rattle.cover_problem.specs.Problem.{IsProblem};
 ghost use Rattle.cover_problem.specs.Search.{Covers, first, outcome, visits};
 ghost use Rattle.cover_problem.specs.declared.limits.TheConstants.{MOST_ITEMS};
 
-use crate::branching::choose_prefix;
 use crate::finding::Finding;
 use crate::outcome::Outcome;
-use crate::visit::{Visit, visit_prefix};
+use crate::visit::{Visit, visit_below};
 use crate::watch::{Unwatched, Watch};
 use cover_problem::Problem;
 use dancing_links::Links;
@@ -71,9 +70,7 @@ impl<'a> Searcher<'a> {
             (visits self.old.problem prefix.now) fuel prefix.now self.new.found result }
         ensures stopped { result ≡ Visit.Stopped → W.may_stop ≡ true }
     {
-        self.links.problem();
-        choose_prefix(&mut self.links, prefix);
-        visit_prefix(&mut self.links, fuel, watch)
+        visit_below(&mut self.links, prefix, fuel, watch)
     }
 
     /// Searches as `search` does, and copies out what it came to; `found` is the cover then, too. It takes the room for a

@@ -1,13 +1,14 @@
 ghost use Rattle.std.specs.Prelude.{◌≡◌, ◌+◌, ◌≤◌, ℕ, length, true};
+ghost use Rattle.cover_problem.specs.Prefix.{is_prefix};
+ghost use Rattle.cover_problem.specs.Problem.{IsProblem};
 ghost use Rattle.cover_problem.specs.Search.{first, visits};
-ghost use Rattle.dancing_links.specs.Choices.{Choices};
+ghost use Rattle.choices.specs.Choices.{Choices};
 ghost use Rattle.brancher.specs.Reach.{IsBarrenAt, IsOnward};
 ghost use Rattle.brancher.specs.Visit.{IsVisit};
 
-use crate::branching::branch;
+use crate::branching::put_prefix;
 use crate::watch::Watch;
-use crate::ways::Branch;
-use dancing_links::Links;
+use choices::Branching;
 
 /// A watch is looked at once in so many visits.
 const LOOK: u64 = 1_024;
@@ -25,26 +26,47 @@ pub enum Visit {
     Stopped,
 }
 
-/// Visits the prefix that is chosen, and what is below it. The chosen options come back, or are the first cover.
-pub fn visit_prefix<W: Watch>(links: &mut Links, fuel: u64, watch: &W) -> Visit
-    ensures problem { links.new.problem ≡ links.old.problem }
-    ensures visit { IsVisit (first links.old.problem links.old.chosen)
-        (visits links.old.problem links.old.chosen) fuel links.old.chosen
-        links.new.chosen result }
-    ensures back { (rest : ℕ) → result ≡ Visit.Barren rest → links.new ≡ links.old }
+/// Puts a prefix in place of what is chosen, and visits it and what is below it.
+pub fn visit_below<B: Branching, W: Watch>(
+    state: &mut B,
+    prefix: &[u16],
+    fuel: u64,
+    watch: &W,
+) -> Visit
+    requires { is_prefix (B.choices state.old).problem prefix.now ≡ true }
+    ensures problem { (B.choices state.new).problem ≡ (B.choices state.old).problem }
+    ensures lawful { IsProblem (B.choices state.old).problem }
+    ensures visit { IsVisit (first (B.choices state.old).problem prefix.now)
+        (visits (B.choices state.old).problem prefix.now) fuel prefix.now
+        (B.choices state.new).chosen result }
     ensures stopped { result ≡ Visit.Stopped → W.may_stop ≡ true }
 {
-    let base = links.chosen().len();
+    state.problem();
+    put_prefix(state, prefix);
+    visit_prefix(state, fuel, watch)
+}
+
+/// Visits the prefix that is chosen, and what is below it. The chosen options come back, or are the first cover.
+fn visit_prefix<B: Branching, W: Watch>(state: &mut B, fuel: u64, watch: &W) -> Visit
+    ensures problem { (B.choices state.new).problem ≡ (B.choices state.old).problem }
+    ensures visit { IsVisit (first (B.choices state.old).problem (B.choices state.old).chosen)
+        (visits (B.choices state.old).problem (B.choices state.old).chosen) fuel
+        (B.choices state.old).chosen (B.choices state.new).chosen result }
+    ensures back { (rest : ℕ) → result ≡ Visit.Barren rest →
+        B.choices state.new ≡ B.choices state.old }
+    ensures stopped { result ≡ Visit.Stopped → W.may_stop ≡ true }
+{
+    let base = state.chosen().len();
     let mut left = fuel;
     while left > 0 {
         if left % LOOK == 0 && watch.is_stopped() {
             return Visit::Stopped;
         }
-        let Branch::Item(item) = branch(links) else {
+        let Some(item) = state.branch_item() else {
             return Visit::Found;
         };
         left -= 1;
-        if links.choose_first(item).is_none() && !choose_onward(links, base) {
+        if state.choose_first(item).is_none() && !choose_onward(state, base) {
             return Visit::Barren(left);
         }
     }
@@ -54,13 +76,15 @@ pub fn visit_prefix<W: Watch>(links: &mut Links, fuel: u64, watch: &W) -> Visit
 /// Takes choices back, the last one first, until one has an option that comes next, which is chosen in its place. False where
 /// none has: then only the first `base` choices are left, which are never taken back.
 #[inline(always)]
-fn choose_onward(links: &mut Links, base: usize) -> bool
-    requires { length links.old.chosen ≤ base + length links.old.branches }
+fn choose_onward<B: Branching>(state: &mut B, base: usize) -> bool
+    requires { length (B.choices state.old).chosen
+        ≤ base + length (B.choices state.old).branches }
     ensures { (root : Choices) (fuel left : ℕ) → base ≡ length root.chosen →
-        IsBarrenAt root fuel links.old left → IsOnward root fuel left links.new result }
+        IsBarrenAt root fuel (B.choices state.old) left →
+        IsOnward root fuel left (B.choices state.new) result }
 {
-    while links.chosen().len() > base {
-        if links.choose_next().is_some() {
+    while state.chosen().len() > base {
+        if state.choose_next().is_some() {
             return true;
         }
     }

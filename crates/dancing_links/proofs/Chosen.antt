@@ -16,7 +16,8 @@ use Rattle.dancing_links.specs.Trail.{hidden_all, KeysUncoveredAll, UncoversAll}
 use Rattle.dancing_links.specs.Covering.{outs, outs_all, links_all, hides, covered_by, others, nodes_by, AreOpen, CoversAll}
 use Rattle.dancing_links.specs.Linking.{unlinks}
 use Rattle.dancing_links.specs.Table.{table}
-use Rattle.dancing_links.specs.Choices.{Choices, with_child, AreFresh, IsNextChoice, IsLinks, IsHistory, chosen_nodes, covering_nodes, commits_of, no_commits}
+use Rattle.choices.specs.Choices.{Choices, with_child, IsNextChoice}
+use Rattle.dancing_links.specs.Choices.{AreFresh, IsLinks, IsHistory, chosen_nodes, covering_nodes, commits_of, no_commits}
 use Rattle.dancing_links.proofs.Agreeing.{covering_start, covering_all}
 use Rattle.dancing_links.proofs.Cast.{IsCast, cast_free}
 use Rattle.dancing_links.proofs.Choose.{spelled_all, links_append, out_append, open_parts}

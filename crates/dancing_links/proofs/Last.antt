@@ -6,7 +6,8 @@ use Rattle.cover_problem.specs.Prefix.{is_covered}
 use Rattle.cover_problem.specs.Problem.{Problem}
 use Rattle.dancing_links.specs.declared.link.Link.{Link}
 use Rattle.dancing_links.specs.declared.mark.Mark.{Mark}
-use Rattle.dancing_links.specs.Choices.{Choices, IsLinks, IsHistory, IsTrail, with_child, commits_of, covering_nodes, trail_of}
+use Rattle.choices.specs.Choices.{Choices, with_child}
+use Rattle.dancing_links.specs.Choices.{IsLinks, IsHistory, IsTrail, commits_of, covering_nodes, trail_of}
 use Rattle.dancing_links.specs.Columns.{Columns, column_of, IsLinked, IsOptionNode}
 use Rattle.dancing_links.specs.Committing.{IsCommits, Recommits, commit, uncommit, committed, covering}
 use Rattle.dancing_links.specs.Covering.{nodes_by, others, CoversAll}

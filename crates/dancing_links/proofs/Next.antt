@@ -7,7 +7,8 @@ use Rattle.cover_problem.specs.Prefix.{is_covered, is_live}
 use Rattle.cover_problem.specs.Problem.{Problem}
 use Rattle.cover_problem.proofs.Remaining.{live_options_start}
 use Rattle.dancing_links.specs.declared.link.Link.{Link}
-use Rattle.dancing_links.specs.Choices.{IsChild, IsHistory, IsLinks, chosen_nodes, covering_nodes, commits_of, out_of}
+use Rattle.choices.specs.Choices.{IsChild}
+use Rattle.dancing_links.specs.Choices.{IsHistory, IsLinks, chosen_nodes, covering_nodes, commits_of, out_of}
 use Rattle.dancing_links.specs.Columns.{Columns, among, column_of, colour_at, column_from, option_of, IsTable, IsSpelled, IsOptionNode}
 use Rattle.dancing_links.specs.Committing.{commit, covering}
 use Rattle.dancing_links.specs.Covering.{outs, outs_all, covered, covered_by, hidden_from, others, IsOpen}

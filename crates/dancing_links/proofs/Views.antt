@@ -9,7 +9,8 @@ use Rattle.cover_problem.specs.Problem.{Problem, IsProblem, items_of, names_item
 use Rattle.cover_problem.proofs.Prefixes.{live_at}
 use Rattle.cover_problem.proofs.Remaining.{open_items_from_take, open_items_from_skip, open_items_from_end, live_options_from_take, live_options_from_skip, live_options_from_end}
 use Rattle.dancing_links.specs.declared.link.Link.{Link}
-use Rattle.dancing_links.specs.Choices.{IsLinks, IsChild, IsPrimary, out_of, chosen_nodes, covering_nodes, commits_of}
+use Rattle.choices.specs.Choices.{IsChild}
+use Rattle.dancing_links.specs.Choices.{IsLinks, IsPrimary, out_of, chosen_nodes, covering_nodes, commits_of}
 use Rattle.dancing_links.specs.Columns.{Columns, among, column_of, column_from, option_of, IsTable, IsLinked, IsSpelled}
 use Rattle.dancing_links.specs.Keys.{mark_of, AreMarked, IsFirstUnmarked}
 use Rattle.dancing_links.specs.Linking.{up_of, down_of}

@@ -1,9 +1,9 @@
--- What links are seen as, and what is true of them.
-use Rattle.std.specs.Prelude.{◌≡◌, ℕ, ◌<◌, ◌≤◌, ◌+◌, ◌-◌, List, [], ◌∷◌, ◌++◌, length, true, false, nat_lt, filter, replicate, map, Option, Some, None, IfSome, slice_get, slice_index_or}
+-- What is true of the links of a problem in which options are chosen.
+use Rattle.std.specs.Prelude.{◌≡◌, ℕ, ◌<◌, ◌≤◌, ◌-◌, List, [], ◌∷◌, ◌++◌, length, true, false, replicate, map}
 use Rattle.std.specs.List.{flat_map, All}
-use Rattle.cover_problem.specs.Onward.{live_options_from}
-use Rattle.cover_problem.specs.Prefix.{is_covered, is_live, is_prefix}
-use Rattle.cover_problem.specs.Problem.{Problem, IsProblem, items_of, names_item}
+use Rattle.cover_problem.specs.Prefix.{is_covered, is_prefix}
+use Rattle.cover_problem.specs.Problem.{Problem, IsProblem, names_item}
+use Rattle.choices.specs.Choices.{first_primary}
 use Rattle.dancing_links.specs.declared.link.Link.{Link}
 use Rattle.dancing_links.specs.declared.mark.Mark.{Mark}
 use Rattle.dancing_links.specs.Building.{IsBuilt}
@@ -14,20 +14,6 @@ use Rattle.dancing_links.specs.Covering.{links_all, outs_all, nodes_by}
 use Rattle.dancing_links.specs.Table.{table}
 use Rattle.dancing_links.specs.Trail.{hidden_all}
 
--- a problem, the options chosen in it, in the order of the choices, and the item by which each was chosen: one of its own, which is covered first
-pub record Choices : Type 0 where
-  pub problem : Problem
-  pub chosen : List ℕ
-  pub branches : List ℕ
-
--- with one more option chosen, by an item
-abbrev pub with_child : Choices → ℕ → ℕ → Choices
-with_child choices item option = record choices { chosen = choices.chosen ++ option ∷ []; branches = choices.branches ++ item ∷ [] }
-
--- the first primary item of an option
-abbrev pub first_primary : Problem → ℕ → ℕ
-first_primary problem option = slice_index_or (filter (λ item. nat_lt item problem.primary) (items_of problem option)) 0 0
-
 -- the node of the first primary item of an option
 pub record IsPrimary (problem : Problem) (c : Columns) (option node : ℕ) : Type 0 where
   pub in_option : IsOptionNode c node
@@ -35,15 +21,6 @@ pub record IsPrimary (problem : Problem) (c : Columns) (option node : ℕ) : Typ
   pub primary : column_of c node < problem.primary
   pub named : names_item problem option (column_of c node) ≡ true
   pub first : column_of c node ≡ first_primary problem option
-
--- with one more option chosen, by its first primary item
-abbrev pub with_choice : Choices → ℕ → Choices
-with_choice choices option = with_child choices (first_primary choices.problem option) option
-
--- with one more option chosen by an item, if there is one
-abbrev pub with_child_if : Choices → ℕ → Option ℕ → Choices
-with_child_if choices item None = choices
-with_child_if choices item (Some option) = with_child choices item option
 
 -- the nodes of chosen options in turn, those of each from the node on by which it was chosen
 abbrev pub chosen_nodes : Columns → List ℕ → List ℕ
@@ -108,15 +85,3 @@ pub record IsLinks (problem : Problem) (c : Columns) (chosen entries : List ℕ)
   pub options : map (option_of c) entries ≡ chosen
   pub fresh : AreFresh problem c [] entries
   pub history : IsHistory c (covering_nodes c entries) links keys
-
--- a live option that names the item
-pub record IsChild (problem : Problem) (chosen : List ℕ) (item option : ℕ) : Type 0 where
-  pub inside : option < length problem.options
-  pub live : is_live problem chosen option ≡ true
-  pub named : names_item problem option item ≡ true
-
--- what comes in place of a choice by an item: the next live option that names the item, if one follows, chosen by the same item
-pub record IsNextChoice (before : Choices) (item option : ℕ) (next : Option ℕ) (after : Choices) : Type 0 where
-  pub next_is : next ≡ slice_get (live_options_from before.problem before.chosen item (option + 1)) 0
-  pub child : IfSome next (IsChild before.problem before.chosen item)
-  pub chosen : after ≡ with_child_if before item next

@@ -18,6 +18,7 @@ mod links;
 mod mark;
 mod options;
 mod place;
+mod searching;
 
 pub use laws::links_by_choices;
 pub use links::Links;

@@ -4,7 +4,8 @@ ghost use Rattle.std.specs.Prelude.{◌≡◌, ℕ, ◌+◌, ◌-◌, ◌<◌, �
 ghost use Rattle.cover_problem.specs.Branching.{branch_item, live_options, IsOpen};
 ghost use Rattle.cover_problem.specs.Onward.{open_items_from, live_options_from};
 ghost use Rattle.cover_problem.specs.Problem.{IsProblem};
-ghost use Rattle.dancing_links.specs.Choices.{Choices, with_child, with_child_if, with_choice, IsChild, IsNextChoice, IsPrimary};
+ghost use Rattle.choices.specs.Choices.{Choices, with_child, with_child_if, with_choice, IsChild, IsNextChoice};
+ghost use Rattle.dancing_links.specs.Choices.{IsPrimary};
 ghost use Rattle.dancing_links.specs.Columns.{colour_at, IsLinked};
 ghost use Rattle.dancing_links.specs.Linking.{down_of};
 ghost use Rattle.dancing_links.specs.Table.{table};
@@ -52,7 +53,8 @@ pub struct Links<'a> {
 impl<'a> Model for Links<'a> {
     ghost use Rattle.std.specs.Prelude.{vec_capacity, length, map, take, ◌≡◌, ◌≤◌};
     ghost use Rattle.dancing_links.specs.Columns.{column_of};
-    ghost use Rattle.dancing_links.specs.Choices.{Choices, IsLinks, IsTrail, commits_of};
+    ghost use Rattle.choices.specs.Choices.{Choices};
+    ghost use Rattle.dancing_links.specs.Choices.{IsLinks, IsTrail, commits_of};
 
     ghost Value = { Choices };
 

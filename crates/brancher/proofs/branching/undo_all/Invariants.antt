@@ -1,8 +1,8 @@
 use Rattle.std.proofs.Common.{◌≡◌, length}
 use Rattle.brancher.proofs.branching.undo_all.Given as goal
 
-abbrev pub invariant-loop-links : goal.invariant-loop-links
-invariant-loop-links l = l.links.problem ≡ l.fn.links.problem
+abbrev pub invariant-loop-state : goal.invariant-loop-state
+invariant-loop-state g l = (g.B.Branching.choices l.state).problem ≡ (g.B.Branching.choices l.fn.state).problem
 
-abbrev pub decreases-loop-links : goal.decreases-loop-links
-decreases-loop-links l = length l.links.chosen
+abbrev pub decreases-loop-state : goal.decreases-loop-state
+decreases-loop-state g l = length (g.B.Branching.choices l.state).chosen

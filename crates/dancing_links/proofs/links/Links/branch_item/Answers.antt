@@ -1,7 +1,7 @@
 use Rattle.std.proofs.Common.{◌≡◌, ℕ, List, take, ap, ◌∙◌, vec_capacity, subst, IfSome}
 use Rattle.cover_problem.specs.Branching.{branch_item, IsOpen}
 use Rattle.cover_problem.specs.Problem.{IsProblem}
-use Rattle.dancing_links.specs.Choices.{Choices}
+use Rattle.choices.specs.Choices.{Choices}
 use Rattle.dancing_links.specs.Keys.{least_from}
 use Rattle.dancing_links.proofs.Branching.{least_told, told_item, told_open}
 use Rattle.dancing_links.proofs.Views.{open_named}

@@ -2,7 +2,8 @@ use Rattle.std.proofs.Common.{◌≡◌, ◌<◌, length, true, arith, ap, refl,
 use Rattle.std.proofs.lemmas.List.{length-take-le}
 use Rattle.cover_problem.specs.Prefix.{is_live}
 use Rattle.cover_problem.proofs.Prefixes.{live_at}
-use Rattle.dancing_links.specs.Choices.{Choices, commits_of, first_primary, trail_of}
+use Rattle.choices.specs.Choices.{Choices, first_primary}
+use Rattle.dancing_links.specs.Choices.{commits_of, trail_of}
 use Rattle.dancing_links.specs.Columns.{column_of}
 use Rattle.dancing_links.proofs.Ranges.{table_of}
 use Rattle.dancing_links.proofs.Chosen.{room_left, same_length, held_kept, commits_pushed, links_push, put_back, same_linked, same_links_of, view_push}

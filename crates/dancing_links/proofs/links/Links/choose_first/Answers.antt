@@ -2,7 +2,8 @@ use Rattle.std.proofs.Common.{◌≡◌, ◌<◌, length, false, arith, ap, sym,
 use Rattle.std.proofs.lemmas.List.{length-take-le}
 use Rattle.cover_problem.specs.Onward.{live_options_from}
 use Rattle.cover_problem.specs.Prefix.{is_covered}
-use Rattle.dancing_links.specs.Choices.{Choices, IsChild, commits_of, trail_of}
+use Rattle.choices.specs.Choices.{Choices, IsChild}
+use Rattle.dancing_links.specs.Choices.{commits_of, trail_of}
 use Rattle.dancing_links.proofs.Ranges.{table_of}
 use Rattle.dancing_links.proofs.Chosen.{room_left, same_length, held_kept, commits_pushed, links_push, put_back, same_links_of, view_push}
 use Rattle.dancing_links.proofs.Next.{below_head, choice_of}

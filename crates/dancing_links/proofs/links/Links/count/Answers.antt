@@ -2,7 +2,7 @@ use Rattle.std.proofs.Common.{◌≡◌, ◌<◌, length, false, arith, ap, ◌�
 use Rattle.std.proofs.lemmas.Grind.{get_or_default_zero}
 use Rattle.cover_problem.specs.Branching.{live_options}
 use Rattle.cover_problem.specs.Prefix.{is_covered}
-use Rattle.dancing_links.specs.Choices.{Choices}
+use Rattle.choices.specs.Choices.{Choices}
 use Rattle.dancing_links.proofs.Views.{open_key, item_keyed_in}
 use Rattle.dancing_links.proofs.links.Links.count.Goals as goal
 

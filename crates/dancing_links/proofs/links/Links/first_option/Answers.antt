@@ -3,7 +3,7 @@ use Rattle.cover_problem.specs.Onward.{live_options_from}
 use Rattle.cover_problem.specs.Prefix.{is_covered}
 use Rattle.cover_problem.proofs.Remaining.{live_options_start}
 use Rattle.dancing_links.specs.declared.link.Link.{Link}
-use Rattle.dancing_links.specs.Choices.{Choices}
+use Rattle.choices.specs.Choices.{Choices}
 use Rattle.dancing_links.specs.Linking.{down_of}
 use Rattle.dancing_links.specs.Walking.{options_left}
 use Rattle.dancing_links.proofs.Views.{left_all, head_child}

@@ -1,6 +1,6 @@
 use Rattle.std.proofs.Common.{◌<◌, length, arith, ap, ◌∙◌, vec_capacity}
 use Rattle.cover_problem.specs.Prefix.{is_covered}
-use Rattle.dancing_links.specs.Choices.{Choices}
+use Rattle.choices.specs.Choices.{Choices}
 use Rattle.dancing_links.proofs.Views.{covered_test}
 use Rattle.dancing_links.proofs.links.Links.is_covered.Goals as goal
 

@@ -1,7 +1,7 @@
 use Rattle.std.proofs.Common.{◌≡◌, ◌==◌, List, true, false, not, length, arith, ap, sym, ◌∙◌, vec_capacity}
 use Rattle.cover_problem.specs.Prefix.{is_covered, is_live}
 use Rattle.dancing_links.specs.declared.link.Link.{Link}
-use Rattle.dancing_links.specs.Choices.{Choices}
+use Rattle.choices.specs.Choices.{Choices}
 use Rattle.dancing_links.specs.Columns.{column_of}
 use Rattle.dancing_links.specs.Linking.{up_of, down_of}
 use Rattle.dancing_links.proofs.Chosen.{same_linked}

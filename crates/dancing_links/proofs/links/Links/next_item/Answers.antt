@@ -2,7 +2,7 @@ use Rattle.std.proofs.Common.{◌+◌, ap, ◌∙◌, vec_capacity, subst, slice
 use Rattle.cover_problem.specs.Branching.{IsOpen}
 use Rattle.cover_problem.specs.Onward.{open_items_from}
 use Rattle.cover_problem.specs.Problem.{IsProblem}
-use Rattle.dancing_links.specs.Choices.{Choices}
+use Rattle.choices.specs.Choices.{Choices}
 use Rattle.dancing_links.proofs.Views.{first_open, open_named}
 use Rattle.dancing_links.proofs.links.Links.next_item.Goals as goal
 

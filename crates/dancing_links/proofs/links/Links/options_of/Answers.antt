@@ -2,7 +2,7 @@ use Rattle.std.proofs.Common.{◌≡◌, List, ◌<◌, length, false, ap, arith
 use Rattle.cover_problem.specs.Branching.{live_options}
 use Rattle.cover_problem.specs.Prefix.{is_covered}
 use Rattle.dancing_links.specs.declared.link.Link.{Link}
-use Rattle.dancing_links.specs.Choices.{Choices}
+use Rattle.choices.specs.Choices.{Choices}
 use Rattle.dancing_links.specs.Walking.{options_left}
 use Rattle.dancing_links.proofs.Views.{left_read}
 use Rattle.dancing_links.proofs.links.Links.options_of.Goals as goal

@@ -1,6 +1,6 @@
 use Rattle.std.proofs.Common.{◌≡◌, ℕ, ◌-◌, ◌<◌, ◌∙◌, drop, get_or, length, map, take, vec_capacity, ap, arith, refl, sym}
 use Rattle.std.proofs.lemmas.List.{get_or_default}
-use Rattle.dancing_links.specs.Choices.{Choices, with_child}
+use Rattle.choices.specs.Choices.{Choices, with_child}
 use Rattle.dancing_links.specs.Columns.{column_of}
 use Rattle.dancing_links.proofs.Chosen.{choices_by, put_back, same_links_of}
 use Rattle.dancing_links.proofs.Last.{IsLastChoice, all_back, last_choice, piece_options, trail_back}
