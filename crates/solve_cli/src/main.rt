@@ -3,30 +3,14 @@
 
 ghost use Rattle.std.specs.Prelude.{◌≡◌};
 
-mod alone;
-mod check;
-mod command_line;
-mod engine;
-mod fault;
-mod input;
-mod lines;
-mod settings;
-mod simulate;
-mod sockets;
-mod solve;
-mod tell;
-
-use crate::alone::alone_engine;
-use crate::check::check_engine;
-use crate::command_line::{SettingsFault, settings};
-use crate::fault::EngineFault;
-use crate::input::read_whole;
-use crate::settings::{Mode, Settings};
-use crate::simulate::simulate_engine;
-use crate::sockets::links;
-use crate::solve::solve_problem;
-use crate::tell::{tell, tell_end, tell_fault, tell_unbound};
+pub use command_line::{SettingsFault, settings};
+pub use cover_engines::{
+    AloneEnd, CheckEnd, EngineFault, SimulateEnd, SolveEnd, alone_engine, check_engine,
+    simulate_engine, solve_engine, tell, tell_fault,
+};
+use cover_engines::{links, read_whole, solve_problem, tell_end, tell_unbound};
 use dlx_reader::{CountedReader, CountedWriter};
+pub use run_settings::{Mode, Settings};
 use std::env;
 use std::fs::File;
 use std::io::{self, ErrorKind};
@@ -132,19 +116,6 @@ fn run_settings<R: Threads + Wait + Clock + Net + Sync>(
     }
 }
 
-/// Tells why words are no settings, and answers the exit status. A fault of the device is passed over.
-fn tell_words(rt: &HostRuntime, fault: &SettingsFault) -> u8 {
-    match fault {
-        SettingsFault::Line(error) => {
-            let _ = error.print(rt);
-        }
-        SettingsFault::Memory => {
-            let _ = eprintln!(rt; "out of memory");
-        }
-    }
-    fault.status()
-}
-
 /// Runs what a command line asks for, and answers the exit status: 2 for a fault of the command line, 0 for help.
 fn run_words<R: Threads + Wait + Clock + Net + Sync>(
     rt: &HostRuntime,
@@ -153,7 +124,7 @@ fn run_words<R: Threads + Wait + Clock + Net + Sync>(
 ) -> u8 {
     match settings(rt.alloc(), words) {
         Ok(settings) => run_settings(rt, threads, &settings),
-        Err(fault) => tell_words(rt, &fault),
+        Err(fault) => fault.tell(rt),
     }
 }
 

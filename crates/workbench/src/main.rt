@@ -12,9 +12,6 @@
 //!
 //! `workbench sites FILE NODES WORKERS SEED FUEL TURNS` lets sites with threads search a file's problem over links in memory, and tells how each
 //! ended and what its book holds. `bench/books.py` reads it.
-//!
-//! `workbench tell FILE NODES SEED FUEL RESTARTS TURNS` tells a simulated search of a file's problem, event by event, with all
-//! packets; `workbench measure ..` plays the same and prints its turns, its packets, and whether an answer was published.
 #![tactic(auto)]
 
 ghost use Rattle.std.specs.Prelude.{◌≤◌, IfSome};
@@ -25,16 +22,13 @@ mod cycle;
 mod deliveries;
 mod fault;
 mod sites;
-mod story;
 mod table;
-mod told;
 
 use crate::cells::{greet_cell, greet_core};
 use crate::cycle::{act_cycles, copy_packets, packets};
 use crate::deliveries::{act_deliveries, packet_of};
 use crate::fault::BenchFault;
 use crate::sites::run_over_memory;
-use crate::story::{Plan, measure, tell};
 use crate::table::{measure_children, measure_guests};
 use dlx_reader::read_problem;
 use std::alloc::Global;
@@ -120,41 +114,6 @@ fn time_calls(rt: &HostRuntime, what: &str, units: &str) -> io::Result<Result<()
     }
 }
 
-/// The plan that the numbers spell: nodes, seed, fuel, restarts, turns.
-fn plan_of(nodes: &str, seed: &str, fuel: &str, restarts: &str, turns: &str) -> Option<Plan>
-    ensures { IfSome result (λ plan. (1 ≤ plan.nodes) × (plan.nodes ≤ LAST_NODE)) }
-{
-    let nodes = nodes.parse::<u8>().ok()?;
-    if nodes == 0 || nodes > 16 {
-        return None;
-    }
-    Some(Plan {
-        nodes,
-        seed: seed.parse::<u64>().ok()?,
-        fuel: fuel.parse::<u64>().ok()?,
-        restarts: restarts.parse::<u32>().ok()?,
-        turns: turns.parse::<u32>().ok()?,
-    })
-}
-
-/// Tells the search of a problem's file, or only measures it.
-fn tell_file(rt: &HostRuntime, file: &str, plan: Plan, is_told: bool) -> io::Result<()>
-    requires some { 1 ≤ plan.nodes }
-    requires most { plan.nodes ≤ LAST_NODE }
-{
-    let mut text = Vec::new(rt.alloc());
-    File::open(rt, file)?.read_to_end(&mut text)?;
-    match read_problem(rt.alloc(), &text) {
-        Ok(read) if is_told => tell(rt.alloc(), &read.problem, plan, &mut rt.stdout()),
-        Ok(read) => {
-            let measured = measure(rt.alloc(), &read.problem, plan)?;
-            let (turns, packets) = (measured.turns, measured.packets);
-            println!(rt; "{turns} {packets} {}", measured.is_published)
-        }
-        Err(fault) => println!(rt; "{fault:?}"),
-    }
-}
-
 /// The plan of a run that the numbers spell: nodes, workers, seed, fuel, turns.
 fn sites_plan(
     nodes: &str,
@@ -226,8 +185,7 @@ const QUIET: u64 = 1_000_000;
 const USAGE: &str = "workbench act|copy KIND TIMES
 workbench greet THREADS TIMES
 workbench table|guests UNITS
-workbench sites FILE NODES WORKERS SEED FUEL TURNS
-workbench tell|measure FILE NODES SEED FUEL RESTARTS TURNS";
+workbench sites FILE NODES WORKERS SEED FUEL TURNS";
 
 fn main(rt: HostRuntime) -> io::Result<ExitCode> {
     let words = given_words(&rt)?;
@@ -244,15 +202,6 @@ fn main(rt: HostRuntime) -> io::Result<ExitCode> {
             match sites_plan(nodes, workers, seed, fuel, turns) {
                 Some(plan) => {
                     tell_sites(&rt, &rt, file, plan)?;
-                    Ok(())
-                }
-                None => Err(BenchFault::Unexpected),
-            }
-        }
-        [what, file, nodes, seed, fuel, restarts, turns] => {
-            match plan_of(nodes, seed, fuel, restarts, turns) {
-                Some(plan) => {
-                    tell_file(&rt, file, plan, what.as_str() == "tell")?;
                     Ok(())
                 }
                 None => Err(BenchFault::Unexpected),

@@ -1,0 +1,2 @@
+pub mod Pairs
+pub mod Spelled

@@ -1,0 +1,109 @@
+-- The command line of the program, as the shape of a clap command, and what its words spell.
+use Rattle.std.specs.Prelude.{◌≡◌, ◌≢◌, ◌≤◌, ◌<◌, ◌^◌, ℕ, List, [], ◌∷◌, Option, Some, None, codes, option_map, true}
+use Rattle.std.specs.Str.Parse.{IsNumeral, digits_value}
+use Rattle.clap.specs.declared.error.kind.ErrorKind.{ErrorKind}
+use Rattle.clap.specs.declared.error.kind.ErrorKind.TheVariants.{DisplayHelp, DisplayVersion}
+use Rattle.clap.specs.Words.{App, Row, Rule, Text, new_app, new_rule, with_rule, with_subcommand, first_of}
+use Rattle.run_settings.specs.declared.settings.Mode.{Mode}
+use Rattle.run_settings.specs.declared.settings.Mode.TheVariants as modes
+use Rattle.run_settings.specs.declared.settings.Settings.{Settings}
+
+-- a positional that has to be given
+abbrev pub file_rule : Text → Rule
+file_rule id = record (new_rule id) { required = true }
+
+-- an option with a value and its default
+abbrev pub number_rule : Text → Text → Rule
+number_rule id default = record (new_rule id) { long = Some id; defaults = default ∷ [] }
+
+-- the fuel, which is the greatest number where it is not given
+abbrev pub greatest_fuel_rule : Rule
+greatest_fuel_rule = number_rule (codes "fuel") (codes "18446744073709551615")
+
+-- what one thread searches
+abbrev pub alone_app : App
+alone_app = with_rule (with_rule (new_app (codes "alone")) (file_rule (codes "file"))) greatest_fuel_rule
+
+-- which answer is tested against which file
+abbrev pub check_app : App
+check_app = with_rule (with_rule (with_rule (new_app (codes "check")) (file_rule (codes "file"))) (file_rule (codes "answer"))) greatest_fuel_rule
+
+-- what sites search, how many nodes there are, and the seed of what is drawn
+abbrev pub sites_app : Text → App
+sites_app name =
+    with_rule (with_rule (with_rule (with_rule (new_app name) (file_rule (codes "file"))) (number_rule (codes "fuel") (codes "1000"))) (number_rule (codes "nodes") (codes "4"))) (number_rule (codes "seed") (codes "1"))
+
+-- the same with how long a simulation goes on
+abbrev pub simulate_app : App
+simulate_app =
+    with_rule (with_rule (sites_app (codes "simulate")) (number_rule (codes "turns") (codes "10000"))) (number_rule (codes "restarts") (codes "0"))
+
+-- the same with how long threads go on, and how many there are
+abbrev pub solve_app : App
+solve_app =
+    with_rule (with_rule (sites_app (codes "solve")) (number_rule (codes "turns") (codes "1000000"))) (number_rule (codes "workers") (codes "2"))
+
+-- a command that has a version, and wants one of its subcommands
+abbrev pub wanting_subcommand : App → App
+wanting_subcommand app = record app { top = record app.top { has_version = true; subcommand_required = true } }
+
+-- what one thread does
+abbrev pub one_thread_app : App
+one_thread_app = with_subcommand (with_subcommand (wanting_subcommand (new_app (codes "solve_cli"))) alone_app.top) check_app.top
+
+-- what sites do
+abbrev pub solver_app : App
+solver_app = with_subcommand (with_subcommand one_thread_app simulate_app.top) solve_app.top
+
+-- the word of the command line that asks for it
+abbrev pub mode_word : Mode → Text
+mode_word modes.Alone = codes "alone"
+mode_word modes.Check = codes "check"
+mode_word modes.Simulate = codes "simulate"
+mode_word modes.Solve = codes "solve"
+
+-- The text is decimal digits, of which the number is the value.
+pub record Spells (text : Text) (number : ℕ) : Type 0 where
+  pub digits : IsNumeral 10 text
+  pub value : number ≡ digits_value 10 text
+
+-- the option is given and spells a number of visits, at least one
+abbrev pub SpellsFuel : Option Text → ℕ → Type 0
+SpellsFuel given fuel = (text : Text) × (given ≡ Some text) × Spells text fuel × (1 ≤ fuel)
+
+-- the number that an option spells; a subcommand that lacks the option has its default
+abbrev pub SpellsOr : ℕ → Option Text → ℕ → Type 0
+SpellsOr default None number = number ≡ default
+SpellsOr default (Some text) number = Spells text number
+
+-- a check has the answer that was given, and no other mode has one
+abbrev pub IsAnswerFile : Mode → Option Text → Option Text → Type 0
+IsAnswerFile modes.Check answer given = (text : Text) × (given ≡ Some text) × (answer ≡ Some text)
+IsAnswerFile _ answer given = answer ≡ None
+
+-- The settings that a subcommand's name and the values of its arguments spell; their type has the ranges of the other numbers.
+pub record AreSpelled (name : Text) (given : Text → Option Text) (settings : Settings) : Type 0 where
+  pub mode_named : mode_word settings.mode ≡ name
+  pub file_given : given (codes "file") ≡ Some settings.file.now
+  pub answer_given : IsAnswerFile settings.mode (option_map (λ answer. answer.now) settings.answer) (given (codes "answer"))
+  pub fuel_given : SpellsFuel (given (codes "fuel")) settings.fuel
+  pub fuel_fits : settings.fuel < 2 ^ 64
+  pub nodes_given : SpellsOr 4 (given (codes "nodes")) settings.nodes
+  pub seed_given : SpellsOr 1 (given (codes "seed")) settings.seed
+  pub seed_fits : settings.seed < 2 ^ 64
+  pub workers_given : SpellsOr 2 (given (codes "workers")) settings.workers
+  pub turns_given : SpellsOr 10000 (given (codes "turns")) settings.turns
+  pub restarts_given : SpellsOr 0 (given (codes "restarts")) settings.restarts
+
+-- They are spelled by the subcommand that clap's definition of a simple command's matches gives for the words, with its values.
+pub record AreMet (met : Option (Text × List Row)) (settings : Settings) : Type 0 where
+  pub name : Text
+  pub rows : List Row
+  pub subcommand : met ≡ Some (name, rows)
+  pub spelled : AreSpelled name (λ id. first_of id rows) settings
+
+-- The status of what clap has to say: 0 for help and the version, else 2.
+pub record IsLineStatus (kind : ErrorKind) (status : ℕ) : Type 0 where
+  pub help : kind ≡ DisplayHelp → status ≡ 0
+  pub version : kind ≡ DisplayVersion → status ≡ 0
+  pub mistake : kind ≢ DisplayHelp → kind ≢ DisplayVersion → status ≡ 2

@@ -1,0 +1,67 @@
+//! Why there are no settings.
+
+ghost use Rattle.std.specs.Prelude.{◌≡◌, ◌↔◌};
+ghost use Rattle.clap.specs.Words.{kind_of};
+ghost use Rattle.command_line.specs.CommandLine.{IsLineStatus};
+
+use clap::Error;
+use clap::error::ErrorKind;
+
+/// Why there are no settings.
+#[derive(Debug, Drop)]
+pub enum SettingsFault {
+    /// The words are no command line of the program, or ask for help: what clap has to say.
+    Line(Error),
+    /// Memory was refused.
+    Memory,
+}
+
+impl SettingsFault {
+    /// The exit status: 2 for words that are no command line, 0 where they ask for help or the version, 5 for want of memory.
+    pub fn status(&self) -> u8
+        ensures line { (error : Error) → self.now ≡ SettingsFault.Line error →
+            IsLineStatus (kind_of error) result }
+        ensures memory { self.now ≡ SettingsFault.Memory → result ≡ 5 }
+    {
+        match self {
+            SettingsFault::Line(error) => line_status(error),
+            SettingsFault::Memory => 5,
+        }
+    }
+
+    /// Prints why there are no settings, or the help that was asked for, and answers the exit status as `status` has it. A fault
+    /// of the device is passed over.
+    pub fn tell(&self, rt: &HostRuntime) -> u8
+        ensures line { (error : Error) → self.now ≡ SettingsFault.Line error →
+            IsLineStatus (kind_of error) result }
+        ensures memory { self.now ≡ SettingsFault.Memory → result ≡ 5 }
+    {
+        match self {
+            SettingsFault::Line(error) => {
+                let _ = error.print(rt);
+            }
+            SettingsFault::Memory => {
+                let _ = eprintln!(rt; "out of memory");
+            }
+        }
+        self.status()
+    }
+}
+
+/// The exit status of what clap has to say.
+fn line_status(error: &Error) -> u8
+    ensures { IsLineStatus (kind_of error.now) result }
+{
+    if error.use_stderr() { 2 } else { 0 }
+}
+
+/// What a failed call of clap stands for.
+pub fn fault_of(error: Error) -> SettingsFault
+    ensures { (result ≡ SettingsFault.Memory) ↔ (kind_of error ≡ ErrorKind.OutOfMemory) }
+{
+    if matches!(error.kind(), ErrorKind::OutOfMemory) {
+        SettingsFault::Memory
+    } else {
+        SettingsFault::Line(error)
+    }
+}

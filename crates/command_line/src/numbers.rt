@@ -1,0 +1,107 @@
+//! The numbers of a command line, each in its range.
+
+ghost use Rattle.std.specs.Prelude.{ℕ, ◌≡◌, ◌≤◌, ◌<◌, ◌^◌, IfNone, IfSome, IsSome, codes};
+ghost use Rattle.std.specs.Str.Parse.{IsNumeral, digits_value};
+ghost use Rattle.clap.specs.Words.{first_value, found_of};
+ghost use Rattle.command_line.specs.CommandLine.{Spells, SpellsFuel, SpellsOr};
+
+use clap::ArgMatches;
+
+/// The number that decimal digits spell, without a sign.
+fn number(text: &str) -> Option<u64>
+    ensures spelled { IfSome result (Spells text.now) }
+    ensures found { IsNumeral 10 text.now → digits_value 10 text.now < 2 ^ 64 → IsSome result }
+{
+    match text.as_bytes() {
+        [b'+', ..] => None,
+        _ => text.parse().ok(),
+    }
+}
+
+/// The number that an option spells, or its default where the subcommand lacks the option.
+pub fn number_or(inner: &ArgMatches<'_>, id: &str, default: u64) -> Option<u64>
+    ensures given { IfSome result (SpellsOr default (first_value (found_of inner.now) id.now)) }
+    ensures none { IfNone result ((n : ℕ) →
+        SpellsOr default (first_value (found_of inner.now) id.now) n → n < 2 ^ 64 → ⊥) }
+{
+    match inner.get_str(id) {
+        Some(text) => number(text),
+        None => Some(default),
+    }
+}
+
+/// How many nodes there are, from 1 to 16.
+pub fn nodes(inner: &ArgMatches<'_>) -> Option<u8>
+    ensures given { IfSome result (SpellsOr 4 (first_value (found_of inner.now) (codes "nodes"))) }
+    ensures some { IfSome result (λ nodes. 1 ≤ nodes) }
+    ensures most { IfSome result (λ nodes. nodes ≤ 16) }
+    ensures none { IfNone result ((n : ℕ) →
+        SpellsOr 4 (first_value (found_of inner.now) (codes "nodes")) n → 1 ≤ n → n ≤ 16 →
+        ⊥) }
+{
+    let nodes = number_or(inner, "nodes", 4)?;
+    if nodes == 0 || nodes > 16 {
+        return None;
+    }
+    Some(nodes as u8)
+}
+
+/// How many workers a node has, from 1 to 8.
+pub fn workers(inner: &ArgMatches<'_>) -> Option<u8>
+    ensures given { IfSome result
+        (SpellsOr 2 (first_value (found_of inner.now) (codes "workers"))) }
+    ensures some { IfSome result (λ workers. 1 ≤ workers) }
+    ensures most { IfSome result (λ workers. workers ≤ 8) }
+    ensures none { IfNone result ((n : ℕ) →
+        SpellsOr 2 (first_value (found_of inner.now) (codes "workers")) n → 1 ≤ n → n ≤ 8 → ⊥) }
+{
+    let workers = number_or(inner, "workers", 2)?;
+    if workers == 0 || workers > 8 {
+        return None;
+    }
+    Some(workers as u8)
+}
+
+/// How many turns are taken, up to 10,000,000.
+pub fn turns(inner: &ArgMatches<'_>) -> Option<u32>
+    ensures given { IfSome result
+        (SpellsOr 10000 (first_value (found_of inner.now) (codes "turns"))) }
+    ensures most { IfSome result (λ turns. turns ≤ 10000000) }
+    ensures none { IfNone result ((n : ℕ) →
+        SpellsOr 10000 (first_value (found_of inner.now) (codes "turns")) n → n ≤ 10000000 → ⊥) }
+{
+    let turns = number_or(inner, "turns", 10_000)?;
+    if turns > 10_000_000 {
+        return None;
+    }
+    Some(turns as u32)
+}
+
+/// How many restarts are drawn, up to 100.
+pub fn restarts(inner: &ArgMatches<'_>) -> Option<u32>
+    ensures given { IfSome result
+        (SpellsOr 0 (first_value (found_of inner.now) (codes "restarts"))) }
+    ensures most { IfSome result (λ restarts. restarts ≤ 100) }
+    ensures none { IfNone result ((n : ℕ) →
+        SpellsOr 0 (first_value (found_of inner.now) (codes "restarts")) n → n ≤ 100 → ⊥) }
+{
+    let restarts = number_or(inner, "restarts", 0)?;
+    if restarts > 100 {
+        return None;
+    }
+    Some(restarts as u32)
+}
+
+/// How many visits a search may take, from 1.
+pub fn fuel(inner: &ArgMatches<'_>) -> Option<u64>
+    ensures given { IfSome result (SpellsFuel (first_value (found_of inner.now) (codes "fuel"))) }
+    ensures some { IfSome result (λ fuel. 1 ≤ fuel) }
+    ensures none { IfNone result ((n : ℕ) →
+        SpellsFuel (first_value (found_of inner.now) (codes "fuel")) n → n < 2 ^ 64 → ⊥) }
+{
+    let fuel = number(inner.get_str("fuel")?)?;
+    if fuel == 0 {
+        return None;
+    }
+    Some(fuel)
+}

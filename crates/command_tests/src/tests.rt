@@ -1,0 +1,3 @@
+//! Words of command lines, lawful and not.
+
+mod words;

@@ -1,0 +1,207 @@
+//! Command lines: what they ask for, and what is told of those that are none.
+
+use command_line::{SettingsFault, settings};
+use run_settings::Mode;
+use std::alloc::Global;
+use std::process::Abort;
+
+/// The status that a command line ends with before anything is read: 2, or 0 for help; 9 where it is lawful.
+fn status_of(alloc: Global, words: &[&str]) -> u8 {
+    match settings(alloc, words) {
+        Ok(_) => 9,
+        Err(fault) => fault.status(),
+    }
+}
+
+/// Whether the words are read so: what is to be done with which files, and the numbers.
+fn is_read<R: Abort>(
+    rt: &R,
+    alloc: Global,
+    words: &[&str],
+    (mode, file, answer): (Mode, &str, Option<&str>),
+    (fuel, nodes, seed): (u64, u8, u64),
+    (workers, turns, restarts): (u8, u32, u32),
+) -> bool {
+    let settings = settings(alloc, words).expect(rt, "lawful words");
+    settings.mode == mode
+        && settings.file == file
+        && settings.answer == answer
+        && settings.fuel == fuel
+        && settings.nodes == nodes
+        && settings.seed == seed
+        && settings.workers == workers
+        && settings.turns == turns
+        && settings.restarts == restarts
+}
+
+#[test]
+fn reads_words(rt: HostRuntime) {
+    let words = ["solve_cli", "alone", "a.dlx"].as_slice();
+    let asked = (Mode::Alone, "a.dlx", None);
+    assert!(rt;
+        is_read(
+            &rt,
+            rt.alloc(),
+            words,
+            asked,
+            (u64::MAX, 4, 1),
+            (2, 10000, 0)
+        )
+    );
+    let words = ["solve_cli", "simulate", "a.dlx"].as_slice();
+    let asked = (Mode::Simulate, "a.dlx", None);
+    assert!(rt; is_read(&rt, rt.alloc(), words, asked, (1000, 4, 1), (2, 10000, 0)));
+}
+
+#[test]
+fn reads_words_of_solve(rt: HostRuntime) {
+    let words = ["solve_cli", "solve", "a.dlx"].as_slice();
+    let asked = (Mode::Solve, "a.dlx", None);
+    assert!(rt;
+        is_read(
+            &rt,
+            rt.alloc(),
+            words,
+            asked,
+            (1000, 4, 1),
+            (2, 1_000_000, 0)
+        )
+    );
+    let words = [
+        "solve_cli",
+        "solve",
+        "--fuel",
+        "7",
+        "--nodes",
+        "16",
+        "--seed",
+        "0",
+        "--workers",
+        "8",
+        "--turns",
+        "10000000",
+        "a.dlx",
+    ];
+    let limits = (8, 10_000_000, 0);
+    assert!(rt; is_read(&rt, rt.alloc(), words.as_slice(), asked, (7, 16, 0), limits));
+}
+
+#[test]
+fn reads_all_words(rt: HostRuntime) {
+    let words = ["solve_cli", "check", "--fuel", "0007", "a.dlx", "b.txt"].as_slice();
+    let asked = (Mode::Check, "a.dlx", Some("b.txt"));
+    assert!(rt; is_read(&rt, rt.alloc(), words, asked, (7, 4, 1), (2, 10000, 0)));
+    let words = [
+        "solve_cli",
+        "simulate",
+        "a.dlx",
+        "--nodes",
+        "16",
+        "--seed",
+        "18446744073709551615",
+        "--turns",
+        "0",
+        "--restarts",
+        "100",
+    ];
+    let asked = (Mode::Simulate, "a.dlx", None);
+    let limits = (2, 0, 100);
+    assert!(rt;
+        is_read(
+            &rt,
+            rt.alloc(),
+            words.as_slice(),
+            asked,
+            (1000, 16, u64::MAX),
+            limits
+        )
+    );
+}
+
+/// Each with the status.
+static WORDS: [(&[&str], u8); 32] = [
+    (&["solve_cli"], 2),
+    (&["solve_cli", "--help"], 0),
+    (&["solve_cli", "--version"], 0),
+    (&["solve_cli", "alone", "--help"], 0),
+    (&["solve_cli", "alone"], 2),
+    (&["solve_cli", "alone", "a", "b"], 2),
+    (&["solve_cli", "check", "a"], 2),
+    (&["solve_cli", "simulate", "a"], 9),
+    (&["solve_cli", "simulate", "a", "--nodes", "0"], 2),
+    (&["solve_cli", "simulate", "a", "--nodes", "17"], 2),
+    (&["solve_cli", "simulate", "a", "--turns", "10000001"], 2),
+    (&["solve_cli", "simulate", "a", "--restarts", "101"], 2),
+    (&["solve_cli", "solve", "a"], 9),
+    (&["solve_cli", "solve"], 2),
+    (&["solve_cli", "solve", "a", "--workers", "1"], 9),
+    (&["solve_cli", "solve", "a", "--workers", "0"], 2),
+    (&["solve_cli", "solve", "a", "--workers", "9"], 2),
+    (&["solve_cli", "solve", "a", "--nodes", "17"], 2),
+    (&["solve_cli", "solve", "a", "--turns", "10000001"], 2),
+    (&["solve_cli", "solve", "a", "--restarts", "0"], 2),
+    (&["solve_cli", "solve", "a", "--audit"], 2),
+    (&["solve_cli", "simulate", "a", "--workers", "2"], 2),
+    (&["solve_cli", "alone", "a", "--fuel"], 2),
+    (&["solve_cli", "alone", "a", "--fuel", "0"], 2),
+    (&["solve_cli", "alone", "a", "--fuel", "+5"], 2),
+    (&["solve_cli", "alone", "a", "--fuel", "-5"], 2),
+    (&["solve_cli", "alone", "a", "--fuel", "5x"], 2),
+    (&["solve_cli", "alone", "a", "--fuel", ""], 2),
+    (
+        &["solve_cli", "alone", "a", "--fuel", "1", "--fuel", "1"],
+        2,
+    ),
+    (
+        &["solve_cli", "alone", "a", "--fuel", "18446744073709551615"],
+        9,
+    ),
+    (
+        &["solve_cli", "alone", "a", "--fuel", "18446744073709551616"],
+        2,
+    ),
+    (&["solve_cli", "alone", "a", "--nodes", "4"], 2),
+];
+
+#[test]
+fn refuses_words(rt: HostRuntime) {
+    for (words, status) in WORDS.iter() {
+        assert!(rt; status_of(rt.alloc(), words) == *status);
+    }
+}
+
+/// What is told of words that are no command line.
+fn line_told<R: Abort>(rt: &R, alloc: Global, words: &[&str]) -> String {
+    match settings(alloc, words) {
+        Err(SettingsFault::Line(error)) => error.to_string(alloc).expect(rt, "memory"),
+        _ => String::new(alloc),
+    }
+}
+
+/// Numbers out of their range, each with the usage that is told: that of its own subcommand.
+static USAGES: [(&[&str], &str); 4] = [
+    (
+        &["solve_cli", "alone", "a", "--fuel", "x"],
+        "\n\nUsage: solve_cli alone [OPTIONS] <file>\n",
+    ),
+    (
+        &["solve_cli", "check", "a", "b", "--fuel", "0"],
+        "\n\nUsage: solve_cli check [OPTIONS] <file> <answer>\n",
+    ),
+    (
+        &["solve_cli", "simulate", "a", "--nodes", "17"],
+        "\n\nUsage: solve_cli simulate [OPTIONS] <file>\n",
+    ),
+    (
+        &["solve_cli", "solve", "a", "--workers", "9"],
+        "\n\nUsage: solve_cli solve [OPTIONS] <file>\n",
+    ),
+];
+
+#[test]
+fn a_number_out_of_its_range_tells_the_usage_of_its_subcommand(rt: HostRuntime) {
+    for (words, usage) in USAGES.iter() {
+        let told = line_told(&rt, rt.alloc(), words);
+        assert!(rt; told.as_str().contains(usage), "{told}");
+    }
+}

@@ -1,0 +1,4 @@
+pub mod Listed
+pub mod Outputs
+pub mod Publishing
+pub mod Told

@@ -1,0 +1,7 @@
+pub mod Alone
+pub mod Check
+pub mod Engines
+pub mod Output
+pub mod Simulate
+pub mod Solve
+pub mod Status

@@ -1,0 +1,24 @@
+//! The engines of the program: each reads sources, writes a text to a sink and answers an exit status. What is read and written is
+//! a type parameter, so that the contracts can name the bytes.
+#![tactic(auto)]
+
+mod alone;
+mod check;
+mod engine;
+mod fault;
+mod input;
+mod lines;
+mod simulate;
+mod sockets;
+mod solve;
+mod telling;
+
+pub use alone::{AloneEnd, alone_engine};
+pub use check::{CheckEnd, check_engine};
+pub use engine::EngineEnd;
+pub use fault::EngineFault;
+pub use input::read_whole;
+pub use simulate::{SimulateEnd, simulate_engine};
+pub use sockets::links;
+pub use solve::{SolveEnd, solve_engine, solve_problem};
+pub use telling::{tell, tell_end, tell_fault, tell_unbound};

@@ -1,0 +1,118 @@
+//! `solve`: sites with threads of their own search a problem.
+
+ghost use Rattle.std.specs.Prelude.{◌≡◌, ◌+◌, ◌-◌, ◌<◌, ◌^◌, vec_len, IfErr, IfOk};
+ghost use Rattle.run_book.specs.Runs.{IsRunEnd};
+ghost use Rattle.cover_engines.specs.Output.{IsOutputOf};
+ghost use Rattle.cover_engines.specs.Solve.{run_of, RunSays};
+
+use crate::fault::EngineFault;
+use crate::lines::write_published;
+use cover_problem::{Answer, Problem};
+use dlx_reader::Sink;
+use run_book::{Book, Run};
+use run_settings::Settings;
+use std::alloc::Global;
+use std::marker::Brand;
+use std::sync::Wait;
+use std::thread::Threads;
+use std::time::Clock;
+use udp_node::{Gate, Link, Plan, run_sites};
+
+/// After how many receives in a row without a datagram a site gives up.
+const QUIET: u64 = 6_000;
+
+/// What a run came to.
+#[derive(Drop)]
+pub struct SolveEnd<J: Run> {
+    /// What the registry published, by its book; nothing where it published nothing, or its book is not there.
+    pub answer: Option<Answer>,
+    /// The books of the sites that closed.
+    pub books: Vec<Book<J>>,
+}
+
+/// Lets the registry and as many nodes as the settings have search a problem over these links, the registry's first, each with
+/// threads of its own. The only fault is `Memory`, where there is none for the run itself.
+pub fn solve_engine<
+    J: Run + Send + Sync,
+    L: Link + Send,
+    G: Gate + Sync,
+    R: Threads + Wait + Clock + Sync,
+>(
+    rt: &R,
+    alloc: Global,
+    settings: &Settings,
+    problem: &Problem,
+    links: Vec<L>,
+    gate: &G,
+) -> Result<SolveEnd<J>, EngineFault>
+    requires problem { problem.now ≡ J.run.problem }
+    requires nodes { settings.now.nodes ≡ J.run.nodes }
+    requires links { vec_len links ≡ settings.now.nodes + 1 }
+    ensures told { IfOk result (λ end. IsRunEnd J.run end.answer end.books.items) }
+    ensures memory { IfErr result (λ fault. fault ≡ EngineFault.Memory) }
+{
+    let plan = Plan {
+        workers: settings.workers,
+        nodes: settings.nodes,
+        fuel: settings.fuel,
+        seed: settings.seed,
+        turns: u64::from(settings.turns),
+        quiet: QUIET,
+    };
+    match run_sites(rt, alloc, problem, plan, links, gate) {
+        Ok(end) => Ok(SolveEnd {
+            answer: end.answer,
+            books: end.books,
+        }),
+        Err(_) => Err(EngineFault::Memory),
+    }
+}
+
+/// Lets sites search the problem that the type names, writes what the registry published, and answers the status.
+fn write_run<
+    J: Run + Send + Sync,
+    L: Link + Send,
+    G: Gate + Sync,
+    W: Sink,
+    R: Threads + Wait + Clock + Sync,
+>(
+    rt: &R,
+    alloc: Global,
+    settings: &Settings,
+    problem: &Problem,
+    links: Vec<L>,
+    gate: &G,
+    sink: &mut W,
+) -> Result<u8, EngineFault>
+    requires run { J.run ≡ record { problem = problem.now; nodes = settings.now.nodes } }
+    requires links { vec_len links ≡ settings.now.nodes + 1 }
+    requires failed { W.failed sink.old < 2 ^ 64 - 1 }
+    ensures output { IsOutputOf (RunSays J.run) (W.contents sink.old) (W.contents sink.new) result }
+    ensures failed { result ≡ Err EngineFault.Write → W.failed sink.old < W.failed sink.new }
+{
+    let end: SolveEnd<J> = solve_engine(rt, alloc, settings, problem, links, gate)?;
+    write_published(problem, end.answer.as_ref(), sink)
+}
+
+/// Lets sites search a problem, as `solve_engine` does, writes what the registry published, or `no answer` where it published
+/// nothing, and answers the status: 0 for a cover, 1 for none, 4 for no answer.
+///
+/// The faults are `Write`, where the sink failed, and `Memory`. After `Write` a beginning of the answer's text was written, after
+/// `Memory` nothing.
+pub fn solve_problem<L: Link + Send, G: Gate + Sync, W: Sink, R: Threads + Wait + Clock + Sync>(
+    rt: &R,
+    alloc: Global,
+    settings: &Settings,
+    problem: &Problem,
+    links: Vec<L>,
+    gate: &G,
+    sink: &mut W,
+) -> Result<u8, EngineFault>
+    requires links { vec_len links ≡ settings.now.nodes + 1 }
+    requires failed { W.failed sink.old < 2 ^ 64 - 1 }
+    ensures output { IsOutputOf (RunSays (run_of problem.now settings.now)) (W.contents sink.old)
+        (W.contents sink.new) result }
+    ensures failed { result ≡ Err EngineFault.Write → W.failed sink.old < W.failed sink.new }
+{
+    write_run::<Brand, L, G, W, R>(rt, alloc, settings, problem, links, gate, sink)
+}

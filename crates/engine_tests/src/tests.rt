@@ -1,0 +1,9 @@
+//! What the engines write of texts in memory, and what is told where devices fail.
+
+mod alone;
+mod check;
+mod devices;
+mod long;
+mod simulate;
+mod texts;
+mod told;

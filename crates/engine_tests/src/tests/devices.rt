@@ -1,0 +1,104 @@
+//! What is told where devices fail or memory is refused.
+
+use super::told::Told;
+use cover_engines::{EngineFault, alone_engine, check_engine, tell, tell_fault};
+use dlx_reader::{CountedReader, CountedWriter};
+use std::alloc::Global;
+use std::io;
+use std::io::{Read, Write};
+use std::process::Abort;
+
+/// A reader that fails at its second read.
+#[derive(Drop)]
+struct FailsTwice {
+    reads: u8,
+}
+
+impl Read for FailsTwice {
+    fn read(&mut self, buf: &mut [u8]) -> io::Result<usize> {
+        match buf {
+            [first, ..] if self.reads == 0 => {
+                *first = b'a';
+                self.reads = 1;
+                Ok(1)
+            }
+            _ => Err(io::ErrorKind::Other.into()),
+        }
+    }
+}
+
+/// A writer that takes nothing.
+#[derive(Drop)]
+struct Closed;
+
+impl Write for Closed {
+    fn write(&mut self, _buf: &[u8]) -> io::Result<usize> {
+        Err(io::ErrorKind::BrokenPipe.into())
+    }
+
+    fn flush(&mut self) -> io::Result<()> {
+        Ok(())
+    }
+}
+
+/// What is told of a fault: the status, and the text.
+fn told(alloc: Global, fault: &EngineFault) -> Told {
+    let mut errors = Vec::new(alloc);
+    let status = tell_fault(fault, &mut CountedWriter::new(&mut errors));
+    Told {
+        out: Vec::new(alloc),
+        errors,
+        status,
+    }
+}
+
+/// Whether this is told of a reader after so many reads, and nothing is written.
+fn tells_of_a_reader<R: Abort>(rt: &R, alloc: Global, reads: u8) -> bool {
+    let mut out = Vec::new(alloc);
+    let mut source = CountedReader::new(FailsTwice { reads });
+    let ended = alone_engine(alloc, 1, &mut source, &mut CountedWriter::new(&mut out));
+    let fault = ended.err().expect(rt, "a failing reader");
+    out.is_empty() && told(alloc, &fault).is("", "cannot read\n", 3)
+}
+
+#[test]
+fn failing_readers(rt: HostRuntime) {
+    for reads in [0u8, 1] {
+        assert!(rt; tells_of_a_reader(&rt, rt.alloc(), reads));
+    }
+}
+
+#[test]
+fn a_closed_writer(rt: HostRuntime) {
+    let mut source = CountedReader::new(b"a\n".as_slice());
+    let ended = alone_engine(rt.alloc(), 1, &mut source, &mut CountedWriter::new(Closed));
+    let fault = ended.err().expect(&rt, "a closed writer");
+    assert!(rt; told(rt.alloc(), &fault).is("", "cannot write\n", 3));
+}
+
+#[test]
+fn want_of_memory(rt: HostRuntime) {
+    assert!(rt; told(rt.alloc(), &EngineFault::Memory).is("", "out of memory\n", 5));
+}
+
+/// Whether an answer that can't be read is told, where the file is refused too, and nothing is written.
+fn is_unreadable(alloc: Global) -> bool {
+    let mut out = Vec::new(alloc);
+    let mut file = CountedReader::new(b"a a\n".as_slice());
+    let mut answer = CountedReader::new(FailsTwice { reads: 0 });
+    let mut sink = CountedWriter::new(&mut out);
+    let ended = check_engine(alloc, 1, &mut file, &mut answer, &mut sink);
+    matches!(ended, Err(EngineFault::Read)) && out.is_empty()
+}
+
+/// It comes before a file that is refused, since both are read before either is tested.
+#[test]
+fn unreadable_answer(rt: HostRuntime) {
+    assert!(rt; is_unreadable(rt.alloc()));
+}
+
+#[test]
+fn statuses_stay_where_nothing_can_be_told(rt: HostRuntime) {
+    assert!(rt; tell(1, 7, &mut CountedWriter::new(Closed)) == 1);
+    assert!(rt; tell_fault(&EngineFault::Memory, &mut CountedWriter::new(Closed)) == 5);
+}

@@ -1,0 +1,48 @@
+//! What the command line asks for.
+
+ghost use Rattle.std.specs.Prelude.{◌≡◌, ◌≤◌, is_some, true};
+ghost use Rattle.run_settings.specs.declared.settings.Mode.{Mode};
+
+/// What the program is to do.
+#[derive(Clone, Copy, Debug, PartialEq, Eq)]
+pub enum Mode {
+    /// Search a problem on one thread.
+    Alone,
+    /// Test an answer to a problem.
+    Check,
+    /// Let a world of sites search a problem, by chance.
+    Simulate,
+    /// Let sites with threads of their own search a problem.
+    Solve,
+}
+
+/// The settings of a run. A number that goes with another subcommand has its default.
+#[derive(Clone, Copy)]
+pub struct Settings<'a> {
+    /// What is to be done.
+    pub mode: Mode,
+    /// The problem's file.
+    pub file: &'a str,
+    /// The answer's file, for a check alone.
+    pub answer: Option<&'a str>,
+    /// How many visits a search may take, from 1.
+    pub fuel: u64,
+    /// How many nodes there are, from 1 to 16.
+    pub nodes: u8,
+    /// The seed of what is drawn.
+    pub seed: u64,
+    /// How many workers a node has, from 1 to 8.
+    pub workers: u8,
+    /// How many turns a simulation, or each thread, may take, up to 10,000,000.
+    pub turns: u32,
+    /// How many restarts may be drawn, up to 100.
+    pub restarts: u32,
+    pub ghost answered: { mode ≡ Mode.Check → is_some answer ≡ true },
+    pub ghost some_fuel: { 1 ≤ fuel },
+    pub ghost some_nodes: { 1 ≤ nodes },
+    pub ghost most_nodes: { nodes ≤ 16 },
+    pub ghost some_workers: { 1 ≤ workers },
+    pub ghost most_workers: { workers ≤ 8 },
+    pub ghost most_turns: { turns ≤ 10000000 },
+    pub ghost most_restarts: { restarts ≤ 100 },
+}

@@ -1,5 +1,0 @@
-use Rattle.solve_cli.specs.Solve.{run_of}
-use Rattle.solve_cli.proofs.solve.solve_problem.Given as goal
-
-abbrev pub ghosts-write_run : goal.ghosts-write_run
-ghosts-write_run g a = record { run = run_of a.problem.now a.settings.now }

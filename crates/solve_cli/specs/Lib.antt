@@ -1,8 +1,0 @@
-pub mod Alone
-pub mod Check
-pub mod CommandLine
-pub mod Engines
-pub mod Output
-pub mod Simulate
-pub mod Solve
-pub mod Status
