@@ -8,7 +8,7 @@ of 1, 10 and 1,000 visits, without restarts and with five. Every answer is given
 tells, file by file, in how many of the runs an answer was published within 10,000 turns, without the closing phase, and the
 turns and packets that the middle one of these took.
 
-It wants two programs: (cd crates/solve_cli && rt run) and (cd crates/workbench && rt run) build them. The exit status is 0
+It wants two programs: (cd crates/solve_cli && rt run) and (cd crates/world_story && rt run) build them. The exit status is 0
 where every answer is right, 1 where one is wrong, 2 for a fault of the command line or where a program is missing.
 """
 import glob
@@ -18,7 +18,7 @@ import subprocess
 import sys
 import tempfile
 
-from built import parser_of, SOLVE_CLI, TOP, want_program, WORKBENCH
+from built import parser_of, SOLVE_CLI, TOP, want_program, WORLD_STORY
 
 NODES, TURNS = 4, 10_000
 
@@ -39,7 +39,7 @@ def is_right(file, answer_file, seed, fuel, restarts):
 
 
 def measured(file, seed, fuel, restarts):
-    words = [WORKBENCH, "measure", file, str(NODES), seed, fuel, restarts, str(TURNS)]
+    words = [WORLD_STORY, "measure", file, str(NODES), seed, fuel, restarts, str(TURNS)]
     turns, packets, published = output(words).stdout.split()
     return int(turns), int(packets), published == "true"
 
@@ -49,7 +49,7 @@ def main():
     parser.add_argument("seeds", nargs="?", metavar="SEEDS", type=int, default=20, help="how many seeds are tried, from 1 (default 20)")
     seeds = parser.parse_args().seeds
     want_program(SOLVE_CLI)
-    want_program(WORKBENCH, "workbench")
+    want_program(WORLD_STORY, "world_story")
     plans = [(str(seed), fuel, restarts) for seed in range(1, seeds + 1)
              for fuel in ("1", "10", "1000") for restarts in ("0", "5")]
     wrong = 0
