@@ -4,9 +4,9 @@ ghost use Rattle.std.specs.Prelude.{◌≡◌, ◌+◌, vec_len, IfOk};
 
 use std::alloc::Global;
 use std::io;
-use std::net::{Net, SocketAddr, UdpSocket};
+use std::net::{Net, UdpSocket};
 use std::sync::Arc;
-use udp_node::{UdpLink, bound};
+use udp_node::{Sockets, UdpLink, bound};
 
 /// The ends of the registry and of so many nodes, each with a socket of its own on 127.0.0.1. The errors are the system's, and
 /// `OutOfMemory`.
@@ -14,11 +14,10 @@ pub fn links<R: Net>(rt: &R, alloc: Global, nodes: u8) -> io::Result<Vec<UdpLink
     ensures { IfOk result (λ links. vec_len links ≡ nodes + 1) }
 {
     let sockets = sockets(rt, alloc, usize::from(nodes) + 1)?;
-    let sites = Arc::new(alloc, addresses(alloc, &sockets)?)?;
-    let mut links = Vec::with_capacity(alloc, sockets.len())?;
-    for socket in sockets {
-        let socket = Arc::new(alloc, socket)?;
-        links.push(UdpLink::new(socket, Arc::try_clone(&sites)?))?;
+    let sockets = Arc::new(alloc, Sockets::new(alloc, sockets)?)?;
+    let mut links = Vec::with_capacity(alloc, usize::from(nodes) + 1)?;
+    for node in 0..nodes + 1 {
+        links.push(UdpLink::new(Arc::try_clone(&sockets)?, node))?;
     }
     Ok(links)
 }
@@ -32,13 +31,4 @@ fn sockets<R: Net>(rt: &R, alloc: Global, count: usize) -> io::Result<Vec<UdpSoc
         sockets.push(bound(rt)?)?;
     }
     Ok(sockets)
-}
-
-/// The address of each socket.
-fn addresses(alloc: Global, sockets: &[UdpSocket]) -> io::Result<Vec<SocketAddr>> {
-    let mut sites = Vec::with_capacity(alloc, sockets.len())?;
-    for socket in sockets {
-        sites.push(socket.local_addr()?)?;
-    }
-    Ok(sites)
 }

@@ -1,10 +1,11 @@
 //! Two sites talk, over sockets and in memory.
 
 use std::alloc::Global;
+use std::net::Net;
 use std::sync::{Arc, Wait};
 use std::test::Fail;
 use std::thread::{self, Threads};
-use udp_node::{Link, LinkFault, MemoryLink, UdpLink, Wires, bound};
+use udp_node::{Link, LinkFault, MemoryLink, Sockets, UdpLink, Wires, bound};
 
 /// How many datagrams each site sends.
 const SENT: u8 = 20;
@@ -49,16 +50,19 @@ fn both_hear<L: Link + Send, R: Threads + Wait + Sync>(rt: &R, one: L, other: L)
     heard == (SENT, SENT)
 }
 
+/// The sockets of two sites.
+fn two_sockets<R: Net>(rt: &R, alloc: Global) -> Result<Arc<Sockets, Global>, Fail> {
+    let mut sockets = Vec::new(alloc);
+    sockets.push(bound(rt)?)?;
+    sockets.push(bound(rt)?)?;
+    Ok(Arc::new(alloc, Sockets::new(alloc, sockets)?)?)
+}
+
 /// The ends of two sites with sockets.
-fn sockets<R: std::net::Net>(rt: &R, alloc: Global) -> Result<(UdpLink, UdpLink), Fail> {
-    let (one, other) = (bound(rt)?, bound(rt)?);
-    let mut sites = Vec::new(alloc);
-    sites.push(one.local_addr()?)?;
-    sites.push(other.local_addr()?)?;
-    let sites = Arc::new(alloc, sites)?;
-    let copy = Arc::try_clone(&sites)?;
-    let first = UdpLink::new(Arc::new(alloc, one)?, sites);
-    Ok((first, UdpLink::new(Arc::new(alloc, other)?, copy)))
+fn sockets<R: Net>(rt: &R, alloc: Global) -> Result<(UdpLink, UdpLink), Fail> {
+    let sockets = two_sockets(rt, alloc)?;
+    let first = UdpLink::new(Arc::try_clone(&sockets)?, 0);
+    Ok((first, UdpLink::new(sockets, 1)))
 }
 
 /// The ends of two sites in memory.
@@ -114,5 +118,26 @@ fn a_datagram_that_is_too_long(rt: HostRuntime) -> Result<(), Fail> {
     assert!(rt; is_cut(&rt, one, other));
     let (one, other) = wires(rt.alloc())?;
     assert!(rt; is_cut(&rt, one, other));
+    Ok(())
+}
+
+#[test]
+fn a_stranger_is_not_heard(rt: HostRuntime) -> Result<(), Fail> {
+    let sockets = two_sockets(&rt, rt.alloc())?;
+    let mut one = UdpLink::new(Arc::try_clone(&sockets)?, 0);
+    let mut other = UdpLink::new(Arc::try_clone(&sockets)?, 1);
+    let stranger = bound(&rt)?;
+    let mut buffer = [0; 8];
+    for address in sockets.address(0) {
+        stranger.send_to(&[7, 8, 9], address)?;
+    }
+    assert_eq!(rt; other.send(&rt, 0, &[1, 2]), Ok(()));
+    assert_eq!(rt; one.receive(&rt, &mut buffer), Ok(Some(0)));
+    assert_eq!(rt; one.receive(&rt, &mut buffer), Ok(Some(2)));
+    one.hasten();
+    assert_eq!(rt;
+        (one.receive(&rt, &mut buffer), one.failures()),
+        (Ok(None), 0)
+    );
     Ok(())
 }

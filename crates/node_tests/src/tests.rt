@@ -9,4 +9,5 @@ mod plain;
 mod recorder;
 mod runs;
 mod sending;
+mod strangers;
 mod wild;

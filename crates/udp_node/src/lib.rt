@@ -34,4 +34,4 @@ pub use run::{RunEnd, run_sites};
 pub use site_run::SiteEnd;
 pub use stand::Stand;
 pub use turn::Taken;
-pub use udp_link::{UdpLink, bound};
+pub use udp_link::{Sockets, UdpLink, bound};

@@ -22,11 +22,15 @@ const BUFFER: usize = 2026;
 /// After how many empty receives a site says again what may be lost.
 const AGAIN: u64 = 20;
 
-/// After how many empty receives in a row the registry ends, once the search is over; at each it tells the end again.
-const LAST: u64 = 10;
+/// How often the registry tells the end again before it ends: at each empty receive, counted in all and not in a row, and after
+/// each so many datagrams.
+const LAST: u64 = 20;
 
 /// After how many datagrams it is said again too: where they come without a pause, no receive is empty.
 const HEARD: u64 = 256;
+
+/// How long the registry's thread waits after an empty receive once the search is over, in microseconds.
+const LAST_NAP: u64 = 100;
 
 /// How many failed receives in a row end a site.
 const FAULTS: u32 = 100;
@@ -41,7 +45,7 @@ const GREETING: u64 = 1_000;
 #[derive(Drop)]
 pub struct Receiver<L: Link> {
     link: L,
-    /// How many receives in a row were empty.
+    /// How many receives were empty since a packet came last: what is no packet ends no row of them.
     empty: u64,
     /// How many receives were empty since something was said again last.
     pauses: u64,
@@ -53,6 +57,8 @@ pub struct Receiver<L: Link> {
     dropped: u64,
     /// The registry has told that the search is over.
     over: bool,
+    /// How often it has told that again.
+    last: u64,
 }
 
 impl<L: Link> Receiver<L> {
@@ -66,6 +72,7 @@ impl<L: Link> Receiver<L> {
             faults: 0,
             dropped: 0,
             over: false,
+            last: 0,
         }
     }
 
@@ -108,7 +115,6 @@ impl<L: Link> Receiver<L> {
         let mut buffer = [0; BUFFER];
         match self.link.receive(rt, &mut buffer) {
             Ok(Some(bytes)) => {
-                self.empty = 0;
                 self.faults = 0;
                 self.hear(rt, shared, actor, &buffer[..bytes])
             }
@@ -138,13 +144,12 @@ impl<L: Link> Receiver<L> {
         ensures here { result.0.pass.outbox ≡ shared.now.outbox.now }
     {
         if bytes.len() >= BUFFER {
-            self.dropped = self.dropped.saturating_add(1);
-            return (actor, Turn::Used);
+            return self.dropped(rt, shared, actor);
         }
         let Ok(packet) = read_packet(shared.alloc, bytes) else {
-            self.dropped = self.dropped.saturating_add(1);
-            return (actor, Turn::Used);
+            return self.dropped(rt, shared, actor);
         };
+        self.empty = 0;
         let is_end = matches!(packet.body, Body::Over);
         let (actor, acted) = actor.act(rt, shared, Event::Deliver(packet));
         if acted.is_err() {
@@ -153,9 +158,38 @@ impl<L: Link> Receiver<L> {
         if is_end {
             return (actor, Turn::Ended(Cause::Over));
         }
-        if shared.cell.site().node == 0 && tells_end(actor.stand.packets()) {
+        if !self.over && shared.cell.site().node == 0 && tells_end(actor.stand.packets()) {
             self.over = true;
+            self.link.hasten();
         }
+        self.counted(rt, shared, actor)
+    }
+
+    /// A datagram came that is no packet: that is no turn, or strangers could use them up.
+    fn dropped<J: Run, C: Core + Drop, N: Room, G: Gate, R: Wait>(
+        &mut self,
+        rt: &R,
+        shared: &Shared<'_, '_, '_, '_, '_, J, C, N, G>,
+        actor: Actor<N>,
+    ) -> (Actor<N>, Turn)
+        requires here { actor.pass.outbox ≡ shared.now.outbox.now }
+        ensures here { result.0.pass.outbox ≡ shared.now.outbox.now }
+    {
+        self.dropped = self.dropped.saturating_add(1);
+        let (actor, turn) = self.counted(rt, shared, actor);
+        (actor, waited(turn))
+    }
+
+    /// A datagram more came: after some what may be lost is said again.
+    fn counted<J: Run, C: Core + Drop, N: Room, G: Gate, R: Wait>(
+        &mut self,
+        rt: &R,
+        shared: &Shared<'_, '_, '_, '_, '_, J, C, N, G>,
+        actor: Actor<N>,
+    ) -> (Actor<N>, Turn)
+        requires here { actor.pass.outbox ≡ shared.now.outbox.now }
+        ensures here { result.0.pass.outbox ≡ shared.now.outbox.now }
+    {
         self.heard = self.heard.saturating_add(1);
         if self.heard < HEARD {
             return (actor, Turn::Used);
@@ -163,7 +197,7 @@ impl<L: Link> Receiver<L> {
         self.say_again(rt, shared, actor)
     }
 
-    /// What may be lost is said again.
+    /// What may be lost is said again. The registry ends once it has told the end often enough.
     fn say_again<J: Run, C: Core + Drop, N: Room, G: Gate, R: Wait>(
         &mut self,
         rt: &R,
@@ -175,12 +209,18 @@ impl<L: Link> Receiver<L> {
     {
         self.pauses = 0;
         self.heard = 0;
+        if self.over {
+            self.last = self.last.saturating_add(1);
+        }
+        if self.last > LAST {
+            return (actor, Turn::Ended(Cause::Over));
+        }
         let (actor, acted) = actor.act(rt, shared, Event::Again);
         (actor, after(acted))
     }
 
     /// Nothing came: what may be lost is said again now and then, and always once the search is over. It ends when
-    /// that was said often enough, nothing came for long, or no worker is left.
+    /// no packet came for long, or no worker is left.
     fn wait<J: Run, C: Core + Drop, N: Room, G: Gate, R: Wait + Clock>(
         &mut self,
         rt: &R,
@@ -190,12 +230,10 @@ impl<L: Link> Receiver<L> {
         requires here { actor.pass.outbox ≡ shared.now.outbox.now }
         ensures here { result.0.pass.outbox ≡ shared.now.outbox.now }
     {
-        thread::sleep(rt, Duration::from_micros(NAP));
+        let nap = if self.over { LAST_NAP } else { NAP };
+        thread::sleep(rt, Duration::from_micros(nap));
         self.empty = self.empty.saturating_add(1);
         self.pauses = self.pauses.saturating_add(1);
-        if self.over && self.empty >= LAST {
-            return (actor, Turn::Ended(Cause::Over));
-        }
         let is_deserted = shared.cell.site().node != 0 && shared.signals.is_deserted();
         if is_deserted || self.empty >= shared.plan.quiet {
             return (actor, Turn::Ended(Cause::Turns));

@@ -1,6 +1,6 @@
 //! Sockets on 127.0.0.1.
 
-ghost use Rattle.std.specs.Prelude.{◌≡◌, ℕ, IfOk};
+ghost use Rattle.std.specs.Prelude.{◌≡◌, ◌≤◌, ℕ, length, IfOk};
 ghost use Rattle.udp_node.specs.Links.{failed_once};
 
 use crate::link::{Link, LinkFault};
@@ -23,34 +23,82 @@ pub fn bound<R: Net>(rt: &R) -> io::Result<UdpSocket> {
     Ok(socket)
 }
 
-/// The end of a site that has a socket; its twins have the same one.
+/// The sockets of all sites of a run, and their addresses. Each socket stays open until the last link of the run has gone: else
+/// another process could take the port of a site that has ended, and would be heard as that site.
+#[derive(Drop)]
+pub struct Sockets {
+    /// By node.
+    sockets: Vec<UdpSocket>,
+    /// By node, too.
+    addresses: Vec<SocketAddr>,
+}
+
+impl Sockets {
+    /// These sockets, by node. The errors are the system's, which tells their addresses, and `OutOfMemory`.
+    pub fn new(alloc: Global, sockets: Vec<UdpSocket>) -> io::Result<Sockets> {
+        let mut addresses = Vec::with_capacity(alloc, sockets.len())?;
+        for socket in &sockets {
+            addresses.push(socket.local_addr()?)?;
+        }
+        Ok(Sockets { sockets, addresses })
+    }
+
+    /// The address of a node's site.
+    pub fn address(&self, node: u8) -> Option<SocketAddr> {
+        self.addresses.get(usize::from(node)).copied()
+    }
+
+    /// Whether a site of the run has this address.
+    fn is_own(&self, address: SocketAddr) -> bool {
+        self.addresses.iter().any(|own| *own == address)
+    }
+}
+
+/// The end of a site that has a socket; its twins have the same one. It hears the run's own sockets alone: a datagram from any other
+/// address comes as one without bytes, which is no packet.
 #[derive(Drop)]
 pub struct UdpLink {
-    socket: Arc<UdpSocket, Global>,
-    /// The addresses of all sites, by node.
-    sites: Arc<Vec<SocketAddr>, Global>,
+    sockets: Arc<Sockets, Global>,
+    node: u8,
     failures: u64,
 }
 
 impl UdpLink {
-    /// The end with this socket, from which sites are reached at these addresses, by node.
-    pub fn new(socket: Arc<UdpSocket, Global>, sites: Arc<Vec<SocketAddr>, Global>) -> UdpLink
+    /// The end of the site of this node, among these sockets. Where it has none there, each of its calls fails.
+    pub fn new(sockets: Arc<Sockets, Global>, node: u8) -> UdpLink
         ensures { result.failures ≡ 0 }
     {
         UdpLink {
-            socket,
-            sites,
+            sockets,
+            node,
             failures: 0,
         }
     }
 
+    /// Its socket.
+    fn socket(&self) -> Option<&UdpSocket> {
+        self.sockets.sockets.get(usize::from(self.node))
+    }
+
     /// Sends a datagram; whether the system took it whole.
     fn is_sent(&self, to: u8, bytes: &[u8]) -> bool {
-        match self.sites.get(usize::from(to)) {
-            Some(site) =>
-                matches!(self.socket.send_to(bytes, *site), Ok(sent) if sent == bytes.len()),
-            None => false,
+        match (self.socket(), self.sockets.address(to)) {
+            (Some(socket), Some(address)) =>
+                matches!(socket.send_to(bytes, address), Ok(sent) if sent == bytes.len()),
+            _ => false,
         }
+    }
+
+    /// Receives a datagram; how many bytes of it came, none of them where a stranger sent it. The errors are the system's.
+    fn received(&self, into: &mut [u8]) -> io::Result<usize>
+        ensures fits { IfOk result (λ bytes. bytes ≤ length into.old) }
+        ensures whole { length into.new ≡ length into.old }
+    {
+        let Some(socket) = self.socket() else {
+            return Err(io::Error::from(ErrorKind::NotConnected));
+        };
+        let (bytes, from) = socket.recv_from(into)?;
+        Ok(if self.sockets.is_own(from) { bytes } else { 0 })
     }
 
     /// Counts a failure.
@@ -77,8 +125,8 @@ impl Link for UdpLink {
     }
 
     fn receive<R: Wait>(&mut self, _rt: &R, into: &mut [u8]) -> Result<Option<usize>, LinkFault> {
-        match self.socket.recv_from(into) {
-            Ok((bytes, _)) => Ok(Some(bytes)),
+        match self.received(into) {
+            Ok(bytes) => Ok(Some(bytes)),
             Err(error) => match error.kind() {
                 ErrorKind::WouldBlock | ErrorKind::TimedOut | ErrorKind::Interrupted => Ok(None),
                 _ => Err(self.fail()),
@@ -86,8 +134,14 @@ impl Link for UdpLink {
         }
     }
 
+    /// Its socket, which its twins have too, doesn't block any more. (Where the system refuses that, empty receives take longer.)
+    fn hasten(&mut self) {
+        if let Some(socket) = self.socket() {
+            let _ = socket.set_nonblocking(true);
+        }
+    }
+
     fn twin(&self) -> Result<UdpLink, AllocError> {
-        let socket = Arc::try_clone(&self.socket)?;
-        Ok(UdpLink::new(socket, Arc::try_clone(&self.sites)?))
+        Ok(UdpLink::new(Arc::try_clone(&self.sockets)?, self.node))
     }
 }

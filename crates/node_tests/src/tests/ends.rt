@@ -5,10 +5,10 @@ ghost use Rattle.std.specs.Prelude.{◌≡◌, ◌+◌, ◌≤◌, vec_len, IfOk
 use super::recorder::{Recorder, Sent};
 use super::wild::Wild;
 use std::alloc::{AllocError, Global};
-use std::net::{Net, SocketAddr};
+use std::net::Net;
 use std::sync::Arc;
 use std::test::Fail;
-use udp_node::{Link, MemoryLink, UdpLink, Wires, bound};
+use udp_node::{Link, MemoryLink, Sockets, UdpLink, Wires, bound};
 
 /// Links in memory, for so many nodes and the registry.
 pub fn wires(alloc: Global, nodes: u8) -> Result<Vec<MemoryLink>, AllocError>
@@ -23,25 +23,40 @@ pub fn wires(alloc: Global, nodes: u8) -> Result<Vec<MemoryLink>, AllocError>
     Ok(links)
 }
 
-/// Links over sockets, for so many nodes and the registry.
+/// The sockets of so many nodes and the registry.
+pub fn bound_sockets<R: Net>(rt: &R, alloc: Global, nodes: u8) -> Result<Arc<Sockets, Global>, Fail>
+    requires { nodes ≤ 16 }
+{
+    let mut sockets = Vec::new(alloc);
+    for _site in 0..nodes + 1 {
+        sockets.push(bound(rt)?)?;
+    }
+    Ok(Arc::new(alloc, Sockets::new(alloc, sockets)?)?)
+}
+
+/// Links over these sockets, for so many nodes and the registry.
+pub fn links_over(
+    alloc: Global,
+    sockets: &Arc<Sockets, Global>,
+    nodes: u8,
+) -> Result<Vec<UdpLink>, AllocError>
+    requires { nodes ≤ 16 }
+    ensures { IfOk result (λ links. vec_len links ≡ nodes + 1) }
+{
+    let mut links = Vec::new(alloc);
+    for node in 0..nodes + 1 {
+        links.push(UdpLink::new(Arc::try_clone(sockets)?, node))?;
+    }
+    Ok(links)
+}
+
+/// Links over sockets of their own, for so many nodes and the registry.
 pub fn sockets<R: Net>(rt: &R, alloc: Global, nodes: u8) -> Result<Vec<UdpLink>, Fail>
     requires { nodes ≤ 16 }
     ensures { IfOk result (λ links. vec_len links ≡ nodes + 1) }
 {
-    let mut sockets = Vec::new(alloc);
-    let mut sites = Vec::new(alloc);
-    for _site in 0..nodes + 1 {
-        let socket = bound(rt)?;
-        sites.push(socket.local_addr()?)?;
-        sockets.push(socket)?;
-    }
-    let sites = Arc::new(alloc, sites)?;
-    let mut links = Vec::new(alloc);
-    for socket in sockets {
-        let socket = Arc::new(alloc, socket)?;
-        links.push(UdpLink::new(socket, Arc::try_clone(&sites)?))?;
-    }
-    Ok(links)
+    let sockets = bound_sockets(rt, alloc, nodes)?;
+    Ok(links_over(alloc, &sockets, nodes)?)
 }
 
 /// The same links, wild: each by a seed of its own.

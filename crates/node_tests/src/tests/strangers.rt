@@ -1,0 +1,63 @@
+//! A stranger's packets, which are well formed and name sites of the run, are not heard.
+//!
+//! No contract says who sent a datagram. Of the bugs of `udp_node` that are kept outside the gate, this finds `hears_any_address`, as
+//! `link_tests` does.
+
+use super::ends::{bound_sockets, links_over};
+use super::runs::{COVERED, Came, Told, run};
+use packet_wire::{Body, Packet, write_packet};
+use spawn_frame::{ChildResult, Site};
+use std::alloc::Global;
+use std::net::{Net, SocketAddr};
+use std::test::Fail;
+use udp_node::{Open, Plan, bound};
+
+/// Two nodes of one worker each.
+const PLAN: Plan = Plan {
+    workers: 1,
+    nodes: 2,
+    fuel: 1000,
+    seed: 1,
+    turns: 1_000_000,
+    quiet: 6_000,
+};
+
+/// Sends the registry, from a socket that is none of the run's, what its first node would: that it asks for work, and that the root
+/// has no cover.
+fn deceive<R: Net>(rt: &R, alloc: Global, registry: SocketAddr) -> Result<(), Fail> {
+    let stranger = bound(rt)?;
+    let from = Site {
+        node: 1,
+        incarnation: 1,
+    };
+    let to = Site {
+        node: 0,
+        incarnation: 1,
+    };
+    let empty = Body::Return {
+        serial: 0,
+        attempt: 1,
+        result: ChildResult::Empty,
+    };
+    for body in [Body::Steal, empty] {
+        let mut bytes = Vec::new(alloc);
+        write_packet(alloc, &Packet { from, to, body }, &mut bytes)?;
+        stranger.send_to(&bytes, registry)?;
+    }
+    Ok(())
+}
+
+#[test]
+fn a_strangers_result_is_not_taken(rt: HostRuntime) -> Result<(), Fail> {
+    let alloc = rt.alloc();
+    let sockets = bound_sockets(&rt, alloc, PLAN.nodes)?;
+    let Some(registry) = sockets.address(0) else {
+        return Err(Fail::new("the registry has no socket"));
+    };
+    deceive(&rt, alloc, registry)?;
+    let links = links_over(alloc, &sockets, PLAN.nodes)?;
+    let came = run(&rt, alloc, &COVERED, PLAN, links, &Open);
+    let (told, books) = (Told::Right, 3);
+    assert_eq!(rt; came, Some(Came { told, books }));
+    Ok(())
+}

@@ -1,0 +1,178 @@
+#!/usr/bin/env python3
+"""Attacks a running `solve` from sockets that are none of its own, and tells whether its answers stay right.
+
+    python3 scripts/try_strangers.py [--times N] [--limit SECONDS] [--length SECONDS] [--program PATH] [--problem FILE] [--only NAME]
+
+The ports of a run stand in /proc/net/udp, which every process of the machine may read. To each of them each attack sends its packets,
+well formed and with the names that sites of a run have, for a second from the run's begin, or until its end: that a node asks for work and found the root
+without a cover (`steal and return`), that the search is over (`over`), that the root is given up (`abort`), that sites have begun
+anew with the greatest incarnation (`hello`, `members`), one byte as fast as it goes (`flood of bytes`), and packets of random bytes
+(`flood of noise`). A table tells, attack by attack, how many runs were right, without an answer, wrong, or given up, and the least, the
+middle and the greatest time in seconds; the first line is of runs that nobody attacks.
+
+It wants the program: (cd crates/solve_cli && rt run) builds it. The exit status is 0 where no run was wrong or given up, 1 where one was,
+2 for a fault of the command line or where there is no program.
+"""
+import os
+import random
+import socket
+import statistics
+import struct
+import subprocess
+import sys
+import tempfile
+import threading
+import time
+
+from built import parser_of, SOLVE_CLI, TOP, want_program
+
+NODES = 4
+GREATEST = 2**32 - 1
+HELLO, MEMBERS, STEAL, RETURN, ABORT, OVER = 1, 2, 3, 6, 9, 10
+
+
+def packet(kind, sender, receiver, body=b""):
+    """A packet of the run's form, from one site to another, each a node and an incarnation."""
+    return struct.pack(">HBBBIBI", 0x434E, 1, kind, *sender, *receiver) + body
+
+
+def nodes():
+    return range(1, NODES + 1)
+
+
+def steal_and_return():
+    root = struct.pack(">IIB", 0, 1, 0)
+    for node in nodes():
+        yield packet(STEAL, (node, 1), (0, 1))
+        yield packet(RETURN, (node, 1), (0, 1), root)
+
+
+def over():
+    return [packet(OVER, (0, 1), (node, 1)) for node in nodes()]
+
+
+def abort():
+    root = struct.pack(">II", 0, 1)
+    return [packet(ABORT, (0, 1), (node, 1), root) for node in nodes()]
+
+
+def hello():
+    return [packet(HELLO, (node, GREATEST), (0, 1)) for node in nodes()]
+
+
+def members():
+    body = struct.pack(f">B{NODES}I", NODES, *[GREATEST] * NODES)
+    return [packet(MEMBERS, (0, 1), (node, 1), body) for node in nodes()]
+
+
+def noise():
+    return [random.randbytes(random.randrange(1, 200)) for _ in range(20)]
+
+
+# what is sent, and how long the sender waits between two rounds, in seconds
+ATTACKS = {
+    "steal and return": (steal_and_return, 0.001),
+    "over": (over, 0.001),
+    "abort": (abort, 0.001),
+    "hello": (hello, 0.001),
+    "members": (members, 0.001),
+    "a byte now and then": (lambda: [b"x"], 0.03),
+    "flood of bytes": (lambda: [b"x"], 0),
+    "flood of noise": (noise, 0),
+}
+
+
+def ports(pid):
+    """The ports of the UDP sockets of a process."""
+    inodes = set()
+    try:
+        for descriptor in os.listdir(f"/proc/{pid}/fd"):
+            target = os.readlink(f"/proc/{pid}/fd/{descriptor}")
+            if target.startswith("socket:["):
+                inodes.add(target[8:-1])
+    except OSError:
+        return []
+    with open("/proc/net/udp") as table:
+        rows = [line.split() for line in table][1:]
+    return [int(row[1].split(":")[1], 16) for row in rows if row[9] in inodes]
+
+
+def attack(run, seconds, attack_of, pause):
+    """Sends the attack's packets to all ports of the run, for so many seconds or until it ends."""
+    own = socket.socket(socket.AF_INET, socket.SOCK_DGRAM)
+    targets = []
+    end = time.monotonic() + seconds
+    while run.poll() is None and time.monotonic() < end:
+        if len(targets) <= NODES:
+            targets = ports(run.pid)
+        for datagram in attack_of():
+            for port in targets:
+                try:
+                    own.sendto(datagram, ("127.0.0.1", port))
+                except OSError:
+                    pass
+        if pause:
+            time.sleep(pause)
+    own.close()
+
+
+def one_run(given, name, seed):
+    """The seconds that a run took, and its output; none where it was given up."""
+    begun = time.monotonic()
+    words = [given.program, "solve", given.problem, "--nodes", str(NODES), "--workers", "2", "--seed", str(seed)]
+    run = subprocess.Popen(words, stdout=subprocess.PIPE, stderr=subprocess.DEVNULL, text=True)
+    if name:
+        threading.Thread(target=attack, args=(run, given.length, *ATTACKS[name]), daemon=True).start()
+    try:
+        text = run.communicate(timeout=given.limit)[0]
+    except subprocess.TimeoutExpired:
+        run.kill()
+        run.communicate()
+        text = None
+    return time.monotonic() - begun, text
+
+
+def judged(given, text, answer_file):
+    if text is None:
+        return "given up"
+    if text in ("", "no answer\n"):
+        return "no answer"
+    with open(answer_file, "w") as answer:
+        answer.write(text)
+    checked = subprocess.run([given.program, "check", given.problem, answer_file], capture_output=True, text=True)
+    is_right = text.startswith("cover ") and checked.stdout == "right\n"
+    return "right" if is_right else "wrong"
+
+
+def row(given, name, answer_file):
+    """Runs all times under one attack, prints its row, and answers whether none was wrong or given up."""
+    counts = dict.fromkeys(["right", "no answer", "wrong", "given up"], 0)
+    seconds = []
+    for seed in range(given.times):
+        took, text = one_run(given, name, seed)
+        counts[judged(given, text, answer_file)] += 1
+        seconds.append(took)
+    times = f"{min(seconds):8.2f} {statistics.median(seconds):8.2f} {max(seconds):8.2f}"
+    print(f"{name or 'nobody':<22}", *[f"{count:>10}" for count in counts.values()], times, flush=True)
+    return counts["wrong"] == counts["given up"] == 0
+
+
+def main():
+    parser = parser_of(__doc__)
+    parser.add_argument("--times", type=int, default=20, help="how often each attack is tried (default 20)")
+    parser.add_argument("--limit", type=float, default=20, help="after how many seconds a run is given up (default 20)")
+    parser.add_argument("--length", type=float, default=1, help="for how many seconds a run is attacked (default 1)")
+    parser.add_argument("--program", default=SOLVE_CLI, help="the program, in place of the built one")
+    default = os.path.join(TOP, "examples", "pentominoes-6x10.dlx")
+    parser.add_argument("--problem", default=default, help="a file with a cover (default pentominoes-6x10.dlx)")
+    parser.add_argument("--only", choices=ATTACKS, help="this attack alone")
+    given = parser.parse_args()
+    want_program(given.program)
+    print(f"{'attack':<22}", *[f"{word:>10}" for word in ("right", "no answer", "wrong", "given up")], "   least   middle greatest")
+    names = [given.only] if given.only else [None, *ATTACKS]
+    with tempfile.TemporaryDirectory() as folder:
+        good = [row(given, name, os.path.join(folder, "answer")) for name in names]
+    sys.exit(0 if all(good) else 1)
+
+
+main()
