@@ -21,16 +21,21 @@
 
 The first line of each file is a comment that tells what it is and how it was made. A problem beyond 1,000 items, 20,000 options,
 200,000 occurrences of items in them or 10,000 colours is refused, since the program reads no such file. It wants no built
-program. The exit status is 0, or 2 for a fault of the command line, a file that can't be read, or a problem that is refused.
+program. The exit status is 0, or 2 for a fault of the command line, a file that can't be read, or a problem that is refused, or 3
+where the standard output can't be written.
 """
 import argparse
 import csv
 import itertools
+import math
 import os
 import re
 import sys
 
 HERE = os.path.dirname(os.path.abspath(__file__))
+sys.path.insert(0, os.path.join(HERE, "..", "scripts"))
+from cover_files import run  # noqa: E402
+
 MOST_ITEMS, MOST_OPTIONS, MOST_OCCURRENCES, MOST_COLOURS, LONGEST_NAME = 1_000, 20_000, 200_000, 10_000, 32
 
 
@@ -172,6 +177,8 @@ def coloring(name, note, borders, colors):
 
 
 def triples(name, note, n):
+    if math.comb(n, 3) > MOST_OPTIONS:  # (before they are made: of 3,000 points there would be 4.5 thousand million)
+        stop(f"this would have {math.comb(n, 3):,} options, and the program reads at most {MOST_OPTIONS:,}")
     width = len(str(n))
     pairs = {pair: "".join(f"{point:0{width}}" for point in pair) for pair in itertools.combinations(range(1, n + 1), 2)}
     options = [[pairs[pair] for pair in itertools.combinations(t, 2)] for t in itertools.combinations(range(1, n + 1), 3)]
@@ -312,7 +319,10 @@ def read_words(path):
 
 
 def read_lessons(path):
-    rows = list(csv.DictReader(read_text(path).splitlines()))
+    try:
+        rows = list(csv.DictReader(read_text(path).splitlines()))
+    except csv.Error as why:
+        stop(f"{path} can't be read as a table: {why}")
     wanted = ["lesson", "teacher", "class", "rooms", "periods"]
     for number, row in enumerate(rows, 2):
         lacking = [column for column in wanted if not row.get(column)]
@@ -434,7 +444,8 @@ def main():
         make(given)
     else:
         examples()
+    return 0
 
 
 if __name__ == "__main__":
-    main()
+    run(main)

@@ -3,12 +3,14 @@
 The program decides what a file says. This reader stands beside it: it goes on after a fault, so that all can be told.
 """
 import os
+import re
 import sys
 from collections import namedtuple
 
-WHITE = b"\t\v\f\r "
 BAR, COLON, ILLEGAL = b"|", b":", b"\0:|"
 WITHOUT_LINE = {"NoItems", "BadHead", "WrongCount"}
+# the greatest file that the limits below allow has some 15 MB; what is far above that is read no further
+LARGEST = 1 << 26
 MAX_NAME, MAX_ITEMS, MAX_OPTIONS, MAX_OCCURRENCES, MAX_COLOURS = 32, 1_000, 20_000, 200_000, 10_000
 
 # a word with its place, counted from 1, the column in characters
@@ -23,13 +25,31 @@ class Unreadable(Exception):
     """A file that can't be read; its text names the file and the cause."""
 
 
+def all_bytes(opened, path):
+    """All bytes of an opened file; `Unreadable` where there are more than any file has that the program reads."""
+    text = opened.read(LARGEST + 1)
+    if len(text) > LARGEST:
+        raise Unreadable(f"{path} can't be read: it has more than {LARGEST:,} bytes, and the program reads no such file")
+    return text
+
+
+def standard_input():
+    """All bytes of the standard input; `Unreadable` where it is closed or refused by the system."""
+    if sys.stdin is None:
+        raise Unreadable("the standard input can't be read: it is closed")
+    try:
+        return all_bytes(sys.stdin.buffer, "the standard input")
+    except OSError as why:
+        raise Unreadable(f"the standard input can't be read: {why.strerror}") from None
+
+
 def read_bytes(path):
-    """All bytes of a file; `Unreadable` where it is missing, a folder, or refused by the system."""
+    """All bytes of a file; `Unreadable` where it is missing, a folder, too large, or refused by the system."""
     if os.path.isdir(path):
         raise Unreadable(f"{path} can't be read: it is a folder")
     try:
         with open(path, "rb") as opened:
-            return opened.read()
+            return all_bytes(opened, path)
     except FileNotFoundError:
         folder = os.path.dirname(path) or "."
         where = "" if os.path.isdir(folder) else f", and neither is the folder {folder}"
@@ -53,13 +73,11 @@ def width(piece):
 
 def words_of(number, line):
     """The words of a line, each with its place."""
-    words, begin = [], None
-    for place in range(len(line) + 1):
-        if place < len(line) and line[place] not in WHITE:
-            begin = place if begin is None else begin
-        elif begin is not None:
-            words.append(Word(number, width(line[:begin]) + 1, line[begin:place]))
-            begin = None
+    words, column, behind = [], 1, 0
+    for found in re.finditer(rb"[^\t\v\f\r ]+", line):
+        column += width(line[behind:found.start()])
+        words.append(Word(number, column, found[0]))
+        column, behind = column + width(found[0]), found.end()
     return words
 
 
@@ -273,13 +291,32 @@ def refusal(faults):
     return first.name if first.name in WITHOUT_LINE else f"{first.name} line {first.line}"
 
 
+def complain(why):
+    """Writes a line on standard error, if that is open."""
+    if sys.stderr is not None:
+        print(f"{os.path.basename(sys.argv[0]).removesuffix('.py')}: {why}", file=sys.stderr)
+
+
 def run(main):
-    """Runs a script's main function to its exit status; a reader that goes away, as `head` does, ends it quietly."""
+    """Runs a script's main function to its exit status.
+
+    A reader that goes away, as `head` does, ends it quietly, with status 1. Where the standard output is closed or takes no more, or
+    memory runs out, standard error has a line, and the status is 3.
+    """
+    if sys.stdout is None:
+        complain("the standard output can't be written: it is closed")
+        sys.exit(3)
     sys.stdout.reconfigure(errors="backslashreplace")
     try:
         status = main()
         sys.stdout.flush()
-    except BrokenPipeError:
+    except MemoryError:
+        complain("out of memory")
+        status = 3
+    except OSError as why:
+        # what is still buffered goes nowhere, so that the interpreter's own end doesn't fail once more
         os.dup2(os.open(os.devnull, os.O_WRONLY), sys.stdout.fileno())
-        status = 1
+        status = 1 if isinstance(why, BrokenPipeError) else 3
+        if status == 3:
+            complain(f"the standard output can't be written: {why.strerror}")
     sys.exit(status)

@@ -16,7 +16,7 @@ exit status is 0, 2 for a fault of the command line, 3 for a file or an answer t
 import argparse
 import sys
 
-from cover_files import Unreadable, read_answer, read_bytes, read_problem, refusal, run, shown
+from cover_files import Unreadable, read_answer, read_bytes, read_problem, refusal, run, shown, standard_input
 from picture_kinds import picture_of
 from svg_paper import Paper
 
@@ -39,7 +39,7 @@ def read_files(given):
     """The problem, its title, and the answer."""
     try:
         text = read_bytes(given.file)
-        answer_text = sys.stdin.buffer.read() if given.answer == "-" else read_bytes(given.answer)
+        answer_text = standard_input() if given.answer == "-" else read_bytes(given.answer)
     except Unreadable as why:
         stop(str(why))
     problem = read_problem(text)

@@ -4,7 +4,7 @@
     python3 scripts/explain.py FILE [ANSWER]
 
 The files' format is told in docs/FORMAT.md. Of a file that would be refused each fault is told with its line, its column
-(in characters, from 1; a tab is one), the word, and what was expected; the first line says what the program tells of it. Of
+(in characters, from 1; a tab is one), the word, and what was expected, the first 200 of them; the first line says what the program tells of it. Of
 a file that is right the counts are told, the options that are ignored, and what may surprise: primary items in no option or
 in one alone, items that always go together, options that name the same items, items that have a colour in some options and none
 in others, colours that no two options give. Of an answer each uncovered item is told, and for each item that is covered twice the
@@ -23,6 +23,8 @@ SAYS = "the program says: "
 BY_SEARCH = "that there is no cover is decided by the program's search alone"
 BYTE_ORDER_MARK = b"\xef\xbb\xbf"
 MANY = 10
+# so many faults are explained; of the others only the number is given
+MOST = 200
 
 
 # ---- what a file was perhaps meant to be
@@ -92,7 +94,10 @@ def explain_refused(problem, meant, remarks):
     told += remarks
     if is_item_line_missing(meant):
         told.append(f"most words of the options are no items: line {meant.item_line} is read as the item line; is that line missing?")
-    told += [fault_line(meant, fault, further) for fault, further in grouped(meant)]
+    groups = list(grouped(meant))
+    told += [fault_line(meant, fault, further) for fault, further in groups[:MOST]]
+    if len(groups) > MOST:
+        told.append(f"and {len(groups) - MOST:,} more faults")
     if remarks and not meant.faults:
         told.append("apart from this the file can be read")
     return told

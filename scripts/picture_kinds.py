@@ -70,13 +70,12 @@ def cell_of(name):
 def is_connected(cells):
     """Whether the cells hang together by their edges."""
     left, reached = set(cells), []
-    while left:
-        if reached and not any((r + a, c + b) in left for r, c in reached for a, b in ((0, 1), (1, 0), (0, -1), (-1, 0))):
-            return False
-        at = next(((r + a, c + b) for r, c in reached for a, b in ((0, 1), (1, 0), (0, -1), (-1, 0)) if (r + a, c + b) in left), None)
-        reached.append(at or next(iter(left)))
-        left.discard(reached[-1])
-    return True
+    while left and (reached or len(left) == len(set(cells))):
+        r, c = reached.pop() if reached else left.pop()
+        near = {(r + a, c + b) for a, b in ((0, 1), (1, 0), (0, -1), (-1, 0))} & left
+        left -= near
+        reached += near
+    return not left
 
 
 class Tiling(Kind):
