@@ -4,6 +4,7 @@ use Rattle.std.specs.List.{AllByRecursion, position_or_len}
 use Rattle.std.proofs.lemmas.Option.{none-some, slice_get-map}
 use Rattle.std.proofs.lemmas.Bool.{and_from, and_parts, both_ways, cond-false, eq-eqb, eqb-true, false≢true, false_from_ne_true, or_cases, true≢false}
 use Rattle.spawn_frame.specs.Frames.{is_unit}
+use Rattle.spawn_frame.specs.Guests.{put_guest}
 use Rattle.spawn_frame.specs.Names.{guest_before, same_name}
 use Rattle.spawn_frame.specs.Prefixes.{AreGrown, Link, link_of, origin_of, origin_path, path_among}
 use Rattle.spawn_frame.specs.Tables.{HasParents, IsAscending}
@@ -19,11 +20,6 @@ use Rattle.spawn_frame.proofs.Grown.{each_guest, each_origin, link_at}
 use Rattle.spawn_frame.proofs.Parents.{no_children}
 use Rattle.spawn_frame.proofs.Orders.{before_on, before_or_same}
 use Rattle.spawn_frame.proofs.Sames.{name_path, parent_path, same_name_self}
-
--- the list with a new guest before the first that stands behind it
-abbrev pub put_guest : Guest → List Guest → List Guest
-put_guest new [] = new ∷ []
-put_guest new (g ∷ gs) = cond (guest_before new.name new.work.attempt g.name g.work.attempt) (new ∷ g ∷ gs) (g ∷ put_guest new gs)
 
 pub put_is : (new : Guest) (gs : List Guest) → insert gs (position_or_len (λ g. guest_before new.name new.work.attempt g.name g.work.attempt) gs) new ≡ put_guest new gs
 put_is new [] = refl

@@ -1,5 +1,5 @@
 -- Units that are looked up, and what is true of them.
-use Rattle.std.proofs.Common.{◌≡◌, ℕ, suc, ◌+◌, Bool, true, false, cond, ◌&&◌, ◌==◌, List, [], ◌∷◌, map, option_map, Option, Some, None, is_some, IsSome, IfSome, slice_get, refl, sym, ap, subst, ◌∙◌, arith}
+use Rattle.std.proofs.Common.{◌≡◌, ℕ, suc, ◌+◌, Bool, true, false, cond, ◌&&◌, ◌==◌, List, [], ◌∷◌, ◌++◌, map, option_map, Option, Some, None, is_some, IsSome, IfSome, slice_get, refl, sym, ap, subst, ◌∙◌, arith}
 use Rattle.std.specs.List.{AllByRecursion}
 use Rattle.std.proofs.lemmas.Option.{same_Some, none-some, slice_get-map}
 use Rattle.std.proofs.lemmas.Bool.{and_parts, eqb-true}
@@ -7,7 +7,8 @@ use Rattle.spawn_frame.specs.Frames.{frame, frame_result}
 use Rattle.spawn_frame.specs.Inlets.{heard_by}
 use Rattle.spawn_frame.specs.Names.{same_name}
 use Rattle.spawn_frame.specs.Picks.{either_unit, first_guest, is_ready, is_split, last_own}
-use Rattle.spawn_frame.specs.Tables.{AllLawful, IsLawful, IsMadeBefore, is_here, is_out}
+use Rattle.spawn_frame.specs.Prefixes.{link_of}
+use Rattle.spawn_frame.specs.Tables.{AllLawful, IsLawful, IsMadeBefore, is_here, is_out, parent_in, prefix_in}
 use Rattle.spawn_frame.specs.Units.{Entry, is_guest, unit_of}
 use Rattle.spawn_frame.specs.Works.{IsUnit, IsTable, IsWork, child_entry, child_work, entry_of, first_wanted, guest_entry, guest_work, heard_work, is_settled, is_wanted, last_wanted, table_of, wanted_unit, work_in}
 use Rattle.spawn_frame.specs.declared.child.Child.{Child}
@@ -22,6 +23,7 @@ use Rattle.spawn_frame.specs.declared.wanted.Wanted.{Wanted}
 use Rattle.spawn_frame.specs.declared.wanted.Wanted.TheVariants as wants
 use Rattle.spawn_frame.specs.declared.work.Work.{Work}
 use Rattle.spawn_frame.proofs.Frames.{same_heard}
+use Rattle.spawn_frame.proofs.Grown.{path_seen}
 use Rattle.spawn_frame.proofs.Kept.{each_weaker}
 use Rattle.spawn_frame.proofs.Lookups.{guest_at}
 use Rattle.spawn_frame.proofs.Sames.{name_path}
@@ -162,3 +164,14 @@ parent_there site limit own guests h k c at = go c.parent refl
     go : (o : Option WorkUnit) → c.parent ≡ o → IfSome o (λ parent. IsSome (unit_of (table_of site limit own guests) parent))
     go None e = tt
     go (Some unit) e = h.parents.there k (child_entry c) unit (slice_get-map child_entry own k ∙ ap (option_map child_entry) at) e
+
+-- the prefix of a child is its parent's with its option behind it
+pub option_behind : (site : Site) (limit : ℕ) (own : List Child) (guests : List Guest) → IsTable (table_of site limit own guests) own guests → (k : ℕ) (c : Child) → slice_get own k ≡ Some c
+    → (unit : WorkUnit) → parent_in (slice_get (map child_entry own) k) ≡ Some unit
+    → prefix_in (slice_get (map child_entry own) k) ≡ prefix_in (unit_of (table_of site limit own guests) unit) ++ c.option ∷ []
+option_behind site limit own guests h k c at unit of =
+    let seen : slice_get (map child_entry own) k ≡ Some (child_entry c) = slice_get-map child_entry own k ∙ ap (option_map child_entry) at in
+    let parent : c.parent ≡ Some unit = sym (ap parent_in seen) ∙ of in
+    ap prefix_in seen
+    ∙ h.grown.grown k (link_of c) unit (slice_get-map link_of own k ∙ ap (option_map link_of) at) parent
+    ∙ ap (λ p. p ++ c.option ∷ []) (path_seen site limit own guests unit)

@@ -24,3 +24,4 @@ pub mod Filled
 pub mod Paged
 pub mod Ahead
 pub mod Walks
+pub mod Several

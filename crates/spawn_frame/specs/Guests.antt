@@ -1,8 +1,12 @@
 -- The guests of a site by their places, and which of them are open.
 use Rattle.std.specs.Prelude.{◌≡◌, ℕ, zero, suc, true, if◌then◌else◌, List, [], ◌∷◌, filter, map, nat_lt, ◌==◌, Option, Some, None, option_map, slice_get}
 use Rattle.spawn_frame.specs.Aborts.{is_open}
-use Rattle.spawn_frame.specs.Works.{guest_work}
+use Rattle.spawn_frame.specs.Gifts.{is_there, name_of}
+use Rattle.spawn_frame.specs.Names.{guest_before}
+use Rattle.spawn_frame.specs.Works.{fresh_guest, guest_entry, guest_work}
+use Rattle.spawn_frame.specs.declared.gift.Gift.{Gift}
 use Rattle.spawn_frame.specs.declared.guest.Guest.{Guest}
+use Rattle.spawn_frame.specs.declared.site.Site.{Site}
 use Rattle.spawn_frame.specs.declared.status.Status.{Status}
 use Rattle.spawn_frame.specs.declared.unit.Unit.{Unit as WorkUnit}
 use Rattle.spawn_frame.specs.declared.unit.Unit.TheVariants as units
@@ -32,6 +36,21 @@ abbrev pub change_place : (Work → Work) → List Guest → ℕ → List Guest
 change_place f [] k = []
 change_place f (g ∷ gs) zero = record g { work = f g.work } ∷ gs
 change_place f (g ∷ gs) (suc k) = g ∷ change_place f gs k
+
+-- the list with a new guest before the first that stands behind it
+abbrev pub put_guest : Guest → List Guest → List Guest
+put_guest new [] = new ∷ []
+put_guest new (g ∷ gs) = if guest_before new.name new.work.attempt g.name g.work.attempt then new ∷ g ∷ gs else g ∷ put_guest new gs
+
+-- the list with a child that is given, unless it is there already
+abbrev pub put_gift : Site → Gift → List Guest → List Guest
+put_gift from gift gs =
+    if is_there from (map guest_entry gs) gift then gs else put_guest (fresh_guest (name_of from gift) gift.attempt gift.prefix) gs
+
+-- the same of each of these children, the last one first
+abbrev pub put_gifts : Site → List Gift → List Guest → List Guest
+put_gifts from [] gs = gs
+put_gifts from (gift ∷ gifts) gs = put_gift from gift (put_gifts from gifts gs)
 
 -- the work of the guest at a place
 abbrev pub work_at : List Guest → ℕ → Option Work

@@ -1,5 +1,6 @@
 pub mod Aborts
 pub mod Frames
+pub mod Gifts
 pub mod Guests
 pub mod Inlets
 pub mod Names

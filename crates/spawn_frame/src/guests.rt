@@ -2,14 +2,19 @@
 
 ghost use Rattle.std.specs.Prelude.{◌≡◌, ℕ, suc, ◌+◌, ◌<◌, ◌≤◌, ◌^◌, if◌then◌else◌, [], insert, length, map, nat_lt, option_map, slice_get, slice_index, true, vec_capacity, vec_len, OnErr, OnOk, Some};
 ghost use Rattle.std.specs.List.Sorted.{IsNonDecreasing};
-ghost use Rattle.spawn_frame.specs.Guests.{change_place, open_of, places_with, places_without, work_at, StaysOpen};
-ghost use Rattle.spawn_frame.specs.Works.{first_wanted, frame_says, split_work, with_heard, with_work_status, HearsFrom};
+ghost use Rattle.spawn_frame.specs.Guests.{change_place, open_of, open_places, places_with, places_without, put_gift, put_gifts, work_at, StaysOpen};
+ghost use Rattle.spawn_frame.specs.Tables.{IsAscending};
+ghost use Rattle.spawn_frame.specs.Works.{first_wanted, frame_says, guest_entry, split_work, with_heard, with_work_status, HearsFrom};
 
+use crate::building::new_guest;
 use crate::child_result::ChildResult;
+use crate::gift::Gift;
 use crate::guest::Guest;
 use crate::heard::Heard;
+use crate::site::{ChildName, Site};
 use crate::status::Status;
 use crate::unit::Unit;
+use crate::units::{has_guest, place_behind};
 use crate::wanted::Wanted;
 use std::alloc::{AllocError, Global};
 use std::marker::Model;
@@ -100,6 +105,20 @@ impl Guests {
         Ok(())
     }
 
+    /// Puts each of these children of a site at its place as a ready guest, unless it is there already. The only error is want
+    /// of memory, which changes nothing: it is taken before any change.
+    pub fn admit_each(&mut self, from: Site, gifts: Vec<Gift>) -> Result<(), AllocError>
+        requires { IsAscending (map guest_entry self.old) }
+        ensures ok { OnOk result (self.new ≡ put_gifts from gifts.items self.old) }
+        ensures err { OnErr result (self.new ≡ self.old) }
+    {
+        let count = gifts.len();
+        self.items.reserve(count)?;
+        self.places.reserve(count)?;
+        put_gifts(&mut self.items, &mut self.places, from, gifts);
+        Ok(())
+    }
+
     /// Gives a guest another status, an open one only where it is open. It costs a search by halving where the guest ends.
     pub fn set_status(&mut self, place: usize, status: Status)
         requires within { place < length self.old }
@@ -134,13 +153,80 @@ impl Guests {
     }
 }
 
+/// Puts each of these children at its place, unless it is there already; there is room for all.
+fn put_gifts(items: &mut Vec<Guest>, places: &mut Vec<usize>, from: Site, gifts: Vec<Gift>)
+    requires open { places.old.items ≡ open_places items.old.items }
+    requires ascending { IsAscending (map guest_entry items.old.items) }
+    requires room { vec_len items.old + length gifts.items ≤ vec_capacity items.old }
+    requires space { vec_len places.old + length gifts.items ≤ vec_capacity places.old }
+    ensures items { items.new.items ≡ put_gifts from gifts.items items.old.items }
+    ensures open { places.new.items ≡ open_places items.new.items }
+{
+    let mut left = gifts;
+    while let Some(gift) = left.pop() {
+        put_gift(items, places, from, gift);
+    }
+}
+
+/// Puts a child at its place, unless it is there already; there is room for it.
+fn put_gift(items: &mut Vec<Guest>, places: &mut Vec<usize>, from: Site, gift: Gift)
+    requires open { places.old.items ≡ open_places items.old.items }
+    requires ascending { IsAscending (map guest_entry items.old.items) }
+    requires room { vec_len items.old < vec_capacity items.old }
+    requires space { vec_len places.old < vec_capacity places.old }
+    ensures items { items.new.items ≡ put_gift from gift items.old.items }
+    ensures open { places.new.items ≡ open_places items.new.items }
+    ensures ascending { IsAscending (map guest_entry items.new.items) }
+    ensures room { vec_len items.new + vec_capacity items.old
+        ≤ vec_len items.old + 1 + vec_capacity items.new }
+    ensures space { vec_len places.new + vec_capacity places.old
+        ≤ vec_len places.old + 1 + vec_capacity places.new }
+{
+    let Gift {
+        serial,
+        attempt,
+        prefix,
+    } = gift;
+    let name = ChildName { site: from, serial };
+    if has_guest(items, name, attempt) {
+        return;
+    }
+    let place = place_behind(items, name, attempt);
+    put_guest(items, places, place, new_guest(name, attempt, prefix));
+}
+
+/// Puts an open guest at a place, for which there is room; those from there on move by one.
+fn put_guest(items: &mut Vec<Guest>, places: &mut Vec<usize>, place: usize, guest: Guest)
+    requires open { places.old.items ≡ open_places items.old.items }
+    requires within { place ≤ length items.old.items }
+    requires begins { is_open guest.work.status ≡ true }
+    requires room { vec_len items.old < vec_capacity items.old }
+    requires space { vec_len places.old < vec_capacity places.old }
+    ensures items { items.new.items ≡ insert items.old.items place guest }
+    ensures open { places.new.items ≡ open_places items.new.items }
+    ensures room { vec_len items.new ≡ vec_len items.old + 1 }
+    ensures kept { vec_capacity items.old ≤ vec_capacity items.new }
+    ensures space { vec_len places.new ≡ vec_len places.old + 1 }
+    ensures spared { vec_capacity places.old ≤ vec_capacity places.new }
+{
+    match items.insert(place, guest) {
+        Ok(()) => {}
+        Err(_) => unreachable!(),
+    }
+    let count = items.len();
+    prove!(place < count);
+    put_place(places, place);
+}
+
 /// Puts a place among these, which rise, and for which there is room; those from it on are one further then.
 fn put_place(places: &mut Vec<usize>, place: usize)
     requires room { vec_len places.old < vec_capacity places.old }
     requires rising { IsNonDecreasing places.old.items }
     requires fits { (k : ℕ) → k < length places.old.items
         → slice_index places.old.items k + 1 < 2 ^ 64 }
-    ensures { places.new.items ≡ places_with place places.old.items }
+    ensures places { places.new.items ≡ places_with place places.old.items }
+    ensures len { vec_len places.new ≡ vec_len places.old + 1 }
+    ensures capacity { vec_capacity places.old ≤ vec_capacity places.new }
 {
     let from = place_from(places, place);
     move_on(&mut places[from..]);

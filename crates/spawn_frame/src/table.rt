@@ -1,21 +1,24 @@
 //! The units of work of one site.
 
-ghost use Rattle.std.specs.Prelude.{◌≡◌, ◌+◌, ◌<◌, ◌≤◌, ◌↔◌, ◌++◌, length, IfNone, IfOk, IfSome, IsErrOf, IsSome, MatchOption, None, OnErr, OnOk, Some, drop, find, option_map, slice_get, true, Bool, ℕ};
+ghost use Rattle.std.specs.Prelude.{◌≡◌, ◌+◌, ◌<◌, ◌≤◌, ◌↔◌, ◌++◌, ◌∷◌, [], length, IfNone, IfOk, IfSome, IsErrOf, IsSome, MatchOption, None, OnErr, OnOk, Some, drop, find, option_map, slice_get, true, Bool, ℕ};
 ghost use Rattle.std.specs.Bool.{OnTrue};
-ghost use Rattle.std.specs.List.{position_from};
+ghost use Rattle.std.specs.List.{position_from, AllByRecursion};
 ghost use Rattle.spawn_frame.specs.Aborts.{is_open};
 ghost use Rattle.spawn_frame.specs.Frames.{frame, frame_result};
+ghost use Rattle.spawn_frame.specs.Gifts.{admit_each};
 ghost use Rattle.spawn_frame.specs.Inlets.{frame_winner, heard_by};
 ghost use Rattle.spawn_frame.specs.Picks.{is_finished, is_ready, is_split, ready_unit, ripe_unit};
 ghost use Rattle.spawn_frame.specs.Splits.{split_into, with_result};
 ghost use Rattle.spawn_frame.specs.Tables.{attempt_in, empty_table, guest_key, has_status, is_after, is_at_work, is_here, is_out, longer_prefixes, may_end, new_guest, open_guests, outs_of, parent_heard, parent_in, prefix_in, root_table, seen_guest, status_in, AllLawful, AreChildren, GivesResult, HasParents, IsAscending, IsAtWork, IsMadeBefore, IsSeen};
 ghost use Rattle.spawn_frame.specs.declared.site.ChildName.{ChildName};
 ghost use Rattle.spawn_frame.specs.declared.status.Status.{Status};
+ghost use Rattle.spawn_frame.specs.declared.unit.Unit.{Unit as WorkUnit};
 ghost use Rattle.spawn_frame.specs.Units.{change_at, guest_in, insert_guest, last_attempt, redone, table_gets, table_guests, table_own, unit_of};
 
 use crate::building::new_guest;
 use crate::child_result::ChildResult;
 use crate::children::Children;
+use crate::gift::Gift;
 use crate::guest_view::GuestView;
 use crate::guests::Guests;
 use crate::heard::Heard;
@@ -231,6 +234,19 @@ impl Table {
         self.own.get(serial)?.parent
     }
 
+    /// The option of an own child: its prefix is its parent's with that option behind it. It costs nothing.
+    pub fn option(&self, serial: u32) -> u16
+        requires { IsSome (parent_in (slice_get self.now.own serial)) }
+        ensures { (parent : WorkUnit) → parent_in (slice_get self.now.own serial) ≡ Some parent →
+            prefix_in (slice_get self.now.own serial)
+            ≡ prefix_in (unit_of self.now parent) ++ result ∷ [] }
+    {
+        match self.own.get(serial) {
+            Some(child) => child.option,
+            None => unreachable!(),
+        }
+    }
+
     /// The serials of a unit's children, which follow one another. It costs a look for the unit.
     pub fn children(&self, unit: Unit) -> Serials
         ensures { AreChildren unit self.now.own result.first result.end }
@@ -441,6 +457,18 @@ impl Table {
         let guest = new_guest(name, attempt, prefix);
         let place = place_behind(self.guests.as_slice(), name, attempt);
         self.guests.insert(place, guest)?;
+        Ok(())
+    }
+
+    /// Other children of a site become ready guests, each unless it is there already; the only error is want of memory, which
+    /// changes nothing. Each costs what `admit` does.
+    pub fn admit_each(&mut self, from: Site, gifts: Vec<Gift>) -> Result<(), AllocError>
+        requires { AllByRecursion (λ g. 1 ≤ g.attempt) gifts.items }
+        ensures ok { OnOk result (self.new
+            ≡ table_guests self.old (admit_each from gifts.items self.old.guests)) }
+        ensures err { OnErr result (self.new ≡ self.old) }
+    {
+        self.guests.admit_each(from, gifts)?;
         Ok(())
     }
 

@@ -1,11 +1,11 @@
 //! Units among the own children and guests of a table.
 
-ghost use Rattle.std.specs.Prelude.{◌≡◌, ◌+◌, ◌<◌, ◌≤◌, ◌^◌, find, length, map, not, option_map, position, slice_get};
+ghost use Rattle.std.specs.Prelude.{◌≡◌, ◌+◌, ◌<◌, ◌≤◌, ◌^◌, find, is_some, length, map, not, option_map, position, slice_get};
 ghost use Rattle.std.specs.List.{position_or_len};
 ghost use Rattle.spawn_frame.specs.Guests.{guest_of, StaysOpen};
 ghost use Rattle.spawn_frame.specs.Names.{guest_before};
 ghost use Rattle.spawn_frame.specs.Tables.{guest_key, is_after, IsAscending};
-ghost use Rattle.spawn_frame.specs.Units.{is_guest};
+ghost use Rattle.spawn_frame.specs.Units.{guest_in, is_guest};
 ghost use Rattle.spawn_frame.specs.Works.{frame_says, guest_entry, guests_after, guests_told, own_after, own_told, parent_work, split_work, with_heard, with_work_status, work_in, HearsFrom};
 
 use crate::child_result::ChildResult;
@@ -73,6 +73,14 @@ pub fn place_behind(guests: &[Guest], name: ChildName, attempt: Attempt) -> usiz
                 (guest_before name attempt guest.now.name guest.now.work.attempt) }
         { !guest.is_behind(name, attempt) },
     )
+}
+
+/// Whether the guest of this name and attempt is there. It costs a search by halving.
+pub fn has_guest(guests: &[Guest], name: ChildName, attempt: Attempt) -> bool
+    requires { IsAscending (map guest_entry guests.now) }
+    ensures { result ≡ is_some (guest_in (map guest_entry guests.now) name attempt) }
+{
+    place_of(guests, name, attempt).is_some()
 }
 
 /// Gives a unit another status, if it is there.

@@ -3,8 +3,8 @@ use Rattle.std.proofs.lemmas.List.{with_items_is}
 use Rattle.spawn_frame.proofs.Opened.{Parts, moved_length, moved_list, put_moved}
 use Rattle.spawn_frame.proofs.guests.put_place.Goals as goal
 
-pub returns : goal.returns
-returns c =
+pub returns-clause-places : goal.returns-clause-places
+returns-clause-places c =
     let was = c.args.places.now in
     let lent = c.deref_mut.result.now in
     let from = c.place_from-from.result in

@@ -18,6 +18,6 @@ pub invariant_of-self-2 : goal.invariant_of-self-2
 invariant_of-self-2 c =
     let gs = c.self.inside.items.items in
     let within : c.args.place ≤ length gs = omega (arith, c.requires.within, ap length c.self.view_is) in
-    c.put_place.ensures
+    c.put_place.ensures.places
     ∙ ap (places_with c.args.place) (c.reserve.ensures.items ∙ c.self.invariant)
     ∙ sym (ap open_places c.in_ok-insert.ensures.items ∙ open_put gs c.args.place c.args.guest c.requires.begins within)
