@@ -30,9 +30,9 @@ CRATES = ("core_tests", "table_tests")
 CAREFUL = "refused_memory"
 KINDS = (
     "Take", "Post", "Finish", "Ask", "Redo", "Again", "Greet", "Hello", "Members", "Steal", "Give", "NoWork", "Return", "Accept",
-    "Refuse", "Abort", "Over", "spawn", "spawn within a page",
+    "Refuse", "Abort", "Over", "spawn", "spawn within a page", "GiveMany",
 )
-FIRST_OF_TABLE = KINDS.index("spawn")
+OF_TABLE = (KINDS.index("spawn"), KINDS.index("spawn within a page"))
 
 # What is told of an event: its kind, where it was, whether packets went to two lists, the growths that it asked for, which of them
 # was refused, or 0, and whether it was answered by want of memory.
@@ -43,7 +43,7 @@ def told(line):
     """What a line of refuse_growth.c tells."""
     number, growths, refused, memory = map(int, line.split())
     kind = number // 4
-    place = "table" if kind >= FIRST_OF_TABLE else "registry" if number // 2 % 2 == 1 else "node"
+    place = "table" if kind in OF_TABLE else "registry" if number // 2 % 2 == 1 else "node"
     return Told(kind, place, number % 2 == 1, growths, refused, memory == 1)
 
 

@@ -1,5 +1,5 @@
 -- Packets that are refused.
-use Rattle.std.proofs.Common.{◌≡◌, ◌≢◌, ℕ, ◌<◌, ◌≤◌, Bool, true, false, ◌==◌, ◌&&◌, if◌then◌else◌, List, Some, None, is_some, slice_get, nat_lt, refl, sym, ap, subst, ◌∙◌, ⊎_elim, arith, true≢false}
+use Rattle.std.proofs.Common.{◌≡◌, ◌≢◌, ℕ, ◌<◌, ◌≤◌, Bool, true, false, ◌==◌, ◌&&◌, ◌||◌, if◌then◌else◌, List, Some, None, is_some, slice_get, nat_lt, refl, sym, ap, subst, ◌∙◌, ⊎_elim, arith, true≢false}
 use Rattle.std.proofs.lemmas.Bool.{le-ltb, ne_eqb}
 use Rattle.cover_world.specs.Refusals.{Refused}
 use Rattle.cover_problem.specs.Prefix.{is_prefix}
@@ -10,7 +10,8 @@ use Rattle.node_core.specs.SiteView.{View}
 use Rattle.node_core.specs.declared.event.Event.TheVariants.{Deliver}
 use Rattle.node_core.specs.declared.reply.Reply.{Reply}
 use Rattle.node_core.specs.declared.reply.Reply.TheVariants.{Idle, Ignored, Moved, Ripe, Taken}
-use Rattle.packet_wire.specs.declared.packet.Body.TheVariants.{Return}
+use Rattle.packet_wire.specs.Gifts.{gifts_in}
+use Rattle.packet_wire.specs.declared.packet.Body.TheVariants.{Give, Return}
 use Rattle.packet_wire.specs.declared.packet.Packet.{Packet}
 use Rattle.root_registry.specs.RegistryStep.{IsAcceptable, RegistryStep, RootAnswers, RootHears}
 use Rattle.spawn_frame.specs.Aborts.{is_open}
@@ -27,12 +28,13 @@ use Rattle.spawn_frame.proofs.Sames.{site_path}
 
 pub give_refused : (problem : Problem) (old : View) (from : Site) (serial attempt : ℕ) (prefix : List ℕ) (reply : Reply) (out : List Packet) (new : View)
     → is_older old.known from ≡ false → guest_in old.guests (record { site = from; serial = serial }) attempt ≡ None → is_prefix problem prefix ≡ false
-    → GiveStep problem old from serial attempt prefix reply out new → ⊥
-give_refused problem old from serial attempt prefix Moved out new fresh none unlawful step = true≢false (sym step.lawful ∙ unlawful)
+    → GiveStep problem old from (gifts_in (Give serial attempt prefix)) reply out new → ⊥
+give_refused problem old from serial attempt prefix Moved out new fresh none unlawful step =
+    true≢false (sym step.lawful ∙ (λ i. (is_some (none i) || unlawful i) && true))
 give_refused problem old from serial attempt prefix Ignored out new fresh none unlawful step =
     ⊎_elim
     (λ (older : is_older old.known from ≡ true). true≢false (sym older ∙ fresh))
-    (λ (there : is_some (guest_in old.guests (record { site = from; serial = serial }) attempt) ≡ true). true≢false (sym there ∙ ap is_some none))
+    (λ (there : (is_some (guest_in old.guests (record { site = from; serial = serial }) attempt) && true) ≡ true). true≢false (sym there ∙ ap (λ o. is_some o && true) none))
     step.0
 give_refused problem old from serial attempt prefix Idle out new fresh none unlawful step = step
 give_refused problem old from serial attempt prefix (Taken job p) out new fresh none unlawful step = step

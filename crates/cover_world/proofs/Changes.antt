@@ -1,31 +1,37 @@
 -- What a step makes of the view, by what it makes of the ledger.
-use Rattle.std.proofs.Common.{◌≡◌, ℕ, List, ap, ◌∙◌}
+use Rattle.std.proofs.Common.{◌≡◌, ℕ, List, Some, slice_get, sym, ap, subst, ◌∙◌}
 use Rattle.cover_problem.specs.Problem.{Problem}
 use Rattle.node_core.specs.Arrivals.{Admits, Drops, Gives, Settles}
 use Rattle.node_core.specs.Membership.{MembersStep}
 use Rattle.node_core.specs.Requests.{RedoStep}
 use Rattle.node_core.specs.Results.{FinishStep}
 use Rattle.node_core.specs.SiteView.{View, unit_gets, with_guests, with_ledger, with_own}
+use Rattle.packet_wire.specs.Gifts.{gifts_in}
 use Rattle.packet_wire.specs.declared.packet.Packet.{Packet}
+use Rattle.spawn_frame.specs.Gifts.{admit_each}
 use Rattle.spawn_frame.specs.Splits.{with_result}
-use Rattle.spawn_frame.specs.Tables.{new_guest}
-use Rattle.spawn_frame.specs.Units.{Entry, change_at, insert_guest, redone, table_guests, table_own, with_status}
+use Rattle.spawn_frame.specs.Units.{Entry, change_at, redone, table_guests, table_own, with_status}
 use Rattle.spawn_frame.specs.declared.child_result.ChildResult.{ChildResult}
+use Rattle.spawn_frame.specs.declared.gift.Gift.{Gift}
 use Rattle.spawn_frame.specs.declared.site.ChildName.{ChildName}
 use Rattle.spawn_frame.specs.declared.site.Site.{Site}
-use Rattle.spawn_frame.specs.declared.status.Status.TheVariants.{Dropped, Out, Settled}
+use Rattle.spawn_frame.specs.declared.status.Status.TheVariants.{Dropped, Out, Ready, Settled}
 use Rattle.spawn_frame.specs.declared.unit.Unit.{Unit as WorkUnit}
 use Rattle.spawn_frame.specs.declared.unit.Unit.TheVariants.{Guest}
+use Rattle.steal_return.proofs.Gifts.{gives_keep}
 use Rattle.steal_return.specs.Members.{drop_lost}
 
-pub after_gives : (old : View) (from : Site) (out : List Packet) (new : View) (g : Gives old from out new)
-    → new ≡ with_own old (change_at (with_status (Out from)) old.own g.serial)
-after_gives old from out new g = g.after ∙ ap (with_ledger old) g.gives.after
+-- what stays where one ready child is given stays where a Steal gets several
+pub kept_by_gives : (P : View → Type 0) (from : Site)
+    → ((view : View) (serial : ℕ) (entry : Entry) → slice_get view.own serial ≡ Some entry → entry.status ≡ Ready → P view → P (with_own view (change_at (with_status (Out from)) view.own serial)))
+    → (old : View) (out : List Packet) (new : View) → Gives old from out new → P old → P new
+kept_by_gives P from one old out new g p =
+    subst P (sym g.after)
+    (gives_keep (λ l. P (with_ledger old l)) from (λ l serial entry is ready q. one (with_ledger old l) serial entry is ready q) g.parent (gifts_in g.body) old.ledger g.ledger g.each p)
 
-pub after_admits : (problem : Problem) (old : View) (from : Site) (serial attempt : ℕ) (prefix : List ℕ) (out : List Packet) (new : View)
-    → Admits problem old from serial attempt prefix out new
-    → new ≡ with_guests old (insert_guest (new_guest (record { site = from; serial = serial }) attempt prefix) old.guests)
-after_admits problem old from serial attempt prefix out new h = h.after ∙ ap (with_ledger old) h.admits.after
+pub after_admits : (problem : Problem) (old : View) (from : Site) (gifts : List Gift) (out : List Packet) (new : View)
+    → Admits problem old from gifts out new → new ≡ with_guests old (admit_each from gifts old.guests)
+after_admits problem old from gifts out new h = h.after ∙ ap (with_ledger old) h.admits.after
 
 pub after_settles : (old : View) (name : ChildName) (attempt : ℕ) (result : ChildResult) (out : List Packet) (new : View)
     → Settles old name attempt result out new → new ≡ unit_gets old (Guest name attempt) (Settled result)

@@ -13,11 +13,12 @@ use Rattle.spawn_frame.specs.declared.child_result.ChildResult.TheVariants.{Cove
 use Rattle.spawn_frame.specs.declared.status.Status.{Status}
 use Rattle.spawn_frame.specs.declared.status.Status.TheVariants.{Ready, Out, Done, Finished}
 use Rattle.spawn_frame.specs.Units.{Entry, GuestEntry, guest_in, with_status, change_at, change_guest, is_guest}
-use Rattle.cover_world.proofs.Changes.{after_drops, after_finish, after_gives, after_members}
-use Rattle.node_core.specs.SiteView.{View, unit_in, with_own, unit_gets, abort_packets}
+use Rattle.cover_world.proofs.Changes.{after_drops, after_finish, after_members}
+use Rattle.node_core.specs.SiteView.{View, unit_in, with_ledger, with_own, unit_gets, abort_packets}
 use Rattle.spawn_frame.specs.Names.{same_name}
+use Rattle.packet_wire.specs.Gifts.{gifts_in, is_gift}
 use Rattle.packet_wire.specs.declared.packet.Body.{Body}
-use Rattle.packet_wire.specs.declared.packet.Body.TheVariants.{Hello, Members, Steal, Give, NoWork, Return, Accept, Refuse, Abort, Over}
+use Rattle.packet_wire.specs.declared.packet.Body.TheVariants.{Hello, Members, Steal, Give, GiveMany, NoWork, Return, Accept, Refuse, Abort, Over}
 use Rattle.packet_wire.specs.declared.packet.Packet.{Packet}
 use Rattle.spawn_frame.specs.Aborts.{Reached}
 use Rattle.node_core.specs.declared.event.Event.{Event}
@@ -35,8 +36,12 @@ use Rattle.cover_world.specs.Worlds.{SiteStep}
 use Rattle.cover_world.proofs.Grows.{get_changed}
 use Rattle.cover_world.proofs.Steps.{judged_enters, judged_holds}
 use Rattle.cover_world.proofs.Guests.{Every, every_append}
+use Rattle.steal_return.proofs.Gifts.{gives_keep}
+use Rattle.steal_return.specs.Ledger.{Ledger}
 use Rattle.steal_return.specs.Returns.{Enters, Holds, Judgement, Refuses, judged}
+use Rattle.steal_return.specs.Steals.{GivesEach}
 use Rattle.spawn_frame.proofs.Sames.{name_path}
+use Rattle.spawn_frame.specs.declared.gift.Gift.{Gift}
 
 -- the site has this child
 pub record HasOwn (view : View) (serial : ℕ) (P : Entry → Type 0) : Type 0 where
@@ -49,8 +54,13 @@ pub data Returns (name : ChildName) (result : ChildResult) : List GuestEntry →
   here : {g : GuestEntry} {gs : List GuestEntry} → g.name ≡ name → g.entry.status ≡ Finished result → Returns name result (g ∷ gs)
   there : {g : GuestEntry} {gs : List GuestEntry} → Returns name result gs → Returns name result (g ∷ gs)
 
+-- the site has the child that is given, with this prefix
+abbrev pub GiftSo : View → Gift → Type 0
+GiftSo view gift = HasOwn view gift.serial (λ c. c.prefix ≡ gift.prefix)
+
 abbrev pub IsSo : View → Site → Body → Type 0
-IsSo view to (Give serial attempt prefix) = HasOwn view serial (λ c. c.prefix ≡ prefix)
+IsSo view to (Give serial attempt prefix) = Every (GiftSo view) (gifts_in (Give serial attempt prefix))
+IsSo view to (GiveMany prefix siblings) = Every (GiftSo view) (gifts_in (GiveMany prefix siblings))
 IsSo view to (Accept serial attempt result) = HasOwn view serial (λ c. c.status ≡ Done result)
 IsSo view to (Return serial attempt result) = Returns (record { site = to; serial = serial }) result view.guests
 IsSo view to _ = Unit {0}
@@ -101,7 +111,7 @@ leaves_honest problem old unit prefix Barren out new entry is l =
 leaves_honest problem old unit prefix Spent out new entry is l = no_packets new out l.2
 
 give_honest : (view : View) (serial : ℕ) (entry : Entry) (s : Status) → slice_get view.own serial ≡ Some entry → AllHonest view (give_again view.site serial entry s)
-give_honest view serial entry (Out thief) is = ((refl, record { entry = entry; is = is; so = refl }), tt)
+give_honest view serial entry (Out thief) is = ((refl, (record { entry = entry; is = is; so = refl }, tt)), tt)
 give_honest view serial entry Ready is = tt
 give_honest view serial entry _ is = tt
 
@@ -176,13 +186,41 @@ root_answers_honest problem old from serial attempt result Enters out new e a =
 root_answers_honest problem old from serial attempt result (Holds held) out new e a = answers_honest old from serial attempt result (Holds held) out new e a
 root_answers_honest problem old from serial attempt result (Refuses cause) out new e a = answers_honest old from serial attempt result (Refuses cause) out new e a
 
+-- a child keeps its prefix where another one, or it itself, gets a status
+keeps_prefix : (view : View) (gift : Gift) (s : Status) (k : ℕ) → GiftSo view gift → GiftSo (with_own view (change_at (with_status s) view.own k)) gift
+keeps_prefix view gift s k h =
+    ⊎_elim
+    (λ (e : (gift.serial ≡ k) × (slice_get (change_at (with_status s) view.own k) gift.serial ≡ Some (with_status s h.entry))). record { entry = with_status s h.entry; is = e.1; so = h.so })
+    (λ (e : (gift.serial ≢ k) × (slice_get (change_at (with_status s) view.own k) gift.serial ≡ Some h.entry)). record { entry = h.entry; is = e.1; so = h.so })
+    (get_changed (with_status s) view.own k gift.serial h.entry h.is)
+
+-- the children that are given are there
+gifts_so : (parent : Option WorkUnit) (gifts : List Gift) (from : Site) (view : View) (new : Ledger) → GivesEach parent view.ledger from gifts new → Every (GiftSo (with_ledger view new)) gifts
+gifts_so parent [] from view new h = tt
+gifts_so parent (gift ∷ gifts) from view new h =
+    let given : GiftSo (with_ledger view h.0) gift =
+    subst (λ l. GiftSo (with_ledger view l) gift) (sym h.1.after) (has_changed view gift.serial (Out from) h.1.entry (λ c. c.prefix ≡ gift.prefix) h.1.is (sym h.1.prefix)) in (
+      gives_keep (λ l. GiftSo (with_ledger view l) gift) from (λ l serial entry is ready q. keeps_prefix (with_ledger view l) gift (Out from) serial q) parent gifts h.0 new h.3 given,
+      gifts_so parent gifts from (with_ledger view h.0) new h.3,
+    )
+
+-- so a packet that gives them is so
+body_so : (view : View) (to : Site) (body : Body) → is_gift body ≡ true → Every (GiftSo view) (gifts_in body) → IsSo view to body
+body_so view to (Give serial attempt prefix) s h = h
+body_so view to (GiveMany prefix siblings) s h = h
+body_so view to (Accept serial attempt result) s h = absurd (cc)
+body_so view to (Return serial attempt result) s h = absurd (cc)
+body_so view to Hello s h = tt
+body_so view to _ s h = tt
+
 steal_honest : (old : View) (from : Site) (out : List Packet) (new : View) → Denies old from out new ⊎ Gives old from out new → AllHonest new out
 steal_honest old from out new =
     ⊎_elim
     (λ (d : Denies old from out new). same_honest old new out d.after (one_packet old out old.site from NoWork refl tt d.sends))
     (λ (g : Gives old from out new).
-    same_honest _ new out (after_gives old from out new g)
-    (one_packet _ out old.site from _ refl (has_changed old g.serial (Out from) g.entry (λ c. c.prefix ≡ g.given.prefix) g.is (sym g.gives.prefix)) g.sends))
+    let site : old.site ≡ g.ledger.site = gives_keep (λ l. old.site ≡ l.site) from (λ l serial entry is ready q. q) g.parent (gifts_in g.body) old.ledger g.ledger g.each refl in
+    same_honest (with_ledger old g.ledger) new out g.after
+    (one_packet (with_ledger old g.ledger) out old.site from g.body site (body_so (with_ledger old g.ledger) from g.body g.spelled (gifts_so g.parent (gifts_in g.body) from old g.ledger g.each)) g.sends))
 
 root_steal_honest : (r : Option ChildResult) (old : View) (from : Site) (out : List Packet) (new : View) → RootSteal r old from out new → AllHonest new out
 root_steal_honest (Some result) old from out new h = same_honest old new out h.0 (one_packet old out old.site from Over refl tt h.1)
@@ -195,18 +233,19 @@ take_honest old Idle out new h = no_packets new out h.2.1
 take_honest old Moved out new h = absurd h
 take_honest old Ignored out new h = absurd h
 
+give_quiet : (problem : Problem) (old : View) (from : Site) (gifts : List Gift) (reply : Reply) (out : List Packet) (new : View) → GiveStep problem old from gifts reply out new → AllHonest new out
+give_quiet problem old from gifts Moved out new h = no_packets new out h.sends
+give_quiet problem old from gifts Ignored out new h = no_packets new out h.1.1
+give_quiet problem old from gifts _ out new h = absurd h
+
 hear_honest : (problem : Problem) (old : View) (from : Site) (body : Body) (reply : Reply) (out : List Packet) (new : View)
     → HearStep problem old from body reply out new → AllHonest new out
 hear_honest problem old from Hello reply out new h = absurd h
 hear_honest problem old from (Members incarnations) reply out new h =
     same_honest _ new out (after_members old incarnations out new h.0) (subst (AllHonest _) (sym h.0.sends) (quiet_aborts _ old.site h.0.outs refl))
 hear_honest problem old from Steal reply out new h = steal_honest old from out new h.1
-hear_honest problem old from (Give serial attempt prefix) reply out new h = give_quiet reply h
-  where
-    give_quiet : (reply : Reply) → GiveStep problem old from serial attempt prefix reply out new → AllHonest new out
-    give_quiet Moved h = no_packets new out h.sends
-    give_quiet Ignored h = no_packets new out h.1.1
-    give_quiet _ h = absurd h
+hear_honest problem old from (Give serial attempt prefix) reply out new h = give_quiet problem old from (gifts_in (Give serial attempt prefix)) reply out new h
+hear_honest problem old from (GiveMany prefix siblings) reply out new h = give_quiet problem old from (gifts_in (GiveMany prefix siblings)) reply out new h
 hear_honest problem old from NoWork reply out new h = no_packets new out h.1.1
 hear_honest problem old from (Return serial attempt result) reply out new h = answers_honest old from serial attempt result h.1.0 out new h.1.1 h.1.2
 hear_honest problem old from (Accept serial attempt result) reply out new h = accept_quiet reply h

@@ -1,4 +1,4 @@
--- What holds of each guest and is no matter of its status holds after each step; an Accept settles one, and a Give adds one.
+-- What holds of each guest and is no matter of its status holds after each step; an Accept settles one, and a Give adds some.
 use Rattle.std.proofs.Common.{◌≡◌, ◌⊎◌, ℕ, zero, suc, List, Option, Some, None, sym, subst, ⊎_elim}
 use Rattle.cover_problem.specs.Problem.{Problem}
 use Rattle.cover_problem.specs.Search.{Outcome, Covers, Barren, Spent}
@@ -8,12 +8,15 @@ use Rattle.spawn_frame.specs.declared.unit.Unit.{Unit as WorkUnit}
 use Rattle.spawn_frame.specs.declared.unit.Unit.TheVariants.{Own, Guest}
 use Rattle.spawn_frame.specs.declared.child_result.ChildResult.{ChildResult}
 use Rattle.spawn_frame.specs.declared.status.Status.{Status}
-use Rattle.spawn_frame.specs.declared.status.Status.TheVariants.{Ready, Here, Split, Settled, Dropped}
+use Rattle.spawn_frame.specs.declared.status.Status.TheVariants.{Here, Split, Settled, Dropped}
+use Rattle.spawn_frame.specs.Gifts.{gift_guest}
 use Rattle.spawn_frame.specs.Units.{Entry, GuestEntry, with_status}
-use Rattle.cover_world.proofs.Changes.{after_admits, after_drops, after_finish, after_gives, after_members, after_redo, after_settles}
+use Rattle.steal_return.proofs.Gifts.{admits_keep}
+use Rattle.cover_world.proofs.Changes.{after_admits, after_drops, after_finish, after_members, after_redo, after_settles, kept_by_gives}
 use Rattle.node_core.specs.SiteView.{View, unit_in, unit_gets}
+use Rattle.packet_wire.specs.Gifts.{gifts_in}
 use Rattle.packet_wire.specs.declared.packet.Body.{Body}
-use Rattle.packet_wire.specs.declared.packet.Body.TheVariants.{Hello, Members, Steal, Give, NoWork, Return, Accept, Refuse, Abort, Over}
+use Rattle.packet_wire.specs.declared.packet.Body.TheVariants.{Hello, Members, Steal, Give, GiveMany, NoWork, Return, Accept, Refuse, Abort, Over}
 use Rattle.packet_wire.specs.declared.packet.Packet.{Packet}
 use Rattle.node_core.specs.declared.event.Event.{Event}
 use Rattle.node_core.specs.declared.event.Event.TheVariants.{Take, Post, Finish, Ask, Redo, Deliver, Again, Greet}
@@ -27,6 +30,7 @@ use Rattle.node_core.specs.NodeStep.{HearStep, EventStep}
 use Rattle.node_core.specs.Taking.{TakeStep}
 use Rattle.cover_world.specs.Worlds.{SiteStep}
 use Rattle.cover_world.proofs.Guests.{Every, every_changed, every_inserted, every_dropped}
+use Rattle.spawn_frame.specs.declared.gift.Gift.{Gift}
 use Rattle.steal_return.specs.Returns.{Enters, Holds, Judgement, Refuses}
 
 -- a status that is no settlement
@@ -37,12 +41,16 @@ module _ (P : GuestEntry → Type 0) where
   abbrev pub AnyStatus : Type 0
   AnyStatus = (name : ChildName) (entry : Entry) (s : Status) → IsUnsettled s → P (record { name = name; entry = entry }) → P (record { name = name; entry = with_status s entry })
 
+  -- what a child has to show that is given
+  abbrev pub GiftShows : Site → Gift → Type 0
+  GiftShows from gift = P (gift_guest from gift)
+
   -- what a packet has to show
   abbrev pub BodyShows : Site → Body → Type 0
   BodyShows from (Accept serial attempt result) =
       (entry : Entry) → P (record { name = record { site = from; serial = serial }; entry = entry }) → P (record { name = record { site = from; serial = serial }; entry = with_status (Settled result) entry })
-  BodyShows from (Give serial attempt prefix) =
-      P (record { name = record { site = from; serial = serial }; entry = record { parent = None; prefix = prefix; attempt = attempt; status = Ready } })
+  BodyShows from (Give serial attempt prefix) = Every (GiftShows from) (gifts_in (Give serial attempt prefix))
+  BodyShows from (GiveMany prefix siblings) = Every (GiftShows from) (gifts_in (GiveMany prefix siblings))
   BodyShows from _ = Unit {0}
 
   abbrev pub EventShows : Event → Type 0
@@ -81,7 +89,7 @@ module _ (P : GuestEntry → Type 0) where
 
   steal_kept : (old : View) (from : Site) (out : List Packet) (new : View) → Denies old from out new ⊎ Gives old from out new → Every P old.guests → Every P new.guests
   steal_kept old from out new s h =
-      ⊎_elim (λ (d : Denies old from out new). kept_as _ new d.after h) (λ (g : Gives old from out new). kept_as _ new (after_gives old from out new g) h) s
+      ⊎_elim (λ (d : Denies old from out new). kept_as _ new d.after h) (λ (g : Gives old from out new). kept_by_gives (λ v. Every P v.guests) from (λ view serial entry is ready q. q) old out new g h) s
 
   root_steal_kept : (r : Option ChildResult) (old : View) (from : Site) (out : List Packet) (new : View) → RootSteal r old from out new → Every P old.guests → Every P new.guests
   root_steal_kept (Some result) old from out new s h = kept_as _ new s.0 h
@@ -94,11 +102,13 @@ module _ (P : GuestEntry → Type 0) where
   take_kept any old Moved out new s h = absurd s
   take_kept any old Ignored out new s h = absurd s
 
-  give_kept : (problem : Problem) (old : View) (from : Site) (serial attempt : ℕ) (prefix : List ℕ) (reply : Reply) (out : List Packet) (new : View)
-      → BodyShows from (Give serial attempt prefix) → GiveStep problem old from serial attempt prefix reply out new → Every P old.guests → Every P new.guests
-  give_kept problem old from serial attempt prefix Moved out new p s h = kept_as _ new (after_admits problem old from serial attempt prefix out new s) (every_inserted P _ old.guests p h)
-  give_kept problem old from serial attempt prefix Ignored out new p s h = kept_as _ new s.1.0 h
-  give_kept problem old from serial attempt prefix _ out new p s h = absurd s
+  give_kept : (problem : Problem) (old : View) (from : Site) (gifts : List Gift) (reply : Reply) (out : List Packet) (new : View)
+      → Every (GiftShows from) gifts → GiveStep problem old from gifts reply out new → Every P old.guests → Every P new.guests
+  give_kept problem old from gifts Moved out new p s h =
+      kept_as _ new (after_admits problem old from gifts out new s)
+      (admits_keep (Every P) (GiftShows from) from (λ gift guests shows none q. every_inserted P (gift_guest from gift) guests shows q) gifts old.guests p h)
+  give_kept problem old from gifts Ignored out new p s h = kept_as _ new s.1.0 h
+  give_kept problem old from gifts _ out new p s h = absurd s
 
   accept_kept : (old : View) (from : Site) (serial attempt : ℕ) (result : ChildResult) (reply : Reply) (out : List Packet) (new : View)
       → BodyShows from (Accept serial attempt result) → AcceptStep old (record { site = from; serial = serial }) attempt result reply out new → Every P old.guests → Every P new.guests
@@ -117,7 +127,8 @@ module _ (P : GuestEntry → Type 0) where
   hear_kept any problem old from (Members incarnations) reply out new p s h =
       kept_as _ new (after_members old incarnations out new s.0) (every_dropped P s.0.known old.guests (λ g q. any g.name g.entry Dropped (λ r e. cc) q) h)
   hear_kept any problem old from Steal reply out new p s h = steal_kept old from out new s.1 h
-  hear_kept any problem old from (Give serial attempt prefix) reply out new p s h = give_kept problem old from serial attempt prefix reply out new p s h
+  hear_kept any problem old from (Give serial attempt prefix) reply out new p s h = give_kept problem old from (gifts_in (Give serial attempt prefix)) reply out new p s h
+  hear_kept any problem old from (GiveMany prefix siblings) reply out new p s h = give_kept problem old from (gifts_in (GiveMany prefix siblings)) reply out new p s h
   hear_kept any problem old from NoWork reply out new p s h = kept_as _ new s.1.0 h
   hear_kept any problem old from (Return serial attempt result) reply out new p s h = answers_kept old from serial attempt result s.1.0 out new s.1.2 h
   hear_kept any problem old from (Accept serial attempt result) reply out new p s h = accept_kept old from serial attempt result reply out new p s h

@@ -2,7 +2,7 @@
 use Rattle.std.proofs.Common.{[], ◌∷◌, inl, inr, refl, slice_set, arith}
 use Rattle.std.proofs.lemmas.Option.{none-some}
 use Rattle.cover_problem.specs.Examples.{bare}
-use Rattle.cover_world.proofs.Stages.{Stage, aborts_nothing, acts, given_first, opening}
+use Rattle.cover_world.proofs.Stages.{Stage, aborts_nothing, acts, gives_first, opening}
 use Rattle.cover_world.proofs.Stolen.{learns, root_redoable}
 use Rattle.cover_world.specs.LaterRuns.{root_steal, second_hello, first_members, thief_steal, no_work, first_hello}
 use Rattle.cover_world.specs.Worlds.{Restarts, go, opening_node}
@@ -19,7 +19,7 @@ s1 =
 abbrev pub s2 : Stage bare
 s2 =
     acts s1 0 (Deliver root_steal) Moved _ _ _ refl (0, refl)
-    (refl, omega arith, (refl, inr (record { given = _; ledger = _; gives = given_first root_entry refl refl refl; after = refl; sends = refl })))
+    (refl, omega arith, (refl, inr (gives_first root_entry refl refl refl)))
 
 -- the second node begins anew
 abbrev pub s3 : Stage bare

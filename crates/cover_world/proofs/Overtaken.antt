@@ -5,7 +5,7 @@ use Rattle.cover_problem.specs.Branching.{branch_item, children, live_options, o
 use Rattle.cover_problem.specs.ExactCover.{IsExactCover, uses}
 use Rattle.cover_problem.specs.Numbers.{is_in}
 use Rattle.cover_problem.specs.Search.{Covers, Spent, first_within, outcome, visits_within}
-use Rattle.cover_world.proofs.Stages.{Stage, aborts_first, acts, given_first, opening}
+use Rattle.cover_world.proofs.Stages.{Stage, aborts_first, acts, gives_first, opening}
 use Rattle.cover_world.specs.Overtaken.{first_steal, first_give, second_steal, second_give, first_return, second_return, second_accept, late_accept, two_ways}
 use Rattle.cover_world.specs.Plays.{root_guest}
 use Rattle.cover_world.specs.Worlds.{opening_node}
@@ -61,7 +61,7 @@ s1 =
 abbrev pub s2 : Stage two_ways
 s2 =
     acts s1 0 (Deliver first_steal) Moved _ _ _ refl (0, refl)
-    (refl, omega arith, (refl, inr (record { given = _; ledger = _; gives = given_first root_entry refl refl refl; after = refl; sends = refl })))
+    (refl, omega arith, (refl, inr (gives_first root_entry refl refl refl)))
 
 abbrev pub s3 : Stage two_ways
 s3 =
@@ -76,17 +76,17 @@ s4 =
 abbrev pub s5 : Stage two_ways
 s5 =
     acts s4 0 (Deliver second_steal) Moved _ _ _ refl (2, refl)
-    (refl, omega arith, (refl, inr (record { given = _; ledger = _; gives = given_first _ refl refl refl; after = refl; sends = refl })))
+    (refl, omega arith, (refl, inr (gives_first _ refl refl refl)))
 
 abbrev pub s6 : Stage two_ways
 s6 =
     acts s5 1 (Deliver first_give) Moved _ _ _ refl (1, refl)
-    (refl, (refl, omega arith, record { ledger = _; admits = record { not_older = refl; is_new = refl; after = refl }; lawful = refl; after = refl; sends = refl }))
+    (refl, (refl, omega arith, record { ledger = _; admits = record { not_older = refl; some_new = refl; after = refl }; lawful = refl; after = refl; sends = refl }))
 
 abbrev pub s7 : Stage two_ways
 s7 =
     acts s6 2 (Deliver second_give) Moved _ _ _ refl (3, refl)
-    (refl, (refl, omega arith, record { ledger = _; admits = record { not_older = refl; is_new = refl; after = refl }; lawful = refl; after = refl; sends = refl }))
+    (refl, (refl, omega arith, record { ledger = _; admits = record { not_older = refl; some_new = refl; after = refl }; lawful = refl; after = refl; sends = refl }))
 
 abbrev pub s8 : Stage two_ways
 s8 =

@@ -12,7 +12,7 @@ use Rattle.spawn_frame.specs.declared.child_result.ChildResult.TheVariants.{Cove
 use Rattle.spawn_frame.specs.declared.status.Status.{Status}
 use Rattle.spawn_frame.specs.declared.status.Status.TheVariants.{Ready, Out, Done}
 use Rattle.spawn_frame.specs.Units.{Entry, with_status, redone, change_at}
-use Rattle.cover_world.proofs.Changes.{after_gives, after_redo}
+use Rattle.cover_world.proofs.Changes.{after_redo, kept_by_gives}
 use Rattle.node_core.specs.SiteView.{View}
 use Rattle.packet_wire.specs.declared.packet.Body.{Body}
 use Rattle.packet_wire.specs.declared.packet.Body.TheVariants.{Hello, Steal, Return}
@@ -173,7 +173,10 @@ module _ (problem : Problem) where
   counted_steal old from out new s h r has =
       ⊎_elim
       (λ (d : Denies old from out new). counted_same old new d.after h r has)
-      (λ (g : Gives old from out new). counted_change old (with_status (Out from)) g.serial new.own h (λ c q e. absurd (cc)) (ap (λ v. v.own) (after_gives old from out new g)) r has.entry has.is has.done)
+      (λ (g : Gives old from out new).
+      kept_by_gives (λ v. (q : ChildResult) → RootHas v q → IsCounted problem q) from
+      (λ view serial entry is ready t q had. counted_change view (with_status (Out from)) serial (change_at (with_status (Out from)) view.own serial) t (λ c x e. absurd (cc)) refl q had.entry had.is had.done)
+      old out new g h r has)
       s
 
   counted_root_steal : (o : Option ChildResult) (old : View) (from : Site) (out : List Packet) (new : View) → RootSteal o old from out new

@@ -3,7 +3,7 @@ use Rattle.std.proofs.Common.{[], refl, inr, arith}
 use Rattle.cover_problem.specs.Examples.{bare}
 use Rattle.cover_problem.specs.Search.{Barren}
 use Rattle.cover_world.proofs.Searches.{bare_barren}
-use Rattle.cover_world.proofs.Stages.{Stage, acts, given_first, opening}
+use Rattle.cover_world.proofs.Stages.{Stage, acts, gives_first, opening}
 use Rattle.cover_world.specs.Plays.{root_guest}
 use Rattle.cover_world.specs.Repeated.{root_steal, root_give, root_return, root_accept}
 use Rattle.node_core.specs.declared.event.Event.TheVariants.{Ask, Deliver, Post, Take}
@@ -20,12 +20,12 @@ s1 =
 abbrev pub s2 : Stage bare
 s2 =
     acts s1 0 (Deliver root_steal) Moved _ _ _ refl (0, refl)
-    (refl, omega arith, (refl, inr (record { given = _; ledger = _; gives = given_first root_entry refl refl refl; after = refl; sends = refl })))
+    (refl, omega arith, (refl, inr (gives_first root_entry refl refl refl)))
 
 abbrev pub s3 : Stage bare
 s3 =
     acts s2 1 (Deliver root_give) Moved _ _ _ refl (1, refl)
-    (refl, (refl, omega arith, record { ledger = _; admits = record { not_older = refl; is_new = refl; after = refl }; lawful = refl; after = refl; sends = refl }))
+    (refl, (refl, omega arith, record { ledger = _; admits = record { not_older = refl; some_new = refl; after = refl }; lawful = refl; after = refl; sends = refl }))
 
 abbrev pub s4 : Stage bare
 s4 =

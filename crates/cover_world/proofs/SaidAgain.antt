@@ -3,7 +3,7 @@ use Rattle.std.proofs.Common.{[], ◌∷◌, ◌<◌, Bool, refl, inr, arith, sl
 use Rattle.cover_problem.specs.Examples.{bare}
 use Rattle.cover_problem.specs.Search.{Barren}
 use Rattle.cover_world.proofs.Searches.{bare_barren}
-use Rattle.cover_world.proofs.Stages.{Stage, acts, each_of_one, given_first, opening}
+use Rattle.cover_world.proofs.Stages.{Stage, acts, each_of_one, gives_first, opening}
 use Rattle.cover_world.specs.Plays.{root_guest}
 use Rattle.cover_world.specs.SaidAgain.{first_hello, second_hello, root_steal, second_give, second_return, first_over}
 use Rattle.cover_world.specs.Worlds.{Restarts, go, opening_node}
@@ -50,7 +50,7 @@ s6 =
 abbrev pub s7 : Stage bare
 s7 =
     acts s6 0 (Deliver root_steal) Moved _ _ _ refl (6, refl)
-    (refl, omega arith, (refl, inr (record { given = _; ledger = _; gives = given_first root_entry refl refl refl; after = refl; sends = refl })))
+    (refl, omega arith, (refl, inr (gives_first root_entry refl refl refl)))
 
 abbrev pub s8 : Stage bare
 s8 =
@@ -60,7 +60,7 @@ s8 =
 abbrev pub s9 : Stage bare
 s9 =
     acts s8 0 (Deliver root_steal) Moved _ _ _ refl (6, refl)
-    (refl, omega arith, (refl, inr (record { given = _; ledger = _; gives = given_first _ refl refl refl; after = refl; sends = refl })))
+    (refl, omega arith, (refl, inr (gives_first _ refl refl refl)))
 
 abbrev pub s10 : Stage bare
 s10 = acts s9 0 Again Moved _ _ _ refl tt (refl, refl, refl)
@@ -68,7 +68,7 @@ s10 = acts s9 0 Again Moved _ _ _ refl tt (refl, refl, refl)
 abbrev pub s11 : Stage bare
 s11 =
     acts s10 1 (Deliver second_give) Moved _ _ _ refl (8, refl)
-    (refl, (refl, omega arith, record { ledger = _; admits = record { not_older = refl; is_new = refl; after = refl }; lawful = refl; after = refl; sends = refl }))
+    (refl, (refl, omega arith, record { ledger = _; admits = record { not_older = refl; some_new = refl; after = refl }; lawful = refl; after = refl; sends = refl }))
 
 abbrev pub s12 : Stage bare
 s12 =

@@ -1,5 +1,5 @@
 -- A step of a node is determined by its view and the event, but for the child that is given.
-use Rattle.std.proofs.Common.{◌≡◌, ◌⊎◌, ℕ, suc, ◌<◌, ◌≤◌, Bool, true, false, List, [], ◌∷◌, ◌++◌, Some, None, is_some, length, get_or, slice_get, refl, sym, ap, subst, ◌∙◌, inl, inr, arith, true≢false}
+use Rattle.std.proofs.Common.{◌≡◌, ◌⊎◌, ℕ, suc, ◌<◌, ◌≤◌, Bool, true, false, List, [], ◌∷◌, ◌++◌, Some, None, length, get_or, slice_get, refl, sym, ap, subst, ◌∙◌, inl, inr, arith, true≢false}
 use Rattle.std.proofs.lemmas.Option.{none-some, same_Some, slice_get_cases, slice_get_past}
 use Rattle.cover_problem.specs.Problem.{Problem}
 use Rattle.cover_problem.specs.Search.{Barren, Covers, Outcome, Spent}
@@ -16,20 +16,23 @@ use Rattle.node_core.specs.declared.event.Event.{Event}
 use Rattle.node_core.specs.declared.event.Event.TheVariants.{Again, Ask, Deliver, Finish, Greet, Post, Redo, Take}
 use Rattle.node_core.specs.declared.reply.Reply.{Reply}
 use Rattle.node_core.specs.declared.reply.Reply.TheVariants.{Idle, Ignored, Moved, Ripe, Taken}
+use Rattle.packet_wire.specs.Gifts.{gifts_in}
 use Rattle.packet_wire.specs.declared.packet.Body.{Body}
-use Rattle.packet_wire.specs.declared.packet.Body.TheVariants.{Abort, Accept, Give, Hello, Members, NoWork, Over, Refuse, Return, Steal}
+use Rattle.packet_wire.specs.declared.packet.Body.TheVariants.{Abort, Accept, Give, GiveMany, Hello, Members, NoWork, Over, Refuse, Return, Steal}
 use Rattle.packet_wire.specs.declared.packet.Packet.{Packet}
 use Rattle.spawn_frame.specs.Aborts.{AbortsBelow, IsBelow, is_open, reached}
 use Rattle.spawn_frame.specs.Names.{same_unit}
 use Rattle.spawn_frame.specs.Splits.{with_result}
-use Rattle.spawn_frame.specs.Units.{Entry, guest_in, with_status}
+use Rattle.spawn_frame.specs.Units.{Entry, with_status}
 use Rattle.spawn_frame.specs.declared.child_result.ChildResult.{ChildResult}
+use Rattle.spawn_frame.specs.declared.gift.Gift.{Gift}
 use Rattle.spawn_frame.specs.declared.site.ChildName.{ChildName}
 use Rattle.spawn_frame.specs.declared.site.Site.{Site}
 use Rattle.spawn_frame.specs.declared.status.Status.TheVariants.{Aborted, Dropped, Here}
 use Rattle.spawn_frame.specs.declared.unit.Job.{Job}
 use Rattle.spawn_frame.specs.declared.unit.Unit.{Unit as WorkUnit}
 use Rattle.spawn_frame.specs.declared.unit.Unit.TheVariants.{Guest}
+use Rattle.steal_return.specs.Guests.{NoneIsNew}
 use Rattle.steal_return.specs.Members.{is_lost_guest, redo_lost}
 use Rattle.steal_return.specs.Returns.{Enters, Holds, Judgement, Refuses}
 use Rattle.steal_return.specs.Steals.{is_older}
@@ -130,10 +133,9 @@ drops_same old name attempt p q v w h k =
       after_drops old name attempt p v h ∙ ap (with_own (unit_gets old (Guest name attempt) Dropped)) own ∙ sym (after_drops old name attempt q w k),
     )
 
-pub admits_or_not : (problem : Problem) (old : View) (from : Site) (serial attempt : ℕ) (prefix : List ℕ) (p : List Packet) (v : View) → Admits problem old from serial attempt prefix p v
-    → (is_older old.known from ≡ true) ⊎ (is_some (guest_in old.guests (record { site = from; serial = serial }) attempt) ≡ true) → ⊥
-admits_or_not problem old from serial attempt prefix p v h (inl older) = true≢false (sym older ∙ h.not_older)
-admits_or_not problem old from serial attempt prefix p v h (inr there) = true≢false (sym there ∙ ap is_some h.is_new)
+pub admits_or_not : (problem : Problem) (old : View) (from : Site) (gifts : List Gift) (p : List Packet) (v : View) → Admits problem old from gifts p v → NoneIsNew old.ledger from gifts → ⊥
+admits_or_not problem old from gifts p v h (inl older) = true≢false (sym older ∙ h.not_older)
+admits_or_not problem old from gifts p v h (inr there) = true≢false (sym there ∙ h.some_new)
 
 pub answers_same : (old : View) (from : Site) (serial attempt : ℕ) (result : ChildResult) (judgement : Judgement) (p q : List Packet) (v w : View)
     → Answers old from serial attempt result judgement p v → Answers old from serial attempt result judgement q w → (p ≡ q) × (v ≡ w)
@@ -141,22 +143,22 @@ answers_same old from serial attempt result Enters p q v w h k = (h.1 ∙ sym k.
 answers_same old from serial attempt result (Holds held) p q v w h k = (h.1 ∙ sym k.1, h.0 ∙ sym k.0)
 answers_same old from serial attempt result (Refuses cause) p q v w h k = (h.1 ∙ sym k.1, h.0 ∙ sym k.0)
 
-pub give_same : (problem : Problem) (old : View) (from : Site) (serial attempt : ℕ) (prefix : List ℕ) (r s : Reply) (p q : List Packet) (v w : View)
-    → GiveStep problem old from serial attempt prefix r p v → GiveStep problem old from serial attempt prefix s q w → SameStep r s p q v w
-give_same problem old from serial attempt prefix Moved Moved p q v w h k =
-    (refl, h.sends ∙ sym k.sends, after_admits problem old from serial attempt prefix p v h ∙ sym (after_admits problem old from serial attempt prefix q w k))
-give_same problem old from serial attempt prefix Moved Ignored p q v w h k = absurd (admits_or_not problem old from serial attempt prefix p v h k.0)
-give_same problem old from serial attempt prefix Moved Idle p q v w h k = absurd k
-give_same problem old from serial attempt prefix Moved (Ripe u) p q v w h k = absurd k
-give_same problem old from serial attempt prefix Moved (Taken j ys) p q v w h k = absurd k
-give_same problem old from serial attempt prefix Ignored Moved p q v w h k = absurd (admits_or_not problem old from serial attempt prefix q w k h.0)
-give_same problem old from serial attempt prefix Ignored Ignored p q v w h k = stay_both old Ignored p q v w h.1 k.1
-give_same problem old from serial attempt prefix Ignored Idle p q v w h k = absurd k
-give_same problem old from serial attempt prefix Ignored (Ripe u) p q v w h k = absurd k
-give_same problem old from serial attempt prefix Ignored (Taken j ys) p q v w h k = absurd k
-give_same problem old from serial attempt prefix Idle s p q v w h k = absurd h
-give_same problem old from serial attempt prefix (Ripe t) s p q v w h k = absurd h
-give_same problem old from serial attempt prefix (Taken i xs) s p q v w h k = absurd h
+pub give_same : (problem : Problem) (old : View) (from : Site) (gifts : List Gift) (r s : Reply) (p q : List Packet) (v w : View)
+    → GiveStep problem old from gifts r p v → GiveStep problem old from gifts s q w → SameStep r s p q v w
+give_same problem old from gifts Moved Moved p q v w h k =
+    (refl, h.sends ∙ sym k.sends, after_admits problem old from gifts p v h ∙ sym (after_admits problem old from gifts q w k))
+give_same problem old from gifts Moved Ignored p q v w h k = absurd (admits_or_not problem old from gifts p v h k.0)
+give_same problem old from gifts Moved Idle p q v w h k = absurd k
+give_same problem old from gifts Moved (Ripe u) p q v w h k = absurd k
+give_same problem old from gifts Moved (Taken j ys) p q v w h k = absurd k
+give_same problem old from gifts Ignored Moved p q v w h k = absurd (admits_or_not problem old from gifts q w k h.0)
+give_same problem old from gifts Ignored Ignored p q v w h k = stay_both old Ignored p q v w h.1 k.1
+give_same problem old from gifts Ignored Idle p q v w h k = absurd k
+give_same problem old from gifts Ignored (Ripe u) p q v w h k = absurd k
+give_same problem old from gifts Ignored (Taken j ys) p q v w h k = absurd k
+give_same problem old from gifts Idle s p q v w h k = absurd h
+give_same problem old from gifts (Ripe t) s p q v w h k = absurd h
+give_same problem old from gifts (Taken i xs) s p q v w h k = absurd h
 
 pub accept_same : (old : View) (name : ChildName) (attempt : ℕ) (result : ChildResult) (r s : Reply) (p q : List Packet) (v w : View)
     → AcceptStep old name attempt result r p v → AcceptStep old name attempt result s q w → SameStep r s p q v w
@@ -213,7 +215,8 @@ hear_same problem old from (Members incarnations) r s p q v w other h k =
     let same = members_same old incarnations p q v w h.0 k.0 in
     (tells_same old r s p q v w h.1 k.1 same.0 same.1, same.0, same.1)
 hear_same problem old from Steal r s p q v w other h k = absurd (true≢false other)
-hear_same problem old from (Give serial attempt prefix) r s p q v w other h k = give_same problem old from serial attempt prefix r s p q v w h k
+hear_same problem old from (Give serial attempt prefix) r s p q v w other h k = give_same problem old from (gifts_in (Give serial attempt prefix)) r s p q v w h k
+hear_same problem old from (GiveMany prefix siblings) r s p q v w other h k = give_same problem old from (gifts_in (GiveMany prefix siblings)) r s p q v w h k
 hear_same problem old from NoWork r s p q v w other h k = (h.0 ∙ sym k.0, h.1.1 ∙ sym k.1.1, h.1.0 ∙ sym k.1.0)
 hear_same problem old from (Return serial attempt result) r s p q v w other h k =
     let judgement : h.1.0 ≡ k.1.0 = sym h.1.1 ∙ k.1.1 in

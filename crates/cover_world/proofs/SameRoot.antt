@@ -10,7 +10,7 @@ use Rattle.node_core.specs.declared.event.Event.{Event}
 use Rattle.node_core.specs.declared.event.Event.TheVariants.{Again, Ask, Deliver, Finish, Greet, Post, Redo, Take}
 use Rattle.node_core.specs.declared.reply.Reply.{Reply}
 use Rattle.packet_wire.specs.declared.packet.Body.{Body}
-use Rattle.packet_wire.specs.declared.packet.Body.TheVariants.{Abort, Accept, Give, Hello, Members, NoWork, Over, Refuse, Return, Steal}
+use Rattle.packet_wire.specs.declared.packet.Body.TheVariants.{Abort, Accept, Give, GiveMany, Hello, Members, NoWork, Over, Refuse, Return, Steal}
 use Rattle.packet_wire.specs.declared.packet.Packet.{Packet}
 use Rattle.root_registry.specs.RegistryStep.{HelloStep, RegistryStep, RootAnswers, RootHears, is_earlier_run, to_each}
 use Rattle.spawn_frame.specs.Units.{table_own}
@@ -49,6 +49,7 @@ root_hear_same problem old from (Return serial attempt result) r s p q v w other
     (h.0 ∙ sym k.0, same.0, same.1)
 root_hear_same problem old from (Members incarnations) r s p q v w other h k = absurd h
 root_hear_same problem old from (Give serial attempt prefix) r s p q v w other h k = absurd h
+root_hear_same problem old from (GiveMany prefix siblings) r s p q v w other h k = absurd h
 root_hear_same problem old from NoWork r s p q v w other h k = absurd h
 root_hear_same problem old from (Accept serial attempt result) r s p q v w other h k = absurd h
 root_hear_same problem old from (Refuse serial attempt cause) r s p q v w other h k = absurd h

@@ -1,12 +1,14 @@
 -- How a run of two nodes goes on from stage to stage, and what an abort makes of short lists.
-use Rattle.std.proofs.Common.{◌≡◌, ◌⊎◌, ℕ, zero, suc, Bool, true, false, List, [], ◌∷◌, ◌++◌, Some, slice_get, slice_set, refl, sym, subst, ap, ◌∙◌, inl, inr, true≢false}
+use Rattle.std.proofs.Common.{◌≡◌, ◌⊎◌, ℕ, zero, suc, Bool, true, false, List, [], ◌∷◌, ◌++◌, Some, slice_get, slice_set, refl, sym, subst, ap, ◌∙◌, inl, inr, true≢false, arith}
 use Rattle.std.proofs.lemmas.Option.{same_Some, none-some}
 use Rattle.cover_problem.specs.Problem.{Problem}
 use Rattle.cover_world.specs.Plays.{limits}
 use Rattle.cover_world.specs.Worlds.{Acts, Run, SiteStep, WasSent, World, go, opening_world, stay}
-use Rattle.node_core.specs.SiteView.{View}
+use Rattle.node_core.specs.Arrivals.{Gives, answer_packet}
+use Rattle.node_core.specs.SiteView.{View, with_own}
 use Rattle.node_core.specs.declared.event.Event.{Event}
 use Rattle.node_core.specs.declared.reply.Reply.{Reply}
+use Rattle.packet_wire.specs.declared.packet.Body.TheVariants.{Give}
 use Rattle.packet_wire.specs.declared.packet.Packet.{Packet}
 use Rattle.spawn_frame.specs.Aborts.{AbortsBelow, IsBelow, child, deeper, is_open}
 use Rattle.spawn_frame.specs.Names.{same_unit}
@@ -14,8 +16,8 @@ use Rattle.spawn_frame.specs.Units.{Entry, change_at, with_status}
 use Rattle.spawn_frame.specs.declared.site.Site.{Site}
 use Rattle.spawn_frame.specs.declared.status.Status.TheVariants.{Aborted, Out, Ready}
 use Rattle.spawn_frame.specs.declared.unit.Unit.{Unit as WorkUnit}
-use Rattle.steal_return.specs.Ledger.{Ledger, ledger_own}
-use Rattle.steal_return.specs.Steals.{GivesChild, is_older}
+use Rattle.steal_return.specs.Ledger.{ledger_own}
+use Rattle.steal_return.specs.Steals.{is_older}
 
 -- a run of two nodes so far
 pub record Stage (problem : Problem) : Type 0 where
@@ -42,12 +44,30 @@ acts stage node event reply before out new is was_sent step = record {
   });
 }
 
--- the first own child is given
-abbrev pub given_first : {old : Ledger} {thief : Site} (entry : Entry)
-    → is_older old.known thief ≡ false → slice_get old.own 0 ≡ Some entry → entry.status ≡ Ready
-    → GivesChild old thief (record { serial = 0; attempt = entry.attempt; prefix = entry.prefix }) (ledger_own old (change_at (with_status (Out thief)) old.own 0))
-given_first entry not_older is ready =
-    record { entry = entry; not_older = not_older; is = is; ready = ready; attempt = refl; prefix = refl; after = refl }
+-- the first own child is given by itself
+abbrev pub gives_first : {old : View} {from : Site} (entry : Entry)
+    → is_older old.known from ≡ false → slice_get old.own 0 ≡ Some entry → entry.status ≡ Ready
+    → Gives old from (answer_packet old from (Give 0 entry.attempt entry.prefix)) (with_own old (change_at (with_status (Out from)) old.own 0))
+gives_first {old} {from} entry not_older is ready = record {
+  body = Give 0 entry.attempt entry.prefix;
+  spelled = refl;
+  ledger = ledger_own old.ledger (change_at (with_status (Out from)) old.own 0);
+  gives = record {
+    parent = entry.parent;
+    some = omega arith;
+    most = omega arith;
+    alone = λ e. refl;
+    rising = refl;
+    each = (
+      ledger_own old.ledger (change_at (with_status (Out from)) old.own 0),
+      record { entry = entry; not_older = not_older; is = is; ready = ready; attempt = refl; prefix = refl; after = refl },
+      refl,
+      refl,
+    );
+  };
+  after = refl;
+  sends = refl;
+}
 
 pub aborts_nothing : (top : WorkUnit → Bool) → AbortsBelow top [] []
 aborts_nothing top = record { each = λ k entry e. absurd (none-some entry e); ends = refl }

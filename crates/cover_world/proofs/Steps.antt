@@ -15,11 +15,12 @@ use Rattle.spawn_frame.specs.declared.child_result.ChildResult.TheVariants.{Cove
 use Rattle.spawn_frame.specs.declared.status.Status.{Status}
 use Rattle.spawn_frame.specs.declared.status.Status.TheVariants.{Ready, Here, Split, Out, Done}
 use Rattle.spawn_frame.specs.Units.{Entry, with_status, redone, change_at}
-use Rattle.cover_world.proofs.Changes.{after_admits, after_drops, after_finish, after_gives, after_members, after_redo, after_settles}
+use Rattle.cover_world.proofs.Changes.{after_admits, after_drops, after_finish, after_members, after_redo, after_settles, kept_by_gives}
 use Rattle.node_core.specs.SiteView.{View, unit_in, with_own, unit_gets}
 use Rattle.spawn_frame.specs.Aborts.{is_open}
+use Rattle.packet_wire.specs.Gifts.{gifts_in}
 use Rattle.packet_wire.specs.declared.packet.Body.{Body}
-use Rattle.packet_wire.specs.declared.packet.Body.TheVariants.{Hello, Members, Steal, Give, NoWork, Return, Accept, Refuse, Abort, Over}
+use Rattle.packet_wire.specs.declared.packet.Body.TheVariants.{Hello, Members, Steal, Give, GiveMany, NoWork, Return, Accept, Refuse, Abort, Over}
 use Rattle.packet_wire.specs.declared.packet.Packet.{Packet}
 use Rattle.node_core.specs.declared.event.Event.{Event}
 use Rattle.node_core.specs.declared.event.Event.TheVariants.{Take, Post, Finish, Ask, Redo, Deliver, Again, Greet}
@@ -32,6 +33,7 @@ use Rattle.root_registry.specs.RegistryStep.{RootAnswers, RootSteal, RootHears, 
 use Rattle.node_core.specs.NodeStep.{HearStep, EventStep, NodeStep}
 use Rattle.node_core.specs.Taking.{TakeStep}
 use Rattle.cover_world.proofs.Grows.{Grows, grows_same, grows_open, grows_redone, OwnGrows, own_same, own_then, own_append, own_change, own_map, own_aborts}
+use Rattle.spawn_frame.specs.declared.gift.Gift.{Gift}
 use Rattle.steal_return.specs.Members.{redo_if, redo_lost}
 use Rattle.steal_return.specs.Returns.{Enters, Holds, Judgement, Refuses, if_out, judged, judged_by}
 
@@ -144,7 +146,9 @@ steal_grows old from out new =
     ⊎_elim
     (λ (d : Denies old from out new). stays old new d.after)
     (λ (g : Gives old from out new).
-    by_equation old _ new (after_gives old from out new g) (record { site = refl; own = own_gets old g.serial (Out from) g.entry g.is (ap is_open g.ready) }))
+    kept_by_gives (SiteGrows old) from
+    (λ view serial entry is ready h. record { site = h.site; own = own_then old.own view.own (change_at (with_status (Out from)) view.own serial) h.own (own_gets view serial (Out from) entry is (ap is_open ready)) })
+    old out new g (record { site = refl; own = own_same old.own }))
 
 root_steal_grows : (r : Option ChildResult) (old : View) (from : Site) (out : List Packet) (new : View) → RootSteal r old from out new → SiteGrows old new
 root_steal_grows (Some result) old from out new h = stays old new h.0
@@ -157,12 +161,12 @@ take_grows old Idle out new h = stays old new h.2.0
 take_grows old Moved out new h = absurd h
 take_grows old Ignored out new h = absurd h
 
-give_grows : (problem : Problem) (old : View) (from : Site) (serial attempt : ℕ) (prefix : List ℕ) (reply : Reply) (out : List Packet) (new : View)
-    → GiveStep problem old from serial attempt prefix reply out new → SiteGrows old new
-give_grows problem old from serial attempt prefix Moved out new h =
-    by_equation old _ new (after_admits problem old from serial attempt prefix out new h) (record { site = refl; own = own_same old.own })
-give_grows problem old from serial attempt prefix Ignored out new h = stays old new h.1.0
-give_grows problem old from serial attempt prefix _ out new h = absurd h
+give_grows : (problem : Problem) (old : View) (from : Site) (gifts : List Gift) (reply : Reply) (out : List Packet) (new : View)
+    → GiveStep problem old from gifts reply out new → SiteGrows old new
+give_grows problem old from gifts Moved out new h =
+    by_equation old _ new (after_admits problem old from gifts out new h) (record { site = refl; own = own_same old.own })
+give_grows problem old from gifts Ignored out new h = stays old new h.1.0
+give_grows problem old from gifts _ out new h = absurd h
 
 accept_grows : (old : View) (name : ChildName) (attempt : ℕ) (result : ChildResult) (reply : Reply) (out : List Packet) (new : View)
     → AcceptStep old name attempt result reply out new → SiteGrows old new
@@ -184,7 +188,8 @@ hear_grows problem old from Hello reply out new h = absurd h
 hear_grows problem old from (Members incarnations) reply out new h =
     by_equation old _ new (after_members old incarnations out new h.0) (record { site = refl; own = own_then old.own _ h.0.own (redo_lost_grows _ old.own) (own_aborts _ _ h.0.own h.0.aborts) })
 hear_grows problem old from Steal reply out new h = steal_grows old from out new h.1
-hear_grows problem old from (Give serial attempt prefix) reply out new h = give_grows problem old from serial attempt prefix reply out new h
+hear_grows problem old from (Give serial attempt prefix) reply out new h = give_grows problem old from (gifts_in (Give serial attempt prefix)) reply out new h
+hear_grows problem old from (GiveMany prefix siblings) reply out new h = give_grows problem old from (gifts_in (GiveMany prefix siblings)) reply out new h
 hear_grows problem old from NoWork reply out new h = stays old new h.1.0
 hear_grows problem old from (Return serial attempt result) reply out new h = answers_grow old from serial attempt result h.1.0 out new h.1.1 h.1.2
 hear_grows problem old from (Accept serial attempt result) reply out new h = accept_grows old _ attempt result reply out new h

@@ -7,7 +7,7 @@ use Rattle.cover_problem.specs.ExactCover.{IsExactCover, uses}
 use Rattle.cover_problem.specs.Numbers.{is_in}
 use Rattle.cover_problem.specs.Search.{Barren, Covers, Spent}
 use Rattle.cover_world.proofs.Searches.{first_barren, root_spent, second_covers, small_children}
-use Rattle.cover_world.proofs.Stages.{Stage, aborts_first, aborts_none, aborts_nothing, acts, each_of_one, each_of_two, given_first, opening}
+use Rattle.cover_world.proofs.Stages.{Stage, aborts_first, aborts_none, aborts_nothing, acts, each_of_one, each_of_two, gives_first, opening}
 use Rattle.cover_world.specs.Plays.{IsRefused, root_guest, site1, site2}
 use Rattle.cover_world.specs.Stolen.{anew_hello, anew_first_members, cover, late_return, late_refuse, root_steal, root_give, child_steal, child_give, child_return, stolen}
 use Rattle.cover_world.specs.Worlds.{Acts, Restarts, go, opening_node}
@@ -81,12 +81,12 @@ s1 =
 abbrev pub s2 : Stage small
 s2 =
     acts s1 0 (Deliver root_steal) Moved _ _ _ refl (0, refl)
-    (refl, omega arith, (refl, inr (record { given = _; ledger = _; gives = given_first root_entry refl refl refl; after = refl; sends = refl })))
+    (refl, omega arith, (refl, inr (gives_first root_entry refl refl refl)))
 
 abbrev pub s3 : Stage small
 s3 =
     acts s2 1 (Deliver root_give) Moved _ _ _ refl (1, refl)
-    (refl, (refl, omega arith, record { ledger = _; admits = record { not_older = refl; is_new = refl; after = refl }; lawful = refl; after = refl; sends = refl }))
+    (refl, (refl, omega arith, record { ledger = _; admits = record { not_older = refl; some_new = refl; after = refl }; lawful = refl; after = refl; sends = refl }))
 
 abbrev pub s4 : Stage small
 s4 =
@@ -126,12 +126,12 @@ s6 =
 abbrev pub s7 : Stage small
 s7 =
     acts s6 1 (Deliver child_steal) Moved _ _ _ refl (2, refl)
-    (refl, (refl, omega arith, (refl, inr (record { given = _; ledger = _; gives = given_first _ refl refl refl; after = refl; sends = refl }))))
+    (refl, (refl, omega arith, (refl, inr (gives_first _ refl refl refl))))
 
 abbrev pub s8 : Stage small
 s8 =
     acts s7 2 (Deliver child_give) Moved _ _ _ refl (3, refl)
-    (refl, (refl, omega arith, record { ledger = _; admits = record { not_older = refl; is_new = refl; after = refl }; lawful = refl; after = refl; sends = refl }))
+    (refl, (refl, omega arith, record { ledger = _; admits = record { not_older = refl; some_new = refl; after = refl }; lawful = refl; after = refl; sends = refl }))
 
 abbrev pub s9 : Stage small
 s9 =

@@ -3,7 +3,8 @@ use Rattle.std.proofs.Common.{◌≡◌, ◌≢◌, ℕ, zero, suc, ◌+◌, Boo
 use Rattle.std.proofs.lemmas.Option.{same_Some, none-some, slice_get-map}
 use Rattle.cover_problem.specs.Problem.{Problem}
 use Rattle.cover_problem.specs.Search.{Barren, Covers, Outcome, Spent}
-use Rattle.cover_world.proofs.Changes.{after_admits, after_drops, after_finish, after_gives, after_members, after_redo, after_settles}
+use Rattle.cover_world.proofs.Changes.{after_admits, after_drops, after_finish, after_members, after_redo, after_settles, kept_by_gives}
+use Rattle.cover_world.proofs.Published.{changed_back}
 use Rattle.cover_world.specs.Thieves.{CallsOff, PutsOut}
 use Rattle.node_core.specs.Arrivals.{AcceptStep, Drops, GiveStep, RefuseStep, ReturnStep}
 use Rattle.node_core.specs.Membership.{MembersStep}
@@ -15,13 +16,15 @@ use Rattle.node_core.specs.declared.event.Event.{Event}
 use Rattle.node_core.specs.declared.event.Event.TheVariants.{Again, Ask, Deliver, Finish, Greet, Post, Redo, Take}
 use Rattle.node_core.specs.declared.reply.Reply.{Reply}
 use Rattle.node_core.specs.declared.reply.Reply.TheVariants.{Idle, Ignored, Moved, Ripe, Taken}
+use Rattle.packet_wire.specs.Gifts.{gifts_in}
 use Rattle.packet_wire.specs.declared.packet.Body.{Body}
-use Rattle.packet_wire.specs.declared.packet.Body.TheVariants.{Abort, Accept, Give, Hello, Members, NoWork, Over, Refuse, Return, Steal}
+use Rattle.packet_wire.specs.declared.packet.Body.TheVariants.{Abort, Accept, Give, GiveMany, Hello, Members, NoWork, Over, Refuse, Return, Steal}
 use Rattle.packet_wire.specs.declared.packet.Packet.{Packet}
 use Rattle.spawn_frame.specs.Aborts.{IsBelow, Reached, is_open, reached, reached_one}
 use Rattle.spawn_frame.specs.Splits.{new_child, with_result}
 use Rattle.spawn_frame.specs.Units.{Entry, change_at, redone, with_status}
 use Rattle.spawn_frame.specs.declared.child_result.ChildResult.{ChildResult}
+use Rattle.spawn_frame.specs.declared.gift.Gift.{Gift}
 use Rattle.spawn_frame.specs.declared.site.ChildName.{ChildName}
 use Rattle.spawn_frame.specs.declared.site.Site.{Site}
 use Rattle.spawn_frame.specs.declared.status.Status.{Status}
@@ -87,6 +90,13 @@ quiet_change f p (x ∷ xs) zero zero c d thief is out at aborted = p x (ap (λ 
 quiet_change f p (x ∷ xs) zero (suc j) c d thief is out at aborted = quiet_same xs j c d thief is out at aborted
 quiet_change f p (x ∷ xs) (suc k) zero c d thief is out at aborted = quiet_same (x ∷ xs) zero c d thief is out at aborted
 quiet_change f p (x ∷ xs) (suc k) (suc j) c d thief is out at aborted = quiet_change f p xs k j c d thief is out at aborted
+
+quiet_later : (f : Entry → Entry) → ((c : Entry) → (f c).status ≢ Aborted) → (xs ys : List Entry) (k : ℕ) → Quiet xs ys → Quiet xs (change_at f ys k)
+quiet_later f p xs ys k q j c d thief is out at aborted =
+    ⊎_elim
+    (λ (b : (e : Entry) × (slice_get ys j ≡ Some e) × (d ≡ f e) × (j ≡ k)). p b.0 (ap (λ x. x.status) (sym b.2) ∙ aborted))
+    (λ (b : (j ≢ k) × (slice_get ys j ≡ Some d)). q j c d thief is out b.1 aborted)
+    (changed_back f ys k j d at)
 
 quiet_append : (old new more : List Entry) → Quiet old new → ((i : ℕ) (d : Entry) → slice_get more i ≡ Some d → d.status ≢ Aborted) → Quiet old (new ++ more)
 quiet_append [] new more q n k c d thief is out at aborted = none-some c is
@@ -196,12 +206,12 @@ module _ (problem : Problem) (old new : View) (serial : ℕ) (entry : Entry) (th
       split (Own k) = quiet_append old.own _ _ (quiet_gets old (Own k) Split (λ e. cc)) (news_open (Own k) _)
       split (Guest name attempt) = quiet_append old.own _ _ (quiet_same old.own) (news_open (Guest name attempt) _)
 
-  give_told : (from : Site) (given attempt : ℕ) (prefix : List ℕ) (reply : Reply) (out : List Packet) → GiveStep problem old from given attempt prefix reply out new → PutsOut out packet
-  give_told from given attempt prefix Moved out h = quiet_view out _ (after_admits problem old from given attempt prefix out new h) (quiet_same old.own)
-  give_told from given attempt prefix Ignored out h = quiet out h.1.0
-  give_told from given attempt prefix Idle out h = absurd h
-  give_told from given attempt prefix (Ripe unit) out h = absurd h
-  give_told from given attempt prefix (Taken job p) out h = absurd h
+  give_told : (from : Site) (gifts : List Gift) (reply : Reply) (out : List Packet) → GiveStep problem old from gifts reply out new → PutsOut out packet
+  give_told from gifts Moved out h = quiet_view out _ (after_admits problem old from gifts out new h) (quiet_same old.own)
+  give_told from gifts Ignored out h = quiet out h.1.0
+  give_told from gifts Idle out h = absurd h
+  give_told from gifts (Ripe unit) out h = absurd h
+  give_told from gifts (Taken job p) out h = absurd h
 
   return_told : (from : Site) (given attempt : ℕ) (result : ChildResult) (out : List Packet) → ReturnStep old from given attempt result out new → PutsOut out packet
   return_told from given attempt result out (Enters, is, h) = quiet_view out _ h.0 (quiet_change (with_status (Done result)) (λ c e. cc) old.own given)
@@ -226,8 +236,11 @@ module _ (problem : Problem) (old new : View) (serial : ℕ) (entry : Entry) (th
   hear_told from Hello reply out h = absurd h
   hear_told from (Members incarnations) reply out h = members_told incarnations out h.0
   hear_told from Steal reply out (moved, inl h) = quiet out h.after
-  hear_told from Steal reply out (moved, inr h) = quiet_view out _ (after_gives old from out new h) (quiet_change (with_status (Out from)) (λ c e. cc) old.own h.serial)
-  hear_told from (Give given attempt prefix) reply out h = give_told from given attempt prefix reply out h
+  hear_told from Steal reply out (moved, inr h) =
+      quiet_view out new refl
+      (kept_by_gives (λ v. Quiet old.own v.own) from (λ view serial entry is ready q. quiet_later (with_status (Out from)) (λ c e. cc) old.own view.own serial q) old out new h (quiet_same old.own))
+  hear_told from (Give given attempt prefix) reply out h = give_told from (gifts_in (Give given attempt prefix)) reply out h
+  hear_told from (GiveMany prefix siblings) reply out h = give_told from (gifts_in (GiveMany prefix siblings)) reply out h
   hear_told from NoWork reply out h = quiet out h.1.0
   hear_told from (Return given attempt result) reply out h = return_told from given attempt result out h.1
   hear_told from (Accept given attempt result) reply out h = accept_told (record { site = from; serial = given }) attempt result reply out h

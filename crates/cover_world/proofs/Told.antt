@@ -6,10 +6,12 @@ use Rattle.spawn_frame.specs.declared.site.Site.{Site}
 use Rattle.spawn_frame.specs.declared.site.ChildName.{ChildName}
 use Rattle.spawn_frame.specs.declared.child_result.ChildResult.{ChildResult}
 use Rattle.spawn_frame.specs.declared.status.Status.TheVariants.{Done, Settled}
+use Rattle.spawn_frame.specs.Gifts.{name_of}
 use Rattle.spawn_frame.specs.Units.{Entry, GuestEntry}
 use Rattle.node_core.specs.SiteView.{View}
+use Rattle.packet_wire.specs.Gifts.{gifts_in}
 use Rattle.packet_wire.specs.declared.packet.Body.{Body}
-use Rattle.packet_wire.specs.declared.packet.Body.TheVariants.{Hello, Give, Accept}
+use Rattle.packet_wire.specs.declared.packet.Body.TheVariants.{Hello, Give, GiveMany, Accept}
 use Rattle.packet_wire.specs.declared.packet.Packet.{Packet}
 use Rattle.node_core.specs.declared.event.Event.{Event}
 use Rattle.node_core.specs.declared.event.Event.TheVariants.{Take, Deliver}
@@ -17,9 +19,10 @@ use Rattle.cover_world.specs.Worlds.{World, WorldMove, Acts, Restarts, WorldStep
 use Rattle.cover_world.specs.Safety.{HasChild, OwnerAccepts, ThiefAccepts, Accepts, OneResult}
 use Rattle.cover_world.proofs.Grows.{Grows, grows_same, grows_then}
 use Rattle.cover_world.proofs.Guests.{Every, every_append, every_at, every_map, every_guest}
-use Rattle.cover_world.proofs.Honest.{Honest, IsSo, site_honest}
-use Rattle.cover_world.proofs.Kept.{AnyStatus, BodyShows, EventShows, site_kept}
+use Rattle.cover_world.proofs.Honest.{GiftSo, Honest, IsSo, site_honest}
+use Rattle.cover_world.proofs.Kept.{AnyStatus, BodyShows, EventShows, GiftShows, site_kept}
 use Rattle.cover_world.proofs.Later.{get_set, set_get, Later, Gone, same_child, not_gone, step_keeps, gone_stays, site_grows}
+use Rattle.spawn_frame.specs.declared.gift.Gift.{Gift}
 
 -- at some time the site of this name had this child
 abbrev pub Had : {problem : Problem} {start end : World} → Run problem start end → ChildName → Entry → Type 0
@@ -91,8 +94,13 @@ pub record GuestTrue {problem : Problem} {start end : World} (run : Run problem 
   pub prefix : HadBy run g.name (λ c. c.prefix ≡ g.entry.prefix)
   pub settled : (r : ChildResult) → g.entry.status ≡ Settled r → HadBy run g.name (λ c. c.status ≡ Done r)
 
+-- a child that was given had this prefix
+abbrev pub GiftTrue : {problem : Problem} {start end : World} → Run problem start end → Site → Gift → Type 0
+GiftTrue run from gift = HadBy run (name_of from gift) (λ c. c.prefix ≡ gift.prefix)
+
 abbrev pub BodyTrue : {problem : Problem} {start end : World} → Run problem start end → Site → Body → Type 0
-BodyTrue run from (Give serial attempt prefix) = HadBy run (record { site = from; serial = serial }) (λ c. c.prefix ≡ prefix)
+BodyTrue run from (Give serial attempt prefix) = Every (GiftTrue run from) (gifts_in (Give serial attempt prefix))
+BodyTrue run from (GiveMany prefix siblings) = Every (GiftTrue run from) (gifts_in (GiveMany prefix siblings))
 BodyTrue run from (Accept serial attempt result) = HadBy run (record { site = from; serial = serial }) (λ c. c.status ≡ Done result)
 BodyTrue run from _ = Unit {0}
 
@@ -113,8 +121,12 @@ module _ (problem : Problem) (start old new : World) (run : Run problem start ol
   guest_more : (g : GuestEntry) → GuestTrue run g → GuestTrue (go run event step) g
   guest_more g h = record { prefix = had_more g.name _ h.prefix; settled = λ r e. had_more g.name _ (h.settled r e) }
 
+  gifts_more : (from : Site) (gifts : List Gift) → Every (GiftTrue run from) gifts → Every (GiftTrue (go run event step) from) gifts
+  gifts_more from gifts h = every_map (GiftTrue run from) (GiftTrue (go run event step) from) gifts (λ g t. had_more (name_of from g) _ t) h
+
   body_more : (from : Site) (body : Body) → BodyTrue run from body → BodyTrue (go run event step) from body
-  body_more from (Give serial attempt prefix) h = had_more _ _ h
+  body_more from (Give serial attempt prefix) h = gifts_more from (gifts_in (Give serial attempt prefix)) h
+  body_more from (GiveMany prefix siblings) h = gifts_more from (gifts_in (GiveMany prefix siblings)) h
   body_more from (Accept serial attempt result) h = had_more _ _ h
   body_more from Hello h = tt
   body_more from _ h = tt
@@ -122,12 +134,17 @@ module _ (problem : Problem) (start old new : World) (run : Run problem start ol
   any_status : AnyStatus (GuestTrue (go run event step))
   any_status name entry s u h = record { prefix = h.prefix; settled = λ r e. absurd (u r e) }
 
+  gifts_show : (from : Site) (gifts : List Gift) → Every (GiftTrue run from) gifts → Every (GiftShows (GuestTrue (go run event step)) from) gifts
+  gifts_show from gifts h =
+      every_map (GiftTrue run from) (GiftShows (GuestTrue (go run event step)) from) gifts (λ g t. record { prefix = had_more (name_of from g) _ t; settled = λ r e. absurd (cc) }) h
+
   body_shows : (from : Site) (body : Body) → BodyTrue run from body → BodyShows (GuestTrue (go run event step)) from body
   body_shows from (Accept serial attempt result) h = λ entry g. record {
     prefix = g.prefix;
     settled = λ r e. let same : result ≡ r = cc in subst (λ q. HadBy (go run event step) (record { site = from; serial = serial }) (λ c. c.status ≡ Done q)) same (had_more _ _ h);
   }
-  body_shows from (Give serial attempt prefix) h = record { prefix = had_more _ _ h; settled = λ r e. absurd (cc) }
+  body_shows from (Give serial attempt prefix) h = gifts_show from (gifts_in (Give serial attempt prefix)) h
+  body_shows from (GiveMany prefix siblings) h = gifts_show from (gifts_in (GiveMany prefix siblings)) h
   body_shows from Hello h = tt
   body_shows from _ h = tt
 
@@ -136,13 +153,20 @@ module _ (problem : Problem) (start old new : World) (run : Run problem start ol
   event_shows Take all sent = tt
   event_shows _ all sent = tt
 
+  gifts_true : (view : View) (node : ℕ) (from : Site) (gifts : List Gift) → slice_get new.sites node ≡ Some view → view.site.node ≡ node → from ≡ view.site → Every (GiftSo view) gifts
+      → Every (GiftTrue (go run event step) from) gifts
+  gifts_true view node from gifts at seat e h =
+      every_map (GiftSo view) (GiftTrue (go run event step) from) gifts
+      (λ g s. record {
+        entry = s.entry;
+        had = inr (record { view = view; is = ap (slice_get new.sites) (ap (λ s. s.node) e ∙ seat) ∙ at; site = sym e; child = s.is });
+        so = s.so;
+      }) h
+
   -- what is put out is so
   body_true : (view : View) (node : ℕ) (from to : Site) (body : Body) → slice_get new.sites node ≡ Some view → view.site.node ≡ node → from ≡ view.site → IsSo view to body → BodyTrue (go run event step) from body
-  body_true view node from to (Give serial attempt prefix) at seat e h = record {
-    entry = h.entry;
-    had = inr (record { view = view; is = ap (slice_get new.sites) (ap (λ s. s.node) e ∙ seat) ∙ at; site = sym e; child = h.is });
-    so = h.so;
-  }
+  body_true view node from to (Give serial attempt prefix) at seat e h = gifts_true view node from (gifts_in (Give serial attempt prefix)) at seat e h
+  body_true view node from to (GiveMany prefix siblings) at seat e h = gifts_true view node from (gifts_in (GiveMany prefix siblings)) at seat e h
   body_true view node from to (Accept serial attempt result) at seat e h = record {
     entry = h.entry;
     had = inr (record { view = view; is = ap (slice_get new.sites) (ap (λ s. s.node) e ∙ seat) ∙ at; site = sym e; child = h.is });

@@ -14,14 +14,17 @@ use Rattle.spawn_frame.specs.declared.child_result.ChildResult.{ChildResult}
 use Rattle.spawn_frame.specs.declared.child_result.ChildResult.TheVariants.{Cover, Empty}
 use Rattle.spawn_frame.specs.declared.status.Status.{Status}
 use Rattle.spawn_frame.specs.declared.status.Status.TheVariants.{Ready, Here, Split, Out, Done, Aborted, Settled, Dropped}
+use Rattle.spawn_frame.specs.Gifts.{admit_each, gift_guest}
 use Rattle.spawn_frame.specs.Units.{Entry, guest_in, with_status, redone, change_at}
-use Rattle.cover_world.proofs.Changes.{after_admits, after_drops, after_finish, after_gives, after_members, after_redo, after_settles}
+use Rattle.steal_return.proofs.Gifts.{admits_keep, any_gift}
+use Rattle.cover_world.proofs.Changes.{after_admits, after_drops, after_finish, after_members, after_redo, after_settles, kept_by_gives}
 use Rattle.node_core.specs.SiteView.{View, unit_in, with_own, with_guests, unit_gets}
 use Rattle.spawn_frame.specs.Names.{same_unit}
 use Rattle.spawn_frame.specs.Frames.{frame, frame_result}
 use Rattle.spawn_frame.specs.Aborts.{is_open, AbortsBelow}
+use Rattle.packet_wire.specs.Gifts.{gifts_in}
 use Rattle.packet_wire.specs.declared.packet.Body.{Body}
-use Rattle.packet_wire.specs.declared.packet.Body.TheVariants.{Hello, Members, Steal, Give, NoWork, Return, Accept, Refuse, Abort, Over}
+use Rattle.packet_wire.specs.declared.packet.Body.TheVariants.{Hello, Members, Steal, Give, GiveMany, NoWork, Return, Accept, Refuse, Abort, Over}
 use Rattle.packet_wire.specs.declared.packet.Packet.{Packet}
 use Rattle.node_core.specs.declared.event.Event.{Event}
 use Rattle.node_core.specs.declared.event.Event.TheVariants.{Take, Post, Finish, Ask, Redo, Deliver, Again, Greet}
@@ -46,6 +49,7 @@ use Rattle.steal_return.specs.Members.{drop_lost, is_lost_guest, redo_if, redo_l
 use Rattle.steal_return.specs.Returns.{Enters, Holds, Judgement, Refuses, judged}
 use Rattle.steal_return.specs.Steals.{is_older}
 use Rattle.spawn_frame.proofs.Sames.{unit_path}
+use Rattle.spawn_frame.specs.declared.gift.Gift.{Gift}
 
 -- a result that is returned empty-handed is of a barren prefix
 abbrev pub ResultHopes : Problem → List Entry → ℕ → ChildResult → Type 0
@@ -186,9 +190,10 @@ module _ (problem : Problem) where
       ⊎_elim
       (λ (d : Denies old from out new). as_is old new d.after s)
       (λ (g : Gives old from out new).
-      as_is _ new (after_gives old from out new g)
-      (sound_gets problem old s (Own g.serial) (Out from) g.entry g.is (λ e. cc)
-      (subst (λ t. FrameOf problem old.own (Own g.serial) g.entry.prefix t) g.ready (s.frames (Own g.serial) g.entry g.is)) tt))
+      kept_by_gives (Sound problem) from
+      (λ view serial entry is ready t. sound_gets problem view t (Own serial) (Out from) entry is (λ e. cc)
+      (subst (λ x. FrameOf problem view.own (Own serial) entry.prefix x) ready (t.frames (Own serial) entry is)) tt)
+      old out new g s)
       h
 
   root_steal_sound : (r : Option ChildResult) (old : View) (from : Site) (out : List Packet) (new : View) → RootSteal r old from out new → Sound problem old → Sound problem new
@@ -213,10 +218,12 @@ module _ (problem : Problem) where
   root_answers_sound old from serial attempt result (Holds held) out new h e a s = as_is old new a.0 s
   root_answers_sound old from serial attempt result (Refuses cause) out new h e a s = as_is old new a.0 s
 
-  give_sound : (old : View) (from : Site) (serial attempt : ℕ) (prefix : List ℕ) (reply : Reply) (out : List Packet) (new : View) → GiveStep problem old from serial attempt prefix reply out new → Sound problem old → Sound problem new
-  give_sound old from serial attempt prefix Moved out new h s = as_is _ new (after_admits problem old from serial attempt prefix out new h) (sound_admits problem old s _ refl h.is_new)
-  give_sound old from serial attempt prefix Ignored out new h s = as_is old new h.1.0 s
-  give_sound old from serial attempt prefix _ out new h s = absurd h
+  give_sound : (old : View) (from : Site) (gifts : List Gift) (reply : Reply) (out : List Packet) (new : View) → GiveStep problem old from gifts reply out new → Sound problem old → Sound problem new
+  give_sound old from gifts Moved out new h s =
+      as_is (with_guests old (admit_each from gifts old.guests)) new (after_admits problem old from gifts out new h)
+      (admits_keep (λ gs. Sound problem (with_guests old gs)) (λ g. Unit {0}) from (λ gift guests u none t. sound_admits problem (with_guests old guests) t (gift_guest from gift) refl none) gifts old.guests (any_gift gifts) s)
+  give_sound old from gifts Ignored out new h s = as_is old new h.1.0 s
+  give_sound old from gifts _ out new h s = absurd h
 
   accept_sound : (old : View) (name : ChildName) (attempt : ℕ) (result : ChildResult) (reply : Reply) (out : List Packet) (new : View) → AcceptStep old name attempt result reply out new → Sound problem old → Sound problem new
   accept_sound old name attempt result Moved out new h s = as_is _ new (after_settles old name attempt result out new h) (sound_gets problem old s (Guest name attempt) (Settled result) h.entry h.is (λ e. cc) tt tt)
@@ -256,7 +263,8 @@ module _ (problem : Problem) where
       (sound_alike problem (with_own mid h.0.own) _ refl refl
       (sound_aborts problem (is_lost_guest known old.guests) mid h.0.own mid_sound h.0.aborts (lost_no_frame known old mid refl)))
   hear_sound old from Steal reply out new b h s = steal_sound old from out new h.1 s
-  hear_sound old from (Give serial attempt prefix) reply out new b h s = give_sound old from serial attempt prefix reply out new h s
+  hear_sound old from (Give serial attempt prefix) reply out new b h s = give_sound old from (gifts_in (Give serial attempt prefix)) reply out new h s
+  hear_sound old from (GiveMany prefix siblings) reply out new b h s = give_sound old from (gifts_in (GiveMany prefix siblings)) reply out new h s
   hear_sound old from NoWork reply out new b h s = as_is old new h.1.0 s
   hear_sound old from (Return serial attempt result) reply out new b h s = answers_sound old from serial attempt result h.1.0 out new b h.1.1 h.1.2 s
   hear_sound old from (Accept serial attempt result) reply out new b h s = accept_sound old _ attempt result reply out new h s

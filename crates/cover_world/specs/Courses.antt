@@ -9,7 +9,7 @@ use Rattle.cover_world.specs.Worlds.{Acts, Restarts, Run, World, WorldMove, Worl
 use Rattle.cover_world.specs.declared.world_event.WorldEvent.{WorldEvent}
 use Rattle.cover_world.specs.declared.world_fault.Starved.{Starved}
 use Rattle.cover_world.specs.declared.world_fault.WorldFault.{WorldFault}
-use Rattle.node_core.specs.Acting.{GivesLeast}
+use Rattle.node_core.specs.Acting.{GivesShare}
 use Rattle.node_core.specs.declared.reply.Reply.{Reply}
 use Rattle.node_core.specs.declared.reply.Reply.TheVariants.{Moved}
 
@@ -30,15 +30,15 @@ reply_of problem old (Acts node event) new step = step.reply
 reply_of problem old (Restarts node incarnation limit) new step = Moved
 
 -- of the ready children a Steal gets the one of least serial
-abbrev pub StepGivesLeast : (problem : Problem) (old : World) (move : WorldMove) (new : World) → WorldStep problem old move new → Type 0
-StepGivesLeast problem old (Acts node event) new step = GivesLeast step.before event step.out
-StepGivesLeast problem old (Restarts node incarnation limit) new step = ⊤
+abbrev pub StepGivesShare : (problem : Problem) (old : World) (move : WorldMove) (new : World) → WorldStep problem old move new → Type 0
+StepGivesShare problem old (Acts node event) new step = GivesShare step.before event step.out
+StepGivesShare problem old (Restarts node incarnation limit) new step = ⊤
 
 -- A move is a step of the world, with this reply.
 pub record Makes (problem : Problem) (old : World) (move : WorldMove) (reply : Reply) (new : World) : Type 0 where
   pub step : WorldStep problem old move new
   pub reply_is : reply ≡ reply_of problem old move new step
-  pub least : StepGivesLeast problem old move new step
+  pub least : StepGivesShare problem old move new step
 
 -- An event of the caller is a step of the world, with this reply.
 pub record Stepped (problem : Problem) (old : World) (event : WorldEvent) (reply : Reply) (new : World) : Type 0 where

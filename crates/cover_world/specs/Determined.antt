@@ -1,14 +1,16 @@
 -- What a step leaves open.
-use Rattle.std.specs.Prelude.{◌≡◌, ℕ, Bool, true, false, List, [], ◌∷◌, Option, Some, None}
+use Rattle.std.specs.Prelude.{◌≡◌, ℕ, Bool, true, false, List, [], ◌∷◌}
 use Rattle.cover_problem.specs.Problem.{Problem}
 use Rattle.node_core.specs.Acting.{StepOf}
 use Rattle.node_core.specs.SiteView.{View}
 use Rattle.node_core.specs.declared.event.Event.{Event}
 use Rattle.node_core.specs.declared.event.Event.TheVariants.{Deliver}
 use Rattle.node_core.specs.declared.reply.Reply.{Reply}
+use Rattle.packet_wire.specs.Gifts.{gifts_in}
 use Rattle.packet_wire.specs.declared.packet.Body.{Body}
-use Rattle.packet_wire.specs.declared.packet.Body.TheVariants.{Give, Steal}
+use Rattle.packet_wire.specs.declared.packet.Body.TheVariants.{Steal}
 use Rattle.packet_wire.specs.declared.packet.Packet.{Packet}
+use Rattle.spawn_frame.specs.Gifts.{serials_of}
 
 -- a packet that asks for work
 abbrev pub asks_for_work : Body → Bool
@@ -20,15 +22,10 @@ abbrev pub may_choose : Event → Bool
 may_choose (Deliver packet) = asks_for_work packet.body
 may_choose _ = false
 
--- the child that a packet gives
-abbrev pub given_in : Body → Option ℕ
-given_in (Give serial attempt prefix) = Some serial
-given_in _ = None
-
--- the child that is given with the first of the packets, if one is
-abbrev pub given_by : List Packet → Option ℕ
-given_by [] = None
-given_by (p ∷ ps) = given_in p.body
+-- the children that are given with the first of the packets, by their serials
+abbrev pub given_by : List Packet → List ℕ
+given_by [] = []
+given_by (p ∷ ps) = serials_of (gifts_in p.body)
 
 -- the same reply, packets and view after
 abbrev pub SameStep : Reply → Reply → List Packet → List Packet → View → View → Type 0
@@ -40,7 +37,7 @@ IsDetermined Step = (problem : Problem) (old : View) (event : Event) (reply othe
     → may_choose event ≡ false → Step problem old event reply out new → Step problem old event other_reply other_out other_new
     → SameStep reply other_reply out other_out new other_new
 
--- They are the same too where both give the same child, or none.
+-- They are the same too where both give the same children, or none.
 abbrev pub IsDeterminedByChoice : StepOf → Type 0
 IsDeterminedByChoice Step = (problem : Problem) (old : View) (event : Event) (reply other_reply : Reply) (out other_out : List Packet) (new other_new : View)
     → given_by out ≡ given_by other_out → Step problem old event reply out new → Step problem old event other_reply other_out other_new

@@ -11,6 +11,7 @@ pub mod Refusals
 pub mod Repeated
 pub mod Safety
 pub mod SaidAgain
+pub mod Siblings
 pub mod Simulation
 pub mod Stolen
 pub mod Thieves

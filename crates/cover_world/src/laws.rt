@@ -43,8 +43,8 @@ pub fn below_goes_on()
         IsBelow (same_unit (Own upper)) own lower → IsBelow top own lower }
 {}
 
-/// A step of a site is determined by its view and the event, but for the child that a Steal is
-/// given; and of a Steal too, once it is known which child is given, or that none is.
+/// A step of a site is determined by its view and the event, but for the children that a Steal is
+/// given; and of a Steal too, once it is known which children are given, or that none is.
 pub fn step_is_determined()
     ensures node { IsDetermined NodeStep }
     ensures registry { IsDetermined RegistryStep }

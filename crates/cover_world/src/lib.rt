@@ -23,7 +23,8 @@ pub use refusals::{
     wrong_cover,
 };
 pub use runs::{
-    late_result, later_runs, overtaken_result, repeated_result, said_again, thief_begins_anew,
+    given_together, late_result, later_runs, overtaken_result, repeated_result, said_again,
+    thief_begins_anew,
 };
 pub use simulation::simulate;
 pub use world::World;

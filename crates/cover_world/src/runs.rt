@@ -1,4 +1,4 @@
-//! Six runs of two nodes, event by event with their packets: each function is a law, and does nothing.
+//! Seven runs of two nodes, event by event with their packets: each function is a law, and does nothing.
 
 ghost use Rattle.std.specs.Prelude.{◌≡◌, ◌∷◌, [], None, Some, true};
 ghost use Rattle.cover_problem.specs.Examples.{bare, small};
@@ -10,11 +10,13 @@ ghost use Rattle.cover_world.specs.Plays.{IsRefused, Plays, entry_in, limits, ov
 ghost use Rattle.cover_world.specs.Repeated as repeated;
 ghost use Rattle.cover_world.specs.Safety.{published};
 ghost use Rattle.cover_world.specs.SaidAgain as said_again;
+ghost use Rattle.cover_world.specs.Siblings as siblings;
+ghost use Rattle.cover_world.specs.Siblings.{four_ways};
 ghost use Rattle.cover_world.specs.Stolen as stolen;
 ghost use Rattle.cover_world.specs.Worlds.{Acts, opening_world};
 ghost use Rattle.node_core.specs.declared.event.Event.TheVariants.{Deliver};
 ghost use Rattle.spawn_frame.specs.declared.child_result.ChildResult.TheVariants.{Cover, Empty};
-ghost use Rattle.spawn_frame.specs.declared.status.Status.TheVariants.{Aborted, Done, Dropped, Ready, Settled};
+ghost use Rattle.spawn_frame.specs.declared.status.Status.TheVariants.{Aborted, Done, Dropped, Finished, Ready, Settled};
 ghost use Rattle.spawn_frame.specs.declared.unit.Unit.TheVariants.{Own};
 
 /// One item and no option. A node searches the root and returns that there is none; the packet comes twice. The first
@@ -79,4 +81,14 @@ pub fn later_runs()
           status =
               Ready;
         })) }
+{}
+
+/// One item with four options. The second node is given two children of the root with one packet, which comes twice: the second
+/// time it is ignored. The cover of the first child ends the search; the other child's guest is dropped.
+pub fn given_together()
+    ensures run { Plays four_ways (opening_world 2 limits) siblings.events siblings.packets (λ end.
+        (published four_ways end ≡ Some (answers.Cover (0 ∷ [])))
+        × (status_in end 2 (siblings.stolen 0) ≡ Some (Finished (Cover (0 ∷ []))))
+        × (status_in end 2 (siblings.stolen 1) ≡ Some Dropped)
+        × (status_in end 1 (Own 2) ≡ Some Aborted)) }
 {}

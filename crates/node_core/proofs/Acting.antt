@@ -1,12 +1,12 @@
 -- Where nothing refuses an event, a node has a step of it.
-use Rattle.std.proofs.Common.{◌≡◌, ◌≢◌, ◌⊎◌, ℕ, zero, suc, ◌+◌, ◌<◌, ◌≤◌, Bool, true, false, ◌&&◌, ◌||◌, not, cond, List, [], ◌∷◌, ◌++◌, length, Option, Some, None, is_some, slice_get, refl, sym, ap, subst, ◌∙◌, inl, inr, arith, true≢false}
+use Rattle.std.proofs.Common.{◌≡◌, ◌≢◌, ◌⊎◌, ℕ, zero, suc, ◌+◌, ◌<◌, ◌≤◌, Bool, true, false, ◌&&◌, ◌||◌, not, cond, List, [], ◌∷◌, ◌++◌, length, Option, Some, None, slice_get, refl, sym, ap, subst, ◌∙◌, inl, inr, arith, true≢false}
 use Rattle.std.specs.Prelude.{is_none, nat_eq, nat_le, ◌==◌}
 use Rattle.std.specs.Cmp.Lexicographic.{bytes_decides, pointwise}
+use Rattle.std.specs.List.{list_all}
 use Rattle.std.proofs.lemmas.Bool.{and_parts, eqb-false, eqb-true, leb-false, ltb-false, not-false, or_parts}
 use Rattle.std.proofs.lemmas.Option.{none-some, same_Some}
 use Rattle.brancher.specs.Finding.{Finding}
 use Rattle.cover_problem.specs.Branching.{children}
-use Rattle.cover_problem.specs.Prefix.{is_prefix}
 use Rattle.cover_problem.specs.Problem.{Problem}
 use Rattle.cover_problem.specs.Search.{Barren, Covers, Outcome, Spent}
 use Rattle.node_core.proofs.Alike.{view_told}
@@ -14,7 +14,7 @@ use Rattle.node_core.proofs.Picking.{ready_is_there}
 use Rattle.node_core.proofs.Reaching.{Either, an_abort, parents, parents_changed, parents_first}
 use Rattle.node_core.proofs.Spending.{all_redoable}
 use Rattle.node_core.proofs.Stepping.{split_length}
-use Rattle.node_core.specs.Arrivals.{Denies, Gives, RefuseStep, answer_packet, reply_body}
+use Rattle.node_core.specs.Arrivals.{Denies, GiveStep, Gives, RefuseStep, answer_packet, is_lawful, reply_body}
 use Rattle.node_core.specs.NodeStep.{EventStep, HearStep, Tells, over_now}
 use Rattle.node_core.specs.Refusal.{IsFit, IsNodeView, NodeActs, any_spent, ask_refusal, finish_refusal, give_refusal, hear_refusal, is_awaited, is_beyond, is_ignored, is_misdirected, is_spent, lacks_names, members_refusal, node_refusal, post_refusal, redo_refusal}
 use Rattle.node_core.specs.Requests.{RedoStep, gives_again, known_site, moved_by, registry, returns_again}
@@ -27,16 +27,18 @@ use Rattle.node_core.specs.declared.reply.Reply.{Reply}
 use Rattle.node_core.specs.declared.reply.Reply.TheVariants.{Idle, Ignored, Moved, Ripe, Taken}
 use Rattle.packet_wire.specs.Kinds.{is_routed, kind_of}
 use Rattle.packet_wire.specs.WellFormed.{is_body, is_site, is_well_formed}
+use Rattle.packet_wire.specs.Gifts.{gifts_in}
 use Rattle.packet_wire.specs.declared.packet.Body.{Body}
 use Rattle.packet_wire.specs.declared.packet.Body.TheVariants as bodies
 use Rattle.packet_wire.specs.declared.packet.Packet.{Packet}
 use Rattle.spawn_frame.specs.Aborts.{Reached, is_open, reached}
 use Rattle.spawn_frame.specs.Frames.{frame, frame_result}
+use Rattle.spawn_frame.specs.Gifts as given
 use Rattle.spawn_frame.specs.Names.{same_site, same_unit}
 use Rattle.spawn_frame.specs.Picks.{is_finished, is_ready, is_split, ready_unit, ripe_unit}
 use Rattle.spawn_frame.specs.Splits.{with_result}
-use Rattle.spawn_frame.specs.Tables.{IsAscending, attempt_in, has_status, is_here, is_out, new_guest, prefix_in}
-use Rattle.spawn_frame.specs.Units.{Entry, change_at, guest_in, insert_guest, last_attempt, redone, table_guests, table_own, with_status}
+use Rattle.spawn_frame.specs.Tables.{IsAscending, attempt_in, has_status, is_here, is_out, prefix_in}
+use Rattle.spawn_frame.specs.Units.{Entry, change_at, guest_in, last_attempt, redone, table_guests, table_own, with_status}
 use Rattle.spawn_frame.specs.declared.child_result.ChildResult.{ChildResult}
 use Rattle.spawn_frame.specs.declared.child_result.ChildResult.TheVariants.{Cover, Empty}
 use Rattle.spawn_frame.specs.declared.site.ChildName.{ChildName}
@@ -53,6 +55,7 @@ use Rattle.steal_return.specs.Steals.{is_older}
 use Rattle.spawn_frame.proofs.Sames.{site_path}
 use Rattle.spawn_frame.proofs.Working.{here_status}
 use Rattle.spawn_frame.proofs.Winners.{split_path}
+use Rattle.spawn_frame.specs.declared.gift.Gift.{Gift}
 use Rattle.steal_return.proofs.Scans.{ready_status}
 use Rattle.steal_return.proofs.Learns.{parents_redo}
 
@@ -73,10 +76,6 @@ only_where false x h = absurd (none-some x (sym h))
 is_there : {A : Type 0} (o : Option A) → is_none o ≡ false → (x : A) × (o ≡ Some x)
 is_there None h = absurd (true≢false h)
 is_there (Some x) h = (x, refl)
-
-none_there : {A : Type 0} (o : Option A) → is_some o ≡ false → o ≡ None
-none_there None h = refl
-none_there (Some x) h = absurd (true≢false h)
 
 -- a unit that is there, whose status passes
 abbrev pub HasStatus : (Status → Bool) → Option Entry → Type 0
@@ -330,36 +329,42 @@ steal_acts view from = by (is_older view.known from) refl (some_ready view.own)
           answer_packet view from (bodies.Give r.0 r.1.attempt r.1.prefix),
           with_ledger view after,
           inr (record {
-            given = record { serial = r.0; attempt = r.1.attempt; prefix = r.1.prefix };
+            body = bodies.Give r.0 r.1.attempt r.1.prefix;
+            spelled = refl;
             ledger = after;
-            gives = record { entry = r.1; not_older = fresh; is = r.2; ready = r.3; attempt = refl; prefix = refl; after = refl };
+            gives = record {
+              parent = r.1.parent;
+              some = omega arith;
+              most = omega arith;
+              alone = λ e. refl;
+              rising = refl;
+              each = (after, record { entry = r.1; not_older = fresh; is = r.2; ready = r.3; attempt = refl; prefix = refl; after = refl }, refl, refl);
+            };
             after = refl;
             sends = refl;
           }),
         )
 
-give_acts : (problem : Problem) (view : View) (from : Site) (serial attempt : ℕ) (prefix : List ℕ) → give_refusal problem view (record { site = from; serial = serial }) attempt prefix ≡ None
-    → HearActs problem view from (bodies.Give serial attempt prefix)
-give_acts problem view from serial attempt prefix passes =
-    by (is_older view.known from) (is_some (guest_in view.guests name attempt)) refl refl
-    (only_where (is_ignored view name attempt || is_prefix problem prefix) _ passes)
+give_acts : (problem : Problem) (view : View) (from : Site) (gifts : List Gift) → give_refusal problem view from gifts ≡ None
+    → (reply : Reply) × (out : List Packet) × (new : View) × GiveStep problem view from gifts reply out new
+give_acts problem view from gifts passes =
+    by (is_older view.known from) (list_all (given.is_there from view.guests) gifts) refl refl
+    (only_where (is_ignored view from gifts || list_all (is_lawful problem from view.guests) gifts) _ passes)
   where
-    name : ChildName
-    name = record { site = from; serial = serial }
-
-    by : (older there : Bool) → is_older view.known from ≡ older → is_some (guest_in view.guests name attempt) ≡ there
-        → ((is_older view.known from || is_some (guest_in view.guests name attempt)) || is_prefix problem prefix) ≡ true → HearActs problem view from (bodies.Give serial attempt prefix)
+    by : (older there : Bool) → is_older view.known from ≡ older → list_all (given.is_there from view.guests) gifts ≡ there
+        → ((is_older view.known from || list_all (given.is_there from view.guests) gifts) || list_all (is_lawful problem from view.guests) gifts) ≡ true
+        → (reply : Reply) × (out : List Packet) × (new : View) × GiveStep problem view from gifts reply out new
     by true there e f h = (Ignored, [], view, (inl e, (refl, refl)))
     by false true e f h = (Ignored, [], view, (inr f, (refl, refl)))
     by false false e f h =
-        let after : Ledger = ledger_guests view.ledger (insert_guest (new_guest name attempt prefix) view.guests) in (
+        let after : Ledger = ledger_guests view.ledger (given.admit_each from gifts view.guests) in (
           Moved,
           [],
           with_ledger view after,
           record {
             ledger = after;
-            admits = record { not_older = e; is_new = none_there (guest_in view.guests name attempt) f; after = refl };
-            lawful = sym (λ i. (e i || f i) || is_prefix problem prefix) ∙ h;
+            admits = record { not_older = e; some_new = f; after = refl };
+            lawful = sym (λ i. (e i || f i) || list_all (is_lawful problem from view.guests) gifts) ∙ h;
             after = refl;
             sends = refl;
           },
@@ -425,7 +430,8 @@ hear_acts : (problem : Problem) (view : View) (from to : Site) (body : Body) →
 hear_acts problem view from to bodies.Hello is here routed passes = absurd (no_hello view from to is.node here routed)
 hear_acts problem view from to (bodies.Members incarnations) is here routed passes = members_act problem view from incarnations is passes
 hear_acts problem view from to bodies.Steal is here routed passes = let s = steal_acts view from in (Moved, s.0, s.1, (refl, s.2))
-hear_acts problem view from to (bodies.Give serial attempt prefix) is here routed passes = give_acts problem view from serial attempt prefix passes
+hear_acts problem view from to (bodies.Give serial attempt prefix) is here routed passes = give_acts problem view from (gifts_in (bodies.Give serial attempt prefix)) passes
+hear_acts problem view from to (bodies.GiveMany prefix siblings) is here routed passes = give_acts problem view from (gifts_in (bodies.GiveMany prefix siblings)) passes
 hear_acts problem view from to bodies.NoWork is here routed passes = (Ignored, [], view, (refl, (refl, refl)))
 hear_acts problem view from to (bodies.Return serial attempt result) is here routed passes = return_acts problem view from serial attempt result
 hear_acts problem view from to (bodies.Accept serial attempt result) is here routed passes = accept_acts problem view from serial attempt result

@@ -2,7 +2,7 @@
 use Rattle.std.proofs.Common.{◌≡◌, List, Result, Ok, Err, sym, subst}
 use Rattle.std.specs.Prelude.{IfOk, OnErr}
 use Rattle.cover_problem.specs.Problem.{Problem}
-use Rattle.node_core.specs.Acting.{Acts, GivesLeast, Sending}
+use Rattle.node_core.specs.Acting.{Acts, GivesShare, Sending}
 use Rattle.node_core.specs.Formed.{AllFormed, FormedStep, IsFormedNode}
 use Rattle.node_core.specs.NodeStep.{NodeStep}
 use Rattle.node_core.specs.Outgoing.{Lists}
@@ -16,7 +16,7 @@ use Rattle.packet_wire.specs.declared.packet.Packet.{Packet}
 module _ (problem : Problem) (old new : View) (event : Event) (before after : Lists) (is : IsFormedNode problem old) (fit : IsFit problem event) where
   -- what a node does with the event
   abbrev pub Steps : Reply → Type 0
-  Steps reply = Sending before after (λ sent. NodeStep problem old event reply sent new × GivesLeast old event sent)
+  Steps reply = Sending before after (λ sent. NodeStep problem old event reply sent new × GivesShare old event sent)
 
   -- what is true of the node stays so
   pub stays : (result : Result Reply ActFault)

@@ -1,6 +1,6 @@
 -- What holds of each unit of a list holds of each of the lists that steps make of it.
 use Rattle.std.proofs.Common.{◌≡◌, ◌⊎◌, ℕ, zero, suc, Bool, true, false, ◌&&◌, ◌==◌, cond, List, [], ◌∷◌, ◌++◌, length, map, Some, slice_get, refl, sym, ap, subst, ◌∙◌, inl, inr, ⊎_elim}
-use Rattle.std.specs.List.{AllByRecursion}
+use Rattle.std.specs.List.{AllByRecursion, list_all}
 use Rattle.std.proofs.lemmas.Bool.{and_parts, eqb-true}
 use Rattle.std.proofs.lemmas.Option.{none-some, same_Some}
 use Rattle.spawn_frame.proofs.Sames.{name_path}
@@ -132,3 +132,8 @@ keys_dropped known (g ∷ gs) = λ i. go (is_older known g.name.site && is_open 
     go : (b : Bool) → guest_key (drop_if b g) ≡ guest_key g
     go true = refl
     go false = refl
+
+-- what holds of each, and what each passes
+pub each_both : {X : Type 0} (P : X → Type 0) (test : X → Bool) (xs : List X) → AllByRecursion P xs → list_all test xs ≡ true → AllByRecursion (λ x. P x × (test x ≡ true)) xs
+each_both P test [] h e = tt
+each_both P test (x ∷ xs) h e = let p = and_parts (test x) (list_all test xs) e in ((h.0, p.0), each_both P test xs h.1 p.1)

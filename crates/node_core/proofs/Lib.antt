@@ -8,6 +8,7 @@ pub mod Cores
 pub mod Each
 pub mod Knowing
 pub mod Learning
+pub mod Lengthened
 pub mod Outs
 pub mod Packets
 pub mod Parents
@@ -16,6 +17,7 @@ pub mod Posting
 pub mod Prefixes
 pub mod Reaching
 pub mod Sending
+pub mod Shared
 pub mod Spending
 pub mod Splits
 pub mod Stepping

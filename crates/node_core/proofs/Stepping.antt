@@ -1,17 +1,17 @@
 -- Where a node has a step of an event, nothing refuses it.
-use Rattle.std.proofs.Common.{◌≡◌, ◌⊎◌, ℕ, zero, suc, ◌+◌, ◌≤◌, true, false, ◌&&◌, not, cond, List, [], ◌∷◌, length, map, Some, None, is_some, slice_get, refl, ap, subst, ◌∙◌, inl, inr, arith}
+use Rattle.std.proofs.Common.{◌≡◌, ℕ, zero, suc, ◌+◌, ◌≤◌, true, false, ◌&&◌, not, cond, List, [], ◌∷◌, length, map, Some, None, slice_get, refl, ap, subst, ◌∙◌, inl, inr, arith}
 use Rattle.std.specs.Prelude.{is_none, nat_eq, nat_le, ◌==◌}
 use Rattle.std.specs.Cmp.Lexicographic.{bytes_decides, pointwise}
+use Rattle.std.specs.List.{list_all}
 use Rattle.std.proofs.lemmas.Bool.{and_from, cond-false, eq-eqb, le-ltb, lt-leb, ne_eqb, or_from, or_left, or_right}
 use Rattle.std.proofs.lemmas.List.{length-append, length-map}
 use Rattle.brancher.specs.Finding.{Finding}
 use Rattle.cover_problem.specs.Branching.{children}
-use Rattle.cover_problem.specs.Prefix.{is_prefix}
 use Rattle.cover_problem.specs.Problem.{Problem}
 use Rattle.cover_problem.specs.Search.{Barren, Covers, Outcome, Spent}
 use Rattle.node_core.proofs.Picking.{site_itself}
 use Rattle.node_core.proofs.Spending.{none_spent}
-use Rattle.node_core.specs.Arrivals.{GiveStep}
+use Rattle.node_core.specs.Arrivals.{GiveStep, is_lawful}
 use Rattle.node_core.specs.Membership.{MembersStep}
 use Rattle.node_core.specs.NodeStep.{HearStep, NodeStep}
 use Rattle.node_core.specs.Refusal.{any_spent, ask_refusal, finish_refusal, give_refusal, hear_refusal, is_awaited, is_beyond, is_ignored, is_misdirected, is_spent, lacks_names, members_refusal, node_refusal, post_refusal, redo_refusal}
@@ -23,20 +23,23 @@ use Rattle.node_core.specs.declared.event.Event.{Event}
 use Rattle.node_core.specs.declared.event.Event.TheVariants.{Again, Ask, Deliver, Finish, Greet, Post, Redo, Take}
 use Rattle.node_core.specs.declared.reply.Reply.{Reply}
 use Rattle.node_core.specs.declared.reply.Reply.TheVariants.{Idle, Ignored, Moved, Ripe, Taken}
+use Rattle.packet_wire.specs.Gifts.{gifts_in}
 use Rattle.packet_wire.specs.declared.packet.Body.{Body}
-use Rattle.packet_wire.specs.declared.packet.Body.TheVariants.{Abort, Accept, Give, Hello, Members, NoWork, Over, Refuse, Return, Steal}
+use Rattle.packet_wire.specs.declared.packet.Body.TheVariants.{Abort, Accept, Give, GiveMany, Hello, Members, NoWork, Over, Refuse, Return, Steal}
 use Rattle.packet_wire.specs.declared.packet.Packet.{Packet}
 use Rattle.spawn_frame.specs.Frames.{frame, frame_result}
 use Rattle.spawn_frame.specs.Names.{same_site}
 use Rattle.spawn_frame.specs.Picks.{is_split}
 use Rattle.spawn_frame.specs.Splits.{new_child}
 use Rattle.spawn_frame.specs.Tables.{attempt_in, has_status, is_here, is_out, prefix_in}
-use Rattle.spawn_frame.specs.Units.{Entry, change_at, guest_in, last_attempt, with_status}
+use Rattle.spawn_frame.specs.Units.{Entry, change_at, last_attempt, with_status}
+use Rattle.spawn_frame.specs.declared.gift.Gift.{Gift}
 use Rattle.spawn_frame.specs.declared.site.Site.{Site}
 use Rattle.spawn_frame.specs.declared.status.Status.TheVariants.{Split}
 use Rattle.spawn_frame.specs.declared.unit.Job.{Job}
 use Rattle.spawn_frame.specs.declared.unit.Unit.{Unit as WorkUnit}
 use Rattle.spawn_frame.specs.declared.unit.Unit.TheVariants.{Guest, Own}
+use Rattle.steal_return.specs.Guests.{NoneIsNew}
 use Rattle.steal_return.specs.Steals.{is_older}
 
 -- ---- splitting
@@ -108,26 +111,25 @@ members_pass view incarnations out new h =
     ap (λ b. cond b (Some faults.NamesSpent) None)
     (subst (λ known. any_spent (is_older known) view.own ≡ false) h.known_is (none_spent (is_older h.known) view.own h.redoable))
 
-give_passes : (problem : Problem) (view : View) (from : Site) (serial attempt : ℕ) (prefix : List ℕ) (reply : Reply) (out : List Packet) (new : View)
-    → GiveStep problem view from serial attempt prefix reply out new → give_refusal problem view (record { site = from; serial = serial }) attempt prefix ≡ None
-give_passes problem view from serial attempt prefix Moved out new h =
-    ap (λ b. cond b None (Some faults.BadPrefix)) (or_right (is_ignored view (record { site = from; serial = serial }) attempt) (is_prefix problem prefix) h.lawful)
-give_passes problem view from serial attempt prefix Ignored out new h =
-    ap (λ b. cond b None (Some faults.BadPrefix)) (or_left (is_ignored view (record { site = from; serial = serial }) attempt) (is_prefix problem prefix) (ignored h.0))
+give_passes : (problem : Problem) (view : View) (from : Site) (gifts : List Gift) (reply : Reply) (out : List Packet) (new : View) → GiveStep problem view from gifts reply out new → give_refusal problem view from gifts ≡ None
+give_passes problem view from gifts Moved out new h =
+    ap (λ b. cond b None (Some faults.BadPrefix)) (or_right (is_ignored view from gifts) (list_all (is_lawful problem from view.guests) gifts) h.lawful)
+give_passes problem view from gifts Ignored out new h =
+    ap (λ b. cond b None (Some faults.BadPrefix)) (or_left (is_ignored view from gifts) (list_all (is_lawful problem from view.guests) gifts) (ignored h.0))
   where
-    ignored : (is_older view.known from ≡ true) ⊎ (is_some (guest_in view.guests (record { site = from; serial = serial }) attempt) ≡ true)
-        → is_ignored view (record { site = from; serial = serial }) attempt ≡ true
+    ignored : NoneIsNew view.ledger from gifts → is_ignored view from gifts ≡ true
     ignored (inl older) = or_left (is_older view.known from) _ older
     ignored (inr there) = or_right (is_older view.known from) _ there
-give_passes problem view from serial attempt prefix Idle out new h = absurd h
-give_passes problem view from serial attempt prefix (Ripe unit) out new h = absurd h
-give_passes problem view from serial attempt prefix (Taken job p) out new h = absurd h
+give_passes problem view from gifts Idle out new h = absurd h
+give_passes problem view from gifts (Ripe unit) out new h = absurd h
+give_passes problem view from gifts (Taken job p) out new h = absurd h
 
 hear_passes : (problem : Problem) (view : View) (from : Site) (body : Body) (reply : Reply) (out : List Packet) (new : View) → HearStep problem view from body reply out new → hear_refusal problem view from body ≡ None
 hear_passes problem view from Hello reply out new h = refl
 hear_passes problem view from (Members incarnations) reply out new h = members_pass view incarnations out new h.0
 hear_passes problem view from Steal reply out new h = refl
-hear_passes problem view from (Give serial attempt prefix) reply out new h = give_passes problem view from serial attempt prefix reply out new h
+hear_passes problem view from (Give serial attempt prefix) reply out new h = give_passes problem view from (gifts_in (Give serial attempt prefix)) reply out new h
+hear_passes problem view from (GiveMany prefix siblings) reply out new h = give_passes problem view from (gifts_in (GiveMany prefix siblings)) reply out new h
 hear_passes problem view from NoWork reply out new h = refl
 hear_passes problem view from (Return serial attempt result) reply out new h = refl
 hear_passes problem view from (Accept serial attempt result) reply out new h = refl

@@ -1,6 +1,7 @@
 -- What has to be true of a packet that a site puts out, so that it has a spelling.
-use Rattle.std.proofs.Common.{◌≡◌, ℕ, suc, ◌<◌, ◌≤◌, Bool, true, ◌&&◌, not, ◌==◌, nat_lt, List, [], ◌∷◌, length, Some, refl, sym, subst, ◌∙◌, arith}
-use Rattle.std.specs.List.{list_all}
+use Rattle.std.proofs.Common.{◌≡◌, ℕ, suc, ◌<◌, ◌≤◌, Bool, true, ◌&&◌, not, ◌==◌, nat_lt, List, [], ◌∷◌, ◌++◌, length, Option, Some, None, refl, sym, subst, ◌∙◌, arith}
+use Rattle.std.specs.List.{AllByRecursion, list_all}
+use Rattle.std.proofs.lemmas.List.{length-append}
 use Rattle.std.proofs.lemmas.Bool.{and_from, and_parts, eqb-false, le-ltb, lt-ltb, ltb-true, ne_eqb, not-true, not_from_false}
 use Rattle.cover_problem.proofs.Firsts.{few_options, found_option, found_prefix}
 use Rattle.cover_problem.specs.Prefix.{are_apart, is_prefix}
@@ -9,10 +10,13 @@ use Rattle.cover_problem.specs.Problem.{IsProblem, Problem}
 use Rattle.cover_problem.specs.Search.{first}
 use Rattle.node_core.specs.Formed.{AllFormed, is_another, is_thief}
 use Rattle.packet_wire.specs.Kinds.{is_directed, is_routed, kind_of}
-use Rattle.packet_wire.specs.WellFormed.{are_options, is_body, is_counted, is_option, is_result, is_serial, is_site, is_well_formed}
+use Rattle.packet_wire.specs.WellFormed.{are_options, are_siblings, is_body, is_counted, is_next_serial, is_option, is_option_count, is_parent, is_result, is_serial, is_sibling, is_sibling_count, is_site, is_well_formed}
 use Rattle.packet_wire.specs.declared.packet.Body.{Body}
+use Rattle.packet_wire.specs.declared.packet.Body.TheVariants.{GiveMany}
 use Rattle.packet_wire.specs.declared.packet.Packet.{Packet}
+use Rattle.spawn_frame.specs.Gifts.{sibling_gifts}
 use Rattle.spawn_frame.specs.declared.child_result.ChildResult.TheVariants.{Cover}
+use Rattle.spawn_frame.specs.declared.siblings.Sibling.{Sibling}
 use Rattle.spawn_frame.specs.declared.site.Site.{Site}
 
 -- ---- numbers
@@ -50,6 +54,21 @@ options_told problem options least p h some =
 
 pub prefix_told : (problem : Problem) (prefix : List ℕ) → IsProblem problem → is_prefix problem prefix ≡ true → are_options 0 prefix ≡ true
 prefix_told problem prefix p h = options_told problem prefix 0 p h (omega arith)
+
+all_snoc : (test : ℕ → Bool) (xs : List ℕ) (x : ℕ) → list_all test (xs ++ x ∷ []) ≡ true → (list_all test xs ≡ true) × (test x ≡ true)
+all_snoc test [] x h = (refl, (and_parts (test x) true h).0)
+all_snoc test (y ∷ ys) x h =
+    let p = and_parts (test y) (list_all test (ys ++ x ∷ [])) h in
+    let r = all_snoc test ys x p.1 in
+    (and_from (test y) (list_all test ys) p.0 r.0, r.1)
+
+-- the prefix of a parent can be told, and the option of its child
+pub parent_told : (problem : Problem) (prefix : List ℕ) (option : ℕ) → IsProblem problem → is_prefix problem (prefix ++ option ∷ []) ≡ true → (is_parent prefix ≡ true) × (is_option option ≡ true)
+parent_told problem prefix option p h =
+    let told = and_parts (is_option_count 0 (length (prefix ++ option ∷ []))) (list_all is_option (prefix ++ option ∷ [])) (prefix_told problem (prefix ++ option ∷ []) p h) in
+    let few = ltb-true (length (prefix ++ option ∷ [])) 1001 (and_parts (not (nat_lt (length (prefix ++ option ∷ [])) 0)) (nat_lt (length (prefix ++ option ∷ [])) 1001) told.0).1 in
+    let each = all_snoc is_option prefix option told.1 in
+    (and_from (nat_lt (length prefix) 1000) (list_all is_option prefix) (lt-ltb (length prefix) 1000 (omega (arith, few, length-append prefix (option ∷ [])))) each.0, each.1)
 
 -- a cover that a search finds has a spelling
 pub cover_told : (problem : Problem) (prefix cover : List ℕ) → IsProblem problem → is_prefix problem prefix ≡ true → first problem prefix ≡ Some cover → is_result (Cover cover) ≡ true
@@ -109,3 +128,18 @@ well_told packet site here h =
       routed = subst (λ s. is_routed (kind_of packet.body) packet.from s ≡ true) here third.0;
       told = third.1;
     }
+
+-- ---- children that come together
+
+attempts_from : (last : Option ℕ) (prefix : List ℕ) (ss : List Sibling) → are_siblings last ss ≡ true → AllByRecursion (λ g. 1 ≤ g.attempt) (sibling_gifts prefix ss)
+attempts_from last prefix [] h = tt
+attempts_from last prefix (s ∷ ss) h =
+    let first = and_parts (is_sibling last s) (are_siblings (Some s.serial) ss) h in
+    let parts = and_parts (is_next_serial last s.serial) (is_counted s.attempt && is_option s.option) first.0 in
+    (counted_some s.attempt (and_parts (is_counted s.attempt) (is_option s.option) parts.1).0, attempts_from (Some s.serial) prefix ss first.1)
+
+-- each is at an attempt from 1
+pub attempts_some : (prefix : List ℕ) (ss : List Sibling) → is_body (GiveMany prefix ss) ≡ true → AllByRecursion (λ g. 1 ≤ g.attempt) (sibling_gifts prefix ss)
+attempts_some prefix ss h =
+    let parts = and_parts (is_sibling_count (length ss)) (is_parent prefix && are_siblings None ss) h in
+    attempts_from None prefix ss (and_parts (is_parent prefix) (are_siblings None ss) parts.1).1

@@ -1,6 +1,7 @@
 -- What is true of the units of a site stays true where a step changes them.
-use Rattle.std.proofs.Common.{◌≡◌, ℕ, suc, ◌<◌, ◌≤◌, Bool, true, false, cond, List, [], ◌∷◌, ◌++◌, length, map, filter, Option, Some, None, IsSome, slice_get, refl, sym, ap, subst, ◌∙◌}
+use Rattle.std.proofs.Common.{◌≡◌, ℕ, suc, ◌<◌, ◌≤◌, Bool, true, false, cond, List, [], ◌∷◌, ◌++◌, length, map, filter, Option, Some, None, IsSome, is_some, slice_get, refl, sym, ap, subst, ◌∙◌, ⊎_elim, true≢false}
 use Rattle.std.specs.List.{AllByRecursion}
+use Rattle.std.proofs.lemmas.Bool.{and_parts, or_cases}
 use Rattle.std.proofs.lemmas.List.{length-map}
 use Rattle.std.proofs.lemmas.Option.{none-some, same_Some}
 use Rattle.cover_problem.proofs.Firsts.{ArePrefixes}
@@ -10,23 +11,28 @@ use Rattle.node_core.proofs.Each.{each_aborted, each_append, each_changed, each_
 use Rattle.node_core.proofs.Parents.{parents_added, parents_inserted, parents_same, unit_there}
 use Rattle.node_core.proofs.Reaching.{parents}
 use Rattle.node_core.proofs.Telling.{counted_more}
-use Rattle.node_core.specs.Formed.{IsFormedChild, IsFormedGuest, IsFormedTable, is_child_status, is_guest_status}
-use Rattle.packet_wire.specs.WellFormed.{is_result}
-use Rattle.spawn_frame.proofs.Admitted.{ascending_inserted, each_inserted}
+use Rattle.node_core.specs.Formed.{IsFormedChild, IsFormedGuest, IsFormedTable, is_another, is_child_status, is_guest_status}
+use Rattle.node_core.specs.Arrivals.{is_lawful}
+use Rattle.packet_wire.specs.WellFormed.{is_child, is_counted, is_result, is_serial}
+use Rattle.spawn_frame.proofs.Admitted.{ascending_inserted, each_inserted, there_inserted}
 use Rattle.spawn_frame.proofs.Kept.{ascending_kept}
 use Rattle.spawn_frame.specs.Aborts.{AbortsBelow}
 use Rattle.spawn_frame.specs.Frames.{cover_of, first_result, frame, frame_result, is_empty_handed, is_unit}
+use Rattle.spawn_frame.specs.Gifts.{admit_each, gift_guest, is_there, name_of}
 use Rattle.spawn_frame.specs.Splits.{new_child, split_into, with_result}
 use Rattle.spawn_frame.specs.Tables.{guest_key}
 use Rattle.spawn_frame.specs.Units.{Entry, GuestEntry, Table, change_at, change_guest, guest_in, insert_guest, last_attempt, redone, table_gets, table_guests, table_own, unit_of, with_status}
 use Rattle.spawn_frame.specs.declared.child_result.ChildResult.{ChildResult}
 use Rattle.spawn_frame.specs.declared.child_result.ChildResult.TheVariants.{Cover, Empty}
+use Rattle.spawn_frame.specs.declared.gift.Gift.{Gift}
+use Rattle.spawn_frame.specs.declared.site.ChildName.{ChildName}
 use Rattle.spawn_frame.specs.declared.site.Site.{Site}
 use Rattle.spawn_frame.specs.declared.status.Status.{Status}
 use Rattle.spawn_frame.specs.declared.status.Status.TheVariants.{Aborted, Done, Dropped, Here, Out, Ready, Split}
 use Rattle.spawn_frame.specs.declared.unit.Unit.{Unit as WorkUnit}
 use Rattle.spawn_frame.specs.declared.unit.Unit.TheVariants.{Guest, Own}
 use Rattle.steal_return.specs.Members.{IsRedoable, drop_lost, redo_if, redo_lost}
+use Rattle.steal_return.proofs.Gifts.{admits_keep}
 use Rattle.steal_return.proofs.Learns.{parents_redo}
 
 -- ---- one unit
@@ -172,6 +178,30 @@ module _ (problem : Problem) where
     own = t.own;
     guests = each_inserted (IsFormedGuest problem table.site) new table.guests formed t.guests;
   }
+
+  -- a child that is given can be told, and is there already or of a prefix
+  abbrev pub IsWelcome : Site → List GuestEntry → Gift → Type 0
+  IsWelcome from guests gift = (is_child gift.serial gift.attempt ≡ true) × (is_lawful problem from guests gift ≡ true)
+
+  -- the table with these guests is formed, and all of its own are among them
+  abbrev pub IsGrown : Table → List GuestEntry → Type 0
+  IsGrown table guests = IsFormedTable problem (table_guests table guests) × ((n : ChildName) (a : ℕ) → IsSome (guest_in table.guests n a) → IsSome (guest_in guests n a))
+
+  pub admits_formed : (table : Table) (from : Site) (gifts : List Gift) → is_another table.site from ≡ true → AllByRecursion (IsWelcome from table.guests) gifts → IsFormedTable problem table
+      → IsFormedTable problem (table_guests table (admit_each from gifts table.guests))
+  admits_formed table from gifts owner welcome t = (admits_keep (IsGrown table) (IsWelcome from table.guests) from one gifts table.guests welcome (t, λ n a h. h)).0
+    where
+      one : (gift : Gift) (guests : List GuestEntry) → IsWelcome from table.guests gift → guest_in guests (name_of from gift) gift.attempt ≡ None → IsGrown table guests → IsGrown table (insert_guest (gift_guest from gift) guests)
+      one gift guests w none g =
+          let named = and_parts (is_serial gift.serial) (is_counted gift.attempt) w.0 in
+          let lawful : is_prefix problem gift.prefix ≡ true =
+          ⊎_elim
+          (λ (there : is_there from table.guests gift ≡ true). absurd (true≢false (sym (g.1 (name_of from gift) gift.attempt there) ∙ ap is_some none)))
+          (λ (p : is_prefix problem gift.prefix ≡ true). p)
+          (or_cases (is_there from table.guests gift) (is_prefix problem gift.prefix) w.1) in (
+            admit_formed (table_guests table guests) (gift_guest from gift) none (record { owner = owner; serial = named.0; told = record { prefix = lawful; attempt = named.1 }; status = refl }) g.0,
+            λ n a h. there_inserted (gift_guest from gift) guests n a (g.1 n a h),
+          )
 
 -- ---- results
 

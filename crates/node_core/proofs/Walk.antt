@@ -1,5 +1,6 @@
 -- Each step of a formed node leaves it formed, and what is put out has a spelling.
-use Rattle.std.proofs.Common.{◌≡◌, ◌⊎◌, ℕ, ◌+◌, ◌<◌, ◌≤◌, Bool, true, false, cond, ◌==◌, nat_lt, List, [], ◌∷◌, ◌++◌, length, Option, Some, None, is_some, slice_get, refl, sym, ap, subst, ◌∙◌, inl, inr, arith}
+use Rattle.std.proofs.Common.{◌≡◌, ◌⊎◌, ℕ, ◌+◌, ◌<◌, ◌≤◌, Bool, true, false, ◌&&◌, cond, ◌==◌, nat_lt, List, [], ◌∷◌, ◌++◌, length, Option, Some, None, is_some, slice_get, refl, sym, ap, subst, ◌∙◌, inl, inr, arith}
+use Rattle.std.specs.List.{AllByRecursion}
 use Rattle.std.proofs.lemmas.Bool.{and_from, and_parts}
 use Rattle.std.proofs.lemmas.Option.{same_Some}
 use Rattle.cover_problem.proofs.Firsts.{children_prefixes}
@@ -8,12 +9,12 @@ use Rattle.cover_problem.specs.Branching.{children}
 use Rattle.cover_problem.specs.Prefix.{is_prefix}
 use Rattle.cover_problem.specs.Problem.{Problem}
 use Rattle.cover_problem.specs.Search.{Barren, Covers, Outcome, Spent, first, outcome}
-use Rattle.node_core.proofs.Each.{each_append, each_at}
+use Rattle.node_core.proofs.Each.{each_append, each_at, each_both}
 use Rattle.node_core.proofs.Knowing.{known_another, learns_known}
-use Rattle.node_core.proofs.Packets.{aborts_told, give_told, gives_told, own_serial, reached_formed, returns_told, unit_returns, unit_told}
+use Rattle.node_core.proofs.Packets.{IsTellable, aborts_told, gift_told, gives_told, own_serial, reached_formed, returns_told, unit_returns, unit_told}
 use Rattle.node_core.proofs.Telling.{IsWell, cover_told, from_another, from_thief, not_registry, packet_told, thief_told, well_told}
-use Rattle.node_core.proofs.Units.{FitsStatus, aborts_formed, admit_formed, drop_formed, gets_formed, here_fits, redo_formed, redone_formed, result_fits, result_told, split_formed}
-use Rattle.node_core.specs.Arrivals.{AcceptStep, Answers, Denies, GiveStep, Gives, RefuseStep}
+use Rattle.node_core.proofs.Units.{FitsStatus, aborts_formed, admits_formed, drop_formed, gets_formed, here_fits, redo_formed, redone_formed, result_fits, result_told, split_formed}
+use Rattle.node_core.specs.Arrivals.{AcceptStep, Answers, Denies, GiveStep, Gives, RefuseStep, is_lawful}
 use Rattle.node_core.specs.Formed.{AllFormed, FormedStep, IsFormed, IsFormedChild, IsFormedNode, IsFormedTable, IsKnown, is_another, is_child_status, is_thief}
 use Rattle.node_core.specs.Membership.{MembersStep}
 use Rattle.node_core.specs.NodeStep.{EventStep, HearStep, over_now}
@@ -26,27 +27,32 @@ use Rattle.node_core.specs.declared.event.Event.{Event}
 use Rattle.node_core.specs.declared.event.Event.TheVariants.{Again, Ask, Deliver, Finish, Greet, Post, Redo, Take}
 use Rattle.node_core.specs.declared.reply.Reply.{Reply}
 use Rattle.node_core.specs.declared.reply.Reply.TheVariants.{Idle, Ignored, Moved, Ripe, Taken}
-use Rattle.packet_wire.specs.WellFormed.{are_incarnations, is_child, is_counted, is_result, is_serial, is_well_formed}
+use Rattle.packet_wire.specs.WellFormed.{are_incarnations, are_siblings, is_child, is_counted, is_next_serial, is_option, is_parent, is_result, is_serial, is_sibling_count, is_well_formed}
+use Rattle.packet_wire.specs.Gifts.{gifts_in}
 use Rattle.packet_wire.specs.declared.packet.Body.{Body}
 use Rattle.packet_wire.specs.declared.packet.Body.TheVariants as bodies
 use Rattle.packet_wire.specs.declared.packet.Packet.{Packet}
 use Rattle.spawn_frame.specs.Aborts.{reached}
+use Rattle.spawn_frame.specs.Gifts.{admit_each, is_next, sibling_gifts}
 use Rattle.spawn_frame.specs.Names.{same_unit}
 use Rattle.spawn_frame.specs.Splits.{split_into, with_result}
-use Rattle.spawn_frame.specs.Tables.{new_guest}
-use Rattle.spawn_frame.specs.Units.{Entry, Table, change_at, insert_guest, last_attempt, redone, table_gets, table_guests, table_own, unit_of}
+use Rattle.spawn_frame.specs.Units.{Entry, Table, change_at, last_attempt, redone, table_gets, table_guests, table_own, unit_of}
 use Rattle.spawn_frame.specs.declared.cause.Cause.TheVariants as causes
 use Rattle.spawn_frame.specs.declared.child_result.ChildResult.{ChildResult}
 use Rattle.spawn_frame.specs.declared.child_result.ChildResult.TheVariants.{Cover, Empty}
+use Rattle.spawn_frame.specs.declared.gift.Gift.{Gift}
 use Rattle.spawn_frame.specs.declared.site.ChildName.{ChildName}
+use Rattle.spawn_frame.specs.declared.siblings.Sibling.{Sibling}
 use Rattle.spawn_frame.specs.declared.site.Site.{Site}
 use Rattle.spawn_frame.specs.declared.status.Status.{Status}
 use Rattle.spawn_frame.specs.declared.status.Status.TheVariants.{Aborted, Done, Dropped, Here, Out, Ready, Settled}
 use Rattle.spawn_frame.specs.declared.unit.Unit.{Unit as WorkUnit}
 use Rattle.spawn_frame.specs.declared.unit.Unit.TheVariants.{Guest, Own}
+use Rattle.steal_return.proofs.Gifts.{gives_keep}
+use Rattle.steal_return.specs.Ledger.{Ledger}
 use Rattle.steal_return.specs.Members.{drop_lost, is_lost_guest, redo_lost}
 use Rattle.steal_return.specs.Returns.{Enters, Holds, Judgement, Refuses, if_out, judged, judged_by}
-use Rattle.steal_return.specs.Steals.{is_older}
+use Rattle.steal_return.specs.Steals.{GivesChildren, GivesEach, is_older}
 
 -- ---- tables keep their site
 
@@ -227,31 +233,73 @@ module _ (problem : Problem) where
       }) refl
       (aborted_told old.site mid h.own refl t)
 
-  pub steal_follows : (old : View) (from : Site) (out : List Packet) (new : View) → is_thief old.site from ≡ true → Denies old from out new ⊎ Gives old from out new → IsFormed problem old → Follows problem old out new
-  steal_follows old from out new thief (inl d) f =
+  -- the children that are given become out, one after the other
+  gives_formed : (old : View) (from : Site) (parent : Option WorkUnit) (gifts : List Gift) (new : Ledger) → is_thief old.site from ≡ true → GivesEach parent old.ledger from gifts new → IsFormed problem old
+      → IsFormed problem (with_ledger old new) × (new.site ≡ old.site)
+  gives_formed old from parent gifts new thief h f =
+      gives_keep (λ l. IsFormed problem (with_ledger old l) × (l.site ≡ old.site)) from
+      (λ l serial entry is ready p. (gets_view (with_ledger old l) (Own serial) (Out from) (ap (λ s. is_thief s from) p.1 ∙ thief) p.0, p.1))
+      parent gifts old.ledger new h (f, refl)
+
+  -- and packets can tell them
+  gifts_told : (old : View) (from : Site) (parent : Option WorkUnit) (gifts : List Gift) (l new : Ledger) → is_thief l.site from ≡ true → GivesEach parent l from gifts new → IsFormed problem (with_ledger old l)
+      → AllByRecursion (IsTellable problem) gifts
+  gifts_told old from parent [] l new thief h f = tt
+  gifts_told old from parent (gift ∷ gifts) l new thief h f =
+      let told = unit_told problem l.table (Own gift.serial) h.1.entry f.units h.1.is in
+      let mid_formed : IsFormed problem (with_ledger old h.0) = subst (λ m. IsFormed problem (with_ledger old m)) (sym h.1.after) (gets_view (with_ledger old l) (Own gift.serial) (Out from) thief f) in
+      let mid_thief : is_thief h.0.site from ≡ true = subst (λ m. is_thief m.site from ≡ true) (sym h.1.after) thief in (
+        (
+          and_from (is_serial gift.serial) (is_counted gift.attempt) (own_serial problem l.table gift.serial h.1.entry f.units h.1.is) (ap is_counted h.1.attempt ∙ told.attempt),
+          ap (is_prefix problem) h.1.prefix ∙ told.prefix,
+        ),
+        gifts_told old from parent gifts h.0 new mid_thief h.3 mid_formed,
+      )
+
+  -- a node, or a site none of whose children has a parent
+  abbrev pub MayOwn : View → Type 0
+  MayOwn old = (1 ≤ old.site.node) ⊎ ((k : ℕ) (c : Entry) → slice_get old.own k ≡ Some c → c.parent ≡ None)
+
+  -- several children are given by a node alone: they have a parent
+  many_by_node : (old : View) (from : Site) (gifts : List Gift) (new : Ledger) → MayOwn old → GivesChildren old.ledger from gifts new → (length gifts ≡ 1 → ⊥) → 1 ≤ old.site.node
+  many_by_node old from gifts new (inl node) g many = node
+  many_by_node old from gifts new (inr none) g many = absurd (many (g.alone (orphan gifts g.some g.each)))
+    where
+      orphan : (hs : List Gift) → 1 ≤ length hs → GivesEach g.parent old.ledger from hs new → g.parent ≡ None
+      orphan [] some h = absurd (omega (arith, some))
+      orphan (gift ∷ hs) some h = sym h.2 ∙ none gift.serial h.1.entry h.1.is
+
+  pub steal_follows : (old : View) (from : Site) (out : List Packet) (new : View) → is_thief old.site from ≡ true → MayOwn old → Denies old from out new ⊎ Gives old from out new → IsFormed problem old → Follows problem old out new
+  steal_follows old from out new thief owner (inl d) f =
       follows old old new (record { from = old.site; to = from; body = bodies.NoWork } ∷ []) out d.after d.sends f refl
       (thief_told old.site from bodies.NoWork f.units.site thief refl refl, tt)
-  steal_follows old from out new thief (inr g) f =
-      follows old (unit_gets old (Own g.serial) (Out from)) new (record { from = old.site; to = from; body = bodies.Give g.serial g.given.attempt g.given.prefix } ∷ []) out
-      (g.after ∙ ap (with_ledger old) g.gives.after) g.sends
-      (gets_view old (Own g.serial) (Out from) thief f) refl (
-        (λ i. is_well_formed (record { from = old.site; to = from; body = bodies.Give g.serial (g.gives.attempt i) (g.gives.prefix i) }))
-            ∙ give_told problem old.site from g.serial g.entry f.lawful f.units.site thief
-            (own_serial problem old.table g.serial g.entry f.units g.is) (unit_told problem old.table (Own g.serial) g.entry f.units g.is),
+  steal_follows old from out new thief owner (inr g) f =
+      let after = gives_formed old from g.parent (gifts_in g.body) g.ledger thief g.each f in
+      follows old (with_ledger old g.ledger) new (record { from = old.site; to = from; body = g.body } ∷ []) out g.after g.sends after.0 after.1 (
+        gift_told problem old.site from g.body f.lawful f.units.site thief g.spelled g.gives.most g.rising (many_by_node old from (gifts_in g.body) g.ledger owner g.gives)
+            (gifts_told old from g.parent (gifts_in g.body) old.ledger g.ledger thief g.each f),
         tt,
       )
 
-  give_follows : (old : View) (from : Site) (serial attempt : ℕ) (prefix : List ℕ) (reply : Reply) (out : List Packet) (new : View) → is_another old.site from ≡ true → is_child serial attempt ≡ true
-      → GiveStep problem old from serial attempt prefix reply out new → IsFormed problem old → Follows problem old out new
-  give_follows old from serial attempt prefix Moved out new owner named h f =
-      let n = and_parts (is_serial serial) (is_counted attempt) named in
-      let guest = new_guest (record { site = from; serial = serial }) attempt prefix in
-      follows old (with_table old (table_guests old.table (insert_guest guest old.guests))) new [] out
+  give_follows : (old : View) (from : Site) (gifts : List Gift) (reply : Reply) (out : List Packet) (new : View) → is_another old.site from ≡ true → AllByRecursion (λ g. is_child g.serial g.attempt ≡ true) gifts
+      → GiveStep problem old from gifts reply out new → IsFormed problem old → Follows problem old out new
+  give_follows old from gifts Moved out new owner named h f =
+      follows old (with_table old (table_guests old.table (admit_each from gifts old.guests))) new [] out
       (h.after ∙ ap (with_ledger old) h.admits.after) h.sends
-      (table_formed old (table_guests old.table (insert_guest guest old.guests)) refl
-      (admit_formed problem old.table guest h.is_new (record { owner = owner; serial = n.0; told = record { prefix = h.lawful; attempt = n.1 }; status = refl }) f.units) f) refl tt
-  give_follows old from serial attempt prefix Ignored out new owner named h f = stays old out new h.1 f
-  give_follows old from serial attempt prefix _ out new owner named h f = absurd h
+      (table_formed old (table_guests old.table (admit_each from gifts old.guests)) refl
+      (admits_formed problem old.table from gifts owner (each_both (λ g. is_child g.serial g.attempt ≡ true) (is_lawful problem from old.guests) gifts named h.lawful) f.units) f) refl tt
+  give_follows old from gifts Ignored out new owner named h f = stays old out new h.1 f
+  give_follows old from gifts _ out new owner named h f = absurd h
+
+  -- each of the children that come together is named
+  siblings_named : (last : Option ℕ) (prefix : List ℕ) (ss : List Sibling) → are_siblings last ss ≡ true → AllByRecursion (λ g. is_child g.serial g.attempt ≡ true) (sibling_gifts prefix ss)
+  siblings_named last prefix [] h = tt
+  siblings_named last prefix (s ∷ ss) h =
+      let first = and_parts (is_next_serial last s.serial && (is_counted s.attempt && is_option s.option)) (are_siblings (Some s.serial) ss) h in
+      let parts = and_parts (is_next_serial last s.serial) (is_counted s.attempt && is_option s.option) first.0 in
+      let serial = and_parts (is_serial s.serial) (is_next last s.serial) parts.0 in
+      let attempt = and_parts (is_counted s.attempt) (is_option s.option) parts.1 in
+      (and_from (is_serial s.serial) (is_counted s.attempt) serial.0 attempt.0, siblings_named (Some s.serial) prefix ss first.1)
 
   pub answers_follow : (old : View) (from : Site) (serial attempt : ℕ) (result : ChildResult) (j : Judgement) (out : List Packet) (new : View) → is_thief old.site from ≡ true → is_child serial attempt ≡ true → is_result result ≡ true
       → judged (slice_get old.own serial) from attempt ≡ j → Answers old from serial attempt result j out new → IsFormed problem old → Follows problem old out new
@@ -290,21 +338,24 @@ module _ (problem : Problem) where
   refuse_follows old name attempt Ignored out new h f = stays old out new h.1 f
   refuse_follows old name attempt _ out new h f = absurd h
 
-  hear_follows : (old : View) (from : Site) (body : Body) (reply : Reply) (out : List Packet) (new : View) → IsWell from old.site body → HearStep problem old from body reply out new → IsFormed problem old → Follows problem old out new
-  hear_follows old from bodies.Hello reply out new w h f = absurd h
-  hear_follows old from (bodies.Members incarnations) reply out new w h f = members_follow old incarnations out new w.told h.0 f
-  hear_follows old from bodies.Steal reply out new w h f = steal_follows old from out new (from_thief from old.site w.sender w.routed) h.1 f
-  hear_follows old from (bodies.Give serial attempt prefix) reply out new w h f =
-      give_follows old from serial attempt prefix reply out new (from_another _ from old.site w.sender w.routed) (and_parts (is_child serial attempt) _ w.told).0 h f
-  hear_follows old from bodies.NoWork reply out new w h f = stays old out new h.1 f
-  hear_follows old from (bodies.Return serial attempt result) reply out new w h f =
+  hear_follows : (old : View) (from : Site) (body : Body) (reply : Reply) (out : List Packet) (new : View) → 1 ≤ old.site.node → IsWell from old.site body → HearStep problem old from body reply out new → IsFormed problem old → Follows problem old out new
+  hear_follows old from bodies.Hello reply out new node w h f = absurd h
+  hear_follows old from (bodies.Members incarnations) reply out new node w h f = members_follow old incarnations out new w.told h.0 f
+  hear_follows old from bodies.Steal reply out new node w h f = steal_follows old from out new (from_thief from old.site w.sender w.routed) (inl node) h.1 f
+  hear_follows old from (bodies.Give serial attempt prefix) reply out new node w h f =
+      give_follows old from (gifts_in (bodies.Give serial attempt prefix)) reply out new (from_another _ from old.site w.sender w.routed) ((and_parts (is_child serial attempt) _ w.told).0, tt) h f
+  hear_follows old from (bodies.GiveMany prefix siblings) reply out new node w h f =
+      let told = and_parts (is_parent prefix) (are_siblings None siblings) (and_parts (is_sibling_count (length siblings)) (is_parent prefix && are_siblings None siblings) w.told).1 in
+      give_follows old from (gifts_in (bodies.GiveMany prefix siblings)) reply out new (from_another _ from old.site w.sender w.routed) (siblings_named None prefix siblings told.1) h f
+  hear_follows old from bodies.NoWork reply out new node w h f = stays old out new h.1 f
+  hear_follows old from (bodies.Return serial attempt result) reply out new node w h f =
       let told = and_parts (is_child serial attempt) (is_result result) w.told in
       answers_follow old from serial attempt result h.1.0 out new (from_thief from old.site w.sender w.routed) told.0 told.1 h.1.1 h.1.2 f
-  hear_follows old from (bodies.Accept serial attempt result) reply out new w h f =
+  hear_follows old from (bodies.Accept serial attempt result) reply out new node w h f =
       accept_follows old (record { site = from; serial = serial }) attempt result reply out new (and_parts (is_child serial attempt) (is_result result) w.told).1 h f
-  hear_follows old from (bodies.Refuse serial attempt cause) reply out new w h f = refuse_follows old (record { site = from; serial = serial }) attempt reply out new h f
-  hear_follows old from (bodies.Abort serial attempt) reply out new w h f = refuse_follows old (record { site = from; serial = serial }) attempt reply out new h f
-  hear_follows old from bodies.Over reply out new w h f = follows old (over_now old) new [] out h.1 h.2 (over_formed old f) refl tt
+  hear_follows old from (bodies.Refuse serial attempt cause) reply out new node w h f = refuse_follows old (record { site = from; serial = serial }) attempt reply out new h f
+  hear_follows old from (bodies.Abort serial attempt) reply out new node w h f = refuse_follows old (record { site = from; serial = serial }) attempt reply out new h f
+  hear_follows old from bodies.Over reply out new node w h f = follows old (over_now old) new [] out h.1 h.2 (over_formed old f) refl tt
 
   event_follows : (old : View) (event : Event) (reply : Reply) (out : List Packet) (new : View) → 1 ≤ old.site.node → IsFit problem event → EventStep problem old event reply out new → IsFormed problem old → Follows problem old out new
   event_follows old Take reply out new node fit h f = take_follows old reply out new h f
@@ -315,7 +366,7 @@ module _ (problem : Problem) where
   event_follows old (Finish unit) reply out new node fit h f = finish_follows old unit out new node h.1 f
   event_follows old (Ask victim) reply out new node fit h f = ask_follows old victim out new node h.1 f
   event_follows old (Redo serial) reply out new node fit h f = redo_follows old serial out new h.1 f
-  event_follows old (Deliver packet) reply out new node fit h f = hear_follows old packet.from packet.body reply out new (well_told packet old.site h.0 fit) h.2 f
+  event_follows old (Deliver packet) reply out new node fit h f = hear_follows old packet.from packet.body reply out new node (well_told packet old.site h.0 fit) h.2 f
   event_follows old Again reply out new node fit h f = again_follows old out new node h.0 h.1 f
   event_follows old Greet reply out new node fit h f = greet_follows old out new node h.1 h.2 f
 

@@ -12,14 +12,16 @@ use Rattle.node_core.specs.declared.act_fault.ActFault.TheVariants.{Memory}
 use Rattle.node_core.specs.declared.event.Event.{Event}
 use Rattle.node_core.specs.declared.event.Event.TheVariants.{Deliver}
 use Rattle.node_core.specs.declared.reply.Reply.{Reply}
+use Rattle.packet_wire.specs.Gifts.{gifts_in, is_gift}
 use Rattle.packet_wire.specs.declared.packet.Body.{Body}
-use Rattle.packet_wire.specs.declared.packet.Body.TheVariants.{Give, Steal}
+use Rattle.packet_wire.specs.declared.packet.Body.TheVariants.{Steal}
 use Rattle.packet_wire.specs.declared.packet.Packet.{Packet}
+use Rattle.spawn_frame.specs.Gifts.{serials_of}
 use Rattle.spawn_frame.specs.Units.{Entry}
 use Rattle.spawn_frame.specs.declared.site.Site.{Site}
 use Rattle.spawn_frame.specs.declared.unit.Unit.{Unit as WorkUnit}
 use Rattle.steal_return.specs.Ledger.{opening_ledger}
-use Rattle.steal_return.specs.Steals.{first_ready}
+use Rattle.steal_return.specs.Shares.{chosen}
 
 -- a step of a machine, by its problem, the view before, the event, the reply, what is put out and the view after
 abbrev pub StepOf : Type 1
@@ -35,33 +37,32 @@ abbrev pub refusal_told : {A : Type 0} → Result A ActFault → Option ActFault
 refusal_told (Ok answer) = None
 refusal_told (Err fault) = named_fault fault
 
--- the child that is given to the site is the ready one of least serial
-abbrev pub GivesLeastTo : View → Site → List Packet → Type 0
-GivesLeastTo old from out =
-    (serial attempt : ℕ) (prefix : List ℕ) → out ≡ answer_packet old from (Give serial attempt prefix) → first_ready old.own ≡ Some serial
+-- the children that are given to the site are the ones that the product chooses
+abbrev pub GivesShareTo : View → Site → List Packet → Type 0
+GivesShareTo old from out = (body : Body) → is_gift body ≡ true → out ≡ answer_packet old from body → serials_of (gifts_in body) ≡ chosen old.own
 
 -- the same of a packet that asks for work
-abbrev pub AnswersLeast : View → Site → Body → List Packet → Type 0
-AnswersLeast old from Steal out = GivesLeastTo old from out
-AnswersLeast old from _ out = ⊤
+abbrev pub AnswersShare : View → Site → Body → List Packet → Type 0
+AnswersShare old from Steal out = GivesShareTo old from out
+AnswersShare old from _ out = ⊤
 
--- a node hears a packet of this body, and of the ready children a Steal gets the one of least serial
+-- a node hears a packet of this body, and of the ready children a Steal gets its share
 abbrev pub AnswersHeard : Problem → View → Site → Body → View → Reply → List Packet → Type 0
-AnswersHeard problem old from body new reply out = HearStep problem old from body reply out new × AnswersLeast old from body out
+AnswersHeard problem old from body new reply out = HearStep problem old from body reply out new × AnswersShare old from body out
 
 -- the same of a packet that is delivered
 abbrev pub AnswersDelivery : Problem → View → Packet → View → Reply → List Packet → Type 0
-AnswersDelivery problem old packet new reply out = NodeStep problem old (Deliver packet) reply out new × AnswersLeast old packet.from packet.body out
+AnswersDelivery problem old packet new reply out = NodeStep problem old (Deliver packet) reply out new × AnswersShare old packet.from packet.body out
 
--- of the ready children a Steal gets the one of least serial
-abbrev pub GivesLeast : View → Event → List Packet → Type 0
-GivesLeast old (Deliver packet) out = AnswersLeast old packet.from packet.body out
-GivesLeast old _ out = ⊤
+-- of the ready children a Steal gets its share
+abbrev pub GivesShare : View → Event → List Packet → Type 0
+GivesShare old (Deliver packet) out = AnswersShare old packet.from packet.body out
+GivesShare old _ out = ⊤
 
 -- An event is a step of the machine, and each packet has a spelling.
 pub record Acts (Step : StepOf) (problem : Problem) (old : View) (event : Event) (reply : Reply) (out : List Packet) (new : View) : Type 0 where
   pub steps : Step problem old event reply out new
-  pub least : GivesLeast old event out
+  pub least : GivesShare old event out
   pub formed : AllFormed out
 
 -- the same of the reply and the packets of an event that leaves this view

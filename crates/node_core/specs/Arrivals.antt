@@ -1,23 +1,27 @@
 -- Packets that arrive at a node: steals, results and their acceptance, refusals and aborts (Cilk-NOW).
-use Rattle.std.specs.Prelude.{◌≡◌, ◌⊎◌, ℕ, true, List, [], ◌∷◌, slice_get}
+use Rattle.std.specs.Prelude.{◌≡◌, ◌⊎◌, ℕ, Bool, true, ◌||◌, List, [], ◌∷◌, slice_get}
+use Rattle.std.specs.List.{list_all}
 use Rattle.cover_problem.specs.Prefix.{is_prefix}
 use Rattle.cover_problem.specs.Problem.{Problem}
 use Rattle.node_core.specs.SiteView.{View, abort_packets, with_ledger}
 use Rattle.node_core.specs.Taking.{Stays}
 use Rattle.node_core.specs.declared.reply.Reply.{Reply}
 use Rattle.node_core.specs.declared.reply.Reply.TheVariants.{Ignored, Moved}
+use Rattle.packet_wire.specs.Gifts.{gifts_in, is_gift}
 use Rattle.packet_wire.specs.declared.packet.Body.{Body}
-use Rattle.packet_wire.specs.declared.packet.Body.TheVariants.{Accept, Give, NoWork, Refuse}
+use Rattle.packet_wire.specs.declared.packet.Body.TheVariants.{Accept, NoWork, Refuse}
 use Rattle.packet_wire.specs.declared.packet.Packet.{Packet}
 use Rattle.spawn_frame.specs.Aborts.{Reached}
+use Rattle.spawn_frame.specs.Gifts.{is_there}
+use Rattle.spawn_frame.specs.Units.{GuestEntry}
 use Rattle.spawn_frame.specs.declared.child_result.ChildResult.{ChildResult}
+use Rattle.spawn_frame.specs.declared.gift.Gift.{Gift}
 use Rattle.spawn_frame.specs.declared.site.ChildName.{ChildName}
 use Rattle.spawn_frame.specs.declared.site.Site.{Site}
-use Rattle.steal_return.specs.Guests.{AdmitsGuest, DropsGuest, IsNotFinished, IsNotNew, IsNotOpen, SettlesGuest}
+use Rattle.steal_return.specs.Guests.{AdmitsGuests, DropsGuest, IsNotFinished, IsNotOpen, NoneIsNew, SettlesGuest}
 use Rattle.steal_return.specs.Ledger.{Ledger}
 use Rattle.steal_return.specs.Returns.{Judgement, judged, reply_to, returned}
-use Rattle.steal_return.specs.Steals.{GivesChild, GivesNothing}
-use Rattle.steal_return.specs.declared.given.Given.{Given}
+use Rattle.steal_return.specs.Steals.{GivesChildren, GivesNothing}
 use Rattle.steal_return.specs.declared.return_reply.ReturnReply.{ReturnReply}
 use Rattle.steal_return.specs.declared.return_reply.ReturnReply.TheVariants as replies
 
@@ -31,34 +35,38 @@ pub record Denies (old : View) (from : Site) (out : List Packet) (new : View) : 
   pub after : new ≡ old
   pub sends : out ≡ answer_packet old from NoWork
 
--- A Steal gets a ready own child.
+-- A Steal gets ready own children, which one packet gives.
 pub record Gives (old : View) (from : Site) (out : List Packet) (new : View) : Type 0 where
-  pub given : Given
-  pub open given use {serial}
+  pub body : Body
+  pub spelled : is_gift body ≡ true
   pub ledger : Ledger
-  pub gives : GivesChild old.ledger from given ledger
-  pub open gives use {entry, not_older, is, ready}
+  pub gives : GivesChildren old.ledger from (gifts_in body) ledger
+  pub open gives use {parent, alone, rising, each}
   pub after : new ≡ with_ledger old ledger
-  pub sends : out ≡ answer_packet old from (Give given.serial given.attempt given.prefix)
+  pub sends : out ≡ answer_packet old from body
 
 -- a Steal gets work or is told that there is none
 abbrev pub StealStep : View → Site → List Packet → View → Type 0
 StealStep old from out new = Denies old from out new ⊎ Gives old from out new
 
--- A Give makes a guest of a prefix.
-pub record Admits (problem : Problem) (old : View) (from : Site) (serial attempt : ℕ) (prefix : List ℕ) (out : List Packet) (new : View) : Type 0 where
+-- a child that is given is there already, or its prefix is one
+abbrev pub is_lawful : Problem → Site → List GuestEntry → Gift → Bool
+is_lawful problem from guests gift = is_there from guests gift || is_prefix problem gift.prefix
+
+-- A Give makes guests, each of a prefix.
+pub record Admits (problem : Problem) (old : View) (from : Site) (gifts : List Gift) (out : List Packet) (new : View) : Type 0 where
   pub ledger : Ledger
-  pub admits : AdmitsGuest old.ledger (record { site = from; serial = serial }) attempt prefix ledger
-  pub open admits use {not_older, is_new}
-  pub lawful : is_prefix problem prefix ≡ true
+  pub admits : AdmitsGuests old.ledger from gifts ledger
+  pub open admits use {not_older, some_new}
+  pub lawful : list_all (is_lawful problem from old.guests) gifts ≡ true
   pub after : new ≡ with_ledger old ledger
   pub sends : out ≡ []
 
--- a Give makes a guest; one of an earlier run, or of a guest that is there, is ignored
-abbrev pub GiveStep : Problem → View → Site → ℕ → ℕ → List ℕ → Reply → List Packet → View → Type 0
-GiveStep problem old from serial attempt prefix Moved out new = Admits problem old from serial attempt prefix out new
-GiveStep problem old from serial attempt prefix Ignored out new = IsNotNew old.ledger (record { site = from; serial = serial }) attempt × Stays old out new
-GiveStep problem old from serial attempt prefix _ out new = ⊥
+-- a Give of these children makes guests; one of an earlier run, or of guests that are all there, is ignored
+abbrev pub GiveStep : Problem → View → Site → List Gift → Reply → List Packet → View → Type 0
+GiveStep problem old from gifts Moved out new = Admits problem old from gifts out new
+GiveStep problem old from gifts Ignored out new = NoneIsNew old.ledger from gifts × Stays old out new
+GiveStep problem old from gifts _ out new = ⊥
 
 -- the packet that tells what is answered to a Return
 abbrev pub reply_body : ℕ → ℕ → ReturnReply → Body

@@ -11,8 +11,9 @@ use Rattle.node_core.specs.declared.event.Event.{Event}
 use Rattle.node_core.specs.declared.event.Event.TheVariants.{Again, Ask, Deliver, Finish, Greet, Post, Redo, Take}
 use Rattle.node_core.specs.declared.reply.Reply.{Reply}
 use Rattle.node_core.specs.declared.reply.Reply.TheVariants.{Ignored, Moved}
+use Rattle.packet_wire.specs.Gifts.{gifts_in}
 use Rattle.packet_wire.specs.declared.packet.Body.{Body}
-use Rattle.packet_wire.specs.declared.packet.Body.TheVariants.{Abort, Accept, Give, Hello, Members, NoWork, Over, Refuse, Return, Steal}
+use Rattle.packet_wire.specs.declared.packet.Body.TheVariants.{Abort, Accept, Give, GiveMany, Hello, Members, NoWork, Over, Refuse, Return, Steal}
 use Rattle.packet_wire.specs.declared.packet.Packet.{Packet}
 use Rattle.spawn_frame.specs.declared.site.Site.{Site}
 
@@ -31,7 +32,8 @@ abbrev pub HearStep : Problem → View → Site → Body → Reply → List Pack
 HearStep problem old from Hello reply out new = ⊥
 HearStep problem old from (Members incarnations) reply out new = MembersStep old incarnations out new × Tells old out new reply
 HearStep problem old from Steal reply out new = (reply ≡ Moved) × (Denies old from out new ⊎ Gives old from out new)
-HearStep problem old from (Give serial attempt prefix) reply out new = GiveStep problem old from serial attempt prefix reply out new
+HearStep problem old from (Give serial attempt prefix) reply out new = GiveStep problem old from (gifts_in (Give serial attempt prefix)) reply out new
+HearStep problem old from (GiveMany prefix siblings) reply out new = GiveStep problem old from (gifts_in (GiveMany prefix siblings)) reply out new
 HearStep problem old from NoWork reply out new = (reply ≡ Ignored) × Stays old out new
 HearStep problem old from (Return serial attempt result) reply out new = (reply ≡ Moved) × ReturnStep old from serial attempt result out new
 HearStep problem old from (Accept serial attempt result) reply out new = AcceptStep old (record { site = from; serial = serial }) attempt result reply out new

@@ -1,12 +1,12 @@
 -- What a node refuses: the first fault that an event meets, by tests in the order of the rules.
-use Rattle.std.specs.Prelude.{◌≡◌, ℕ, ◌+◌, ◌≤◌, Bool, true, false, not, ◌&&◌, ◌||◌, if◌then◌else◌, List, length, Option, Some, None, is_some, is_none, slice_get, nat_eq, nat_le, nat_lt, ◌==◌, ⊤}
+use Rattle.std.specs.Prelude.{◌≡◌, ℕ, ◌+◌, ◌≤◌, Bool, true, false, not, ◌&&◌, ◌||◌, if◌then◌else◌, List, length, Option, Some, None, is_none, slice_get, nat_eq, nat_le, nat_lt, ◌==◌, ⊤}
 use Rattle.std.specs.Cmp.Lexicographic.{pointwise}
-use Rattle.std.specs.List.{list_any}
+use Rattle.std.specs.List.{list_all, list_any}
 use Rattle.brancher.specs.Finding.{Finding}
 use Rattle.cover_problem.specs.Branching.{children}
-use Rattle.cover_problem.specs.Prefix.{is_prefix}
 use Rattle.cover_problem.specs.Problem.{Problem}
 use Rattle.cover_problem.specs.Search.{Outcome, Spent}
+use Rattle.node_core.specs.Arrivals.{is_lawful}
 use Rattle.node_core.specs.NodeStep.{NodeStep}
 use Rattle.node_core.specs.Results.{IsRight}
 use Rattle.node_core.specs.SiteView.{View, unit_in}
@@ -15,16 +15,18 @@ use Rattle.node_core.specs.declared.act_fault.ActFault.TheVariants as faults
 use Rattle.node_core.specs.declared.event.Event.{Event}
 use Rattle.node_core.specs.declared.event.Event.TheVariants.{Again, Ask, Deliver, Finish, Greet, Post, Redo, Take}
 use Rattle.node_core.specs.declared.reply.Reply.{Reply}
+use Rattle.packet_wire.specs.Gifts.{gifts_in}
 use Rattle.packet_wire.specs.WellFormed.{is_well_formed}
 use Rattle.packet_wire.specs.declared.packet.Body.{Body}
-use Rattle.packet_wire.specs.declared.packet.Body.TheVariants.{Give, Members}
+use Rattle.packet_wire.specs.declared.packet.Body.TheVariants.{Give, GiveMany, Members}
 use Rattle.packet_wire.specs.declared.packet.Packet.{Packet}
 use Rattle.spawn_frame.specs.Frames.{frame, frame_result}
+use Rattle.spawn_frame.specs.Gifts.{is_there}
 use Rattle.spawn_frame.specs.Names.{same_site}
 use Rattle.spawn_frame.specs.Picks.{is_split}
 use Rattle.spawn_frame.specs.Tables.{HasParents, IsAscending, attempt_in, has_status, is_here, is_out, prefix_in}
-use Rattle.spawn_frame.specs.Units.{Entry, guest_in, last_attempt}
-use Rattle.spawn_frame.specs.declared.site.ChildName.{ChildName}
+use Rattle.spawn_frame.specs.Units.{Entry, last_attempt}
+use Rattle.spawn_frame.specs.declared.gift.Gift.{Gift}
 use Rattle.spawn_frame.specs.declared.site.Site.{Site}
 use Rattle.spawn_frame.specs.declared.unit.Job.{Job}
 use Rattle.spawn_frame.specs.declared.unit.Unit.{Unit as WorkUnit}
@@ -103,21 +105,22 @@ members_refusal view incarnations =
     then Some faults.NamesSpent
     else None
 
--- a Give is ignored: a later run of its sender is known, or the guest is there already
-abbrev pub is_ignored : View → ChildName → ℕ → Bool
-is_ignored view name attempt =
-    is_older view.known name.site || is_some (guest_in view.guests name attempt)
+-- a Give is ignored: a later run of its sender is known, or all of the guests are there already
+abbrev pub is_ignored : View → Site → List Gift → Bool
+is_ignored view from gifts = is_older view.known from || list_all (is_there from view.guests) gifts
 
--- a list that is given is a prefix, unless the packet is ignored
-abbrev pub give_refusal : Problem → View → ChildName → ℕ → List ℕ → Option ActFault
-give_refusal problem view name attempt prefix =
-    if is_ignored view name attempt || is_prefix problem prefix then None else Some faults.BadPrefix
+-- what is given of a guest that isn't there is a prefix, unless the packet is ignored
+abbrev pub give_refusal : Problem → View → Site → List Gift → Option ActFault
+give_refusal problem view from gifts =
+    if is_ignored view from gifts || list_all (is_lawful problem from view.guests) gifts then None else Some faults.BadPrefix
 
 -- of the bodies that arrive, Members and Give may be refused
 abbrev pub hear_refusal : Problem → View → Site → Body → Option ActFault
 hear_refusal problem view from (Members incarnations) = members_refusal view incarnations
 hear_refusal problem view from (Give serial attempt prefix) =
-    give_refusal problem view (record { site = from; serial = serial }) attempt prefix
+    give_refusal problem view from (gifts_in (Give serial attempt prefix))
+hear_refusal problem view from (GiveMany prefix siblings) =
+    give_refusal problem view from (gifts_in (GiveMany prefix siblings))
 hear_refusal problem view from _ = None
 
 -- ---- the first fault

@@ -1,48 +1,91 @@
 //! Packets that arrive.
 
 ghost use Rattle.std.specs.Prelude.{◌≡◌, ◌≤◌, [], None, IfOk, OnErr};
-ghost use Rattle.node_core.specs.Acting.{refusal_told, Answered, GivesLeastTo, MaySend};
-ghost use Rattle.node_core.specs.Arrivals.{AcceptStep, GiveStep, RefuseStep, ReturnStep, StealStep};
+ghost use Rattle.std.specs.List.{list_all, AllByRecursion};
+ghost use Rattle.node_core.specs.Acting.{refusal_told, Answered, GivesShareTo, MaySend};
+ghost use Rattle.node_core.specs.Arrivals.{is_lawful, AcceptStep, GiveStep, RefuseStep, ReturnStep, StealStep};
 ghost use Rattle.node_core.specs.NodeStep.{over_now};
 ghost use Rattle.node_core.specs.Refusal.{give_refusal};
+ghost use Rattle.packet_wire.specs.Gifts.{gifts_in, is_gift};
+ghost use Rattle.spawn_frame.specs.Gifts.{sibling_gift};
+ghost use Rattle.steal_return.specs.Shares.{gifts_of, is_spelled};
 
 use crate::act_fault::ActFault;
+use crate::longer::is_longer;
 use crate::outgoing::Outgoing;
 use crate::reply::Reply;
 use crate::site_state::SiteState;
-use cover_problem::{Numbers, Problem, is_prefix};
+use cover_problem::{Problem, is_prefix};
 use packet_wire::{Body, Packet};
-use spawn_frame::{Attempt, ChildName, ChildResult, Site};
+use spawn_frame::{Attempt, ChildResult, Gift, Sibling, Site};
 use steal_return::{Given, Judged, aborts_are_few};
 
 impl SiteState {
-    /// A child of another site is given to this one: it becomes a ready guest, unless the packet is of an earlier run or
-    /// the guest is there already.
+    /// Children of another site are given to this one: those that aren't there already become ready guests, unless the
+    /// packet is of an earlier run. Whether they may is tested before any memory is taken.
     pub fn receive_give(
         &mut self,
         problem: &Problem,
         from: Site,
-        serial: u32,
-        attempt: Attempt,
-        prefix: Numbers,
+        given: Given,
     ) -> Result<Reply, ActFault>
-        requires { 1 ≤ attempt }
+        requires { AllByRecursion (λ g. 1 ≤ g.attempt) (gifts_of given) }
         ensures step { IfOk result (λ reply.
-            GiveStep problem.now self.old from serial attempt prefix reply [] self.new) }
+            GiveStep problem.now self.old from (gifts_of given) reply [] self.new) }
         ensures refusal { refusal_told result
-            ≡ give_refusal problem.now self.old
-            (record { site = from; serial = serial }) attempt prefix }
+            ≡ give_refusal problem.now self.old from (gifts_of given) }
         ensures err { OnErr result (self.new ≡ self.old) }
     {
-        let name = ChildName { site: from, serial };
-        if !self.ledger.is_new(name, attempt) {
+        if self.ledger.is_older(from) || self.ledger.are_there(from, &given) {
             return Ok(Reply::Ignored);
         }
-        if !is_prefix(problem, prefix.as_slice()) {
+        if !self.are_lawful(problem, from, &given) {
             return Err(ActFault::BadPrefix);
         }
-        self.ledger.admit(name, attempt, prefix)?;
+        let gifts = given.into_gifts(self.alloc)?;
+        self.ledger.admit_each(from, gifts)?;
         Ok(Reply::Moved)
+    }
+
+    /// Whether each child that is given is a guest already or has a prefix.
+    fn are_lawful(&self, problem: &Problem, from: Site, given: &Given) -> bool
+        ensures { result ≡ list_all (is_lawful problem.now from self.now.guests)
+            (gifts_of given.now) }
+    {
+        match given {
+            Given::One(gift) => {
+                self.ledger.has_guest(from, gift.serial, gift.attempt)
+                    || is_prefix(problem, gift.prefix.as_slice())
+            }
+            Given::Several { prefix, siblings } => {
+                self.each_is_lawful(problem, from, prefix.as_slice(), siblings.as_slice())
+            }
+        }
+    }
+
+    /// The same of children of a parent with this prefix.
+    fn each_is_lawful(
+        &self,
+        problem: &Problem,
+        from: Site,
+        prefix: &[u16],
+        siblings: &[Sibling],
+    ) -> bool
+        ensures { result ≡ list_all (λ s. is_lawful problem.now from self.now.guests
+            (sibling_gift prefix.now s)) siblings.now }
+    {
+        siblings
+            .iter()
+            .all(|sibling| self.is_lawful(problem, from, prefix, *sibling))
+    }
+
+    /// Whether a child of a parent with this prefix is a guest already or has a prefix.
+    fn is_lawful(&self, problem: &Problem, from: Site, prefix: &[u16], sibling: Sibling) -> bool
+        ensures { result ≡ is_lawful problem.now from self.now.guests
+            (sibling_gift prefix.now sibling) }
+    {
+        self.ledger.has_guest(from, sibling.serial, sibling.attempt)
+            || is_longer(problem, prefix, sibling.option)
     }
 
     /// The owner of a guest tells the result that the child has.
@@ -66,23 +109,23 @@ impl SiteState {
         }
     }
 
-    /// Another site asks for work: it gets the ready own child of least serial, or is told that there is none.
+    /// Another site asks for work: it gets its share of the ready own children, or is told that there is none.
     pub fn receive_steal(&mut self, from: Site, out: &mut Outgoing) -> Result<Reply, ActFault>
         ensures step { Answered result out.old out.new (λ reply sent.
             (reply ≡ Reply.Moved) × StealStep self.old from sent self.new
-            × GivesLeastTo self.old from sent) }
+            × GivesShareTo self.old from sent) }
         ensures refusal { refusal_told result ≡ None }
         ensures err { OnErr result (self.new ≡ self.old) }
         ensures list { OnErr result (MaySend out.old out.new) }
     {
         let site = self.site();
-        let Some(serial) = self.ledger.ready_child(from) else {
+        let Some(serials) = self.ledger.ready_share(from)? else {
             out.send(answer_packet(site, from, Body::NoWork))?;
             return Ok(Reply::Moved);
         };
-        let given = self.ledger.given(serial)?;
-        out.send(answer_packet(site, from, give_body(given)))?;
-        self.ledger.give_child(serial, from);
+        let given = self.ledger.given(&serials)?;
+        out.send(answer_packet(site, from, given_body(given)))?;
+        self.ledger.give_each(&serials, from);
         Ok(Reply::Moved)
     }
 
@@ -183,18 +226,29 @@ fn answer_packet(from: Site, to: Site, body: Body) -> Packet
     Packet { from, to, body }
 }
 
-/// What a thief is told of a child that it gets.
-pub(crate) fn give_body(given: Given) -> Body
-    ensures { result ≡ Body.Give given.serial given.attempt given.prefix }
+/// What a thief is told of one child that it gets.
+pub(crate) fn gift_body(gift: Gift) -> Body
+    ensures { result ≡ Body.Give gift.serial gift.attempt gift.prefix }
 {
-    let Given {
+    let Gift {
         serial,
         attempt,
         prefix,
-    } = given;
+    } = gift;
     Body::Give {
         serial,
         attempt,
         prefix,
+    }
+}
+
+/// What a thief is told of what it gets.
+fn given_body(given: Given) -> Body
+    ensures gifts { gifts_in result ≡ gifts_of given }
+    ensures spelled { is_gift result ≡ is_spelled given }
+{
+    match given {
+        Given::One(gift) => gift_body(gift),
+        Given::Several { prefix, siblings } => Body::GiveMany { prefix, siblings },
     }
 }

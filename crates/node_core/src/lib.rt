@@ -7,6 +7,7 @@ mod core_trait;
 mod event;
 mod formed;
 mod laws;
+mod longer;
 mod membership;
 mod node;
 mod outgoing;

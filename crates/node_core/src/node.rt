@@ -1,5 +1,5 @@
 ghost use Rattle.std.specs.Prelude.{◌≡◌, ◌≢◌, ◌<◌, ◌≤◌, ◌^◌, true, false, IfOk, OnErr};
-ghost use Rattle.node_core.specs.Acting.{is_delivery, refusal_told, Answered, AnswersDelivery, AnswersHeard, GivesLeast, HasPrefixes, MaySend};
+ghost use Rattle.node_core.specs.Acting.{is_delivery, refusal_told, Answered, AnswersDelivery, AnswersHeard, GivesShare, HasPrefixes, MaySend};
 ghost use Rattle.node_core.specs.Formed.{IsFormedNode};
 ghost use Rattle.node_core.specs.NodeStep.{EventStep, NodeStep};
 ghost use Rattle.node_core.specs.Refusal.{event_refusal, hear_refusal, is_misdirected, node_refusal, IsFit};
@@ -19,10 +19,10 @@ use crate::site_state::SiteState;
 use cover_problem::Problem;
 use dancing_links::Links;
 use packet_wire::{Body, Packet};
-use spawn_frame::Site;
+use spawn_frame::{Gift, Site};
 use std::alloc::{AllocError, Global};
 use std::marker::Model;
-use steal_return::Ledger;
+use steal_return::{Given, Ledger};
 
 /// The core of a node.
 ///
@@ -122,7 +122,7 @@ fn answer_event(
     ensures problem { links.new.problem ≡ links.old.problem }
     ensures step { Answered result out.old out.new (λ reply sent.
         NodeStep links.old.problem state.old event reply sent state.new
-        × GivesLeast state.old event sent) }
+        × GivesShare state.old event sent) }
     ensures refusal { refusal_told result ≡ node_refusal links.old.problem state.old event }
     ensures err { OnErr result (state.new ≡ state.old) }
     ensures list { OnErr result (MaySend out.old out.new) }
@@ -160,7 +160,17 @@ fn hear(
             serial,
             attempt,
             prefix,
-        } => state.receive_give(problem, from, serial, attempt, prefix),
+        } => {
+            let gift = Gift {
+                serial,
+                attempt,
+                prefix,
+            };
+            state.receive_give(problem, from, Given::One(gift))
+        }
+        Body::GiveMany { prefix, siblings } => {
+            state.receive_give(problem, from, Given::Several { prefix, siblings })
+        }
         Body::NoWork => Ok(Reply::Ignored),
         Body::Return {
             serial,

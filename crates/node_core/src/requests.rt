@@ -8,7 +8,7 @@ ghost use Rattle.spawn_frame.specs.Tables.{open_guests};
 ghost use Rattle.node_core.specs.Requests.{all_again, given_again, gives_again, hello_packet, moved_by, returned_again, returns_again, AskStep, RedoStep};
 
 use crate::act_fault::ActFault;
-use crate::arrivals::give_body;
+use crate::arrivals::gift_body;
 use crate::outgoing::Outgoing;
 use crate::reply::Reply;
 use crate::site_state::SiteState;
@@ -122,11 +122,11 @@ impl SiteState {
         let Some(Status::Out(thief)) = self.ledger.table().status(Unit::Own(serial)) else {
             return Ok(());
         };
-        let given = self.ledger.given(serial)?;
+        let gift = self.ledger.gift(serial)?;
         out.send(Packet {
             from: self.site(),
             to: *thief,
-            body: give_body(given),
+            body: gift_body(gift),
         })
     }
 

@@ -4,5 +4,6 @@ pub mod Forms
 pub mod Lengths
 pub mod Loop
 pub mod Numbers
+pub mod Rising
 pub mod Sames
 pub mod Whole

@@ -1,3 +1,4 @@
+pub mod Gifts
 pub mod Kinds
 pub mod Reading
 pub mod Spelling

@@ -1,13 +1,14 @@
 -- Reading from left to right, field by field, with the first fault that is met.
-use Rattle.std.specs.Prelude.{◌≡◌, ℕ, zero, suc, Bool, List, [], ◌∷◌, length, drop, Option, Some, None, Result, Ok, Err, nat_lt, ◌==◌, if◌then◌else◌}
+use Rattle.std.specs.Prelude.{◌≡◌, ℕ, zero, suc, Bool, List, [], ◌∷◌, length, drop, Option, Some, None, Result, ◌||◌, Ok, Err, nat_lt, ◌==◌, if◌then◌else◌}
 use Rattle.byteorder.specs.Endian.{big_number}
 use Rattle.spawn_frame.specs.declared.cause.Cause.{Cause}
 use Rattle.spawn_frame.specs.declared.cause.Cause.TheVariants.{Aborted, Superseded, Unknown}
 use Rattle.spawn_frame.specs.declared.child_result.ChildResult.{ChildResult}
 use Rattle.spawn_frame.specs.declared.child_result.ChildResult.TheVariants.{Cover, Empty}
+use Rattle.spawn_frame.specs.declared.siblings.Sibling.{Sibling}
 use Rattle.spawn_frame.specs.declared.site.Site.{Site}
 use Rattle.packet_wire.specs.Kinds.{is_routed, kind_numbered}
-use Rattle.packet_wire.specs.WellFormed.{is_counted, is_incarnation_of, is_node, is_node_count, is_option, is_option_count, is_serial}
+use Rattle.packet_wire.specs.WellFormed.{is_counted, is_incarnation_of, is_next_serial, is_node, is_node_count, is_option, is_option_count, is_parent_count, is_serial, is_sibling_count}
 use Rattle.packet_wire.specs.declared.fault.WireFault.{WireFault}
 use Rattle.packet_wire.specs.declared.fault.WireFault.TheVariants as faults
 use Rattle.packet_wire.specs.declared.kind.Kind.{Kind}
@@ -16,7 +17,7 @@ use Rattle.packet_wire.specs.declared.packet.Body.{Body}
 use Rattle.packet_wire.specs.declared.packet.Body.TheVariants as bodies
 use Rattle.packet_wire.specs.declared.packet.Packet.{Packet}
 use Rattle.packet_wire.specs.declared.reading.Header.{Header}
-use Rattle.packet_wire.specs.declared.writing.TheConstants.{MAGIC, VERSION}
+use Rattle.packet_wire.specs.declared.writing.TheConstants.{MAGIC, SECOND_VERSION, VERSION}
 
 -- one step after another: the first fault ends them
 infixl 10 ◌>>=◌
@@ -60,9 +61,9 @@ known fault (Some x) rest = Ok (x, rest)
 unfoldable pub start_at : List ℕ → Read Kind
 start_at bytes = do
   magic ← field_at 2 (λ n. n == MAGIC) faults.Magic bytes
-  version ← field_at 1 (λ n. n == VERSION) faults.Version magic.1
+  version ← field_at 1 (λ n. n == VERSION || n == SECOND_VERSION) faults.Version magic.1
   number ← number_at 1 version.1
-  known faults.Kind (kind_numbered number.0) number.1
+  known faults.Kind (kind_numbered version.0 number.0) number.1
 
 -- a node, and its incarnation
 unfoldable pub site_at : List ℕ → Read Site
@@ -118,6 +119,36 @@ cause_at bytes = do
   number ← number_at 1 bytes
   known faults.Field (cause_numbered number.0) number.1
 
+-- the prefix of a parent: its count, and each number
+unfoldable pub parent_at : List ℕ → Read (List ℕ)
+parent_at bytes = do
+  count ← field_at 2 is_parent_count faults.Field bytes
+  fields_at 2 is_option count.0 count.1
+
+-- a child among others: its serial, above the last one if there was one, its attempt and its option
+unfoldable pub sibling_at : Option ℕ → List ℕ → Read Sibling
+sibling_at last bytes = do
+  serial ← field_at 4 (is_next_serial last) faults.Field bytes
+  attempt ← field_at 4 is_counted faults.Field serial.1
+  option ← field_at 2 is_option faults.Field attempt.1
+  Ok (record { serial = serial.0; attempt = attempt.0; option = option.0 }, option.1)
+
+-- as many children as the count says, whose serials rise
+unfoldable pub siblings_at : Option ℕ → ℕ → List ℕ → Read (List Sibling)
+siblings_at last zero bytes = Ok ([], bytes)
+siblings_at last (suc count) bytes = do
+  first ← sibling_at last bytes
+  others ← siblings_at (Some first.0.serial) count first.1
+  Ok (first.0 ∷ others.0, others.1)
+
+-- a count, the prefix of the parent, and so many children
+unfoldable pub give_many_at : List ℕ → Read (List ℕ × List Sibling)
+give_many_at bytes = do
+  count ← field_at 1 is_sibling_count faults.Field bytes
+  prefix ← parent_at count.1
+  siblings ← siblings_at None count.0 prefix.1
+  Ok ((prefix.0, siblings.0), siblings.1)
+
 -- the body of each kind
 unfoldable pub body_at : Kind → List ℕ → Read Body
 body_at kinds.Hello bytes = Ok (bodies.Hello, bytes)
@@ -129,6 +160,9 @@ body_at kinds.Give bytes = do
   child ← child_at bytes
   prefix ← options_at 0 child.1
   Ok (bodies.Give child.0.0 child.0.1 prefix.0, prefix.1)
+body_at kinds.GiveMany bytes = do
+  given ← give_many_at bytes
+  Ok (bodies.GiveMany given.0.0 given.0.1, given.1)
 body_at kinds.NoWork bytes = Ok (bodies.NoWork, bytes)
 body_at kinds.Return bytes = do
   child ← child_at bytes

@@ -6,13 +6,14 @@ use Rattle.spawn_frame.specs.declared.cause.Cause.{Cause}
 use Rattle.spawn_frame.specs.declared.cause.Cause.TheVariants.{Aborted, Superseded, Unknown}
 use Rattle.spawn_frame.specs.declared.child_result.ChildResult.{ChildResult}
 use Rattle.spawn_frame.specs.declared.child_result.ChildResult.TheVariants.{Cover, Empty}
+use Rattle.spawn_frame.specs.declared.siblings.Sibling.{Sibling}
 use Rattle.spawn_frame.specs.declared.site.Site.{Site}
-use Rattle.packet_wire.specs.Kinds.{kind_number, kind_of}
+use Rattle.packet_wire.specs.Kinds.{kind_number, kind_of, kind_version}
 use Rattle.packet_wire.specs.declared.kind.Kind.{Kind}
 use Rattle.packet_wire.specs.declared.packet.Body.{Body}
 use Rattle.packet_wire.specs.declared.packet.Body.TheVariants as bodies
 use Rattle.packet_wire.specs.declared.packet.Packet.{Packet}
-use Rattle.packet_wire.specs.declared.writing.TheConstants.{MAGIC, VERSION}
+use Rattle.packet_wire.specs.declared.writing.TheConstants.{MAGIC}
 
 -- a number in so many bytes, the highest first
 unfoldable pub number : ℕ → ℕ → List ℕ
@@ -22,9 +23,9 @@ number width n = big_bytes width n
 abbrev pub numbers : ℕ → List ℕ → List ℕ
 numbers width ns = flat_map (number width) ns
 
--- the magic, the version and the kind: 43 4e 01 and its number
+-- the magic, the version of the kind and its number there
 abbrev pub start_text : Kind → List ℕ
-start_text kind = number 2 MAGIC ++ (number 1 VERSION ++ number 1 (kind_number kind))
+start_text kind = number 2 MAGIC ++ (number 1 (kind_version kind) ++ number 1 (kind_number kind))
 
 -- the node, and its incarnation
 abbrev pub site_text : Site → List ℕ
@@ -46,6 +47,18 @@ incarnations_text incarnations = number 1 (length incarnations) ++ numbers 4 inc
 abbrev pub child_text : ℕ → ℕ → List ℕ
 child_text serial attempt = number 4 serial ++ number 4 attempt
 
+-- the serial number, the attempt and the option
+abbrev pub sibling_text : Sibling → List ℕ
+sibling_text s = number 4 s.serial ++ (number 4 s.attempt ++ number 2 s.option)
+
+-- children of one parent, one after the other
+abbrev pub siblings_text : List Sibling → List ℕ
+siblings_text siblings = flat_map sibling_text siblings
+
+-- the count in one byte, the prefix of the parent, and the children
+abbrev pub give_many_text : List ℕ → List Sibling → List ℕ
+give_many_text prefix siblings = number 1 (length siblings) ++ (options_text prefix ++ siblings_text siblings)
+
 -- 0, or 1 and the options of the cover
 abbrev pub result_text : ChildResult → List ℕ
 result_text Empty = number 1 0
@@ -63,6 +76,7 @@ body_text bodies.Hello = []
 body_text (bodies.Members incarnations) = incarnations_text incarnations
 body_text bodies.Steal = []
 body_text (bodies.Give serial attempt prefix) = child_text serial attempt ++ options_text prefix
+body_text (bodies.GiveMany prefix siblings) = give_many_text prefix siblings
 body_text bodies.NoWork = []
 body_text (bodies.Return serial attempt result) = child_text serial attempt ++ result_text result
 body_text (bodies.Accept serial attempt result) = child_text serial attempt ++ result_text result

@@ -1,9 +1,12 @@
 -- Which packets have a spelling: what each field of them allows.
-use Rattle.std.specs.Prelude.{ℕ, ◌+◌, Bool, true, not, ◌&&◌, ◌||◌, ◌==◌, nat_lt, List, length}
+use Rattle.std.specs.Prelude.{ℕ, ◌+◌, Bool, true, not, ◌&&◌, ◌||◌, ◌==◌, nat_lt, List, [], ◌∷◌, length, Option, Some, None}
 use Rattle.std.specs.List.{list_all}
 use Rattle.cover_problem.specs.declared.limits.TheConstants.{MOST_ITEMS, MOST_OPTIONS}
+use Rattle.spawn_frame.specs.Gifts.{is_next}
 use Rattle.spawn_frame.specs.declared.child_result.ChildResult.{ChildResult}
 use Rattle.spawn_frame.specs.declared.child_result.ChildResult.TheVariants.{Cover, Empty}
+use Rattle.spawn_frame.specs.declared.siblings.Sibling.{Sibling}
+use Rattle.spawn_frame.specs.declared.siblings.TheConstants.{MOST_SIBLINGS}
 use Rattle.spawn_frame.specs.declared.site.Site.{Site}
 use Rattle.spawn_frame.specs.declared.site.TheConstants.{LAST_NODE}
 use Rattle.packet_wire.specs.Kinds.{is_routed, kind_of}
@@ -60,12 +63,38 @@ abbrev pub is_result : ChildResult → Bool
 is_result Empty = true
 is_result (Cover options) = are_options 1 options
 
+-- a count of options of a parent's prefix: a child has one more
+abbrev pub is_parent_count : ℕ → Bool
+is_parent_count n = nat_lt n MOST_ITEMS
+
+-- the prefix of a parent
+abbrev pub is_parent : List ℕ → Bool
+is_parent prefix = is_parent_count (length prefix) && list_all is_option prefix
+
+-- a count of children that are given together: one alone goes by itself
+abbrev pub is_sibling_count : ℕ → Bool
+is_sibling_count n = nat_lt 1 n && nat_lt n (MOST_SIBLINGS + 1)
+
+-- a serial above the last one, if there was one
+abbrev pub is_next_serial : Option ℕ → ℕ → Bool
+is_next_serial last n = is_serial n && is_next last n
+
+-- a child of a parent, behind the last one if there was one
+abbrev pub is_sibling : Option ℕ → Sibling → Bool
+is_sibling last s = is_next_serial last s.serial && (is_counted s.attempt && is_option s.option)
+
+-- children of one parent, with serials that rise above the last one
+abbrev pub are_siblings : Option ℕ → List Sibling → Bool
+are_siblings last [] = true
+are_siblings last (s ∷ ss) = is_sibling last s && are_siblings (Some s.serial) ss
+
 -- whether each field of the body is allowed
 abbrev pub is_body : Body → Bool
 is_body bodies.Hello = true
 is_body (bodies.Members incarnations) = are_incarnations incarnations
 is_body bodies.Steal = true
 is_body (bodies.Give serial attempt prefix) = is_child serial attempt && are_options 0 prefix
+is_body (bodies.GiveMany prefix siblings) = is_sibling_count (length siblings) && (is_parent prefix && are_siblings None siblings)
 is_body bodies.NoWork = true
 is_body (bodies.Return serial attempt result) = is_child serial attempt && is_result result
 is_body (bodies.Accept serial attempt result) = is_child serial attempt && is_result result

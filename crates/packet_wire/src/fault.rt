@@ -12,9 +12,9 @@ pub enum WireFault {
     Short,
     /// The first two bytes are not `43 4e`.
     Magic,
-    /// The version is not 1.
+    /// The version is not 1 or 2.
     Version,
-    /// The number of the kind is not 1 to 10.
+    /// The number of the kind is not 1 to 10 in version 1, or not 4 in version 2.
     Kind,
     /// The value of another field is not allowed, or the two sites don't go with the kind, which is tested behind the
     /// header.

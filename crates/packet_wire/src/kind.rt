@@ -1,7 +1,8 @@
 ghost use Rattle.std.specs.Prelude.{◌≡◌};
-ghost use Rattle.packet_wire.specs.Kinds.{is_routed, kind_number, kind_numbered, kind_of};
+ghost use Rattle.packet_wire.specs.Kinds.{is_routed, kind_number, kind_numbered, kind_of, kind_version};
 
 use crate::packet::Body;
+use crate::writing::{SECOND_VERSION, VERSION};
 use spawn_frame::Site;
 
 /// What sort of thing a packet says.
@@ -11,6 +12,7 @@ pub(crate) enum Kind {
     Members,
     Steal,
     Give,
+    GiveMany,
     NoWork,
     Return,
     Accept,
@@ -29,6 +31,7 @@ impl Kind {
             Body::Members(_) => Kind::Members,
             Body::Steal => Kind::Steal,
             Body::Give { .. } => Kind::Give,
+            Body::GiveMany { .. } => Kind::GiveMany,
             Body::NoWork => Kind::NoWork,
             Body::Return { .. } => Kind::Return,
             Body::Accept { .. } => Kind::Accept,
@@ -38,7 +41,17 @@ impl Kind {
         }
     }
 
-    /// The number that stands for the kind.
+    /// The version of the packets of this kind.
+    pub(crate) fn version(self) -> u8
+        ensures { result ≡ kind_version self }
+    {
+        match self {
+            Kind::GiveMany => SECOND_VERSION,
+            _ => VERSION,
+        }
+    }
+
+    /// The number that stands for the kind in its version.
     pub(crate) fn number(self) -> u8
         ensures { result ≡ kind_number self }
     {
@@ -46,7 +59,7 @@ impl Kind {
             Kind::Hello => 1,
             Kind::Members => 2,
             Kind::Steal => 3,
-            Kind::Give => 4,
+            Kind::Give | Kind::GiveMany => 4,
             Kind::NoWork => 5,
             Kind::Return => 6,
             Kind::Accept => 7,
@@ -56,10 +69,17 @@ impl Kind {
         }
     }
 
-    /// The kind that a number stands for, if any.
-    pub(crate) fn numbered(number: u8) -> Option<Kind>
-        ensures { result ≡ kind_numbered number }
+    /// The kind that a number stands for in a version, if any.
+    pub(crate) fn numbered(version: u8, number: u8) -> Option<Kind>
+        ensures { result ≡ kind_numbered version number }
     {
+        if version == SECOND_VERSION {
+            return if number == 4 {
+                Some(Kind::GiveMany)
+            } else {
+                None
+            };
+        }
         match number {
             1 => Some(Kind::Hello),
             2 => Some(Kind::Members),
@@ -85,6 +105,7 @@ impl Kind {
                 Kind::Hello => to.node == 0,
                 Kind::Members | Kind::Over => from.node == 0,
                 Kind::Steal | Kind::Return => from.node != 0,
+                Kind::GiveMany => from.node != 0 && to.node != 0,
                 _ => to.node != 0,
             }
     }

@@ -21,7 +21,7 @@ pub fn each_spelling_is_read()
         reading bytes ≡ Ok p → (is_well_formed p ≡ true) × (bytes ≡ spelling p) }
 {}
 
-/// A well-formed packet has at most 2,025 bytes.
+/// A well-formed packet has at most 2,095 bytes.
 pub fn spellings_are_short()
-    ensures { (p : PacketValue) → is_well_formed p ≡ true → length (spelling p) ≤ 2025 }
+    ensures { (p : PacketValue) → is_well_formed p ≡ true → length (spelling p) ≤ 2095 }
 {}

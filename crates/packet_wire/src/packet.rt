@@ -2,11 +2,11 @@ ghost use Rattle.std.specs.Prelude.{◌≡◌, ◌↔◌, IfOk, IsTrue};
 
 use crate::incarnations::Incarnations;
 use cover_problem::Numbers;
-use spawn_frame::{Attempt, Cause, ChildResult, Site};
+use spawn_frame::{Attempt, Cause, ChildResult, Siblings, Site};
 use std::alloc::AllocError;
 
-/// What a packet says. The child of a `Return` is of the receiver's site; that of a `Give`, `Accept`, `Refuse` or
-/// `Abort` is of the sender's. Children go by their serial number there and the attempt.
+/// What a packet says. The child of a `Return` is of the receiver's site; that of a `Give`, `Accept`, `Refuse` or `Abort`,
+/// and those of a `GiveMany`, are of the sender's. Children go by their serial number there and the attempt.
 #[derive(Clone, Debug, Drop, PartialEq, Eq)]
 pub enum Body {
     /// A node tells the registry that it is there.
@@ -23,6 +23,13 @@ pub enum Body {
         attempt: Attempt,
         /// Its prefix.
         prefix: Numbers,
+    },
+    /// Two to eight children of one parent are given together.
+    GiveMany {
+        /// The parent's prefix.
+        prefix: Numbers,
+        /// The children, by serial.
+        siblings: Siblings,
     },
     /// There is no work to give.
     NoWork,

@@ -1,9 +1,9 @@
 //! Reading packets from bytes.
 
-ghost use Rattle.std.specs.Prelude.{◌≡◌, true, IfOk, Ok};
+ghost use Rattle.std.specs.Prelude.{◌≡◌, true, IfOk, None, Ok};
 ghost use Rattle.packet_wire.specs.Spelling.{spelling};
-ghost use Rattle.packet_wire.specs.Reading.{Gives, body_at, cause_at, child_at, field_at, fields_at, header_at, incarnations_at, number_at, options_at, packet_at, reading, result_at, site_at, start_at};
-ghost use Rattle.packet_wire.specs.WellFormed.{is_counted, is_option, is_well_formed};
+ghost use Rattle.packet_wire.specs.Reading.{Gives, body_at, cause_at, child_at, field_at, fields_at, give_many_at, header_at, incarnations_at, number_at, options_at, packet_at, parent_at, reading, result_at, sibling_at, siblings_at, site_at, start_at};
+ghost use Rattle.packet_wire.specs.WellFormed.{is_counted, is_next_serial, is_option, is_well_formed};
 ghost use Rattle.packet_wire.specs.declared.fault.WireFault.TheVariants.{Field};
 
 use crate::fault::WireFault;
@@ -11,12 +11,13 @@ use crate::incarnations::Incarnations;
 use crate::kind::Kind;
 use crate::packet::{Body, Packet};
 use crate::well_formed::{
-    is_counted, is_incarnation_of, is_node, is_node_count, is_option, is_option_count,
+    is_counted, is_incarnation_of, is_next_serial, is_node, is_node_count, is_option,
+    is_option_count, is_parent_count, is_sibling_count,
 };
-use crate::writing::{MAGIC, VERSION};
+use crate::writing::{MAGIC, SECOND_VERSION, VERSION};
 use byteorder::{BigEndian, ByteOrder};
 use cover_problem::Numbers;
-use spawn_frame::{Attempt, Cause, ChildResult, Site};
+use spawn_frame::{Attempt, Cause, ChildResult, Sibling, Siblings, Site};
 use std::alloc::Global;
 
 /// Reads a number of one byte, and tells the bytes after it.
@@ -62,11 +63,11 @@ fn start_at(bytes: &[u8]) -> Result<(Kind, &[u8]), WireFault>
         return Err(WireFault::Magic);
     }
     let (version, rest) = u8_at(rest)?;
-    if version != VERSION {
+    if !(version == VERSION || version == SECOND_VERSION) {
         return Err(WireFault::Version);
     }
     let (number, rest) = u8_at(rest)?;
-    let Some(kind) = Kind::numbered(number) else {
+    let Some(kind) = Kind::numbered(version, number) else {
         return Err(WireFault::Kind);
     };
     Ok((kind, rest))
@@ -196,6 +197,77 @@ fn child_at(bytes: &[u8]) -> Result<((u32, Attempt), &[u8]), WireFault>
     Ok(((serial, attempt), rest))
 }
 
+/// Reads the prefix of a parent.
+#[tactic(auto, unfolding(crate::specs::Reading::parent_at))]
+fn parent_at(alloc: Global, bytes: &[u8]) -> Result<(Numbers, &[u8]), WireFault>
+    ensures { Gives (λ x. (x.0, x.1.now)) result (parent_at bytes.now) }
+{
+    let (count, rest) = u16_at(bytes)?;
+    if !is_parent_count(count as usize) {
+        return Err(WireFault::Field);
+    }
+    let (options, rest) = options_of(alloc, count, rest)?;
+    Ok((Numbers::from_vec(options), rest))
+}
+
+/// Reads a serial number above the last one, if there was one.
+fn next_serial_at(last: Option<u32>, bytes: &[u8]) -> Result<(u32, &[u8]), WireFault>
+    ensures { Gives (λ x. (x.0, x.1.now)) result
+        (field_at 4 (is_next_serial last) Field bytes.now) }
+{
+    let (serial, rest) = u32_at(bytes)?;
+    if !is_next_serial(last, serial) {
+        return Err(WireFault::Field);
+    }
+    Ok((serial, rest))
+}
+
+/// Reads a child among others.
+#[tactic(auto, unfolding(crate::specs::Reading::sibling_at))]
+fn sibling_at(last: Option<u32>, bytes: &[u8]) -> Result<(Sibling, &[u8]), WireFault>
+    ensures { Gives (λ x. (x.0, x.1.now)) result (sibling_at last bytes.now) }
+{
+    let (serial, rest) = next_serial_at(last, bytes)?;
+    let (attempt, rest) = counted_at(rest)?;
+    let (option, rest) = option_at(rest)?;
+    let sibling = Sibling {
+        serial,
+        attempt,
+        option,
+    };
+    Ok((sibling, rest))
+}
+
+/// Reads so many children, whose serials rise.
+fn siblings_of(alloc: Global, count: u8, bytes: &[u8]) -> Result<(Vec<Sibling>, &[u8]), WireFault>
+    ensures { Gives (λ x. (x.0.items, x.1.now)) result (siblings_at None count bytes.now) }
+{
+    let mut siblings = Vec::with_capacity(alloc, count as usize)?;
+    let mut rest = bytes;
+    let mut last = None;
+    for _ in 0..count {
+        let (sibling, after) = sibling_at(last, rest)?;
+        siblings.push(sibling)?;
+        last = Some(sibling.serial);
+        rest = after;
+    }
+    Ok((siblings, rest))
+}
+
+/// Reads a count, the prefix of a parent, and so many children.
+#[tactic(auto, unfolding(crate::specs::Reading::give_many_at))]
+fn give_many_at(alloc: Global, bytes: &[u8]) -> Result<((Numbers, Siblings), &[u8]), WireFault>
+    ensures { Gives (λ x. ((x.0.0, x.0.1), x.1.now)) result (give_many_at bytes.now) }
+{
+    let (count, rest) = u8_at(bytes)?;
+    if !is_sibling_count(count as usize) {
+        return Err(WireFault::Field);
+    }
+    let (prefix, rest) = parent_at(alloc, rest)?;
+    let (siblings, rest) = siblings_of(alloc, count, rest)?;
+    Ok(((prefix, Siblings::from_vec(siblings)), rest))
+}
+
 /// Reads a result.
 #[tactic(auto, unfolding(crate::specs::Reading::result_at))]
 fn result_at(alloc: Global, bytes: &[u8]) -> Result<(ChildResult, &[u8]), WireFault>
@@ -299,6 +371,10 @@ fn body_at(alloc: Global, kind: Kind, bytes: &[u8]) -> Result<(Body, &[u8]), Wir
         }
         Kind::Steal => Ok((Body::Steal, bytes)),
         Kind::Give => give_at(alloc, bytes),
+        Kind::GiveMany => {
+            let ((prefix, siblings), rest) = give_many_at(alloc, bytes)?;
+            Ok((Body::GiveMany { prefix, siblings }, rest))
+        }
         Kind::NoWork => Ok((Body::NoWork, bytes)),
         Kind::Return => return_at(alloc, bytes),
         Kind::Accept => accept_at(alloc, bytes),

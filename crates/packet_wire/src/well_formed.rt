@@ -1,13 +1,13 @@
 //! Which packets have a spelling.
 
-ghost use Rattle.std.specs.Prelude.{◌≡◌};
+ghost use Rattle.std.specs.Prelude.{◌≡◌, None};
 ghost use Rattle.std.specs.List.{list_all};
-ghost use Rattle.packet_wire.specs.WellFormed.{are_incarnations, are_options, is_body, is_child, is_counted, is_incarnation_of, is_node, is_node_count, is_option, is_option_count, is_result, is_site, is_well_formed};
+ghost use Rattle.packet_wire.specs.WellFormed.{are_incarnations, are_options, are_siblings, is_body, is_child, is_counted, is_incarnation_of, is_next_serial, is_node, is_node_count, is_option, is_option_count, is_parent, is_parent_count, is_result, is_sibling, is_sibling_count, is_site, is_well_formed};
 
 use crate::kind::Kind;
 use crate::packet::{Body, Packet};
 use cover_problem::{MOST_ITEMS, MOST_OPTIONS};
-use spawn_frame::{Attempt, ChildResult, LAST_NODE, Site};
+use spawn_frame::{Attempt, ChildResult, LAST_NODE, MOST_SIBLINGS, Sibling, Site};
 
 /// Whether it is a node's number, or 0 for the registry.
 pub(crate) fn is_node(node: u8) -> bool
@@ -103,6 +103,58 @@ fn is_result(told: &ChildResult) -> bool
     }
 }
 
+/// Whether the prefix of a parent may have this length: a child has one option more.
+pub(crate) fn is_parent_count(count: usize) -> bool
+    ensures { result ≡ is_parent_count count }
+{
+    count < MOST_ITEMS
+}
+
+/// Whether it is the prefix of a parent.
+fn is_parent(prefix: &[u16]) -> bool
+    ensures { result ≡ is_parent prefix.now }
+{
+    is_parent_count(prefix.len()) && all_are_options(prefix)
+}
+
+/// Whether so many children may be given together.
+pub(crate) fn is_sibling_count(count: usize) -> bool
+    ensures { result ≡ is_sibling_count count }
+{
+    1 < count && count <= MOST_SIBLINGS
+}
+
+/// Whether the serial is above the last one, if there was one.
+pub(crate) fn is_next_serial(last: Option<u32>, serial: u32) -> bool
+    ensures { result ≡ is_next_serial last serial }
+{
+    match last {
+        Some(last) => last < serial,
+        None => true,
+    }
+}
+
+/// Whether it is a child of a parent, behind the last one if there was one.
+fn is_sibling(last: Option<u32>, sibling: Sibling) -> bool
+    ensures { result ≡ is_sibling last sibling }
+{
+    is_next_serial(last, sibling.serial) && is_counted(sibling.attempt) && is_option(sibling.option)
+}
+
+/// Whether they are children of one parent, whose serials rise.
+fn are_siblings(siblings: &[Sibling]) -> bool
+    ensures { result ≡ are_siblings None siblings.now }
+{
+    let mut last = None;
+    for sibling in siblings {
+        if !is_sibling(last, *sibling) {
+            return false;
+        }
+        last = Some(sibling.serial);
+    }
+    true
+}
+
 /// Whether each field of the body is allowed.
 fn is_body(body: &Body) -> bool
     ensures { result ≡ is_body body.now }
@@ -115,6 +167,11 @@ fn is_body(body: &Body) -> bool
             attempt,
             prefix,
         } => is_child(*serial, *attempt) && are_options(0, prefix.as_slice()),
+        Body::GiveMany { prefix, siblings } => {
+            is_sibling_count(siblings.as_slice().len())
+                && is_parent(prefix.as_slice())
+                && are_siblings(siblings.as_slice())
+        }
         Body::Return {
             serial,
             attempt,
@@ -139,7 +196,8 @@ fn is_body(body: &Body) -> bool
 /// Its sites are two of the registry and the nodes 1 to 16, with incarnations from 1 on and exactly 1 for the registry, and
 /// go with the kind: a Hello is for the registry, a Members or Over from it, a Steal or Return from a node, and each other
 /// packet for a node. Attempts and incarnations are at least 1; a Members has 1 to 16 of them. Lists have at most 1,000
-/// numbers of options, each at most 19,999, and a cover at least one.
+/// numbers of options, each at most 19,999, and a cover at least one. A GiveMany goes from a node to a node; it has 2 to 8
+/// children, whose serials rise, and the prefix of their parent has at most 999 options.
 pub fn is_well_formed(packet: &Packet) -> bool
     ensures { result ≡ is_well_formed packet.now }
 {

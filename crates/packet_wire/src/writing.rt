@@ -1,24 +1,27 @@
 //! Writing packets as bytes.
 
 ghost use Rattle.std.specs.Prelude.{◌≡◌, ◌<◌, ◌++◌, length, true, OnOk, OnErr, IfOk};
-ghost use Rattle.packet_wire.specs.Spelling.{body_text, cause_number, child_text, header_text, incarnations_text, number, numbers, options_text, result_text, site_text, spelling, start_text};
+ghost use Rattle.packet_wire.specs.Spelling.{body_text, cause_number, child_text, give_many_text, header_text, incarnations_text, number, numbers, options_text, result_text, sibling_text, siblings_text, site_text, spelling, start_text};
 ghost use Rattle.packet_wire.specs.Kinds.{kind_of};
 ghost use Rattle.packet_wire.specs.WellFormed.{is_body, is_result, is_well_formed};
 
 use crate::kind::Kind;
 use crate::packet::{Body, Packet};
 use byteorder::{BigEndian, ByteOrder};
-use spawn_frame::{Attempt, Cause, ChildResult, Site};
+use spawn_frame::{Attempt, Cause, ChildResult, Sibling, Site};
 use std::alloc::{AllocError, Global};
 
 /// The number with which each packet begins.
 pub const MAGIC: u16 = 0x434e;
 
-/// The version of each packet.
+/// The version of each packet but those that give several children.
 pub const VERSION: u8 = 1;
 
-/// The most bytes that a packet has: a header, a child, a cover and its 1,000 options.
-const MOST_BYTES: usize = 2025;
+/// The version of the packets that give several children.
+pub const SECOND_VERSION: u8 = 2;
+
+/// The most bytes that a packet has: a header, a prefix of 999 options and eight children.
+const MOST_BYTES: usize = 2095;
 
 /// Writes a number of one byte.
 #[tactic(auto, unfolding(crate::specs::Spelling::number))]
@@ -54,7 +57,7 @@ fn write_start(out: &mut Vec<u8>, kind: Kind) -> Result<(), AllocError>
     ensures { OnOk result (out.new.items ≡ out.old.items ++ start_text kind) }
 {
     write_u16(out, MAGIC)?;
-    write_u8(out, VERSION)?;
+    write_u8(out, kind.version())?;
     write_u8(out, kind.number())
 }
 
@@ -121,6 +124,41 @@ fn write_child(out: &mut Vec<u8>, serial: u32, attempt: Attempt) -> Result<(), A
     write_u32(out, attempt)
 }
 
+/// Writes a child among others.
+fn write_sibling(out: &mut Vec<u8>, sibling: Sibling) -> Result<(), AllocError>
+    ensures { OnOk result (out.new.items ≡ out.old.items ++ sibling_text sibling) }
+{
+    write_u32(out, sibling.serial)?;
+    write_u32(out, sibling.attempt)?;
+    write_u16(out, sibling.option)
+}
+
+/// Writes children of one parent.
+fn write_siblings(out: &mut Vec<u8>, siblings: &[Sibling]) -> Result<(), AllocError>
+    ensures { OnOk result (out.new.items ≡ out.old.items ++ siblings_text siblings.now) }
+{
+    for sibling in siblings {
+        write_sibling(out, *sibling)?;
+    }
+    Ok(())
+}
+
+/// Writes a count, the prefix of a parent, and so many children.
+fn write_give_many(
+    out: &mut Vec<u8>,
+    prefix: &[u16],
+    siblings: &[Sibling],
+) -> Result<(), AllocError>
+    requires prefix { length prefix.now < 65536 }
+    requires siblings { length siblings.now < 256 }
+    ensures { OnOk result (out.new.items
+        ≡ out.old.items ++ give_many_text prefix.now siblings.now) }
+{
+    write_u8(out, siblings.len() as u8)?;
+    write_option_list(out, prefix)?;
+    write_siblings(out, siblings)
+}
+
 /// Writes a result.
 fn write_result(out: &mut Vec<u8>, told: &ChildResult) -> Result<(), AllocError>
     requires { is_result told.now ≡ true }
@@ -163,6 +201,9 @@ fn write_body(out: &mut Vec<u8>, body: &Body) -> Result<(), AllocError>
             write_child(out, *serial, *attempt)?;
             write_option_list(out, prefix.as_slice())
         }
+        Body::GiveMany { prefix, siblings } => {
+            write_give_many(out, prefix.as_slice(), siblings.as_slice())
+        }
         Body::Return {
             serial,
             attempt,
@@ -199,13 +240,17 @@ fn spelling_of(alloc: Global, packet: &Packet) -> Result<Vec<u8>, AllocError>
     Ok(text)
 }
 
-/// Appends the bytes of a well-formed packet, of which there are at most 2,025.
+/// Appends the bytes of a well-formed packet, of which there are at most 2,095.
 ///
-/// A header of 14 bytes has the magic `43 4e`, the version 1, the kind from 1 to 10 in the order of [`Body`], and of the
-/// sender and the receiver each the node in one byte and the incarnation in four. The body follows: of `Members` the count
-/// in one byte and the incarnations in four each; of those that name a child its serial number and the attempt in four
-/// bytes each, and then the prefix, the result, or the cause from 1 to 3. A list of options has its count and each number
-/// in two bytes; a result is the byte 0 for none, or 1 and the list of the cover. The highest byte of a number is first.
+/// A header of 14 bytes has the magic `43 4e`, the version, the kind, and of the sender and the receiver each the node in
+/// one byte and the incarnation in four. The version is 1 and the kind a number from 1 to 10 in the order of [`Body`], where
+/// a `GiveMany` shares the number of `Give` and has the version 2.
+///
+/// The body follows: of `Members` the count in one byte and the incarnations in four each; of `GiveMany` the count of the
+/// children in one byte, the parent's prefix, and of each child the serial number and the attempt in four bytes each and the
+/// option in two; of the others that name a child its serial number and the attempt in four bytes each, and then the prefix,
+/// the result, or the cause from 1 to 3. A list of options has its count and each number in two bytes; a result is the byte 0
+/// for none, or 1 and the list of the cover. The highest byte of a number is first.
 ///
 /// The only error is want of memory. The list is then as it was.
 pub fn write_packet(alloc: Global, packet: &Packet, out: &mut Vec<u8>) -> Result<(), AllocError>

@@ -91,6 +91,12 @@ pub not_to_node : (view : View) (from to : Site) → IsRegistryView view → to 
 not_to_node view from to is here routed =
     true≢false (sym (and_parts (not (from.node == to.node)) (not (to.node == 0)) routed).1 ∙ ap (λ n. not (n == 0)) (ap (λ s. s.node) here ∙ is))
 
+-- nor is one that goes from a node to a node
+pub not_between : (view : View) (from to : Site) → IsRegistryView view → to ≡ view.site → (not (from.node == to.node) && (not (from.node == 0) && not (to.node == 0))) ≡ true → ⊥
+not_between view from to is here routed =
+    let parts = and_parts (not (from.node == to.node)) (not (from.node == 0) && not (to.node == 0)) routed in
+    true≢false (sym (and_parts (not (from.node == 0)) (not (to.node == 0)) parts.1).1 ∙ ap (λ n. not (n == 0)) (ap (λ s. s.node) here ∙ is))
+
 pub not_from_it : (view : View) (from to : Site) → IsRegistryView view → to ≡ view.site → (not (from.node == to.node) && (from.node == 0)) ≡ true → ⊥
 not_from_it view from to is here routed =
     let parts = and_parts (not (from.node == to.node)) (from.node == 0) routed in
@@ -104,6 +110,7 @@ hear_acts problem view from to bodies.Steal p is here routed passes = let s = st
 hear_acts problem view from to (bodies.Return serial attempt result) p is here routed passes = return_acts problem view from serial attempt result p passes
 hear_acts problem view from to (bodies.Members incarnations) p is here routed passes = absurd (not_from_it view from to is here routed)
 hear_acts problem view from to (bodies.Give serial attempt prefix) p is here routed passes = absurd (not_to_node view from to is here routed)
+hear_acts problem view from to (bodies.GiveMany prefix siblings) p is here routed passes = absurd (not_between view from to is here routed)
 hear_acts problem view from to bodies.NoWork p is here routed passes = absurd (not_to_node view from to is here routed)
 hear_acts problem view from to (bodies.Accept serial attempt result) p is here routed passes = absurd (not_to_node view from to is here routed)
 hear_acts problem view from to (bodies.Refuse serial attempt cause) p is here routed passes = absurd (not_to_node view from to is here routed)

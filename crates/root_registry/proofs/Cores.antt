@@ -2,7 +2,7 @@
 use Rattle.std.proofs.Common.{◌≡◌, ℕ, List, Option, Some, None, option_map, Result, Ok, Err, refl, sym, ap, ◌∙◌, subst}
 use Rattle.std.specs.Prelude.{IfOk, OnErr, OnOk}
 use Rattle.cover_problem.specs.Problem.{Problem}
-use Rattle.node_core.specs.Acting.{Acts, GivesLeast, Sending}
+use Rattle.node_core.specs.Acting.{Acts, GivesShare, Sending}
 use Rattle.node_core.specs.Formed.{AllFormed}
 use Rattle.root_registry.specs.Formed.{FormedRegistryStep, IsFormedRegistry}
 use Rattle.root_registry.specs.Published.{IsPublishing, Publishing, answer_of, entering, publishing, unanswered}
@@ -29,7 +29,7 @@ begins problem nodes view held formed is none =
 
 -- what the registry does with the event
 abbrev pub Steps : Problem → View → View → Event → Lists → Lists → Reply → Type 0
-Steps problem old new event before after reply = Sending before after (λ sent. RegistryStep problem old event reply sent new × GivesLeast old event sent)
+Steps problem old new event before after reply = Sending before after (λ sent. RegistryStep problem old event reply sent new × GivesShare old event sent)
 
 module _ (old new : View) (event : Event) (before after : Lists) (held : Publishing) (is : Holds old held) (fit : IsFit held.problem event) where
   -- the laws of a step of the registry

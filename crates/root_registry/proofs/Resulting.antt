@@ -7,6 +7,7 @@ use Rattle.node_core.specs.SiteView.{View, with_ledger}
 use Rattle.node_core.specs.declared.event.Event.{Event}
 use Rattle.node_core.specs.declared.event.Event.TheVariants.{Again, Ask, Deliver, Finish, Greet, Post, Redo, Take}
 use Rattle.node_core.specs.declared.reply.Reply.{Reply}
+use Rattle.packet_wire.specs.Gifts.{gifts_in}
 use Rattle.packet_wire.specs.declared.packet.Body.{Body}
 use Rattle.packet_wire.specs.declared.packet.Body.TheVariants as bodies
 use Rattle.packet_wire.specs.declared.packet.Packet.{Packet}
@@ -18,6 +19,7 @@ use Rattle.spawn_frame.specs.declared.child_result.ChildResult.{ChildResult}
 use Rattle.spawn_frame.specs.declared.site.Site.{Site}
 use Rattle.spawn_frame.specs.declared.status.Status.{Status}
 use Rattle.spawn_frame.specs.declared.status.Status.TheVariants.{Done, Out, Ready}
+use Rattle.steal_return.proofs.Gifts.{gives_keep}
 use Rattle.steal_return.specs.Members.{redo_if}
 use Rattle.steal_return.specs.Returns.{Enters, Holds, Judgement, Refuses, judged}
 
@@ -65,8 +67,10 @@ steal_leaves : (result : Option ChildResult) (old : View) (from : Site) (out : L
 steal_leaves (Some result) old from out new h = ap root_result h.0
 steal_leaves None old from out new (inl d) = ap root_result d.after
 steal_leaves None old from out new (inr g) =
-    result_as old _ new (g.after ∙ ap (with_ledger old) g.gives.after)
-    (no_result (with_status (Out from)) old.own g.serial g.entry g.is (ap status_result g.ready) (λ c. refl))
+    result_as old (with_ledger old g.ledger) new g.after
+    (gives_keep (λ l. root_result (with_ledger old l) ≡ root_result old) from
+    (λ l serial entry is ready q. no_result (with_status (Out from)) l.own serial entry is (ap status_result ready) (λ c. refl) ∙ q)
+    g.parent (gifts_in g.body) old.ledger g.ledger g.each refl)
 
 module _ (problem : Problem) where
   answer_leaves : (old : View) (from : Site) (serial attempt : ℕ) (result : ChildResult) (j : Judgement) (out : List Packet) (new : View)
@@ -84,6 +88,7 @@ module _ (problem : Problem) where
       answer_leaves old from serial attempt result h.1.0 out new h.1.2 (ap (if_enters result) (sym h.1.1) ∙ none)
   hear_leaves old from (bodies.Members incarnations) reply out new h none = absurd h
   hear_leaves old from (bodies.Give serial attempt prefix) reply out new h none = absurd h
+  hear_leaves old from (bodies.GiveMany prefix siblings) reply out new h none = absurd h
   hear_leaves old from bodies.NoWork reply out new h none = absurd h
   hear_leaves old from (bodies.Accept serial attempt result) reply out new h none = absurd h
   hear_leaves old from (bodies.Refuse serial attempt cause) reply out new h none = absurd h
@@ -128,6 +133,7 @@ module _ (problem : Problem) where
   hear_enters old from bodies.Steal reply out new entered root h some = absurd (none-some entered some)
   hear_enters old from (bodies.Members incarnations) reply out new entered root h some = absurd h
   hear_enters old from (bodies.Give serial attempt prefix) reply out new entered root h some = absurd h
+  hear_enters old from (bodies.GiveMany prefix siblings) reply out new entered root h some = absurd h
   hear_enters old from bodies.NoWork reply out new entered root h some = absurd h
   hear_enters old from (bodies.Accept serial attempt result) reply out new entered root h some = absurd h
   hear_enters old from (bodies.Refuse serial attempt cause) reply out new entered root h some = absurd h

@@ -9,7 +9,7 @@ use Rattle.packet_wire.specs.WellFormed.{is_well_formed}
 use Rattle.packet_wire.specs.declared.packet.Body.{Body}
 use Rattle.packet_wire.specs.declared.packet.Body.TheVariants as bodies
 use Rattle.packet_wire.specs.declared.packet.Packet.{Packet}
-use Rattle.root_registry.proofs.Acting.{not_from_it, not_to_node}
+use Rattle.root_registry.proofs.Acting.{not_between, not_from_it, not_to_node}
 use Rattle.root_registry.specs.Core.{goes_to_registry}
 use Rattle.root_registry.specs.Refusal.{IsRegistryView}
 use Rattle.spawn_frame.specs.declared.site.Site.{Site}
@@ -20,6 +20,7 @@ goes_there view from to bodies.Steal is here routed = refl
 goes_there view from to (bodies.Return serial attempt result) is here routed = refl
 goes_there view from to (bodies.Members incarnations) is here routed = absurd (not_from_it view from to is here routed)
 goes_there view from to (bodies.Give serial attempt prefix) is here routed = absurd (not_to_node view from to is here routed)
+goes_there view from to (bodies.GiveMany prefix siblings) is here routed = absurd (not_between view from to is here routed)
 goes_there view from to bodies.NoWork is here routed = absurd (not_to_node view from to is here routed)
 goes_there view from to (bodies.Accept serial attempt result) is here routed = absurd (not_to_node view from to is here routed)
 goes_there view from to (bodies.Refuse serial attempt cause) is here routed = absurd (not_to_node view from to is here routed)

@@ -11,7 +11,7 @@ use Rattle.node_core.specs.declared.event.Event.{Event}
 use Rattle.node_core.specs.declared.event.Event.TheVariants.{Again, Ask, Deliver, Finish, Greet, Post, Redo, Take}
 use Rattle.node_core.specs.declared.reply.Reply.{Reply}
 use Rattle.packet_wire.specs.declared.packet.Body.{Body}
-use Rattle.packet_wire.specs.declared.packet.Body.TheVariants.{Abort, Accept, Give, Hello, Members, NoWork, Over, Refuse, Return, Steal}
+use Rattle.packet_wire.specs.declared.packet.Body.TheVariants.{Abort, Accept, Give, GiveMany, Hello, Members, NoWork, Over, Refuse, Return, Steal}
 use Rattle.packet_wire.specs.declared.packet.Packet.{Packet}
 use Rattle.root_registry.proofs.Acceptable.{acceptable_passes}
 use Rattle.root_registry.specs.Refusal.{hello_refusal, registry_refusal, return_refusal, root_hear_refusal}
@@ -38,6 +38,7 @@ hear_passes problem view from (Return serial attempt result) reply out new h =
     ap (return_refusal problem result) h.1.1 ∙ answers_pass problem view from serial attempt result h.1.0 out new h.1.2
 hear_passes problem view from (Members incarnations) reply out new h = refl
 hear_passes problem view from (Give serial attempt prefix) reply out new h = refl
+hear_passes problem view from (GiveMany prefix siblings) reply out new h = refl
 hear_passes problem view from NoWork reply out new h = refl
 hear_passes problem view from (Accept serial attempt result) reply out new h = refl
 hear_passes problem view from (Refuse serial attempt cause) reply out new h = refl

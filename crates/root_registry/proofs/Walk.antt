@@ -1,7 +1,8 @@
 -- Each step of the formed registry leaves it formed, and what is put out has a spelling.
-use Rattle.std.proofs.Common.{◌≡◌, ◌⊎◌, ℕ, suc, ◌+◌, ◌≤◌, Bool, true, false, ◌&&◌, cond, not, ◌==◌, List, [], ◌∷◌, ◌++◌, length, map, drop, Option, Some, None, slice_get, refl, sym, ap, subst, ◌∙◌, inl, inr, arith}
+use Rattle.std.proofs.Common.{◌≡◌, ◌⊎◌, ℕ, zero, suc, ◌+◌, ◌≤◌, Bool, true, false, ◌&&◌, cond, not, ◌==◌, List, [], ◌∷◌, ◌++◌, length, map, drop, option_map, Option, Some, None, slice_get, refl, sym, ap, subst, ◌∙◌, inl, inr, arith}
 use Rattle.std.specs.List.{list_all}
 use Rattle.std.proofs.lemmas.Bool.{and_from, and_parts, eq-eqb, eqb-false, ne_eqb, not-true, not_from_false}
+use Rattle.std.proofs.lemmas.Option.{none-some, same_Some, slice_get-map}
 use Rattle.cover_problem.specs.Problem.{Problem}
 use Rattle.node_core.proofs.Each.{each_append, kept_changed, kept_mapped}
 use Rattle.node_core.proofs.Knowing.{node_site}
@@ -19,6 +20,7 @@ use Rattle.node_core.specs.declared.event.Event.TheVariants.{Again, Ask, Deliver
 use Rattle.node_core.specs.declared.reply.Reply.{Reply}
 use Rattle.packet_wire.specs.Kinds.{is_directed, kind_of}
 use Rattle.packet_wire.specs.WellFormed.{is_body, is_child, is_counted, is_incarnation_of, is_node, is_result, is_site, is_well_formed}
+use Rattle.packet_wire.specs.Gifts.{gifts_in}
 use Rattle.packet_wire.specs.declared.packet.Body.{Body}
 use Rattle.packet_wire.specs.declared.packet.Body.TheVariants as bodies
 use Rattle.packet_wire.specs.declared.packet.Packet.{Packet}
@@ -30,6 +32,8 @@ use Rattle.spawn_frame.specs.declared.child_result.ChildResult.{ChildResult}
 use Rattle.spawn_frame.specs.declared.site.Site.{Site}
 use Rattle.spawn_frame.specs.declared.status.Status.{Status}
 use Rattle.spawn_frame.specs.declared.status.Status.TheVariants.{Done, Out, Ready}
+use Rattle.spawn_frame.specs.declared.unit.Unit.{Unit as WorkUnit}
+use Rattle.steal_return.proofs.Gifts.{gives_keep}
 use Rattle.steal_return.specs.Members.{redo_if, redo_lost}
 use Rattle.steal_return.specs.Returns.{Enters, Holds, Judgement, Refuses, judged}
 
@@ -84,6 +88,21 @@ itself old new e = remains_as old old new e (record { root = refl; guests = refl
 gets_remains : (old : View) (serial : ℕ) (s : Status) → map origin (change_at (with_status s) old.own serial) ≡ map origin old.own
 gets_remains old serial s = kept_changed origin (with_status s) (λ c. refl) old.own serial
 
+-- the root is the one child
+abbrev pub IsRoot : View → Type 0
+IsRoot view = map origin view.own ≡ (None, []) ∷ []
+
+-- so no child has a parent
+parentless : (own : List Entry) → map origin own ≡ (None, []) ∷ [] → (k : ℕ) (c : Entry) → slice_get own k ≡ Some c → c.parent ≡ None
+parentless own root k c at = by k (sym (ap (λ l. slice_get l k) root) ∙ slice_get-map origin own k ∙ ap (option_map origin) at)
+  where
+    alone : List (Option WorkUnit × List ℕ)
+    alone = (None, []) ∷ []
+
+    by : (j : ℕ) → slice_get alone j ≡ Some (origin c) → c.parent ≡ None
+    by zero e = sym (ap (λ o. o.0) (same_Some (None, []) (origin c) e))
+    by (suc j) e = absurd (none-some (origin c) e)
+
 -- ---- steps
 
 -- What a step of the registry leaves.
@@ -123,21 +142,24 @@ module _ (problem : Problem) where
         });
       }
 
-  steal_continues : (result : Option ChildResult) (old : View) (from : Site) (out : List Packet) (new : View) → old.site.node ≡ 0 → is_thief old.site from ≡ true → RootSteal result old from out new → IsFormed problem old → Continues problem old out new
-  steal_continues (Some result) old from out new registry thief h f = record {
+  steal_continues : (result : Option ChildResult) (old : View) (from : Site) (out : List Packet) (new : View) → old.site.node ≡ 0 → IsRoot old → is_thief old.site from ≡ true → RootSteal result old from out new → IsFormed problem old → Continues problem old out new
+  steal_continues (Some result) old from out new registry root thief h f = record {
     follows_on =
         follows problem old old new (record { from = old.site; to = from; body = bodies.Over } ∷ []) out h.0 h.1 f refl
         (packet_told old.site from bodies.Over f.units.site (and_parts (is_another old.site from) (not (from.node == 0)) thief).0 (eq-eqb old.site.node 0 registry) refl, tt);
     remains = itself old new h.0;
   }
-  steal_continues None old from out new registry thief h f = record {
-    follows_on = steal_follows problem old from out new thief h f;
+  steal_continues None old from out new registry root thief h f = record {
+    follows_on = steal_follows problem old from out new thief (inr (parentless old.own root)) h f;
     remains = stolen h;
   }
     where
       stolen : Denies old from out new ⊎ Gives old from out new → Remains old new
       stolen (inl d) = itself old new d.after
-      stolen (inr g) = remains_as old _ new (g.after ∙ ap (with_ledger old) g.gives.after) (record { root = gets_remains old g.serial (Out from); guests = refl })
+      stolen (inr g) =
+          remains_as old (with_ledger old g.ledger) new g.after
+          (gives_keep (λ l. Remains old (with_ledger old l)) from (λ l serial entry is ready r. record { root = gets_remains (with_ledger old l) serial (Out from) ∙ r.root; guests = r.guests })
+          g.parent (gifts_in g.body) old.ledger g.ledger g.each (record { root = refl; guests = refl }))
 
   answers_continue : (old : View) (from : Site) (serial attempt : ℕ) (result : ChildResult) (j : Judgement) (out : List Packet) (new : View) → old.site.node ≡ 0 → is_thief old.site from ≡ true
       → is_child serial attempt ≡ true → is_result result ≡ true → judged (slice_get old.own serial) from attempt ≡ j → RootAnswers problem old from serial attempt result j out new → IsFormed problem old → Continues problem old out new
@@ -171,20 +193,21 @@ module _ (problem : Problem) where
   greeter_counted : (from : Site) → is_site from ≡ true → is_counted from.incarnation ≡ true
   greeter_counted from is = (and_parts (is_counted from.incarnation) _ (and_parts (is_node from.node) (is_incarnation_of from.node from.incarnation) is).1).0
 
-  hears_continue : (old : View) (from : Site) (body : Body) (reply : Reply) (out : List Packet) (new : View) → old.site.node ≡ 0 → IsWell from old.site body → RootHears problem old from body reply out new → IsFormed problem old → Continues problem old out new
-  hears_continue old from bodies.Hello reply out new registry w h f =
+  hears_continue : (old : View) (from : Site) (body : Body) (reply : Reply) (out : List Packet) (new : View) → old.site.node ≡ 0 → IsRoot old → IsWell from old.site body → RootHears problem old from body reply out new → IsFormed problem old → Continues problem old out new
+  hears_continue old from bodies.Hello reply out new registry root w h f =
       hello_continues old from out new registry (greeter_node from old.site registry w.routed) (greeter_counted from w.sender) h.1 f
-  hears_continue old from bodies.Steal reply out new registry w h f = steal_continues (root_result old) old from out new registry (from_thief from old.site w.sender w.routed) h.1 f
-  hears_continue old from (bodies.Return serial attempt result) reply out new registry w h f =
+  hears_continue old from bodies.Steal reply out new registry root w h f = steal_continues (root_result old) old from out new registry root (from_thief from old.site w.sender w.routed) h.1 f
+  hears_continue old from (bodies.Return serial attempt result) reply out new registry root w h f =
       let told = and_parts (is_child serial attempt) (is_result result) w.told in
       answers_continue old from serial attempt result h.1.0 out new registry (from_thief from old.site w.sender w.routed) told.0 told.1 h.1.1 h.1.2 f
-  hears_continue old from (bodies.Members incarnations) reply out new registry w h f = absurd h
-  hears_continue old from (bodies.Give serial attempt prefix) reply out new registry w h f = absurd h
-  hears_continue old from bodies.NoWork reply out new registry w h f = absurd h
-  hears_continue old from (bodies.Accept serial attempt result) reply out new registry w h f = absurd h
-  hears_continue old from (bodies.Refuse serial attempt cause) reply out new registry w h f = absurd h
-  hears_continue old from (bodies.Abort serial attempt) reply out new registry w h f = absurd h
-  hears_continue old from bodies.Over reply out new registry w h f = absurd h
+  hears_continue old from (bodies.Members incarnations) reply out new registry root w h f = absurd h
+  hears_continue old from (bodies.Give serial attempt prefix) reply out new registry root w h f = absurd h
+  hears_continue old from (bodies.GiveMany prefix siblings) reply out new registry root w h f = absurd h
+  hears_continue old from bodies.NoWork reply out new registry root w h f = absurd h
+  hears_continue old from (bodies.Accept serial attempt result) reply out new registry root w h f = absurd h
+  hears_continue old from (bodies.Refuse serial attempt cause) reply out new registry root w h f = absurd h
+  hears_continue old from (bodies.Abort serial attempt) reply out new registry root w h f = absurd h
+  hears_continue old from bodies.Over reply out new registry root w h f = absurd h
 
   again_sends : (old : View) → old.site.node ≡ 0 → IsFormed problem old → AllFormed (gives_again old.site 0 old.own ++ if_done (root_result old) (over_packets old))
   again_sends old registry f =
@@ -195,24 +218,24 @@ module _ (problem : Problem) where
       overs None = tt
       overs (Some result) = over_sends old registry f
 
-  event_continues : (old : View) (event : Event) (reply : Reply) (out : List Packet) (new : View) → old.site.node ≡ 0 → IsFit problem event → RegistryStep problem old event reply out new → IsFormed problem old → Continues problem old out new
-  event_continues old (Redo serial) reply out new registry fit h f = record {
+  event_continues : (old : View) (event : Event) (reply : Reply) (out : List Packet) (new : View) → old.site.node ≡ 0 → IsRoot old → IsFit problem event → RegistryStep problem old event reply out new → IsFormed problem old → Continues problem old out new
+  event_continues old (Redo serial) reply out new registry root fit h f = record {
     follows_on = redo_follows problem old serial out new h.1 f;
     remains = remains_as old _ new (h.1.after ∙ ap (with_ledger old) h.1.redoes.after) (record { root = kept_changed origin redone (λ c. refl) old.own serial; guests = refl });
   }
-  event_continues old (Deliver packet) reply out new registry fit h f = hears_continue old packet.from packet.body reply out new registry (well_told packet old.site h.0 fit) h.2 f
-  event_continues old Again reply out new registry fit h f = record {
+  event_continues old (Deliver packet) reply out new registry root fit h f = hears_continue old packet.from packet.body reply out new registry root (well_told packet old.site h.0 fit) h.2 f
+  event_continues old Again reply out new registry root fit h f = record {
     follows_on = follows problem old old new (gives_again old.site 0 old.own ++ if_done (root_result old) (over_packets old)) out h.1 h.0 f refl (again_sends old registry f);
     remains = itself old new h.1;
   }
-  event_continues old Take reply out new registry fit h f = absurd h
-  event_continues old (Post job finding) reply out new registry fit h f = absurd h
-  event_continues old (Finish unit) reply out new registry fit h f = absurd h
-  event_continues old (Ask victim) reply out new registry fit h f = absurd h
-  event_continues old Greet reply out new registry fit h f = absurd h
+  event_continues old Take reply out new registry root fit h f = absurd h
+  event_continues old (Post job finding) reply out new registry root fit h f = absurd h
+  event_continues old (Finish unit) reply out new registry root fit h f = absurd h
+  event_continues old (Ask victim) reply out new registry root fit h f = absurd h
+  event_continues old Greet reply out new registry root fit h f = absurd h
 
   step_continues : (old new : View) (event : Event) (reply : Reply) (out : List Packet) → FormedRegistryStep problem old event reply out new → Continues problem old out new
-  step_continues old new event reply out s = event_continues old event reply out new s.before.registry s.fit s.step s.before.formed
+  step_continues old new event reply out s = event_continues old event reply out new s.before.registry s.before.root s.fit s.step s.before.formed
 
   pub registry_kept : (old new : View) (event : Event) (reply : Reply) (out : List Packet) → FormedRegistryStep problem old event reply out new → IsFormedRegistry problem new
   registry_kept old new event reply out s =

@@ -1,7 +1,7 @@
 -- The registry as its users see it, and what goes to it.
 use Rattle.std.specs.Prelude.{◌≡◌, ℕ, Bool, true, false, List, ◌++◌}
 use Rattle.cover_problem.specs.Problem.{Problem}
-use Rattle.node_core.specs.Acting.{AnswersLeast, GivesLeast, SiteCore}
+use Rattle.node_core.specs.Acting.{AnswersShare, GivesShare, SiteCore}
 use Rattle.node_core.specs.Requests.{gives_again, moved_by}
 use Rattle.node_core.specs.SiteView.{View, opening_view}
 use Rattle.node_core.specs.declared.event.Event.{Event}
@@ -38,8 +38,8 @@ SaysAgain view reply out = (out ≡ root_again view) × (reply ≡ moved_by out)
 
 -- the event is a step of the registry, and of the ready children a Steal gets the one of least serial
 abbrev pub AnswersEvent : Problem → View → Event → View → Reply → List Packet → Type 0
-AnswersEvent problem old event new reply out = RegistryStep problem old event reply out new × GivesLeast old event out
+AnswersEvent problem old event new reply out = RegistryStep problem old event reply out new × GivesShare old event out
 
 -- the same of a packet of this body
 abbrev pub AnswersBody : Problem → View → Site → Body → View → Reply → List Packet → Type 0
-AnswersBody problem old from body new reply out = RootHears problem old from body reply out new × AnswersLeast old from body out
+AnswersBody problem old from body new reply out = RootHears problem old from body reply out new × AnswersShare old from body out

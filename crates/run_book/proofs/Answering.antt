@@ -8,6 +8,7 @@ use Rattle.node_core.specs.SiteView.{View}
 use Rattle.node_core.specs.declared.event.Event.{Event}
 use Rattle.node_core.specs.declared.event.Event.TheVariants.{Again, Ask, Deliver, Finish, Greet, Post, Redo, Take}
 use Rattle.node_core.specs.declared.reply.Reply.{Reply}
+use Rattle.packet_wire.specs.Gifts.{is_gift}
 use Rattle.packet_wire.specs.declared.packet.Body.{Body}
 use Rattle.packet_wire.specs.declared.packet.Body.TheVariants as bodies
 use Rattle.packet_wire.specs.declared.packet.Packet.{Packet}
@@ -121,11 +122,19 @@ accepts_none : (problem : Problem) (old new : View) (event : Event) (reply : Rep
 accepts_none problem old new event reply out s enters none =
     as_it_was (root_result old) (root_result new) out (event_leaves problem old new event reply out s enters) none
 
+-- what gives children accepts nothing
+gift_accepts_none : (body : Body) → is_gift body ≡ true → accepted_in body ≡ None
+gift_accepts_none (bodies.Give serial attempt prefix) is = refl
+gift_accepts_none (bodies.GiveMany prefix siblings) is = refl
+gift_accepts_none (bodies.Accept serial attempt result) is = absurd (cc)
+gift_accepts_none bodies.Hello is = refl
+gift_accepts_none _ is = refl
+
 steals_accept_none : (result : Option ChildResult) (old : View) (from : Site) (out : List Packet) (new : View) → RootSteal result old from out new
     → first_accepted out ≡ None
 steals_accept_none (Some result) old from out new h = ap first_accepted h.1
 steals_accept_none None old from out new (inl d) = ap first_accepted d.sends
-steals_accept_none None old from out new (inr g) = ap first_accepted g.sends
+steals_accept_none None old from out new (inr g) = ap first_accepted g.sends ∙ ap (λ a. option_or a None) (gift_accepts_none g.body g.spelled)
 
 -- a Return that is answered
 returns_tell : (problem : Problem) (old new : View) (packet : Packet) (reply : Reply) (out : List Packet) (serial attempt : ℕ) (result : ChildResult) (j : Judgement)
@@ -156,6 +165,7 @@ hears_tell problem old new packet (bodies.Return serial attempt result) reply ou
     returns_tell problem old new packet reply out serial attempt result h.1.0 formed s is h.1.1 h.1.2
 hears_tell problem old new packet (bodies.Members incarnations) reply out formed s is h = absurd h
 hears_tell problem old new packet (bodies.Give serial attempt prefix) reply out formed s is h = absurd h
+hears_tell problem old new packet (bodies.GiveMany prefix siblings) reply out formed s is h = absurd h
 hears_tell problem old new packet bodies.NoWork reply out formed s is h = absurd h
 hears_tell problem old new packet (bodies.Accept serial attempt result) reply out formed s is h = absurd h
 hears_tell problem old new packet (bodies.Refuse serial attempt cause) reply out formed s is h = absurd h

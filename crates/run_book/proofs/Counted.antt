@@ -45,6 +45,7 @@ heard problem old from bodies.Hello reply out new entered h some = absurd (none-
 heard problem old from bodies.Steal reply out new entered h some = absurd (none-some entered some)
 heard problem old from (bodies.Members incarnations) reply out new entered h some = absurd h
 heard problem old from (bodies.Give serial attempt prefix) reply out new entered h some = absurd h
+heard problem old from (bodies.GiveMany prefix siblings) reply out new entered h some = absurd h
 heard problem old from bodies.NoWork reply out new entered h some = absurd h
 heard problem old from (bodies.Accept serial attempt result) reply out new entered h some = absurd h
 heard problem old from (bodies.Refuse serial attempt cause) reply out new entered h some = absurd h

@@ -14,7 +14,7 @@ use Rattle.node_core.specs.declared.event.Event.TheVariants.{Again, Ask, Deliver
 use Rattle.node_core.specs.declared.reply.Reply.{Reply}
 use Rattle.node_core.specs.declared.reply.Reply.TheVariants.{Idle, Ignored, Moved, Ripe, Taken}
 use Rattle.packet_wire.specs.declared.packet.Body.{Body}
-use Rattle.packet_wire.specs.declared.packet.Body.TheVariants.{Abort, Accept, Give, Hello, Members, NoWork, Over, Refuse, Return, Steal}
+use Rattle.packet_wire.specs.declared.packet.Body.TheVariants.{Abort, Accept, Give, GiveMany, Hello, Members, NoWork, Over, Refuse, Return, Steal}
 use Rattle.packet_wire.specs.declared.packet.Packet.{Packet}
 use Rattle.root_registry.proofs.Beginning.{registry_begins}
 use Rattle.root_registry.proofs.Walk.{registry_kept}
@@ -60,6 +60,7 @@ hearing_holds problem old new from Hello (Taken job prefix) out s = absurd s
 hearing_holds problem old new from (Members incarnations) (Taken job prefix) out s = absurd s.1
 hearing_holds problem old new from Steal (Taken job prefix) out s = moved_holds (Taken job prefix) s.0
 hearing_holds problem old new from (Give serial attempt given) (Taken job prefix) out s = absurd s
+hearing_holds problem old new from (GiveMany given siblings) (Taken job prefix) out s = absurd s
 hearing_holds problem old new from NoWork (Taken job prefix) out s = ap prefix_in s.0
 hearing_holds problem old new from (Return serial attempt result) (Taken job prefix) out s = moved_holds (Taken job prefix) s.0
 hearing_holds problem old new from (Accept serial attempt result) (Taken job prefix) out s = absurd s
@@ -74,6 +75,7 @@ root_hearing_holds problem old new from Steal reply out s = moved_holds reply s.
 root_hearing_holds problem old new from (Return serial attempt result) reply out s = moved_holds reply s.0
 root_hearing_holds problem old new from (Members incarnations) reply out s = absurd s
 root_hearing_holds problem old new from (Give serial attempt given) reply out s = absurd s
+root_hearing_holds problem old new from (GiveMany given siblings) reply out s = absurd s
 root_hearing_holds problem old new from NoWork reply out s = absurd s
 root_hearing_holds problem old new from (Accept serial attempt result) reply out s = absurd s
 root_hearing_holds problem old new from (Refuse serial attempt cause) reply out s = absurd s

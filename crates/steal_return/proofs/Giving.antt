@@ -1,5 +1,5 @@
 -- The child that a thief gets.
-use Rattle.std.proofs.Common.{◌≡◌, ℕ, true, false, MatchOption, Option, Some, None, slice_get, sym, ap, subst, ◌∙◌, inr, true≢false}
+use Rattle.std.proofs.Common.{◌≡◌, ℕ, true, false, MatchOption, Option, Some, None, List, [], ◌∷◌, slice_get, refl, sym, ap, subst, ◌∙◌, inr, true≢false, arith}
 use Rattle.spawn_frame.specs.Picks.{is_ready}
 use Rattle.spawn_frame.specs.Tables.{attempt_in, has_status, prefix_in}
 use Rattle.spawn_frame.specs.Units.{Table, table_gets}
@@ -8,8 +8,7 @@ use Rattle.spawn_frame.specs.declared.status.Status.TheVariants.{Out}
 use Rattle.spawn_frame.specs.declared.unit.Unit.TheVariants.{Own}
 use Rattle.steal_return.proofs.Scans.{found_first, found_none, ready_status, there}
 use Rattle.steal_return.specs.Ledger.{Ledger, ledger_table}
-use Rattle.steal_return.specs.Steals.{GivesChild, GivesNothing, IsGiven, MayGive, first_ready, is_older}
-use Rattle.steal_return.specs.declared.given.Given.{Given}
+use Rattle.steal_return.specs.Steals.{GivesChildren, GivesNothing, MayGive, first_ready, gift_at, is_older}
 
 pub may_give : (was now : Ledger) → was ≡ now → (thief : Site) (o : Option ℕ) → is_older was.known thief ≡ false → o ≡ first_ready was.own
     → MatchOption o (GivesNothing now thief) (MayGive now thief)
@@ -22,18 +21,28 @@ may_give was now same thief (Some serial) not_older e =
 
 pub gives_child : (was now : Ledger) → was ≡ now → (thief : Site) (serial : ℕ) (table : Table)
     → is_older now.known thief ≡ false → has_status is_ready (slice_get now.own serial) ≡ true
-    → table ≡ table_gets was.table (Own serial) (Out thief) → (given : Given) → IsGiven now.own serial given → GivesChild now thief given (ledger_table was table)
-gives_child was now same thief serial table not_older ready after given g =
+    → table ≡ table_gets was.table (Own serial) (Out thief) → GivesChildren now thief (gift_at now.own serial ∷ []) (ledger_table was table)
+gives_child was now same thief serial table not_older ready after =
     let t = there is_ready now.own serial ready in
     record {
-      entry = t.0;
-      not_older = not_older;
-      is = ap (slice_get now.own) g.serial_is ∙ t.1;
-      ready = ready_status t.0.status t.2;
-      attempt = g.attempt ∙ ap attempt_in t.1;
-      prefix = g.prefix ∙ ap prefix_in t.1;
-      after =
-          ap (ledger_table was) after
-          ∙ ap (λ l. ledger_table l (table_gets l.table (Own serial) (Out thief))) same
-          ∙ ap (λ n. ledger_table now (table_gets now.table (Own n) (Out thief))) (sym g.serial_is);
+      parent = t.0.parent;
+      some = omega arith;
+      most = omega arith;
+      alone = λ e. refl;
+      rising = refl;
+      each = (
+        ledger_table was table,
+        record {
+          entry = t.0;
+          not_older = not_older;
+          is = t.1;
+          ready = ready_status t.0.status t.2;
+          attempt = ap attempt_in t.1;
+          prefix = ap prefix_in t.1;
+          after =
+              ap (ledger_table was) after ∙ ap (λ l. ledger_table l (table_gets l.table (Own serial) (Out thief))) same;
+        },
+        refl,
+        refl,
+      );
     }

@@ -1,8 +1,10 @@
 pub mod Dropping
 pub mod Drops
+pub mod Each
 pub mod Fewer
 pub mod Finishes
 pub mod Hellos
+pub mod Gifts
 pub mod Giving
 pub mod Learning
 pub mod Learns
@@ -11,3 +13,4 @@ pub mod Order
 pub mod Redoing
 pub mod Scans
 pub mod Outrun
+pub mod Shares

@@ -1,12 +1,14 @@
 -- Guests: children of other sites that come, settle or are wanted no more.
-use Rattle.std.specs.Prelude.{◌≡◌, ◌⊎◌, ℕ, Bool, true, false, List, Some, None, is_some}
+use Rattle.std.specs.Prelude.{◌≡◌, ◌⊎◌, ℕ, Bool, true, false, List, Some}
 use Rattle.std.specs.Bool.{OnFalse, OnTrue}
+use Rattle.std.specs.List.{list_all}
 use Rattle.spawn_frame.specs.Aborts.{AbortsBelow, Reached, is_open, reached}
+use Rattle.spawn_frame.specs.Gifts.{admit_each, is_there}
 use Rattle.spawn_frame.specs.Names.{same_unit}
 use Rattle.spawn_frame.specs.Picks.{is_finished}
-use Rattle.spawn_frame.specs.Tables.{new_guest}
-use Rattle.spawn_frame.specs.Units.{Entry, guest_in, insert_guest}
+use Rattle.spawn_frame.specs.Units.{Entry, guest_in}
 use Rattle.spawn_frame.specs.declared.child_result.ChildResult.{ChildResult}
+use Rattle.spawn_frame.specs.declared.gift.Gift.{Gift}
 use Rattle.spawn_frame.specs.declared.site.ChildName.{ChildName}
 use Rattle.spawn_frame.specs.declared.site.Site.{Site}
 use Rattle.spawn_frame.specs.declared.status.Status.TheVariants.{Dropped, Settled}
@@ -15,20 +17,15 @@ use Rattle.steal_return.specs.Finishing.{Appends}
 use Rattle.steal_return.specs.Ledger.{Ledger, ledger_gets, ledger_guests, ledger_own}
 use Rattle.steal_return.specs.Steals.{is_older}
 
--- A child that is given to this site becomes a ready guest.
-pub record AdmitsGuest (old : Ledger) (name : ChildName) (attempt : ℕ) (prefix : List ℕ) (new : Ledger) : Type 0 where
-  pub not_older : is_older old.known name.site ≡ false
-  pub is_new : guest_in old.guests name attempt ≡ None
-  pub after : new ≡ ledger_guests old (insert_guest (new_guest name attempt prefix) old.guests)
+-- Children that are given to this site become ready guests, those that aren't there yet.
+pub record AdmitsGuests (old : Ledger) (from : Site) (gifts : List Gift) (new : Ledger) : Type 0 where
+  pub not_older : is_older old.known from ≡ false
+  pub some_new : list_all (is_there from old.guests) gifts ≡ false
+  pub after : new ≡ ledger_guests old (admit_each from gifts old.guests)
 
--- A child that is given would be a new guest: no later run of its owner is known, and it isn't there, in whatever status.
-pub record IsNew (ledger : Ledger) (name : ChildName) (attempt : ℕ) : Type 0 where
-  pub not_older : is_older ledger.known name.site ≡ false
-  pub absent : guest_in ledger.guests name attempt ≡ None
-
--- Its owner is of an earlier run than is known, or the guest is there already, in whatever status.
-abbrev pub IsNotNew : Ledger → ChildName → ℕ → Type 0
-IsNotNew old name attempt = (is_older old.known name.site ≡ true) ⊎ (is_some (guest_in old.guests name attempt) ≡ true)
+-- the site is of an earlier run than is known, or each of these guests is there already, in whatever status
+abbrev pub NoneIsNew : Ledger → Site → List Gift → Type 0
+NoneIsNew old from gifts = (is_older old.known from ≡ true) ⊎ (list_all (is_there from old.guests) gifts ≡ true)
 
 -- A finished guest settles on the result that its owner accepted.
 pub record SettlesGuest (old : Ledger) (name : ChildName) (attempt : ℕ) (result : ChildResult) (new : Ledger) : Type 0 where
@@ -59,10 +56,10 @@ IsNotOpen old name attempt = (entry : Entry) → guest_in old.guests name attemp
 abbrev pub child_of : Site → ℕ → ChildName
 child_of site serial = record { site = site; serial = serial }
 
--- whether a child that is given to this site becomes a guest
-abbrev pub TellsGive : Ledger → ChildName → ℕ → List ℕ → Bool → Ledger → Type 0
-TellsGive old name attempt prefix true new = AdmitsGuest old name attempt prefix new
-TellsGive old name attempt prefix false new = IsNotNew old name attempt × (new ≡ old)
+-- whether any of the children that are given to this site becomes a guest
+abbrev pub TellsGive : Ledger → Site → List Gift → Bool → Ledger → Type 0
+TellsGive old from gifts true new = AdmitsGuests old from gifts new
+TellsGive old from gifts false new = NoneIsNew old from gifts × (new ≡ old)
 
 -- whether a guest settles on the result that its owner accepted
 abbrev pub TellsAccept : Ledger → ChildName → ℕ → ChildResult → Bool → Ledger → Type 0

@@ -4,4 +4,5 @@ pub mod Invariant
 pub mod Ledger
 pub mod Members
 pub mod Returns
+pub mod Shares
 pub mod Steals

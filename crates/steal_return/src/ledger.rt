@@ -1,24 +1,25 @@
 //! The ledger of a site: what it gave away, and what came back.
 
-ghost use Rattle.std.specs.Prelude.{◌≡◌, ◌≢◌, ◌+◌, ◌<◌, ◌≤◌, ◌↔◌, length, option_map, slice_get, slice_index, false, true, IfOk, IfSome, IsErrOf, IsSome, MatchOption, OnErr, OnOk, Some};
+ghost use Rattle.std.specs.Prelude.{◌≡◌, ◌≢◌, ◌+◌, ◌<◌, ◌∷◌, [], ◌≤◌, ◌↔◌, is_some, length, map, option_map, slice_get, slice_index, false, true, IfOk, IfSome, IsErrOf, IsSome, MatchOption, OnErr, OnOk, Some};
 ghost use Rattle.std.specs.Bool.{OnFalse, OnTrue};
+ghost use Rattle.std.specs.List.{list_all, AllByRecursion};
 ghost use Rattle.spawn_frame.specs.Frames.{frame, frame_result};
+ghost use Rattle.spawn_frame.specs.Gifts.{is_there, serials_of, sibling_gift};
 ghost use Rattle.spawn_frame.specs.Picks.{is_ready, is_split, ready_unit};
 ghost use Rattle.spawn_frame.specs.Splits.{with_result};
-ghost use Rattle.spawn_frame.specs.Tables.{has_status, is_here, is_out, may_end, outs_of, parent_heard, IsSeen};
-ghost use Rattle.spawn_frame.specs.Units.{unit_of};
+ghost use Rattle.spawn_frame.specs.Tables.{has_status, is_here, is_out, may_end, outs_of, parent_heard, parent_in, prefix_in, IsSeen};
+ghost use Rattle.spawn_frame.specs.Units.{guest_in, unit_of};
 ghost use Rattle.spawn_frame.specs.declared.site.TheConstants.{LAST_NODE};
+ghost use Rattle.spawn_frame.specs.declared.unit.Unit.{Unit as WorkUnit};
 ghost use Rattle.steal_return.specs.Finishing.{Appends, FinishesFrame};
-ghost use Rattle.steal_return.specs.Guests.{AdmitsGuest, DropsGuest, IsNew, IsNotFinished, IsNotNew, IsNotOpen, SettlesGuest};
+ghost use Rattle.steal_return.specs.Guests.{child_of, AdmitsGuests, DropsIf, StaysUnless, TellsAccept, TellsGive};
 ghost use Rattle.steal_return.specs.Invariant.{IsLedger};
-ghost use Rattle.steal_return.specs.Ledger.{ledger_gets, ledger_table, opening_ledger, root_ledger};
+ghost use Rattle.steal_return.specs.Ledger.{ledger_gets, ledger_split, ledger_table, opening_ledger, root_ledger};
 ghost use Rattle.steal_return.specs.Members.{is_earlier_run, now_known, raised, Differs, IsAlike, IsRedoable, IsSpent, LearnsHello, LearnsMembers};
 ghost use Rattle.steal_return.specs.Returns.{judged, judgement_of, reply_to, returned, Enters};
-ghost use Rattle.steal_return.specs.Steals.{first_ready, is_older, GivesChild, GivesNothing, IsGiven, MayGive, RedoesChild};
-ghost use Rattle.steal_return.specs.Guests.{child_of, DropsIf, StaysUnless, TellsAccept, TellsGive};
-ghost use Rattle.steal_return.specs.Ledger.{ledger_split};
+ghost use Rattle.steal_return.specs.Steals.{gift_at, is_older, GivesChildren, GivesNothing, IsLastOut, MayGive, RedoesChild};
 ghost use Rattle.steal_return.specs.Members.{IsSpentForHello, IsSpentForMembers};
-ghost use Rattle.steal_return.specs.Steals.{IsLastOut, TellsSteal};
+ghost use Rattle.steal_return.specs.Shares.{chosen, gifts_of, is_spelled, MayGo, MayGoTogether, MayShare, TellsSteal};
 
 use crate::children::{first_lost, first_ready, is_redoable, redo_lost};
 use crate::given::Given;
@@ -28,12 +29,13 @@ use crate::known::Known;
 use crate::learn_fault::LearnFault;
 use crate::redo_fault::RedoFault;
 use crate::return_reply::ReturnReply;
+use crate::sharing::share_with;
 use crate::told::Told;
 use abort_tree::{Out, Reach, parents_decide};
 use cover_problem::Numbers;
 use spawn_frame::{
-    Attempt, Cause, ChildName, ChildResult, Heard, Job, LAST_ATTEMPT, Site, SpawnFault, Status,
-    Table, Unit,
+    Attempt, Cause, ChildName, ChildResult, Gift, Heard, Job, LAST_ATTEMPT, Sibling, Siblings,
+    Site, SpawnFault, Status, Table, Unit,
 };
 use std::alloc::{AllocError, Global};
 use std::marker::Model;
@@ -229,10 +231,82 @@ impl Ledger {
         first_ready(&self.table)
     }
 
+    /// The own children that a thief may be given: with the ready one of least serial the first ready ones of its parent,
+    /// as many as half of those rounded up, and at most eight. None where none is ready, or where a later run of the
+    /// thief's node is known. The only error is want of memory. It costs what the table's `next_ready` does, and a look at
+    /// each child of that parent until 15 of them are ready.
+    pub fn ready_share(&self, thief: Site) -> Result<Option<Vec<u32>>, AllocError>
+        ensures { IfOk result (λ answer. MatchOption answer (GivesNothing self.now thief)
+            (λ serials. MayShare self.now thief serials.items)) }
+    {
+        let Some(serial) = self.ready_child(thief) else {
+            return Ok(None);
+        };
+        let serials = share_with(self.alloc, &self.table, serial)?;
+        Ok(Some(serials))
+    }
+
+    /// What a thief is told of children that may be given together; the only error is want of memory.
+    pub fn given(&self, serials: &[u32]) -> Result<Given, AllocError>
+        requires { MayGoTogether self.now.own serials.now }
+        ensures gifts { IfOk result (λ given.
+            gifts_of given ≡ map (gift_at self.now.own) serials.now) }
+        ensures spelled { IfOk result (λ given. is_spelled given ≡ true) }
+    {
+        let first = serials[0];
+        match self.table.parent(first) {
+            Some(parent) if 1 < serials.len() => self.several(parent, serials),
+            _ => {
+                let gift = self.gift(first)?;
+                Ok(Given::One(gift))
+            }
+        }
+    }
+
+    /// What a thief is told of children of this parent.
+    fn several(&self, parent: Unit, serials: &[u32]) -> Result<Given, AllocError>
+        requires there { IsSome (unit_of self.now.table parent) }
+        requires some { 1 < length serials.now }
+        requires each { AllByRecursion (MayGo (Some parent) self.now.own) serials.now }
+        ensures gifts { IfOk result (λ given.
+            gifts_of given ≡ map (gift_at self.now.own) serials.now) }
+        ensures spelled { IfOk result (λ given. is_spelled given ≡ true) }
+    {
+        let mut prefix = Vec::new(self.alloc);
+        self.table.prefix_into(parent, &mut prefix)?;
+        let mut siblings = Vec::with_capacity(self.alloc, serials.len())?;
+        for serial in serials {
+            let sibling = self.sibling(*serial);
+            siblings.push(sibling)?;
+        }
+        Ok(Given::Several {
+            prefix: Numbers::from_vec(prefix),
+            siblings: Siblings::from_vec(siblings),
+        })
+    }
+
+    /// An own child that has a parent, as one of its children.
+    fn sibling(&self, serial: u32) -> Sibling
+        requires { IsSome (parent_in (slice_get self.now.own serial)) }
+        ensures { (parent : WorkUnit) → parent_in (slice_get self.now.own serial) ≡ Some parent →
+            sibling_gift (prefix_in (unit_of self.now.table parent)) result
+            ≡ gift_at self.now.own serial }
+    {
+        let attempt = match self.table.unit(Unit::Own(serial)) {
+            Some(view) => view.attempt,
+            None => unreachable!(),
+        };
+        Sibling {
+            serial,
+            attempt,
+            option: self.table.option(serial),
+        }
+    }
+
     /// What a thief is told of an own child; the only error is want of memory.
-    pub fn given(&self, serial: u32) -> Result<Given, AllocError>
+    pub fn gift(&self, serial: u32) -> Result<Gift, AllocError>
         requires { serial < length self.now.own }
-        ensures { IfOk result (IsGiven self.now.own serial) }
+        ensures { IfOk result (λ gift. gift ≡ gift_at self.now.own serial) }
     {
         let mut prefix = Vec::new(self.alloc);
         self.table.prefix_into(Unit::Own(serial), &mut prefix)?;
@@ -240,7 +314,7 @@ impl Ledger {
             Some(view) => view.attempt,
             None => unreachable!(),
         };
-        Ok(Given {
+        Ok(Gift {
             serial,
             attempt,
             prefix: Numbers::from_vec(prefix),
@@ -253,25 +327,36 @@ impl Ledger {
         requires not_older { is_older self.old.known thief ≡ false }
         requires ready { has_status is_ready (slice_get self.old.own serial) ≡ true }
         ensures after { self.new ≡ ledger_gets self.old (Unit.Own serial) (Status.Out thief) }
-        ensures gives { (given : Given) → IsGiven self.old.own serial given →
-            GivesChild self.old thief given self.new }
+        ensures gives { GivesChildren self.old thief (gift_at self.old.own serial ∷ []) self.new }
     {
         self.table.give(serial, thief);
     }
 
-    /// Gives the ready own child of least serial to a thief, if there is one and no later run of the thief's node is
-    /// known; the child is out then. The only error is want of memory, which changes nothing.
+    /// Gives children that may go together to a thief, of whose node no later run is known: they are out then. It takes no
+    /// memory, and costs passes through the page of each.
+    pub fn give_each(&mut self, serials: &[u32], thief: Site)
+        requires not_older { is_older self.old.known thief ≡ false }
+        requires together { MayGoTogether self.old.own serials.now }
+        ensures { GivesChildren self.old thief (map (gift_at self.old.own) serials.now) self.new }
+    {
+        for serial in serials {
+            self.give_child(*serial, thief);
+        }
+    }
+
+    /// Gives a thief its share of the ready own children, if one is ready and no later run of the thief's node is known:
+    /// those of `ready_share`, which are out then. The only error is want of memory, which changes nothing.
     pub fn give(&mut self, thief: Site) -> Result<Option<Given>, AllocError>
         ensures gives { IfOk result (λ answer. TellsSteal self.old thief answer self.new) }
-        ensures least { IfOk result (λ answer.
-            IfSome answer (λ given. first_ready self.old.own ≡ Some given.serial)) }
+        ensures chosen { IfOk result (λ answer. IfSome answer (λ given.
+            serials_of (gifts_of given) ≡ chosen self.old.own)) }
         ensures err { OnErr result (self.new ≡ self.old) }
     {
-        let Some(serial) = self.ready_child(thief) else {
+        let Some(serials) = self.ready_share(thief)? else {
             return Ok(None);
         };
-        let given = self.given(serial)?;
-        self.give_child(serial, thief);
+        let given = self.given(&serials)?;
+        self.give_each(&serials, thief);
         Ok(Some(given))
     }
 
@@ -358,53 +443,66 @@ impl Ledger {
         }
     }
 
-    /// A child of another site, given to this one at an attempt of at least 1, becomes a ready guest. It doesn't where a
-    /// later run of its owner is known, or where this guest is there already. True where it does. The only error is
-    /// want of memory, which changes nothing.
-    pub fn receive_give(
-        &mut self,
-        from: Site,
-        serial: u32,
-        attempt: Attempt,
-        prefix: &[u16],
-    ) -> Result<bool, AllocError>
-        requires { 1 ≤ attempt }
+    /// Children of another site, given to this one at attempts of at least 1, become ready guests, those that aren't there
+    /// yet. None does where a later run of their owner is known, or where all are there already. True where any does. The
+    /// only error is want of memory, which changes nothing.
+    pub fn receive_give(&mut self, from: Site, given: Given) -> Result<bool, AllocError>
+        requires { AllByRecursion (λ g. 1 ≤ g.attempt) (gifts_of given) }
         ensures ok { IfOk result (λ moved.
-            TellsGive self.old (child_of from serial) attempt prefix.now moved self.new) }
+            TellsGive self.old from (gifts_of given) moved self.new) }
         ensures err { OnErr result (self.new ≡ self.old) }
     {
-        let name = ChildName { site: from, serial };
-        if !self.is_new(name, attempt) {
+        if self.is_older(from) || self.are_there(from, &given) {
             return Ok(false);
         }
-        let prefix = Numbers::from_vec(Vec::from_slice(self.alloc, prefix)?);
-        self.admit(name, attempt, prefix)?;
+        let gifts = given.into_gifts(self.alloc)?;
+        self.admit_each(from, gifts)?;
         Ok(true)
     }
 
-    /// Whether a child that is given would be a new guest: no later run of its owner is known, and it isn't there yet, in
-    /// whatever status.
-    pub fn is_new(&self, name: ChildName, attempt: Attempt) -> bool
-        ensures new { OnTrue result (IsNew self.now name attempt) }
-        ensures not_new { OnFalse result (IsNotNew self.now name attempt) }
+    /// Whether a later run of the site's node is known. It costs nothing.
+    pub fn is_older(&self, site: Site) -> bool
+        ensures { result ≡ is_older self.now.known site }
     {
-        !self.known.is_older(name.site) && self.table.unit(Unit::Guest(name, attempt)).is_none()
+        self.known.is_older(site)
     }
 
-    /// A new child of another site becomes a ready guest, which keeps the prefix that is handed in; the only error is want
-    /// of memory, which changes nothing.
-    pub fn admit(
-        &mut self,
-        name: ChildName,
-        attempt: Attempt,
-        prefix: Numbers,
-    ) -> Result<(), AllocError>
-        requires new { IsNew self.old name attempt }
-        requires attempt { 1 ≤ attempt }
-        ensures ok { OnOk result (AdmitsGuest self.old name attempt prefix self.new) }
+    /// Whether each of these children of a site is a guest already, in whatever status. Each is found by halving.
+    pub fn are_there(&self, from: Site, given: &Given) -> bool
+        ensures { result ≡ list_all (is_there from self.now.guests) (gifts_of given.now) }
+    {
+        match given {
+            Given::One(gift) => self.has_guest(from, gift.serial, gift.attempt),
+            Given::Several { siblings, .. } => self.all_there(from, siblings.as_slice()),
+        }
+    }
+
+    /// The same of children of one parent.
+    fn all_there(&self, from: Site, siblings: &[Sibling]) -> bool
+        ensures { result ≡ list_all (λ s. is_some (guest_in self.now.guests
+            (child_of from s.serial) s.attempt)) siblings.now }
+    {
+        siblings.iter().all(|sibling| self.has_guest(from, sibling.serial, sibling.attempt))
+    }
+
+    /// Whether a child of a site is a guest at an attempt, in whatever status. It is found by halving.
+    pub fn has_guest(&self, from: Site, serial: u32, attempt: Attempt) -> bool
+        ensures { result ≡ is_some (guest_in self.now.guests (child_of from serial) attempt) }
+    {
+        let name = ChildName { site: from, serial };
+        self.table.unit(Unit::Guest(name, attempt)).is_some()
+    }
+
+    /// Children of another site become ready guests, those that aren't there yet; each keeps the prefix that is handed in.
+    /// The only error is want of memory, which changes nothing.
+    pub fn admit_each(&mut self, from: Site, gifts: Vec<Gift>) -> Result<(), AllocError>
+        requires not_older { is_older self.old.known from ≡ false }
+        requires some_new { list_all (is_there from self.old.guests) gifts.items ≡ false }
+        requires attempts { AllByRecursion (λ g. 1 ≤ g.attempt) gifts.items }
+        ensures ok { OnOk result (AdmitsGuests self.old from gifts.items self.new) }
         ensures err { OnErr result (self.new ≡ self.old) }
     {
-        self.table.admit(name, attempt, prefix)
+        self.table.admit_each(from, gifts)
     }
 
     /// A finished guest settles on the result that its owner accepted, which may be another than its own. True where it

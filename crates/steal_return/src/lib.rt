@@ -11,6 +11,7 @@ mod learn_fault;
 mod ledger;
 mod redo_fault;
 mod return_reply;
+mod sharing;
 mod told;
 
 pub use given::Given;

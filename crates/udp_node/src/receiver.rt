@@ -17,7 +17,7 @@ use std::thread;
 use std::time::{Clock, Duration};
 
 /// How many bytes a receive takes: one more than the longest packet has, so that a longer datagram is seen.
-const BUFFER: usize = 2026;
+const BUFFER: usize = 2096;
 
 /// After how many empty receives a site says again what may be lost.
 const AGAIN: u64 = 20;

@@ -3,10 +3,10 @@
 use crate::cycle::NODE;
 use crate::fault::BenchFault;
 use cover_problem::Numbers;
-use spawn_frame::{ChildName, ChildResult, Heard, Job, Out, Site, Unit};
-use std::alloc::Global;
+use spawn_frame::{ChildName, ChildResult, Gift, Heard, Job, MOST_SIBLINGS, Out, Site, Unit};
+use std::alloc::{AllocError, Global};
 use std::time::{Clock, Duration, Instant};
-use steal_return::Ledger;
+use steal_return::{Given, Ledger};
 
 /// The node that gives children to this one, and takes children of it.
 const OTHER: Site = Site {
@@ -19,6 +19,9 @@ const NAMES_LIMIT: u32 = 4_000_000;
 
 /// How often a call is timed, where it is not timed for all units.
 const CALLS: u32 = 20;
+
+/// How many children a thief gets at once, where enough are ready.
+const SHARE: u32 = MOST_SIBLINGS as u32;
 
 /// How many children stay ready in a large table.
 const KEPT: u32 = 200;
@@ -66,7 +69,7 @@ pub fn measure_guests<C: Clock>(
     let mut rows = Vec::new(alloc);
     let mut ledger = Ledger::start(alloc, NODE, 2, NAMES_LIMIT)?;
     let start = now(clock)?;
-    admit_guests(&mut ledger, guests)?;
+    admit_guests(alloc, &mut ledger, guests)?;
     rows.push(timed(clock, "receive_give", guests, start)?)?;
     let mut jobs = Vec::new(alloc);
     let start = now(clock)?;
@@ -106,7 +109,7 @@ fn timed<C: Clock>(
 /// The ledger of a node with one guest, which is split into so many children.
 fn split_guest(alloc: Global, children: u32) -> Result<Ledger, BenchFault> {
     let mut ledger = Ledger::start(alloc, NODE, 2, NAMES_LIMIT)?;
-    admit_guests(&mut ledger, 1)?;
+    admit_guests(alloc, &mut ledger, 1)?;
     let options = vec![in alloc; 0u16; children as usize]?;
     let Some(job) = ledger.take() else {
         return Err(BenchFault::Unexpected);
@@ -116,10 +119,21 @@ fn split_guest(alloc: Global, children: u32) -> Result<Ledger, BenchFault> {
 }
 
 /// The other node gives so many children, in their order.
-fn admit_guests(ledger: &mut Ledger, guests: u32) -> Result<(), BenchFault> {
+fn admit_guests(alloc: Global, ledger: &mut Ledger, guests: u32) -> Result<(), BenchFault> {
     for serial in 0..guests {
-        ledger.receive_give(OTHER, serial, 1, &[])?;
+        admit(alloc, ledger, serial)?;
     }
+    Ok(())
+}
+
+/// The other node gives a child by itself.
+fn admit(alloc: Global, ledger: &mut Ledger, serial: u32) -> Result<(), AllocError> {
+    let gift = Gift {
+        serial,
+        attempt: 1,
+        prefix: Numbers::from_vec(Vec::new(alloc)),
+    };
+    ledger.receive_give(OTHER, Given::One(gift))?;
     Ok(())
 }
 
@@ -215,7 +229,7 @@ fn time_takes<C: Clock>(
     Ok(())
 }
 
-/// Times children that are given away, and made ready again.
+/// Times children that are given away, as many at once as may be, and made ready again.
 fn time_gives<C: Clock>(
     clock: &C,
     ledger: &mut Ledger,
@@ -229,12 +243,12 @@ fn time_gives<C: Clock>(
     }
     rows.push(timed(clock, "give", CALLS, start)?)?;
     let start = now(clock)?;
-    for serial in 0..CALLS {
+    for serial in 0..CALLS * SHARE {
         if ledger.redo(serial).is_err() {
             return Err(BenchFault::Unexpected);
         }
     }
-    rows.push(timed(clock, "redo", CALLS, start)?)?;
+    rows.push(timed(clock, "redo", CALLS * SHARE, start)?)?;
     Ok(())
 }
 
@@ -299,7 +313,7 @@ fn time_refusals<C: Clock>(
 ) -> Result<(), BenchFault> {
     let options = vec![in alloc; 0u16; FRAME]?;
     for serial in 1..CALLS + 1 {
-        ledger.receive_give(OTHER, serial, 1, &[])?;
+        admit(alloc, ledger, serial)?;
         split_other(ledger, serial, &options)?;
     }
     let mut outs = Vec::new(alloc);

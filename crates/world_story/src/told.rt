@@ -2,7 +2,7 @@
 
 use cover_problem::Numbers;
 use packet_wire::Body;
-use spawn_frame::{Cause, ChildResult, Site, Status, Unit};
+use spawn_frame::{Cause, ChildResult, Sibling, Site, Status, Unit};
 use std::fmt;
 
 /// A run of a node.
@@ -78,6 +78,18 @@ impl fmt::Display for StatusText<'_> {
     }
 }
 
+/// Writes children that are given together.
+fn write_siblings<W: fmt::Write>(f: &mut fmt::Formatter<W>, siblings: &[Sibling]) -> fmt::Result {
+    for Sibling {
+        serial,
+        attempt,
+        option,
+    } in siblings {
+        write!(f, "; {serial}, attempt {attempt}, option {option}")?;
+    }
+    Ok(())
+}
+
 /// What a packet says.
 #[derive(Clone, Copy)]
 pub struct BodyText<'a>(pub &'a Body);
@@ -99,6 +111,10 @@ impl fmt::Display for BodyText<'_> {
                 "Give {serial}, attempt {attempt}, {}",
                 OptionsText(prefix)
             ),
+            Body::GiveMany { prefix, siblings } => {
+                write!(f, "GiveMany below {}", OptionsText(prefix))?;
+                write_siblings(f, siblings.as_slice())
+            }
             Body::Return {
                 serial,
                 attempt,

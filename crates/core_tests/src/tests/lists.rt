@@ -103,6 +103,7 @@ fn body_number(body: &Body) -> usize {
         Body::Refuse { .. } => 14,
         Body::Abort { .. } => 15,
         Body::Over => 16,
+        Body::GiveMany { .. } => 19,
     }
 }
 

@@ -377,6 +377,75 @@ pub static RUNS_ANEW: [Row; 15] = [
     (Overhears(NODE_2, Said::Steal), Fault(OtherSite), &[]),
 ];
 
+/// Children that come together: none where one has no prefix, else those that aren't there yet.
+pub static TOGETHER: [Row; 18] = [
+    (
+        Hears(NODE_2, Said::GiveMany(&[0], &[(3, 1, 2), (4, 1, 1)])),
+        Fault(BadPrefix),
+        &[],
+    ),
+    (
+        Hears(NODE_2, Said::GiveMany(&[0], &[(3, 1, 1), (4, 1, 2)])),
+        Fault(BadPrefix),
+        &[],
+    ),
+    (
+        Hears(NODE_2, Said::GiveMany(&[0], &[(3, 1, 1), (4, 1, 6)])),
+        Fault(BadPrefix),
+        &[],
+    ),
+    (
+        Hears(NODE_2, Said::GiveMany(&[0, 2], &[(3, 1, 4), (4, 1, 5)])),
+        Fault(BadPrefix),
+        &[],
+    ),
+    (Take, Idle, &[]),
+    (
+        Hears(NODE_2, Said::GiveMany(&[0], &[(3, 1, 1), (4, 1, 3)])),
+        Moved,
+        &[],
+    ),
+    (
+        Hears(NODE_2, Said::GiveMany(&[0], &[(3, 1, 1), (4, 1, 3)])),
+        Ignored,
+        &[],
+    ),
+    // What is there isn't looked at.
+    (
+        Hears(NODE_2, Said::GiveMany(&[0, 2], &[(3, 1, 1), (4, 1, 6)])),
+        Ignored,
+        &[],
+    ),
+    (
+        Hears(NODE_2, Said::GiveMany(&[], &[(4, 1, 6), (5, 1, 1)])),
+        Moved,
+        &[],
+    ),
+    (
+        Hears(NODE_2, Said::GiveMany(&[], &[(5, 1, 1), (6, 1, 6)])),
+        Fault(BadPrefix),
+        &[],
+    ),
+    // Each is taken up by itself, with its own prefix.
+    (Take, Taken(&[0, 1]), &[]),
+    (Take, Taken(&[0, 3]), &[]),
+    (Take, Taken(&[1]), &[]),
+    (Take, Idle, &[]),
+    // Those of an earlier run are ignored, whatever their prefixes.
+    (Hears(REGISTRY, Said::Members(&[1, 2])), Moved, &[]),
+    (
+        Hears(NODE_2, Said::GiveMany(&[0, 2], &[(7, 1, 4), (8, 1, 6)])),
+        Ignored,
+        &[],
+    ),
+    (
+        Hears(NODE_2_ANEW, Said::GiveMany(&[0], &[(3, 1, 1), (4, 1, 3)])),
+        Moved,
+        &[],
+    ),
+    (Take, Taken(&[0, 1]), &[]),
+];
+
 /// A guest's owner wants it no more: all below is aborted, and the thief below told.
 pub static DROPPED: [Row; 9] = [
     ROOT_GIVEN,
@@ -442,6 +511,11 @@ fn a_node_of_one_name(rt: HostRuntime) {
 #[test]
 fn a_child_is_stolen_and_aborted(rt: HostRuntime) {
     play(&rt, rt.alloc(), 2, &STOLEN);
+}
+
+#[test]
+fn children_that_come_together(rt: HostRuntime) {
+    play(&rt, rt.alloc(), 2, &TOGETHER);
 }
 
 #[test]

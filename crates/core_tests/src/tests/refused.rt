@@ -114,6 +114,7 @@ fn refused_memory_at_a_node(rt: HostRuntime) {
     play_at_node(&rt, alloc, 1, &node::ONE_NAME);
     play_at_node(&rt, alloc, 2, &node::STOLEN);
     play_at_node(&rt, alloc, 2, &node::RUNS_ANEW);
+    play_at_node(&rt, alloc, 2, &node::TOGETHER);
     play_at_node(&rt, alloc, 2, &node::DROPPED);
     play_at_node(&rt, alloc, 1, &node::STALE);
     play_at_node(&rt, alloc, 1, &node::FIRST_FAULTS);

@@ -3,7 +3,7 @@
 use cover_problem::Numbers;
 use node_core::{ActFault, Reply};
 use packet_wire::{Body, Incarnations, Packet};
-use spawn_frame::{Attempt, Cause, ChildResult, Site, Unit};
+use spawn_frame::{Attempt, Cause, ChildResult, Sibling, Siblings, Site, Unit};
 use std::alloc::{AllocError, Global};
 use std::process::Abort;
 
@@ -17,6 +17,8 @@ pub enum Said {
     Members(&'static [u32]),
     Steal,
     Give(u32, Attempt, &'static [u16]),
+    /// The parent's prefix, and of each child the serial, the attempt and the option.
+    GiveMany(&'static [u16], &'static [(u32, Attempt, u16)]),
     NoWork,
     /// A result is a cover, or none.
     Return(u32, Attempt, Option<&'static [u16]>),
@@ -62,11 +64,32 @@ pub fn body_of(alloc: Global, said: Said) -> Result<Body, AllocError> {
         Said::Steal => Ok(Body::Steal),
         Said::NoWork => Ok(Body::NoWork),
         Said::Over => Ok(Body::Over),
+        Said::GiveMany(prefix, children) => many_body(alloc, prefix, children),
         told => child_body(alloc, told),
     }
 }
 
-/// The same of what names a child.
+/// The body that gives these children together.
+fn many_body(
+    alloc: Global,
+    prefix: &[u16],
+    children: &[(u32, Attempt, u16)],
+) -> Result<Body, AllocError> {
+    let mut siblings = Vec::new(alloc);
+    for (serial, attempt, option) in children {
+        siblings.push(Sibling {
+            serial: *serial,
+            attempt: *attempt,
+            option: *option,
+        })?;
+    }
+    Ok(Body::GiveMany {
+        prefix: numbers(alloc, prefix)?,
+        siblings: Siblings::from_vec(siblings),
+    })
+}
+
+/// The same of what names one child.
 pub fn child_body(alloc: Global, said: Said) -> Result<Body, AllocError> {
     match said {
         Said::Give(serial, attempt, prefix) => {
@@ -99,9 +122,7 @@ pub fn child_body(alloc: Global, said: Said) -> Result<Body, AllocError> {
             cause,
         }),
         Said::Abort(serial, attempt) => Ok(Body::Abort { serial, attempt }),
-        Said::Hello | Said::Members(_) | Said::Steal | Said::NoWork | Said::Over => {
-            Ok(Body::NoWork)
-        }
+        _ => Ok(Body::NoWork),
     }
 }
 

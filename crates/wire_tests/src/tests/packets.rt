@@ -3,7 +3,7 @@
 use cover_problem::Numbers;
 use packet_wire::WireFault::{Field, Kind, Magic, Short, Trailing, Version};
 use packet_wire::*;
-use spawn_frame::{Cause, ChildResult, Site};
+use spawn_frame::{Cause, ChildResult, Sibling, Siblings, Site};
 use std::alloc::Global;
 use std::process::Abort;
 
@@ -32,6 +32,10 @@ const ABORT: &[u8] = b"CN\x01\x09\x01\0\0\0\x01\x02\0\0\0\x01\0\0\x01\0\xff\xff\
 
 const OVER: &[u8] = b"CN\x01\x0a\0\0\0\0\x01\x01\0\0\0\x09";
 
+/// Two children of a node's root, by the options 0 and 1.
+const GIVE_MANY: &[u8] = b"CN\x02\x04\x01\0\0\0\x01\x02\0\0\0\x01\x02\0\0\
+    \0\0\0\0\0\0\0\x01\0\0\0\0\0\x01\0\0\0\x01\0\x01";
+
 /// A child below the first option and the last that there can be.
 const GIVE_BELOW_THE_LAST: &[u8] =
     b"CN\x01\x04\x01\0\0\0\x01\x02\0\0\0\x01\0\0\0\0\0\0\0\x01\0\x02\0\0\x4e\x1f";
@@ -40,7 +44,7 @@ const GIVE_BELOW_THE_LAST: &[u8] =
 const RETURN_OF_1001: &[u8] = b"CN\x01\x06\x02\0\0\0\x01\0\0\0\0\x01\0\0\0\0\0\0\0\x01\x01\x03\xe9";
 
 /// The sender's node and incarnation, the receiver's, and the packet.
-static SPELLINGS: [((u8, u32), (u8, u32), &[u8]); 11] = [
+static SPELLINGS: [((u8, u32), (u8, u32), &[u8]); 12] = [
     ((0, 1), (2, 1), GIVE),
     ((2, 1), (0, 1), RETURN_EMPTY),
     ((2, 1), (0, 1), RETURN_COVER),
@@ -52,6 +56,7 @@ static SPELLINGS: [((u8, u32), (u8, u32), &[u8]); 11] = [
     ((0, 1), (1, 1), REFUSE),
     ((1, 1), (2, 1), ABORT),
     ((0, 1), (1, 9), OVER),
+    ((1, 1), (2, 1), GIVE_MANY),
 ];
 
 fn list<R: Abort>(rt: &R, alloc: Global, options: &[u16]) -> Numbers {
@@ -72,6 +77,24 @@ fn returned(told: ChildResult) -> Body {
         serial: 0,
         attempt: 1,
         result: told,
+    }
+}
+
+/// So many children of the parent with this prefix, at their first attempts; their serials and options go from 0 on.
+fn together<R: Abort>(rt: &R, alloc: Global, prefix: &[u16], count: u16) -> Body {
+    let mut siblings = Vec::new(alloc);
+    for option in 0..count {
+        siblings
+            .push(Sibling {
+                serial: u32::from(option),
+                attempt: 1,
+                option,
+            })
+            .expect(rt, "memory");
+    }
+    Body::GiveMany {
+        prefix: list(rt, alloc, prefix),
+        siblings: Siblings::from_vec(siblings),
     }
 }
 
@@ -103,7 +126,8 @@ fn body_of<R: Abort>(rt: &R, alloc: Global, place: usize) -> Body {
             serial: 256,
             attempt: u32::MAX,
         },
-        _ => Body::Over,
+        10 => Body::Over,
+        _ => together(rt, alloc, &[], 2),
     }
 }
 
@@ -290,11 +314,29 @@ fn changed_bytes_are_read_as_they_are(rt: HostRuntime) {
     }
 }
 
-static FIRST_FAULTS: [(&[u8], WireFault); 24] = [
+static FIRST_FAULTS: [(&[u8], WireFault); 33] = [
     (b"DN\x01\x03\x02\0\0\0\x01\0\0\0\0\x01", Magic),
     (b"D", Short),
     (b"DN", Magic),
-    (b"CN\x02", Version),
+    (b"CN\x03", Version),
+    // In the second version there is but one kind.
+    (b"CN\x02", Short),
+    (b"CN\x02\x03", Kind),
+    // A GiveMany has a node to send it, 2 to 8 children, and at most 999 options before them.
+    (b"CN\x02\x04\0\0\0\0\x01\x02\0\0\0\x01", Field),
+    (b"CN\x02\x04\x01\0\0\0\x01\x02\0\0\0\x01\x01", Field),
+    (b"CN\x02\x04\x01\0\0\0\x01\x02\0\0\0\x01\x09", Field),
+    (b"CN\x02\x04\x01\0\0\0\x01\x02\0\0\0\x01\x08\x03\xe8", Field),
+    (b"CN\x02\x04\x01\0\0\0\x01\x02\0\0\0\x01\x08\x03\xe7", Short),
+    // Serials rise.
+    (
+        b"CN\x02\x04\x01\0\0\0\x01\x02\0\0\0\x01\x02\0\0\0\0\0\x01\0\0\0\x01\0\0\0\0\0\x01",
+        Field,
+    ),
+    (
+        b"CN\x02\x04\x01\0\0\0\x01\x02\0\0\0\x01\x02\0\0\0\0\0\x01\0\0\0\x01\0\0\0\0\0\x02",
+        Short,
+    ),
     (b"CN\0\x0b\x11", Version),
     (b"CN\x01\x0b\x02\0\0\0\x01\0\0\0\0\x01", Kind),
     (b"CN\x01\0", Kind),
@@ -360,7 +402,7 @@ fn cover_returned<R: Abort>(rt: &R, alloc: Global, options: &[u16]) -> Packet {
     packet((2, 1), (0, 1), returned(cover(rt, alloc, options)))
 }
 
-/// Whether these are the bytes of the longest packet, behind a 7: its list has 1,000 options, 19,000 to 19,999.
+/// Whether these are the bytes of the longest packet of the first version, behind a 7: its list has 1,000 options, 19,000 to 19,999.
 fn is_longest(bytes: &[u8]) -> bool {
     bytes.len() == 2026
         && &bytes[23..28] == b"\x01\x03\xe8\x4a\x38".as_slice()
@@ -372,7 +414,7 @@ fn reads_behind_7<R: Abort>(rt: &R, alloc: Global, bytes: &[u8], options: &[u16]
     matches!(bytes, [7, rest @ ..] if reads_return(rt, alloc, rest, options))
 }
 
-/// Whether a Return of these options is spelled as the longest packet, and read again.
+/// Whether a Return of these options is spelled as the longest of those, and read again.
 fn spells_longest<R: Abort>(rt: &R, alloc: Global, options: &[u16]) -> bool {
     let bytes = written(rt, alloc, &cover_returned(rt, alloc, options));
     is_longest(&bytes) && reads_behind_7(rt, alloc, &bytes, options)
@@ -381,6 +423,33 @@ fn spells_longest<R: Abort>(rt: &R, alloc: Global, options: &[u16]) -> bool {
 #[test]
 fn longest_packet_is_written_and_read(rt: HostRuntime) {
     assert!(rt; spells_longest(&rt, rt.alloc(), &most_options(&rt, rt.alloc())));
+}
+
+/// Whether eight children below 999 options make the longest packet of all.
+fn spells_longest_of_all<R: Abort>(rt: &R, alloc: Global, options: &[u16]) -> bool {
+    let packet = packet((1, 1), (2, 1), together(rt, alloc, options, 8));
+    let bytes = written(rt, alloc, &packet);
+    let behind = matches!(bytes.as_slice(), [7, rest @ ..] if read(rt, alloc, rest) == packet);
+    bytes.len() == 2096 && behind
+}
+
+#[test]
+fn longest_packet_of_all_is_written_and_read(rt: HostRuntime) {
+    let mut options = most_options(&rt, rt.alloc());
+    options.truncate(999);
+    assert!(rt; spells_longest_of_all(&rt, rt.alloc(), &options));
+}
+
+/// Whether so many children below these options are well formed.
+fn may_give<R: Abort>(rt: &R, alloc: Global, options: &[u16], count: u16) -> bool {
+    is_well_formed(&packet((1, 1), (2, 1), together(rt, alloc, options, count)))
+}
+
+#[test]
+fn other_numbers_of_children_are_not_well_formed(rt: HostRuntime) {
+    assert!(rt; may_give(&rt, rt.alloc(), &[], 2) && may_give(&rt, rt.alloc(), &[], 8));
+    assert!(rt; !may_give(&rt, rt.alloc(), &[], 1) && !may_give(&rt, rt.alloc(), &[], 9));
+    assert!(rt; !may_give(&rt, rt.alloc(), &most_options(&rt, rt.alloc()), 2));
 }
 
 /// A Return with 1,001 options, which all are there.

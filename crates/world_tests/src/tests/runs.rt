@@ -1,10 +1,10 @@
 //! Whole runs of worlds of two nodes; what is expected is worked out by hand from the rules of the protocol.
 
 use self::Step::{Finds, Happens, Holds, Publishes};
-use super::said::Comes::{Fault, Moved, Ripe, Taken};
+use super::said::Comes::{Fault, Ignored, Moved, Ripe, Taken};
 use super::said::Held::{Aborted, Done, Dropped, Finished, Out, Ready, Settled};
 use super::said::Said::{
-    Abort as CallOff, Accept, Give, Hello, Members, Over, Refuse, Return, Steal,
+    Abort as CallOff, Accept, Give, GiveMany, Hello, Members, Over, Refuse, Return, Steal,
 };
 use super::said::{Came, Comes, Held, Said, has_come, is_held, is_packet, is_published};
 use cover_world::WorldEvent::{Ask, Deliver, Finish, Greet, Post, Redo, Restart, Take};
@@ -12,7 +12,7 @@ use cover_world::WorldFault::{Core, NoSuchNode, NoSuchPacket, OldIncarnation};
 use cover_world::{World, WorldEvent};
 use dlx_reader::read_problem;
 use node_core::ActFault::{OtherSite, StaleJob};
-use spawn_frame::{Attempt, Cause, ChildName, Job, Site, Unit};
+use spawn_frame::{Attempt, Cause, ChildName, Job, Sibling, Site, Unit};
 use std::alloc::Global;
 use std::process::Abort;
 
@@ -21,6 +21,9 @@ const ITEM: &str = "a\n";
 
 /// One item and two options that name it alone.
 const TWO_WAYS: &str = "a\na\na\n";
+
+/// One item and four options that name it alone.
+const FOUR_WAYS: &str = "a\na\na\na\na\n";
 
 /// Seven items and six options, with one cover: options 3, 4 and 0.
 const LETTERS: &str = "a b c d e f g\nc e\na d g\nb c f\na d f\nb g\nd e g\n";
@@ -273,6 +276,87 @@ static STOLEN_CHILD: &[Step] = &[
     ),
 ];
 
+/// The first node's second child as a guest.
+const SECOND_STOLEN: Unit = Unit::Guest(
+    ChildName {
+        site: NODE_1,
+        serial: 1,
+    },
+    1,
+);
+
+/// The first two of four children.
+const FIRST_TWO: &[Sibling] = &[
+    Sibling {
+        serial: 0,
+        attempt: 1,
+        option: 0,
+    },
+    Sibling {
+        serial: 1,
+        attempt: 1,
+        option: 1,
+    },
+];
+
+/// The second node gets two of four children with one packet, which comes twice, and finds a cover below the first.
+static TWO_TOGETHER: &[Step] = &[
+    Happens(Ask(1, 0), Moved, &[(NODE_1, REGISTRY, Steal)]),
+    Happens(Deliver(0), Moved, &[(REGISTRY, NODE_1, Give(0, 1, &[]))]),
+    Happens(Deliver(1), Moved, &[]),
+    Happens(Take(1), Taken(&[]), &[]),
+    Happens(Post(1, ROOT_JOB, 1), Moved, &[]),
+    Holds(1, Unit::Own(3), 1, Ready),
+    Happens(Ask(2, 1), Moved, &[(NODE_2, NODE_1, Steal)]),
+    Happens(
+        Deliver(2),
+        Moved,
+        &[(NODE_1, NODE_2, GiveMany(&[], FIRST_TWO))],
+    ),
+    Holds(1, Unit::Own(0), 1, Out(NODE_2)),
+    Holds(1, Unit::Own(1), 1, Out(NODE_2)),
+    Holds(1, Unit::Own(2), 1, Ready),
+    Happens(Deliver(3), Moved, &[]),
+    Holds(2, STOLEN, 1, Ready),
+    Holds(2, SECOND_STOLEN, 1, Ready),
+    Happens(Deliver(3), Ignored, &[]),
+    Happens(Take(2), Taken(&[0]), &[]),
+    Happens(
+        Post(2, STOLEN_JOB, 1),
+        Moved,
+        &[(NODE_2, NODE_1, Return(0, 1, Some(&[0])))],
+    ),
+    Happens(
+        Deliver(4),
+        Moved,
+        &[(NODE_1, NODE_2, Accept(0, 1, Some(&[0])))],
+    ),
+    Holds(1, Unit::Own(0), 1, Done(Some(&[0]))),
+    Happens(
+        Finish(1, ROOT),
+        Moved,
+        &[
+            (NODE_1, NODE_2, CallOff(1, 1)),
+            (NODE_1, REGISTRY, Return(0, 1, Some(&[0]))),
+        ],
+    ),
+    Holds(1, Unit::Own(1), 1, Aborted),
+    Holds(1, Unit::Own(2), 1, Aborted),
+    Holds(1, Unit::Own(3), 1, Aborted),
+    Happens(Deliver(6), Moved, &[]),
+    Holds(2, SECOND_STOLEN, 1, Dropped),
+    Happens(
+        Deliver(7),
+        Moved,
+        &[
+            (REGISTRY, NODE_1, Accept(0, 1, Some(&[0]))),
+            (REGISTRY, NODE_1, Over),
+            (REGISTRY, NODE_2, Over),
+        ],
+    ),
+    Publishes(Some(Some(&[0]))),
+];
+
 /// The first node finishes before the result comes.
 static LATE_RESULT: &[Step] = &[
     Happens(Take(1), Taken(&[3]), &[]),
@@ -364,6 +448,7 @@ fn runs_go_packet_by_packet(rt: HostRuntime) {
     play(&rt, alloc, TWO_WAYS, &[OVERTAKEN]);
     play(&rt, alloc, LETTERS, &[STOLEN_CHILD, LATE_RESULT]);
     play(&rt, alloc, LETTERS, &[STOLEN_CHILD, THIEF_ANEW]);
+    play(&rt, alloc, FOUR_WAYS, &[TWO_TOGETHER]);
     play(&rt, alloc, ITEM, &[REFUSED]);
 }
 

@@ -4,7 +4,7 @@ use cover_problem::Answer;
 use cover_world::WorldFault;
 use node_core::Reply;
 use packet_wire::{Body, Packet};
-use spawn_frame::{Attempt, Cause, ChildResult, Site, Status, Unit};
+use spawn_frame::{Attempt, Cause, ChildResult, Sibling, Site, Status, Unit};
 
 /// A result: a cover, or none.
 pub type Came = Option<&'static [u16]>;
@@ -16,6 +16,7 @@ pub enum Said {
     Members(&'static [u32]),
     Steal,
     Give(u32, Attempt, &'static [u16]),
+    GiveMany(&'static [u16], &'static [Sibling]),
     Return(u32, Attempt, Came),
     Accept(u32, Attempt, Came),
     Refuse(u32, Attempt, Cause),
@@ -30,6 +31,7 @@ pub enum Comes {
     Taken(&'static [u16]),
     Ripe(Unit),
     Moved,
+    Ignored,
     Fault(WorldFault),
 }
 
@@ -75,6 +77,9 @@ fn says(body: &Body, said: Said) -> bool {
         (Body::Hello, Said::Hello) => true,
         (Body::Steal, Said::Steal) => true,
         (Body::Over, Said::Over) => true,
+        (Body::GiveMany { prefix, siblings }, Said::GiveMany(parent, expected)) => {
+            prefix.as_slice() == parent && siblings.as_slice() == expected
+        }
         (Body::Members(runs), Said::Members(expected)) => runs.as_slice() == expected,
         _ => says_of_child(body, said),
     }
@@ -136,6 +141,7 @@ pub fn has_come(answer: &Result<Reply, WorldFault>, comes: Comes) -> bool {
         (Ok(Reply::Taken(_, prefix)), Comes::Taken(expected)) => prefix.as_slice() == expected,
         (Ok(Reply::Ripe(unit)), Comes::Ripe(expected)) => *unit == expected,
         (Ok(reply), Comes::Moved) => *reply == Reply::Moved,
+        (Ok(reply), Comes::Ignored) => *reply == Reply::Ignored,
         _ => false,
     }
 }
