@@ -1,0 +1,9 @@
+pub mod Bits
+pub mod Adding
+pub mod Members
+pub mod Sparing
+pub mod Numbers
+pub mod Barring
+pub mod Tabling
+pub mod Keeping
+pub mod Filling

@@ -1,0 +1,4 @@
+pub mod Rows
+pub mod Sets
+pub mod Tints
+pub mod Tables
