@@ -1,0 +1,140 @@
+#!/usr/bin/env python3
+"""Finds a few primary items that can't be covered together, for a problem file without a cover.
+
+    python3 scripts/why_none.py FILE [--fuel N]
+
+Where the program answers `none`, this takes primary items away as long as it still does: half of those that are left at a time, then
+one by one. What is left can't be covered, and would be without any one of its items. (Where a question isn't answered within N
+visits, 1,000,000 where no number is given, its items stay, so there may be more of them than are needed.) It prints these items with
+the options that name them, and why, where that is plain: an item in no option, or two items any two options of which clash.
+
+It wants the program: (cd crates/solve_cli && rt run) builds it. The exit status is 0 where there is no cover and items were found, 1
+where there is a cover or the search wasn't finished, 2 for a fault of the command line or where there is no program, 3 for a file
+that can't be read or is refused.
+"""
+import itertools
+import os
+import subprocess
+import sys
+import tempfile
+
+from built import parser_of, SOLVE_CLI, want_program
+from cover_files import Unreadable, read_bytes, read_problem, refusal, run, shown
+from fault_words import listed, plural, quoted
+
+NONE, COVER, SPENT, OUT_OF_MEMORY = 1, 0, 4, 5
+SHOWN = 12
+
+
+def text_without(problem, kept):
+    """The problem's text with these primary items alone; the secondary ones stay."""
+    gone = set(problem.primary_names()) - set(kept)
+    secondary = problem.names()[problem.primary:]
+    head = b" ".join(kept) + (b" | " + b" ".join(secondary) if secondary else b"")
+    lines = [b" ".join(word for word, name in zip(option.words, option.names) if name not in gone) for option in problem.options]
+    return b"\n".join([head, *lines, b""])
+
+
+class Questions:
+    """What the program answers of a problem with some of its primary items."""
+
+    def __init__(self, problem, program, fuel):
+        self.problem, self.program, self.fuel, self.asked = problem, program, str(fuel), 0
+
+    def status(self, kept):
+        """The exit status of the search with these primary items."""
+        self.asked += 1
+        with tempfile.NamedTemporaryFile(suffix=".dlx") as file:
+            file.write(text_without(self.problem, kept))
+            file.flush()
+            return subprocess.run([self.program, "alone", file.name, "--fuel", self.fuel], capture_output=True).returncode
+
+    def is_none(self, kept):
+        return bool(kept) and self.status(kept) == NONE
+
+
+def least(kept, is_none):
+    """A part of these items of which none can be taken away: larger pieces are tried before smaller ones."""
+    size = len(kept) // 2
+    while size:
+        place = 0
+        while place < len(kept):
+            fewer = kept[:place] + kept[place + size:]
+            if is_none(fewer):
+                kept = fewer
+            else:
+                place += size
+        size = min(size // 2, len(kept) // 2)
+    return kept
+
+
+def clash(one, other):
+    """Whether two options can't stand together."""
+    colours = dict(zip(one.names, one.colours))
+    return any(name in colours and (colour is None or colours[name] != colour) for name, colour in zip(other.names, other.colours))
+
+
+def clash_always(problem, one, other):
+    """Whether any two options that name these items clash, and no option names both."""
+    by = [[option for option in problem.options if name in option.names] for name in (one, other)]
+    return not any(one in option.names for option in by[1]) and all(clash(a, b) for a in by[0] for b in by[1])
+
+
+def reasons(problem, kept):
+    """Lines that say in words why these items can't be covered together, where that is plain."""
+    by_item = problem.options_by_item()
+    for name in kept:
+        if not by_item[name]:
+            yield f"no option names {quoted(name)}"
+    for one, other in itertools.combinations([name for name in kept if by_item[name]], 2):
+        if clash_always(problem, one, other):
+            yield f"each option that names {quoted(one)} clashes with each that names {quoted(other)}"
+
+
+def explain(problem, kept, asked):
+    """All lines on the items that were found."""
+    by_item = problem.options_by_item()
+    yield f"{plural(len(kept), 'primary item')} of {problem.primary:,} can't be covered together ({asked} searches):"
+    for name in kept:
+        lines = [problem.options[place].line for place in by_item[name]]
+        where = f"in {plural(len(lines), 'option')}, line{'s' * (len(lines) != 1)} {listed(lines, SHOWN)}" if lines else "in no option"
+        yield f"  {shown(name)}: {where}"
+    yield from reasons(problem, kept)
+
+
+def read(path):
+    """The problem of a file; ends the script where it can't be read or is refused."""
+    try:
+        problem = read_problem(read_bytes(path))
+    except Unreadable as why:
+        print(f"why_none: {why}", file=sys.stderr)
+        sys.exit(3)
+    if problem.faults:
+        print(f"why_none: {path} is refused: {refusal(problem.faults)}; scripts/explain.py {path} explains it", file=sys.stderr)
+        sys.exit(3)
+    return problem
+
+
+def main():
+    words = parser_of(__doc__)
+    words.add_argument("file", metavar="FILE", help="the problem's file")
+    words.add_argument("--fuel", type=int, default=1_000_000, help="how many visits each search may take (default 1,000,000)")
+    words.add_argument("--program", default=SOLVE_CLI, help="the built program (default crates/solve_cli/out/solve_cli)")
+    given = words.parse_args()
+    if not 1 <= given.fuel < 1 << 64:
+        words.error("--fuel takes 1 to 18446744073709551615")
+    problem = read(given.file)
+    want_program(os.path.abspath(given.program))
+    questions = Questions(problem, os.path.abspath(given.program), given.fuel)
+    status = questions.status(problem.primary_names())
+    if status != NONE:
+        print({COVER: "there is a cover", SPENT: f"no answer within {given.fuel:,} visits; --fuel allows more",
+               OUT_OF_MEMORY: "the program ran out of memory"}.get(status, f"the program ended with status {status}"))
+        return 1
+    kept = least(problem.primary_names(), questions.is_none)
+    print("\n".join(explain(problem, kept, questions.asked)))
+    return 0
+
+
+if __name__ == "__main__":
+    run(main)

@@ -1,0 +1,147 @@
+#!/usr/bin/env python3
+"""Exact covers from Python: this module hands a problem to the built program and reads its answer.
+
+    solve(options, primary, secondary=(), seconds=None)
+
+An option is a list of items. Items are whatever can be a key of a dict; a secondary item may stand as a pair of the item and a colour
+in Colored(item, colour). The answer is the list of the chosen options' places in `options`, or None where there is no cover:
+
+    >>> solve([["a", "b"], ["c"], ["b", "c"]], primary=["a", "b", "c"])
+    [0, 1]
+    >>> solve([["a", "b"], ["b", "c"]], primary=["a", "b", "c"]) is None
+    True
+
+Each primary item is in exactly one chosen option, each secondary item in at most one, or in several that give it the same colour:
+
+    >>> red, blue = Colored("x", "red"), Colored("x", "blue")
+    >>> solve([["a", red], ["b", blue], ["b", red]], primary=["a", "b"], secondary=["x"])
+    [0, 2]
+
+An error is a ValueError that names the option and the item: an item that isn't named as primary or secondary, or stands twice in an
+option or in the lists; a colour on a primary item; more than the program reads (docs/FORMAT.md). TimeoutError comes where there is
+no answer after so many seconds, MemoryError where memory ran out, and RuntimeError where there is no program, or it fails.
+
+As a command, python3 scripts/zarfepoch.py --json FILE reads an object with "options", "primary" and "secondary", in whose options a
+list of two is an item with its colour, and prints the answer as a list or null. FILE may be -. The exit status is 0 where there is a
+cover, 1 where there is none, 2 for a fault of the command line, and 3 where the problem is refused or there is no answer.
+"""
+import collections
+import json
+import os
+import subprocess
+import sys
+import tempfile
+
+from built import parser_of, SOLVE_CLI
+from cover_files import MAX_COLOURS, MAX_ITEMS, MAX_OCCURRENCES, MAX_OPTIONS, run
+
+Colored = collections.namedtuple("Colored", "item colour")
+
+
+def numbered(names, what):
+    """Each name with its place; a ValueError where one stands twice."""
+    places = {}
+    for name in names:
+        if name in places:
+            raise ValueError(f"{name!r} stands twice among the {what}")
+        places[name] = len(places)
+    return places
+
+
+def parts_of(word):
+    """The item of a word of an option, and its colour, if it has one."""
+    return (word.item, word.colour) if isinstance(word, Colored) else (word, None)
+
+
+def words_of(place, option, items, primary, colours):
+    """The words of an option in the file: items and colours go by their numbers, so that every name is lawful there."""
+    words, seen = [], set()
+    for item, colour in map(parts_of, option):
+        if item not in items:
+            raise ValueError(f"option {place} names {item!r}, which is neither primary nor secondary")
+        if item in seen:
+            raise ValueError(f"option {place} names {item!r} twice")
+        if colour is not None and items[item] < primary:
+            raise ValueError(f"option {place} gives a colour to {item!r}, which is primary")
+        seen.add(item)
+        words.append(str(items[item]) if colour is None else f"{items[item]}:{colours.setdefault(colour, len(colours))}")
+    return words
+
+
+def problem_of(options, primary, secondary):
+    """The text of the problem's file, and the words of each option."""
+    items, colours = numbered([*primary, *secondary], "items"), {}
+    count = len(list(primary))
+    if not count:
+        raise ValueError("there is no primary item")
+    lines = [words_of(place, option, items, count, colours) for place, option in enumerate(options)]
+    names = list(map(str, range(len(items))))
+    text = " ".join(names[:count]) + (" | " + " ".join(names[count:]) if len(items) > count else "") + "\n"
+    for number, most, what in ((len(items), MAX_ITEMS, "items"), (len(lines), MAX_OPTIONS, "options"),
+                               (sum(map(len, lines)), MAX_OCCURRENCES, "items in all options together"),
+                               (len(colours), MAX_COLOURS, "colours")):
+        if number > most:
+            raise ValueError(f"there are {number:,} {what}, and the program reads at most {most:,}")
+    return text + "".join(" ".join(line) + "\n" for line in lines), lines
+
+
+def chosen_of(answer, lines):
+    """The places of the options that an answer has; of equal options the first that is free."""
+    places = {}
+    for place in reversed(range(len(lines))):
+        places.setdefault(" ".join(lines[place]), []).append(place)
+    return sorted(places[line].pop() for line in answer.splitlines()[1:])
+
+
+def program():
+    """The program's place: what the environment's ZARFEPOCH names, else what was built here."""
+    found = os.environ.get("ZARFEPOCH", SOLVE_CLI)
+    if not os.access(found, os.X_OK):
+        raise RuntimeError(f"there is no program {found}; (cd crates/solve_cli && rt run) builds it")
+    return found
+
+
+def solve(options, primary, secondary=(), seconds=None):
+    """The places of the options of one exact cover, in rising order, or None where there is none."""
+    options, primary, secondary = list(options), list(primary), list(secondary)
+    text, lines = problem_of(options, primary, secondary)
+    with tempfile.NamedTemporaryFile("w", suffix=".dlx") as file:
+        file.write(text)
+        file.flush()
+        try:
+            ran = subprocess.run([program(), "alone", file.name], capture_output=True, text=True, timeout=seconds)
+        except subprocess.TimeoutExpired:
+            raise TimeoutError(f"no answer after {seconds} seconds") from None
+    if ran.returncode in (0, 1):
+        return chosen_of(ran.stdout, lines) if ran.returncode == 0 else None
+    if ran.returncode == 5:
+        raise MemoryError("the program ran out of memory")
+    raise RuntimeError(f"the program ended with status {ran.returncode}: {ran.stderr.strip()}")
+
+
+def solve_json(text):
+    """The answer to a problem that is given as JSON."""
+    try:
+        given = json.loads(text)
+        options = [[Colored(*word) if isinstance(word, list) else word for word in option] for option in given["options"]]
+        return solve(options, given["primary"], given.get("secondary", []))
+    except (KeyError, TypeError, AttributeError, json.JSONDecodeError) as why:
+        raise ValueError(f"this is no problem in JSON: {why}") from None
+
+
+def main():
+    words = parser_of(__doc__)
+    words.add_argument("--json", metavar="FILE", required=True, help="the problem in JSON, or - for the standard input")
+    given = words.parse_args()
+    try:
+        with open(0 if given.json == "-" else given.json, encoding="utf-8") as opened:
+            answer = solve_json(opened.read())
+    except (OSError, ValueError, RuntimeError, MemoryError) as why:
+        print(f"zarfepoch: {why}", file=sys.stderr)
+        return 3
+    print(json.dumps(answer))
+    return 1 if answer is None else 0
+
+
+if __name__ == "__main__":
+    run(main)
