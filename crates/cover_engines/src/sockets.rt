@@ -13,11 +13,12 @@ use udp_node::{Sockets, UdpLink, bound};
 pub fn links<R: Net>(rt: &R, alloc: Global, nodes: u8) -> io::Result<Vec<UdpLink>>
     ensures { IfOk result (λ links. vec_len links ≡ nodes + 1) }
 {
-    let sockets = sockets(rt, alloc, usize::from(nodes) + 1)?;
+    let count = usize::from(nodes) + 1;
+    let sockets = sockets(rt, alloc, count)?;
     let sockets = Arc::new(alloc, Sockets::new(alloc, sockets)?)?;
-    let mut links = Vec::with_capacity(alloc, usize::from(nodes) + 1)?;
-    for node in 0..nodes + 1 {
-        links.push(UdpLink::new(Arc::try_clone(&sockets)?, node))?;
+    let mut links = Vec::with_capacity(alloc, count)?;
+    for site in 0..count {
+        links.push(UdpLink::new(Arc::try_clone(&sockets)?, site as u8))?;
     }
     Ok(links)
 }
