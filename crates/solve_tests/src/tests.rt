@@ -96,11 +96,21 @@ fn most_runs_answer(rt: HostRuntime) -> Result<(), Fail> {
     Ok(())
 }
 
+/// Whether a run without turns tells that no answer came.
+fn is_silent<R: Threads + Wait + Clock + Net + Sync>(
+    rt: &R,
+    alloc: Global,
+    text: &str,
+) -> Result<bool, Fail> {
+    let (told, came) = solve(rt, alloc, text, &settings(1, 0))?;
+    Ok(told.as_slice() == NOTHING.0.as_bytes() && came == NOTHING.1)
+}
+
 #[test]
 fn no_turns_and_no_answer(rt: HostRuntime) -> Result<(), Fail> {
     for (text, _, _) in ROWS.iter() {
-        let (told, came) = solve(&rt, rt.alloc(), text, &settings(1, 0))?;
-        assert_eq!(rt; (told.as_slice(), came), (NOTHING.0.as_bytes(), NOTHING.1));
+        let is_silent = is_silent(&rt, rt.alloc(), text)?;
+        assert!(rt; is_silent);
     }
     Ok(())
 }
