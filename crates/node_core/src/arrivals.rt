@@ -119,7 +119,7 @@ impl SiteState {
         ensures list { OnErr result (MaySend out.old out.new) }
     {
         let site = self.site();
-        let Some(serials) = self.ledger.ready_share(from)? else {
+        let Some(serials) = self.ledger.ready_share(from) else {
             out.send(answer_packet(site, from, Body::NoWork))?;
             return Ok(Reply::Moved);
         };

@@ -1,5 +1,5 @@
 -- The child that a thief gets.
-use Rattle.std.proofs.Common.{◌≡◌, ℕ, true, false, MatchOption, Option, Some, None, List, [], ◌∷◌, slice_get, refl, sym, ap, subst, ◌∙◌, inr, true≢false, arith}
+use Rattle.std.proofs.Common.{◌≡◌, ℕ, true, false, MatchOption, Option, Some, None, [], ◌∷◌, slice_get, refl, sym, ap, subst, ◌∙◌, inr, true≢false, arith}
 use Rattle.spawn_frame.specs.Picks.{is_ready}
 use Rattle.spawn_frame.specs.Tables.{attempt_in, has_status, prefix_in}
 use Rattle.spawn_frame.specs.Units.{Table, table_gets}

@@ -1,21 +1,21 @@
 -- The children that a thief gets may be given together.
-use Rattle.std.proofs.Common.{◌≡◌, ℕ, zero, suc, ◌+◌, ◌-◌, ◌/◌, ◌<◌, ◌≤◌, min, Bool, true, false, cond, ◌&&◌, nat_lt, List, [], ◌∷◌, ◌++◌, length, take, drop, map, get_or, Option, Some, None, slice_get, refl, sym, ap, subst, ◌∙◌, append_assoc, arith}
+use Rattle.std.proofs.Common.{◌≡◌, ℕ, zero, suc, ◌+◌, ◌<◌, ◌≤◌, min, Bool, true, false, cond, ◌&&◌, List, [], ◌∷◌, ◌++◌, length, take, drop, get_or, Option, Some, None, slice_get, refl, sym, ap, subst, ◌∙◌, append_assoc, arith}
 use Rattle.std.specs.List.{AllByRecursion}
 use Rattle.std.proofs.lemmas.List.{append-nil, at_drop_more, length-append, length-take, take-take, take_all, take_at}
-use Rattle.std.proofs.lemmas.Bool.{and_from, and_parts, lt-ltb, ltb-true}
+use Rattle.std.proofs.lemmas.Bool.{and_from, and_parts, and_right, lt-ltb, ltb-true}
 use Rattle.std.proofs.lemmas.Option.{none-some, same_Some, slice_get-get_or, slice_get_within}
 use Rattle.spawn_frame.proofs.Sames.{parent_path, parent_self}
 use Rattle.spawn_frame.specs.Frames.{is_unit}
-use Rattle.spawn_frame.specs.Gifts.{is_next, rise_from, serials_of}
+use Rattle.spawn_frame.specs.Gifts.{is_next, rise_from}
 use Rattle.spawn_frame.specs.Picks.{is_ready}
 use Rattle.spawn_frame.specs.Tables.{AreChildren, has_status, parent_in}
 use Rattle.spawn_frame.specs.Units.{Entry}
 use Rattle.spawn_frame.specs.declared.site.Site.{Site}
 use Rattle.spawn_frame.specs.declared.status.Status.TheVariants.{Ready}
 use Rattle.spawn_frame.specs.declared.unit.Unit.{Unit as WorkUnit}
-use Rattle.steal_return.proofs.Scans.{ready_status, there}
+use Rattle.steal_return.proofs.Scans.{next_is, ready_status, there}
 use Rattle.steal_return.specs.Ledger.{Ledger}
-use Rattle.steal_return.specs.Shares.{MayGo, MayGoTogether, MayShare, chosen, is_ready_child, ready_from, share, share_at, share_of, share_with}
+use Rattle.steal_return.specs.Shares.{MayGo, MayGoTogether, MayShare, is_ready_child, ready_from, share, share_at, share_of, share_with}
 use Rattle.steal_return.specs.Steals.{MayGive, first_ready}
 
 -- ---- the ready children of a parent
@@ -125,14 +125,14 @@ not_ready parent c other = by (is_ready_child parent c) refl
     by true h = absurd (other (ready_child parent c h).1)
     by false h = refl
 
-past_others : (parent : WorkUnit) (n k : ℕ) (cs : List Entry) → ((j : ℕ) (c : Entry) → j < n → slice_get cs j ≡ Some c → c.parent ≡ Some parent → ⊥) → ready_from parent (k + n) (drop n cs) ≡ ready_from parent k cs
-past_others parent zero k cs other = let e : k + 0 ≡ k = omega arith in ap (λ i. ready_from parent i cs) e
-past_others parent (suc n) k [] other = refl
-past_others parent (suc n) k (c ∷ cs) other =
+past_idle : (parent : WorkUnit) (n k : ℕ) (cs : List Entry) → ((j : ℕ) (c : Entry) → j < n → slice_get cs j ≡ Some c → is_ready_child parent c ≡ false) → ready_from parent (k + n) (drop n cs) ≡ ready_from parent k cs
+past_idle parent zero k cs idle = let e : k + 0 ≡ k = omega arith in ap (λ i. ready_from parent i cs) e
+past_idle parent (suc n) k [] idle = refl
+past_idle parent (suc n) k (c ∷ cs) idle =
     let e : k + suc n ≡ suc k + n = omega arith in
     ap (λ i. ready_from parent i (drop n cs)) e
-    ∙ past_others parent n (suc k) cs (λ j d lt at. other (suc j) d (omega (arith, lt)) at)
-    ∙ sym (ap (λ b. cond b (k ∷ []) [] ++ ready_from parent (suc k) cs) (not_ready parent c (other 0 c (omega arith) refl)))
+    ∙ past_idle parent n (suc k) cs (λ j d lt at. idle (suc j) d (omega (arith, lt)) at)
+    ∙ sym (ap (λ b. cond b (k ∷ []) [] ++ ready_from parent (suc k) cs) (idle 0 c (omega arith) refl))
 
 none_ready : (parent : WorkUnit) (k : ℕ) (cs : List Entry) → ((j : ℕ) (c : Entry) → slice_get cs j ≡ Some c → c.parent ≡ Some parent → ⊥) → ready_from parent k cs ≡ []
 none_ready parent k [] other = refl
@@ -146,16 +146,20 @@ none_behind parent (suc n) k [] other = refl
 none_behind parent (suc n) k (c ∷ cs) other = none_behind parent n k cs (λ j d le at. other (suc j) d (omega (arith, le)) at)
 
 -- What a walk over the children of a unit has found: those that are ready, before the serial.
-pub record Found (parent : WorkUnit) (own : List Entry) (first serial : ℕ) (ready : List ℕ) : Type 0 where
-  pub behind : first ≤ serial
+pub record Found (parent : WorkUnit) (own : List Entry) (least serial : ℕ) (ready : List ℕ) : Type 0 where
+  pub behind : least ≤ serial
   pub few : length ready ≤ 15
   pub so_far : ready ++ ready_from parent serial (drop serial own) ≡ ready_from parent 0 own
 
-pub walk_starts : (parent : WorkUnit) (own : List Entry) (first end : ℕ) → AreChildren parent own first end → Found parent own first first []
-walk_starts parent own first end h = record {
+idle_before : (parent : WorkUnit) (own : List Entry) (least : ℕ) → first_ready own ≡ Some least → (j : ℕ) (c : Entry) → j < least → slice_get own j ≡ Some c → is_ready_child parent c ≡ false
+idle_before parent own least is j c lt at =
+    and_right (is_unit c.parent parent) (is_ready c.status) (sym (ap (has_status is_ready) at) ∙ (next_is is_ready own 0 least is).gap j (omega arith) lt)
+
+pub walk_starts : (parent : WorkUnit) (own : List Entry) (least : ℕ) → first_ready own ≡ Some least → Found parent own least least []
+walk_starts parent own least is = record {
   behind = omega arith;
   few = omega arith;
-  so_far = let e : 0 + first ≡ first = omega arith in ap (λ i. ready_from parent i (drop first own)) (sym e) ∙ past_others parent first 0 own (λ j c lt at p. let l = (h.only j (ap parent_in at ∙ p)).0 in omega (arith, lt, l));
+  so_far = let e : 0 + least ≡ least = omega arith in ap (λ i. ready_from parent i (drop least own)) (sym e) ∙ past_idle parent least 0 own (idle_before parent own least is);
 }
 
 one_more : (parent : WorkUnit) (own : List Entry) (k : ℕ) (c : Entry) → slice_get own k ≡ Some c
@@ -167,17 +171,18 @@ one_more parent own k c at =
     ∙ ap (λ d. cond (is_ready_child parent d) (k ∷ []) [] ++ ready_from parent (suc k) (drop (k + 1) own)) (same_Some (get_or own k c) c (sym (slice_get-get_or own k c lt) ∙ at))
     ∙ ap (λ i. cond (is_ready_child parent c) (k ∷ []) [] ++ ready_from parent i (drop (k + 1) own)) on
 
-child_here : (parent : WorkUnit) (own : List Entry) (first end serial : ℕ) → AreChildren parent own first end → first ≤ serial → serial < end → (c : Entry) × (slice_get own serial ≡ Some c) × (c.parent ≡ Some parent)
-child_here parent own first end serial h le lt = by (slice_get own serial) refl (h.each serial le lt)
+child_here : (parent : WorkUnit) (own : List Entry) (first end least serial : ℕ) → AreChildren parent own first end → parent_in (slice_get own least) ≡ Some parent → least ≤ serial → serial < end
+    → (c : Entry) × (slice_get own serial ≡ Some c) × (c.parent ≡ Some parent)
+child_here parent own first end least serial h is le lt = let l = (h.only least is).0 in by (slice_get own serial) refl (h.each serial (omega (arith, l, le)) lt)
   where
     by : (o : Option Entry) → slice_get own serial ≡ o → parent_in o ≡ Some parent → (c : Entry) × (slice_get own serial ≡ Some c) × (c.parent ≡ Some parent)
     by None e p = absurd (none-some parent p)
     by (Some c) e p = (c, e, p)
 
-pub walk_takes : (parent : WorkUnit) (own : List Entry) (first end serial : ℕ) (ready : List ℕ) → AreChildren parent own first end → Found parent own first serial ready → serial < end → length ready < 15
-    → has_status is_ready (slice_get own serial) ≡ true → Found parent own first (serial + 1) (ready ++ serial ∷ [])
-walk_takes parent own first end serial ready h f lt room is =
-    let c = child_here parent own first end serial h f.behind lt in
+pub walk_takes : (parent : WorkUnit) (own : List Entry) (first end least serial : ℕ) (ready : List ℕ) → AreChildren parent own first end → parent_in (slice_get own least) ≡ Some parent → Found parent own least serial ready → serial < end → length ready < 15
+    → has_status is_ready (slice_get own serial) ≡ true → Found parent own least (serial + 1) (ready ++ serial ∷ [])
+walk_takes parent own first end least serial ready h below f lt room is =
+    let c = child_here parent own first end least serial h below f.behind lt in
     let so : is_ready_child parent c.0 ≡ true = and_from (is_unit c.0.parent parent) (is_ready c.0.status) (parent_self c.0.parent parent c.2) (sym (ap (has_status is_ready) c.1) ∙ is) in
     let rest = ready_from parent (serial + 1) (drop (serial + 1) own) in
     record {
@@ -190,10 +195,10 @@ walk_takes parent own first end serial ready h f lt room is =
           ∙ f.so_far;
     }
 
-pub walk_passes : (parent : WorkUnit) (own : List Entry) (first end serial : ℕ) (ready : List ℕ) → AreChildren parent own first end → Found parent own first serial ready → serial < end
-    → has_status is_ready (slice_get own serial) ≡ false → Found parent own first (serial + 1) ready
-walk_passes parent own first end serial ready h f lt is =
-    let c = child_here parent own first end serial h f.behind lt in
+pub walk_passes : (parent : WorkUnit) (own : List Entry) (first end least serial : ℕ) (ready : List ℕ) → AreChildren parent own first end → parent_in (slice_get own least) ≡ Some parent → Found parent own least serial ready → serial < end
+    → has_status is_ready (slice_get own serial) ≡ false → Found parent own least (serial + 1) ready
+walk_passes parent own first end least serial ready h below f lt is =
+    let c = child_here parent own first end least serial h below f.behind lt in
     let idle : is_ready c.0.status ≡ false = sym (ap (has_status is_ready) c.1) ∙ is in
     let so : is_ready_child parent c.0 ≡ false = ap (λ b. b && is_ready c.0.status) (parent_self c.0.parent parent c.2) ∙ idle in
     let rest = ready_from parent (serial + 1) (drop (serial + 1) own) in
@@ -203,13 +208,13 @@ walk_passes parent own first end serial ready h f lt is =
       so_far = ap (λ b. ready ++ (cond b (serial ∷ []) [] ++ rest)) (sym so) ∙ ap (λ l. ready ++ l) (sym (one_more parent own serial c.0 c.1)) ∙ f.so_far;
     }
 
-pub walk_full : (parent : WorkUnit) (own : List Entry) (first serial : ℕ) (ready : List ℕ) → Found parent own first serial ready → 15 ≤ length ready → ready ≡ take 15 (ready_from parent 0 own)
-walk_full parent own first serial ready f full =
+pub walk_full : (parent : WorkUnit) (own : List Entry) (least serial : ℕ) (ready : List ℕ) → Found parent own least serial ready → 15 ≤ length ready → ready ≡ take 15 (ready_from parent 0 own)
+walk_full parent own least serial ready f full =
     let e : length ready ≡ 15 = omega (arith, full, f.few) in
     sym (take_at ready (ready_from parent serial (drop serial own)) 15 e) ∙ ap (take 15) f.so_far
 
-pub walk_ends : (parent : WorkUnit) (own : List Entry) (first end serial : ℕ) (ready : List ℕ) → AreChildren parent own first end → Found parent own first serial ready → end ≤ serial → ready ≡ take 15 (ready_from parent 0 own)
-walk_ends parent own first end serial ready h f le =
+pub walk_ends : (parent : WorkUnit) (own : List Entry) (first end least serial : ℕ) (ready : List ℕ) → AreChildren parent own first end → Found parent own least serial ready → end ≤ serial → ready ≡ take 15 (ready_from parent 0 own)
+walk_ends parent own first end least serial ready h f le =
     let none : ready_from parent serial (drop serial own) ≡ [] = none_behind parent serial serial own (λ j c behind at p. let l = (h.only j (ap parent_in at ∙ p)).1 in omega (arith, l, le, behind)) in
     let all : ready ≡ ready_from parent 0 own = sym (append-nil ready) ∙ ap (λ l. ready ++ l) (sym none) ∙ f.so_far in
     sym (take_all 15 ready f.few) ∙ ap (take 15) all

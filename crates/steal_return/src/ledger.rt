@@ -29,9 +29,10 @@ use crate::known::Known;
 use crate::learn_fault::LearnFault;
 use crate::redo_fault::RedoFault;
 use crate::return_reply::ReturnReply;
-use crate::sharing::share_with;
+use crate::sharing::{MOST_READY, share_with};
 use crate::told::Told;
 use abort_tree::{Out, Reach, parents_decide};
+use arrayvec::ArrayVec;
 use cover_problem::Numbers;
 use spawn_frame::{
     Attempt, Cause, ChildName, ChildResult, Gift, Heard, Job, LAST_ATTEMPT, Sibling, Siblings,
@@ -233,17 +234,14 @@ impl Ledger {
 
     /// The own children that a thief may be given: with the ready one of least serial the first ready ones of its parent,
     /// as many as half of those rounded up, and at most eight. None where none is ready, or where a later run of the
-    /// thief's node is known. The only error is want of memory. It costs what the table's `next_ready` does, and a look at
-    /// each child of that parent until 15 of them are ready.
-    pub fn ready_share(&self, thief: Site) -> Result<Option<Vec<u32>>, AllocError>
-        ensures { IfOk result (λ answer. MatchOption answer (GivesNothing self.now thief)
-            (λ serials. MayShare self.now thief serials.items)) }
+    /// thief's node is known. It takes no memory. It costs what the table's `next_ready` does, and a look at each later
+    /// child of that parent until 15 of them are ready.
+    pub fn ready_share(&self, thief: Site) -> Option<ArrayVec<u32, MOST_READY>>
+        ensures { MatchOption result (GivesNothing self.now thief)
+            (λ serials. MayShare self.now thief serials.items) }
     {
-        let Some(serial) = self.ready_child(thief) else {
-            return Ok(None);
-        };
-        let serials = share_with(self.alloc, &self.table, serial)?;
-        Ok(Some(serials))
+        let serial = self.ready_child(thief)?;
+        Some(share_with(&self.table, serial))
     }
 
     /// What a thief is told of children that may be given together; the only error is want of memory.
@@ -352,7 +350,7 @@ impl Ledger {
             serials_of (gifts_of given) ≡ chosen self.old.own)) }
         ensures err { OnErr result (self.new ≡ self.old) }
     {
-        let Some(serials) = self.ready_share(thief)? else {
+        let Some(serials) = self.ready_share(thief) else {
             return Ok(None);
         };
         let given = self.given(&serials)?;

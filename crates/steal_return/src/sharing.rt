@@ -1,46 +1,50 @@
 //! Which of its ready children a site gives.
 
-ghost use Rattle.std.specs.Prelude.{◌≡◌, ◌<◌, ◌∷◌, [], length, slice_get, take, IfOk};
+ghost use Rattle.std.specs.Prelude.{◌≡◌, ◌<◌, ◌∷◌, [], length, slice_get, take, Some};
 ghost use Rattle.spawn_frame.specs.Picks.{is_ready};
 ghost use Rattle.spawn_frame.specs.Tables.{has_status, parent_in};
 ghost use Rattle.steal_return.specs.Shares.{ready_from, share, share_of, share_with};
+ghost use Rattle.steal_return.specs.Steals.{first_ready};
 
-use spawn_frame::{MOST_SIBLINGS, Serials, Status, Table, Unit};
-use std::alloc::{AllocError, Global};
+use arrayvec::ArrayVec;
+use spawn_frame::{MOST_SIBLINGS, Table, Unit};
 
 /// No share is larger than that of so many ready children.
-const MOST_READY: usize = 2 * MOST_SIBLINGS - 1;
+pub const MOST_READY: usize = 2 * MOST_SIBLINGS - 1;
 
-/// The children that a thief gets with this one. It costs a look at each child of its parent until 15 of them are ready; the only
-/// error is want of memory.
-pub fn share_with(alloc: Global, table: &Table, serial: u32) -> Result<Vec<u32>, AllocError>
-    requires { serial < length table.now.own }
-    ensures { IfOk result (λ serials. serials.items
-        ≡ share_with (parent_in (slice_get table.now.own serial)) serial table.now.own) }
+/// The children that a thief gets with this one, which is the ready one of least serial. It takes no memory, and costs a look
+/// at each later child of its parent until 15 are ready.
+pub fn share_with(table: &Table, serial: u32) -> ArrayVec<u32, MOST_READY>
+    requires there { serial < length table.now.own }
+    requires least { first_ready table.now.own ≡ Some serial }
+    ensures { result.items
+        ≡ share_with (parent_in (slice_get table.now.own serial)) serial table.now.own }
 {
     match table.parent(serial) {
-        Some(parent) => share_below(alloc, table, parent),
-        None => alone(alloc, serial),
+        Some(parent) => share_below(table, parent, serial),
+        None => alone(serial),
     }
 }
 
 /// One serial by itself.
-fn alone(alloc: Global, serial: u32) -> Result<Vec<u32>, AllocError>
-    ensures { IfOk result (λ serials. serials.items ≡ serial ∷ []) }
+fn alone(serial: u32) -> ArrayVec<u32, MOST_READY>
+    ensures { result.items ≡ serial ∷ [] }
 {
-    let mut serials = Vec::with_capacity(alloc, 1)?;
-    serials.push(serial)?;
-    Ok(serials)
+    let mut serials = ArrayVec::new();
+    serials.push(serial);
+    serials
 }
 
-/// The children of a unit that a thief gets.
-fn share_below(alloc: Global, table: &Table, parent: Unit) -> Result<Vec<u32>, AllocError>
-    ensures { IfOk result (λ serials. serials.items ≡ share (ready_from parent 0 table.now.own)) }
+/// The children of a unit that a thief gets, where this one is the ready one of least serial.
+fn share_below(table: &Table, parent: Unit, least: u32) -> ArrayVec<u32, MOST_READY>
+    requires parent { parent_in (slice_get table.now.own least) ≡ Some parent }
+    requires least { first_ready table.now.own ≡ Some least }
+    ensures { result.items ≡ share (ready_from parent 0 table.now.own) }
 {
-    let mut serials = ready_below(alloc, table, parent)?;
+    let mut serials = ready_below(table, parent, least);
     let count = share_of(serials.len());
     serials.truncate(count);
-    Ok(serials)
+    serials
 }
 
 /// How many a thief gets of so many.
@@ -51,21 +55,22 @@ fn share_of(count: usize) -> usize
     (count + 1) / 2
 }
 
-/// The first ready children of a unit.
-fn ready_below(alloc: Global, table: &Table, parent: Unit) -> Result<Vec<u32>, AllocError>
-    ensures { IfOk result (λ serials. serials.items
-        ≡ take 15 (ready_from parent 0 table.now.own)) }
+/// The first ready children of a unit, where this one is the ready one of least serial.
+fn ready_below(table: &Table, parent: Unit, least: u32) -> ArrayVec<u32, MOST_READY>
+    requires parent { parent_in (slice_get table.now.own least) ≡ Some parent }
+    requires least { first_ready table.now.own ≡ Some least }
+    ensures { result.items ≡ take 15 (ready_from parent 0 table.now.own) }
 {
-    let Serials { first, end } = table.children(parent);
-    let mut ready = Vec::with_capacity(alloc, MOST_READY)?;
-    let mut serial = first;
-    while serial < end && ready.len() < MOST_READY {
+    let siblings = table.children(parent);
+    let mut ready = ArrayVec::new();
+    let mut serial = least;
+    while serial < siblings.end && ready.len() < MOST_READY {
         if is_ready(table, serial) {
-            ready.push(serial)?;
+            ready.push(serial);
         }
         serial += 1;
     }
-    Ok(ready)
+    ready
 }
 
 /// Whether an own child is there and ready.

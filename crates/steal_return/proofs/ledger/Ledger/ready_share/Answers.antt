@@ -6,5 +6,5 @@ use Rattle.steal_return.specs.Shares.{share_with}
 
 pub returns : goal.returns
 returns c =
-    may_share c.args.self.now c.args.thief c.in-Some.serial c.in_ok-serials.serials.items c.in-Some.ensures
-    (c.in_ok-serials.ensures ∙ ap (λ l. share_with (parent_in (slice_get l.own c.in-Some.serial)) c.in-Some.serial l.own) c.self.view_is)
+    may_share c.args.self.now c.args.thief c.in_ok-serial.serial c.share_with.result.items c.in_ok-serial.ensures
+    (c.share_with.ensures ∙ ap (λ l. share_with (parent_in (slice_get l.own c.in_ok-serial.serial)) c.in_ok-serial.serial l.own) c.self.view_is)

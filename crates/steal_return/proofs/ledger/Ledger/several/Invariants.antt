@@ -1,4 +1,4 @@
-use Rattle.std.proofs.Common.{◌≡◌, map, take, length}
+use Rattle.std.proofs.Common.{◌≡◌, map, take}
 use Rattle.spawn_frame.specs.Gifts.{sibling_gifts}
 use Rattle.steal_return.proofs.ledger.Ledger.several.Given as goal
 use Rattle.steal_return.specs.Steals.{gift_at}
