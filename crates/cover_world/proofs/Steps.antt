@@ -39,10 +39,11 @@ use Rattle.steal_return.specs.Returns.{Enters, Holds, Judgement, Refuses, if_out
 
 pub record SiteGrows (old new : View) : Type 0 where
   pub site : new.site ≡ old.site
+  pub nodes : new.nodes ≡ old.nodes
   pub own : OwnGrows old.own new.own
 
 stays : (old new : View) → new ≡ old → SiteGrows old new
-stays old new e = subst (λ v. SiteGrows old v) (sym e) (record { site = refl; own = own_same old.own })
+stays old new e = subst (λ v. SiteGrows old v) (sym e) (record { site = refl; nodes = refl; own = own_same old.own })
 
 open_by : (s t : Status) → s ≡ t → is_open t ≡ true → is_open s ≡ true
 open_by s t e h = ap is_open e ∙ h
@@ -52,11 +53,11 @@ own_gets v serial s c is h = own_change (with_status s) v.own serial (λ d e. gr
 
 -- an open unit may get any status
 pub gets_grows : (v : View) (unit : WorkUnit) (s : Status) (c : Entry) → unit_in v unit ≡ Some c → is_open c.status ≡ true → SiteGrows v (unit_gets v unit s)
-gets_grows v (Own serial) s c is h = record { site = refl; own = own_gets v serial s c is h }
-gets_grows v (Guest name attempt) s c is h = record { site = refl; own = own_same v.own }
+gets_grows v (Own serial) s c is h = record { site = refl; nodes = refl; own = own_gets v serial s c is h }
+gets_grows v (Guest name attempt) s c is h = record { site = refl; nodes = refl; own = own_same v.own }
 
 grown_own : (v w : View) (own : List Entry) → SiteGrows v w → OwnGrows w.own own → SiteGrows v (with_own w own)
-grown_own v w own g h = record { site = g.site; own = own_then v.own w.own own g.own h }
+grown_own v w own g h = record { site = g.site; nodes = g.nodes; own = own_then v.own w.own own g.own h }
 
 by_equation : (v w x : View) → x ≡ w → SiteGrows v w → SiteGrows v x
 by_equation v w x e g = subst (λ y. SiteGrows v y) (sym e) g
@@ -131,7 +132,7 @@ answers_grow : (old : View) (from : Site) (serial attempt : ℕ) (result : Child
     → judged (slice_get old.own serial) from attempt ≡ j → Answers old from serial attempt result j out new → SiteGrows old new
 answers_grow old from serial attempt result Enters out new e a =
     let at = judged_enters (slice_get old.own serial) from attempt e in
-    by_equation old _ new a.0 (record { site = refl; own = own_gets old serial (Done result) at.entry at.is at.out_there })
+    by_equation old _ new a.0 (record { site = refl; nodes = refl; own = own_gets old serial (Done result) at.entry at.is at.out_there })
 answers_grow old from serial attempt result (Holds held) out new e a = stays old new a.0
 answers_grow old from serial attempt result (Refuses cause) out new e a = stays old new a.0
 
@@ -147,8 +148,8 @@ steal_grows old from out new =
     (λ (d : Denies old from out new). stays old new d.after)
     (λ (g : Gives old from out new).
     kept_by_gives (SiteGrows old) from
-    (λ view serial entry is ready h. record { site = h.site; own = own_then old.own view.own (change_at (with_status (Out from)) view.own serial) h.own (own_gets view serial (Out from) entry is (ap is_open ready)) })
-    old out new g (record { site = refl; own = own_same old.own }))
+    (λ view serial entry is ready h. record { site = h.site; nodes = h.nodes; own = own_then old.own view.own (change_at (with_status (Out from)) view.own serial) h.own (own_gets view serial (Out from) entry is (ap is_open ready)) })
+    old out new g (record { site = refl; nodes = refl; own = own_same old.own }))
 
 root_steal_grows : (r : Option ChildResult) (old : View) (from : Site) (out : List Packet) (new : View) → RootSteal r old from out new → SiteGrows old new
 root_steal_grows (Some result) old from out new h = stays old new h.0
@@ -164,21 +165,21 @@ take_grows old Ignored out new h = absurd h
 give_grows : (problem : Problem) (old : View) (from : Site) (gifts : List Gift) (reply : Reply) (out : List Packet) (new : View)
     → GiveStep problem old from gifts reply out new → SiteGrows old new
 give_grows problem old from gifts Moved out new h =
-    by_equation old _ new (after_admits problem old from gifts out new h) (record { site = refl; own = own_same old.own })
+    by_equation old _ new (after_admits problem old from gifts out new h) (record { site = refl; nodes = refl; own = own_same old.own })
 give_grows problem old from gifts Ignored out new h = stays old new h.1.0
 give_grows problem old from gifts _ out new h = absurd h
 
 accept_grows : (old : View) (name : ChildName) (attempt : ℕ) (result : ChildResult) (reply : Reply) (out : List Packet) (new : View)
     → AcceptStep old name attempt result reply out new → SiteGrows old new
 accept_grows old name attempt result Moved out new h =
-    by_equation old _ new (after_settles old name attempt result out new h) (record { site = refl; own = own_same old.own })
+    by_equation old _ new (after_settles old name attempt result out new h) (record { site = refl; nodes = refl; own = own_same old.own })
 accept_grows old name attempt result Ignored out new h = stays old new h.1.0
 accept_grows old name attempt result _ out new h = absurd h
 
 refuse_grows : (old : View) (name : ChildName) (attempt : ℕ) (reply : Reply) (out : List Packet) (new : View)
     → RefuseStep old name attempt reply out new → SiteGrows old new
 refuse_grows old name attempt Moved out new h =
-    by_equation old _ new (after_drops old name attempt out new h) (record { site = refl; own = own_aborts _ old.own h.own h.aborts })
+    by_equation old _ new (after_drops old name attempt out new h) (record { site = refl; nodes = refl; own = own_aborts _ old.own h.own h.aborts })
 refuse_grows old name attempt Ignored out new h = stays old new h.1.0
 refuse_grows old name attempt _ out new h = absurd h
 
@@ -186,7 +187,7 @@ hear_grows : (problem : Problem) (old : View) (from : Site) (body : Body) (reply
     → HearStep problem old from body reply out new → SiteGrows old new
 hear_grows problem old from Hello reply out new h = absurd h
 hear_grows problem old from (Members incarnations) reply out new h =
-    by_equation old _ new (after_members old incarnations out new h.0) (record { site = refl; own = own_then old.own _ h.0.own (redo_lost_grows _ old.own) (own_aborts _ _ h.0.own h.0.aborts) })
+    by_equation old _ new (after_members old incarnations out new h.0) (record { site = refl; nodes = refl; own = own_then old.own _ h.0.own (redo_lost_grows _ old.own) (own_aborts _ _ h.0.own h.0.aborts) })
 hear_grows problem old from Steal reply out new h = steal_grows old from out new h.1
 hear_grows problem old from (Give serial attempt prefix) reply out new h = give_grows problem old from (gifts_in (Give serial attempt prefix)) reply out new h
 hear_grows problem old from (GiveMany prefix siblings) reply out new h = give_grows problem old from (gifts_in (GiveMany prefix siblings)) reply out new h
@@ -195,7 +196,7 @@ hear_grows problem old from (Return serial attempt result) reply out new h = ans
 hear_grows problem old from (Accept serial attempt result) reply out new h = accept_grows old _ attempt result reply out new h
 hear_grows problem old from (Refuse serial attempt cause) reply out new h = refuse_grows old _ attempt reply out new h
 hear_grows problem old from (Abort serial attempt) reply out new h = refuse_grows old _ attempt reply out new h
-hear_grows problem old from Over reply out new h = by_equation old _ new h.1 (record { site = refl; own = own_same old.own })
+hear_grows problem old from Over reply out new h = by_equation old _ new h.1 (record { site = refl; nodes = refl; own = own_same old.own })
 
 event_grows : (problem : Problem) (old : View) (event : Event) (reply : Reply) (out : List Packet) (new : View)
     → EventStep problem old event reply out new → SiteGrows old new
@@ -208,7 +209,7 @@ event_grows problem old (Finish unit) reply out new h =
 event_grows problem old (Ask victim) reply out new h = stays old new h.1.after
 event_grows problem old (Redo serial) reply out new h =
     by_equation old _ new (after_redo old serial out new h.1)
-    (record { site = refl; own = own_change redone old.own serial (λ d e. grows_redone d (subst (λ x. is_open x.status ≡ true) (same_Some h.1.entry d (sym h.1.is ∙ e)) (ap is_open h.1.out_there))) })
+    (record { site = refl; nodes = refl; own = own_change redone old.own serial (λ d e. grows_redone d (subst (λ x. is_open x.status ≡ true) (same_Some h.1.entry d (sym h.1.is ∙ e)) (ap is_open h.1.out_there))) })
 event_grows problem old (Deliver packet) reply out new h = hear_grows problem old packet.from packet.body reply out new h.2
 event_grows problem old Again reply out new h = stays old new h.1
 event_grows problem old Greet reply out new h = stays old new h.1
@@ -220,7 +221,7 @@ node_grows problem old event reply out new h = event_grows problem old event rep
 root_hears_grows : (problem : Problem) (old : View) (from : Site) (body : Body) (reply : Reply) (out : List Packet) (new : View)
     → RootHears problem old from body reply out new → SiteGrows old new
 root_hears_grows problem old from Hello reply out new h =
-    by_equation old _ new h.1.after (record { site = refl; own = redo_lost_grows _ old.own })
+    by_equation old _ new h.1.after (record { site = refl; nodes = refl; own = redo_lost_grows _ old.own })
 root_hears_grows problem old from Steal reply out new h = root_steal_grows (root_result old) old from out new h.1
 root_hears_grows problem old from (Return serial attempt result) reply out new h =
     root_answers_grow problem old from serial attempt result h.1.0 out new h.1.1 h.1.2

@@ -8,7 +8,7 @@ ghost use Rattle.cover_world.specs.Moves.{meaning, world_refusal, IsWorldView, W
 ghost use Rattle.cover_world.specs.Safety.{Safe};
 ghost use Rattle.cover_world.specs.Simulation.{Simulated, Simulation};
 ghost use Rattle.cover_world.specs.Thieves.{CallsOff, PutsOut, call_off};
-ghost use Rattle.cover_world.specs.Worlds.{opening_world, Run, World, WorldMove, WorldStep};
+ghost use Rattle.cover_world.specs.Worlds.{opening_world, Run, SiteStep, World, WorldMove, WorldStep};
 ghost use Rattle.cover_world.specs.declared.world_event.WorldEvent.{WorldEvent};
 ghost use Rattle.node_core.specs.NodeStep.{NodeStep};
 ghost use Rattle.node_core.specs.SiteView.{View};
@@ -50,6 +50,16 @@ pub fn step_is_determined()
     ensures registry { IsDetermined RegistryStep }
     ensures node_choice { IsDeterminedByChoice NodeStep }
     ensures registry_choice { IsDeterminedByChoice RegistryStep }
+{}
+
+/// A step of a site changes neither which site it is nor how many nodes it knows of.
+pub fn steps_keep_the_site()
+    ensures site { (node : ℕ) (problem : Problem) (old new : View) (event : Event) (reply : Reply)
+        (out : List Packet) → SiteStep node problem old event reply out new →
+        new.site ≡ old.site }
+    ensures nodes { (node : ℕ) (problem : Problem) (old new : View) (event : Event) (reply : Reply)
+        (out : List Packet) → SiteStep node problem old event reply out new →
+        new.nodes ≡ old.nodes }
 {}
 
 /// Where an own child that is out is aborted, its thief is told so in the same step, whatever the event is.

@@ -14,7 +14,7 @@ mod world_fault;
 
 pub use laws::{
     a_simulation_is_a_run, below_goes_on, safe_over_every_run, step_is_determined,
-    the_world_acts_unless_it_refuses, thieves_are_told,
+    steps_keep_the_site, the_world_acts_unless_it_refuses, thieves_are_told,
 };
 pub use refusals::{
     finding_without_fuel, lost_at_the_last_attempt, names_spent, no_prefix_given, no_such_victim,
