@@ -20,18 +20,22 @@ number_rule id default = record (new_rule id) { long = Some id; defaults = defau
 abbrev pub greatest_fuel_rule : Rule
 greatest_fuel_rule = number_rule (codes "fuel") (codes "18446744073709551615")
 
+-- a command that has a version
+abbrev pub versioned : App → App
+versioned app = record app { top = record app.top { has_version = true } }
+
 -- what one thread searches
 abbrev pub alone_app : App
-alone_app = with_rule (with_rule (new_app (codes "alone")) (file_rule (codes "file"))) greatest_fuel_rule
+alone_app = with_rule (with_rule (versioned (new_app (codes "alone"))) (file_rule (codes "file"))) greatest_fuel_rule
 
 -- which answer is tested against which file
 abbrev pub check_app : App
-check_app = with_rule (with_rule (with_rule (new_app (codes "check")) (file_rule (codes "file"))) (file_rule (codes "answer"))) greatest_fuel_rule
+check_app = with_rule (with_rule (with_rule (versioned (new_app (codes "check"))) (file_rule (codes "file"))) (file_rule (codes "answer"))) greatest_fuel_rule
 
 -- what sites search, how many nodes there are, and the seed of what is drawn
 abbrev pub sites_app : Text → App
 sites_app name =
-    with_rule (with_rule (with_rule (with_rule (new_app name) (file_rule (codes "file"))) (number_rule (codes "fuel") (codes "1000"))) (number_rule (codes "nodes") (codes "4"))) (number_rule (codes "seed") (codes "1"))
+    with_rule (with_rule (with_rule (with_rule (versioned (new_app name)) (file_rule (codes "file"))) (number_rule (codes "fuel") (codes "1000"))) (number_rule (codes "nodes") (codes "4"))) (number_rule (codes "seed") (codes "1"))
 
 -- the same with how long a simulation goes on
 abbrev pub simulate_app : App
@@ -43,13 +47,13 @@ abbrev pub solve_app : App
 solve_app =
     with_rule (with_rule (sites_app (codes "solve")) (number_rule (codes "turns") (codes "1000000"))) (number_rule (codes "workers") (codes "2"))
 
--- a command that has a version, and wants one of its subcommands
+-- a command that wants one of its subcommands
 abbrev pub wanting_subcommand : App → App
-wanting_subcommand app = record app { top = record app.top { has_version = true; subcommand_required = true } }
+wanting_subcommand app = record app { top = record app.top { subcommand_required = true } }
 
 -- what one thread does
 abbrev pub one_thread_app : App
-one_thread_app = with_subcommand (with_subcommand (wanting_subcommand (new_app (codes "solve_cli"))) alone_app.top) check_app.top
+one_thread_app = with_subcommand (with_subcommand (wanting_subcommand (versioned (new_app (codes "solve_cli")))) alone_app.top) check_app.top
 
 -- what sites do
 abbrev pub solver_app : App
@@ -94,6 +98,11 @@ pub record AreSpelled (name : Text) (given : Text → Option Text) (settings : S
   pub workers_given : SpellsOr 2 (given (codes "workers")) settings.workers
   pub turns_given : SpellsOr 10000 (given (codes "turns")) settings.turns
   pub restarts_given : SpellsOr 0 (given (codes "restarts")) settings.restarts
+
+-- The problem and the answer are both to be read from standard input.
+pub record ReadsInputTwice (settings : Settings) : Type 0 where
+  pub file : settings.file.now ≡ codes "-"
+  pub answer : option_map (λ answer. answer.now) settings.answer ≡ Some (codes "-")
 
 -- They are spelled by the subcommand that clap's definition of a simple command's matches gives for the words, with its values.
 pub record AreMet (met : Option (Text × List Row)) (settings : Settings) : Type 0 where

@@ -10,9 +10,8 @@ use clap::{Arg, Command, Error};
 use run_settings::Mode;
 use std::alloc::{AllocError, Global};
 
-/// What is told of a number that is out of its range.
-pub const RANGES: &str =
-    "a number is out of its range: --fuel takes 1 to 18446744073709551615, --nodes 1 to 16, --seed 0 to 18446744073709551615, --workers 1 to 8, --turns 0 to 10000000, --restarts 0 to 100";
+/// The version of the program.
+const VERSION: &str = "0.1.0";
 
 /// The exit statuses of a search, as help tells them.
 const SEARCH_STATUSES: &str =
@@ -28,7 +27,7 @@ fn file_argument<'a>(alloc: Global) -> Arg<'a>
 {
     Arg::new(alloc, "file")
         .required(true)
-        .help("The problem's file, in the format of DLX1")
+        .help("The problem's file, in the format of DLX1; - is standard input")
 }
 
 fn answer_argument<'a>(alloc: Global) -> Arg<'a>
@@ -37,7 +36,7 @@ fn answer_argument<'a>(alloc: Global) -> Arg<'a>
 {
     Arg::new(alloc, "answer")
         .required(true)
-        .help("The answer's file, as alone writes it")
+        .help("The answer's file, as alone writes it; - is standard input")
 }
 
 fn fuel_argument<'a>(alloc: Global) -> Arg<'a>
@@ -68,6 +67,7 @@ fn alone_command<'a>(alloc: Global) -> Result<Command<'a>, AllocError>
     Command::new(alloc, "alone")
         .about("Searches the problem on one thread and writes its first exact cover, or none")
         .after_help(SEARCH_STATUSES)
+        .version(VERSION)
         .arg(file_argument(alloc))?
         .arg(fuel_argument(alloc))
 }
@@ -79,6 +79,7 @@ fn check_command<'a>(alloc: Global) -> Result<Command<'a>, AllocError>
     Command::new(alloc, "check")
         .about("Tests whether an answer to the problem is right")
         .after_help(CHECK_STATUSES)
+        .version(VERSION)
         .arg(file_argument(alloc))?
         .arg(answer_argument(alloc))?
         .arg(fuel_argument(alloc))
@@ -103,6 +104,7 @@ fn sites_command<'a>(
     let seed = number_argument(alloc, "seed", "1", "The seed of what is drawn");
     Command::new(alloc, name)
         .about(about)
+        .version(VERSION)
         .arg(file_argument(alloc))?
         .arg(fuel)?
         .arg(nodes)?
@@ -158,7 +160,7 @@ fn one_thread_command<'a>(alloc: Global) -> Result<Command<'a>, AllocError>
     let check = check_command(alloc)?;
     Command::new(alloc, "solve_cli")
         .about("Finds an exact cover, or shows that there is none")
-        .version("0.1.0")
+        .version(VERSION)
         .subcommand_required(true)
         .subcommand(alone)?
         .subcommand(check)
@@ -174,13 +176,20 @@ pub fn solver_command<'a>(alloc: Global) -> Result<Command<'a>, AllocError>
         .subcommand(solve)
 }
 
-/// What is told of a number out of its range, with the usage of its own subcommand.
-pub fn range_error(alloc: Global, mode: Mode) -> Result<Error, AllocError> {
-    let mut command = match mode {
-        Mode::Alone => alone_command(alloc)?.bin_name("solve_cli alone")?,
-        Mode::Check => check_command(alloc)?.bin_name("solve_cli check")?,
-        Mode::Simulate => simulate_command(alloc)?.bin_name("solve_cli simulate")?,
-        Mode::Solve => solve_command(alloc)?.bin_name("solve_cli solve")?,
+/// What clap reports of a subcommand's values, with the usage of the subcommand by the name that the program was called by.
+pub fn value_error(
+    alloc: Global,
+    program: &str,
+    mode: Mode,
+    message: &str,
+) -> Result<Error, AllocError> {
+    let (name, command) = match mode {
+        Mode::Alone => ("alone", alone_command(alloc)?),
+        Mode::Check => ("check", check_command(alloc)?),
+        Mode::Simulate => ("simulate", simulate_command(alloc)?),
+        Mode::Solve => ("solve", solve_command(alloc)?),
     };
-    command.error(ErrorKind::ValueValidation, RANGES)
+    let called = format!(in alloc; "{program} {name}")?;
+    let mut command = command.bin_name(&called)?;
+    command.error(ErrorKind::ValueValidation, message)
 }

@@ -105,3 +105,23 @@ pub fn fuel(inner: &ArgMatches<'_>) -> Option<u64>
     }
     Some(fuel)
 }
+
+/// What is reported of the first option whose value is no number of its range.
+pub fn out_of_range(inner: &ArgMatches<'_>) -> &'static str {
+    if fuel(inner).is_none() {
+        return "--fuel takes 1 to 18446744073709551615";
+    }
+    if nodes(inner).is_none() {
+        return "--nodes takes 1 to 16";
+    }
+    if workers(inner).is_none() {
+        return "--workers takes 1 to 8";
+    }
+    if turns(inner).is_none() {
+        return "--turns takes 0 to 10000000";
+    }
+    if restarts(inner).is_none() {
+        return "--restarts takes 0 to 100";
+    }
+    "--seed takes 0 to 18446744073709551615"
+}

@@ -1,16 +1,24 @@
 //! What the words of a command line ask for.
 
-ghost use Rattle.std.specs.Prelude.{Option, ◌≡◌, ◌≢◌, true, IfNone, IfOk, IfSome, codes, is_some, map, option_map};
+ghost use Rattle.std.specs.Prelude.{Option, ◌≡◌, ◌≢◌, ◌↔◌, true, IfNone, IfOk, IfSome, codes, is_some, map, option_map};
 ghost use Rattle.clap.specs.Words.{Text, first_value, found_of, subcommand_of};
-ghost use Rattle.command_line.specs.CommandLine.{AreMet, AreSpelled, IsAnswerFile, mode_word, solver_app};
+ghost use Rattle.command_line.specs.CommandLine.{AreMet, AreSpelled, IsAnswerFile, ReadsInputTwice, mode_word, solver_app};
 
-use crate::commands::{RANGES, range_error, solver_command};
+use crate::commands::{solver_command, value_error};
 use crate::fault::{SettingsFault, fault_of};
-use crate::numbers::{fuel, nodes, number_or, restarts, turns, workers};
-use clap::ArgMatches;
+use crate::numbers::{fuel, nodes, number_or, out_of_range, restarts, turns, workers};
 use clap::error::ErrorKind;
-use run_settings::{Mode, Settings};
+use clap::{ArgMatches, Command};
+use run_settings::{Mode, STANDARD_INPUT, Settings};
 use std::alloc::Global;
+use std::path::Path;
+
+/// The program's name, where no word has it.
+const PROGRAM: &str = "solve_cli";
+
+/// What is reported where standard input is to be both problem and answer.
+const INPUT_TWICE: &str =
+    "- is standard input, which can be read once: as the file or as the answer";
 
 /// What a subcommand's name stands for.
 fn mode_of(name: &str) -> Option<Mode>
@@ -67,9 +75,36 @@ fn spelled<'a>(name: &'a str, inner: &ArgMatches<'a>) -> Option<Settings<'a>>
     })
 }
 
-/// The same as a fault.
-fn range_fault(alloc: Global, mode: Mode) -> SettingsFault {
-    match range_error(alloc, mode) {
+/// Whether problem and answer are both to be read from standard input, which can be read only once.
+fn reads_input_twice(settings: &Settings<'_>) -> bool
+    ensures { (result ≡ true) ↔ ReadsInputTwice settings.now }
+{
+    match settings.answer {
+        Some(answer) => settings.file == STANDARD_INPUT && answer == STANDARD_INPUT,
+        None => false,
+    }
+}
+
+/// The name that the program was called by: the first word, without the folders before it.
+fn program_name<'a>(words: &[&'a str]) -> &'a str {
+    match words.first() {
+        Some(word) => Path::new(*word).file_name().unwrap_or(PROGRAM),
+        None => PROGRAM,
+    }
+}
+
+/// What is wrong with the values of a subcommand, as a fault.
+fn value_fault(alloc: Global, words: &[&str], mode: Mode, message: &str) -> SettingsFault {
+    match value_error(alloc, program_name(words), mode, message) {
+        Ok(error) => fault_of(error),
+        Err(_) => SettingsFault::Memory,
+    }
+}
+
+/// The fault of words without a subcommand; clap itself refuses them before.
+fn no_subcommand(command: Command<'_>) -> SettingsFault {
+    let mut command = command;
+    match command.error(ErrorKind::MissingSubcommand, "a subcommand is required") {
         Ok(error) => fault_of(error),
         Err(_) => SettingsFault::Memory,
     }
@@ -77,10 +112,12 @@ fn range_fault(alloc: Global, mode: Mode) -> SettingsFault {
 
 /// The settings that the words of a command line spell; the first word is the program's name.
 ///
-/// `Line` is clap's fault for words that are no command line, or a value that is no number of its range, and its text
-/// for help and version. `Memory` comes where memory was refused, by clap too.
+/// `Line` is clap's fault for words that are no command line, the fault of a value that is no number of its range or of
+/// standard input that is named twice, and clap's text for help and version. `Memory` comes where memory was refused, by clap too.
 pub fn settings<'a>(alloc: Global, words: &'a [&'a str]) -> Result<Settings<'a>, SettingsFault>
-    ensures { IfOk result (AreMet (subcommand_of solver_app (map (λ word. word.now) words.now))) }
+    ensures met { IfOk result
+        (AreMet (subcommand_of solver_app (map (λ word. word.now) words.now))) }
+    ensures once { IfOk result (λ settings. ReadsInputTwice settings → ⊥) }
 {
     let Ok(mut command) = solver_command(alloc) else {
         return Err(SettingsFault::Memory);
@@ -89,16 +126,17 @@ pub fn settings<'a>(alloc: Global, words: &'a [&'a str]) -> Result<Settings<'a>,
         Ok(matches) => matches,
         Err(error) => return Err(fault_of(error)),
     };
-    if let Some((name, inner)) = matches.subcommand() {
-        if let Some(settings) = spelled(name, inner) {
-            return Ok(settings);
-        }
-        if let Some(mode) = mode_of(name) {
-            return Err(range_fault(alloc, mode));
-        }
+    let Some((name, inner)) = matches.subcommand() else {
+        return Err(no_subcommand(command));
+    };
+    let Some(mode) = mode_of(name) else {
+        return Err(no_subcommand(command));
+    };
+    let Some(settings) = spelled(name, inner) else {
+        return Err(value_fault(alloc, words, mode, out_of_range(inner)));
+    };
+    if reads_input_twice(&settings) {
+        return Err(value_fault(alloc, words, mode, INPUT_TWICE));
     }
-    match command.error(ErrorKind::ValueValidation, RANGES) {
-        Ok(error) => Err(fault_of(error)),
-        Err(_) => Err(SettingsFault::Memory),
-    }
+    Ok(settings)
 }

@@ -4,4 +4,4 @@
 
 mod settings;
 
-pub use settings::{Mode, Settings};
+pub use settings::{Mode, STANDARD_INPUT, Settings};

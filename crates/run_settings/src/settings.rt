@@ -3,6 +3,9 @@
 ghost use Rattle.std.specs.Prelude.{◌≡◌, ◌≤◌, is_some, true};
 ghost use Rattle.run_settings.specs.declared.settings.Mode.{Mode};
 
+/// The word that names standard input in the place of a file.
+pub const STANDARD_INPUT: &str = "-";
+
 /// What the program is to do.
 #[derive(Clone, Copy, Debug, PartialEq, Eq)]
 pub enum Mode {
@@ -21,9 +24,9 @@ pub enum Mode {
 pub struct Settings<'a> {
     /// What is to be done.
     pub mode: Mode,
-    /// The problem's file.
+    /// The problem's file, or `STANDARD_INPUT`.
     pub file: &'a str,
-    /// The answer's file, for a check alone.
+    /// The answer's file, or `STANDARD_INPUT`, for a check alone.
     pub answer: Option<&'a str>,
     /// How many visits a search may take, from 1.
     pub fuel: u64,

@@ -10,10 +10,12 @@ pub use cover_engines::{
 };
 use cover_engines::{links, read_whole, solve_problem, tell_end, tell_unbound};
 use dlx_reader::{CountedReader, CountedWriter};
+use either::Either;
+use run_settings::STANDARD_INPUT;
 pub use run_settings::{Mode, Settings};
 use std::env;
 use std::fs::File;
-use std::io::{self, ErrorKind};
+use std::io::{self, ErrorKind, Stdin};
 use std::net::Net;
 use std::process::ExitCode;
 use std::sync::Wait;
@@ -21,13 +23,23 @@ use std::thread::Threads;
 use std::time::Clock;
 use udp_node::Open;
 
+/// What is read: a file, or standard input.
+type Source = CountedReader<Either<File, Stdin>>;
+
+/// Opens what a word of the command line names: a file, or standard input for `-`.
+fn open(rt: &HostRuntime, name: &str) -> io::Result<Source> {
+    if name == STANDARD_INPUT {
+        return Ok(CountedReader::new(Either::Right(rt.stdin())));
+    }
+    Ok(CountedReader::new(Either::Left(File::open(rt, name)?)))
+}
+
 /// Runs `alone` on a file, and answers the exit status.
 fn run_alone(rt: &HostRuntime, settings: &Settings<'_>) -> u8 {
     let mut errors = CountedWriter::new(rt.stderr());
-    let Ok(file) = File::open(rt, settings.file) else {
+    let Ok(mut source) = open(rt, settings.file) else {
         return tell_fault(&EngineFault::Read, &mut errors);
     };
-    let mut source = CountedReader::new(file);
     let mut sink = CountedWriter::new(rt.stdout());
     let ended = alone_engine(rt.alloc(), settings.fuel, &mut source, &mut sink);
     tell_end(&ended, &mut errors)
@@ -41,14 +53,12 @@ fn run_check(rt: &HostRuntime, settings: &Settings<'_>) -> u8
     let Some(answer) = settings.answer else {
         unreachable!()
     };
-    let Ok(file) = File::open(rt, settings.file) else {
+    let Ok(mut file) = open(rt, settings.file) else {
         return tell_fault(&EngineFault::Read, &mut errors);
     };
-    let Ok(answer) = File::open(rt, answer) else {
+    let Ok(mut answer) = open(rt, answer) else {
         return tell_fault(&EngineFault::Read, &mut errors);
     };
-    let mut file = CountedReader::new(file);
-    let mut answer = CountedReader::new(answer);
     let mut sink = CountedWriter::new(rt.stdout());
     let ended = check_engine(rt.alloc(), settings.fuel, &mut file, &mut answer, &mut sink);
     tell_end(&ended, &mut errors)
@@ -57,10 +67,9 @@ fn run_check(rt: &HostRuntime, settings: &Settings<'_>) -> u8
 /// Runs `simulate` on a file, and answers the exit status.
 fn run_simulate(rt: &HostRuntime, settings: &Settings<'_>) -> u8 {
     let mut errors = CountedWriter::new(rt.stderr());
-    let Ok(file) = File::open(rt, settings.file) else {
+    let Ok(mut source) = open(rt, settings.file) else {
         return tell_fault(&EngineFault::Read, &mut errors);
     };
-    let mut source = CountedReader::new(file);
     let mut sink = CountedWriter::new(rt.stdout());
     let ended = simulate_engine(rt.alloc(), settings, &mut source, &mut sink);
     tell_end(&ended, &mut errors)
@@ -73,10 +82,10 @@ fn run_solve<R: Threads + Wait + Clock + Net + Sync>(
     settings: &Settings<'_>,
 ) -> u8 {
     let mut errors = CountedWriter::new(rt.stderr());
-    let Ok(file) = File::open(rt, settings.file) else {
+    let Ok(mut source) = open(rt, settings.file) else {
         return tell_fault(&EngineFault::Read, &mut errors);
     };
-    let read = match read_whole(rt.alloc(), &mut CountedReader::new(file)) {
+    let read = match read_whole(rt.alloc(), &mut source) {
         Ok(read) => read,
         Err(fault) => return tell_fault(&fault, &mut errors),
     };

@@ -119,7 +119,7 @@ fn reads_all_words(rt: HostRuntime) {
 }
 
 /// Each with the status.
-static WORDS: [(&[&str], u8); 32] = [
+static WORDS: [(&[&str], u8); 39] = [
     (&["solve_cli"], 2),
     (&["solve_cli", "--help"], 0),
     (&["solve_cli", "--version"], 0),
@@ -161,6 +161,13 @@ static WORDS: [(&[&str], u8); 32] = [
         2,
     ),
     (&["solve_cli", "alone", "a", "--nodes", "4"], 2),
+    (&["solve_cli", "alone", "-"], 9),
+    (&["solve_cli", "check", "-", "b"], 9),
+    (&["solve_cli", "check", "a", "-"], 9),
+    (&["solve_cli", "check", "-", "-"], 2),
+    (&["solve_cli", "alone", "-V"], 0),
+    (&["solve_cli", "check", "--version"], 0),
+    (&["solve_cli", "solve", "-V"], 0),
 ];
 
 #[test]
@@ -178,30 +185,43 @@ fn line_told<R: Abort>(rt: &R, alloc: Global, words: &[&str]) -> String {
     }
 }
 
-/// Numbers out of their range, each with the usage that is told: that of its own subcommand.
-static USAGES: [(&[&str], &str); 4] = [
+/// Values that are refused, each with what is told: the option and its range, and the usage of its own subcommand by the name that
+/// the program was called by.
+static VALUES: [(&[&str], &str); 7] = [
     (
         &["solve_cli", "alone", "a", "--fuel", "x"],
-        "\n\nUsage: solve_cli alone [OPTIONS] <file>\n",
+        "error: --fuel takes 1 to 18446744073709551615\n\nUsage: solve_cli alone [OPTIONS] <file>\n",
     ),
     (
-        &["solve_cli", "check", "a", "b", "--fuel", "0"],
-        "\n\nUsage: solve_cli check [OPTIONS] <file> <answer>\n",
+        &["./solver", "check", "a", "b", "--fuel", "0"],
+        "error: --fuel takes 1 to 18446744073709551615\n\nUsage: solver check [OPTIONS] <file> <answer>\n",
     ),
     (
-        &["solve_cli", "simulate", "a", "--nodes", "17"],
-        "\n\nUsage: solve_cli simulate [OPTIONS] <file>\n",
+        &["solve_cli", "simulate", "a", "--nodes", "17", "--seed", "x"],
+        "error: --nodes takes 1 to 16\n\nUsage: solve_cli simulate [OPTIONS] <file>\n",
     ),
     (
-        &["solve_cli", "solve", "a", "--workers", "9"],
-        "\n\nUsage: solve_cli solve [OPTIONS] <file>\n",
+        &["solve_cli", "simulate", "a", "--restarts", "101"],
+        "error: --restarts takes 0 to 100\n\nUsage: solve_cli simulate [OPTIONS] <file>\n",
+    ),
+    (
+        &["/usr/bin/solve_cli", "solve", "a", "--workers", "9"],
+        "error: --workers takes 1 to 8\n\nUsage: solve_cli solve [OPTIONS] <file>\n",
+    ),
+    (
+        &["solve_cli", "solve", "a", "--turns", "10000001"],
+        "error: --turns takes 0 to 10000000\n\nUsage: solve_cli solve [OPTIONS] <file>\n",
+    ),
+    (
+        &["solve_cli", "check", "-", "-"],
+        "error: - is standard input, which can be read once: as the file or as the answer\n\nUsage: solve_cli check [OPTIONS] <file> <answer>\n",
     ),
 ];
 
 #[test]
-fn a_number_out_of_its_range_tells_the_usage_of_its_subcommand(rt: HostRuntime) {
-    for (words, usage) in USAGES.iter() {
+fn a_refused_value_tells_its_range_and_the_usage_of_its_subcommand(rt: HostRuntime) {
+    for (words, begin) in VALUES.iter() {
         let told = line_told(&rt, rt.alloc(), words);
-        assert!(rt; told.as_str().contains(usage), "{told}");
+        assert!(rt; told.as_str().starts_with(begin), "{told}");
     }
 }
