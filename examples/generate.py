@@ -3,21 +3,29 @@
 
     python3 examples/generate.py KIND .. > FILE    writes a problem of this kind on the standard output
     python3 examples/generate.py                   writes the larger example files into this folder
+    --out FILE, behind all other words             writes the problem into FILE, and nothing where it is refused
 
     queens 12                      queens on a board of 12 by 12
     langford 8                     pairs of 1 to 8
     pentominoes 5x12               pieces on a rectangle; --without 3,3 3,4 leaves cells out
     tetrominoes 4x4                the same of four cells each
     dominoes 8x8                   dominoes on a rectangle; --without 0,0 7,7 leaves two corners out
-    sudoku 8........ .. or FILE    81 digits and dots, or a file that has them
+    sudoku 8........ .. or FILE    81 digits and dots, or a file that has them; _ and 0 are dots too, and so are blanks in nine lines of nine
     triples 7                      lines of three points, any two of 7 points on one line
     coloring FILE                  a map's borders, two names a line; --colors red,green,blue
     matching FILE                  a graph's edges, two names a line
-    timetable FILE.csv             lesson,teacher,class,rooms,periods; several rooms or periods stand with spaces between
+    timetable FILE.csv             lesson,teacher,class,rooms,periods; several rooms or periods with spaces or ; between, periods numbered or
+                                   named; a column hours, if there is one, says how often in a week a lesson is given; the table's
+                                   own separator may be , or ;
     squares 3x3 FILE               squares with coloured sides, of which one lies in each cell, turned as one likes, so that sides that
                                    meet have one colour: in each line a name and four colours, from the top on clockwise;
                                    --border grey wants this colour all round
-    words FILE                     different words of one length, in a square to be read across and down
+    word-square FILE               different words of one length, in a square to be read across and down; --repeat lets words come again
+    crossword GRID WORDS           words of a list in a grid of rows of dots, given letters, and # for black cells; --repeat as above
+    nonogram FILE                  black cells by the lengths of their blocks: a line of numbers for each row, an empty line, a line of
+                                   numbers for each column; a line without black cells is 0
+    cubes FILE                     cubes in a row, turned so that no side of the row shows a colour twice (instant insanity): in each line a
+                                   name and six colours, front right back left top bottom
 
 The first line of each file is a comment that tells what it is and how it was made. A problem beyond 1,000 items, 20,000 options,
 200,000 occurrences of items in them or 10,000 colours is refused, since the program reads no such file. It wants no built
@@ -26,16 +34,22 @@ where the standard output can't be written.
 """
 import argparse
 import csv
+import io
 import itertools
 import math
 import os
 import re
 import sys
+from collections import Counter
+from dataclasses import dataclass
 
 HERE = os.path.dirname(os.path.abspath(__file__))
 sys.path.insert(0, os.path.join(HERE, "..", "scripts"))
+import puzzles  # noqa: E402
 from cover_files import run  # noqa: E402
 
+# where the command line wants the problem, if not on the standard output
+OUT = []
 MOST_ITEMS, MOST_OPTIONS, MOST_OCCURRENCES, MOST_COLOURS, LONGEST_NAME = 1_000, 20_000, 200_000, 10_000, 32
 
 
@@ -63,15 +77,20 @@ def check_range(names, options):
 
 
 def write(name, note, primary, secondary, options):
-    """Writes a problem into a file of this folder, or on the standard output where the name is `-`."""
+    """Writes a problem into a file of this folder, or where the command line wants it if the name is `-`."""
     check_range(primary + secondary, options)
     line = " ".join(primary) + (" | " + " ".join(secondary) if secondary else "")
     text = "".join([f"| {note}\n{line}\n"] + [" ".join(option) + "\n" for option in options])
-    if name == "-":
+    if name == "-" and not OUT:
         sys.stdout.write(text)
         return
-    with open(os.path.join(HERE, name), "w") as file:
-        file.write(text)
+    path = OUT[0] if name == "-" else os.path.join(HERE, name)
+    try:
+        with open(path + ".part", "w", encoding="utf-8") as file:
+            file.write(text)
+        os.replace(path + ".part", path)
+    except OSError as why:
+        stop(f"{path} can't be written: {why.strerror}")
 
 
 # ---- the kinds
@@ -106,6 +125,15 @@ TETROMINOES = {"I": ["xxxx"], "L": ["xxx", "x.."], "O": ["xx", "xx"], "S": [".xx
 SQUARES = ["A grey grey red yellow", "B grey grey blue red", "C grey grey yellow blue", "D grey grey red red", "E grey red blue red",
            "F grey blue yellow blue", "G grey red red yellow", "H grey yellow yellow red", "I blue yellow red yellow"]
 WORDS = "ace bad den ice net pet rat rid tap tin"
+CROSSWORD = ["....#", ".#...", ".....", "...#.", "#...."]
+CROSSWORD_WORDS = ("ant arm ate bay car cat ear egg fan hat hen ice jam key tar ten top wax arch boat cold desk door easy fish hand lamp moon "
+                   "nest rain rest ship wash wise beach chair party stone store tiger")
+# the blocks of nine rows and of ten columns
+NONOGRAM = ([[1], [2], [3, 1], [4, 2], [5, 3], [1], [10], [8], [6]],
+            [[1, 1], [2, 2], [3, 3], [4, 3], [9], [3], [3, 3], [2, 3], [1, 2], [1]])
+# the colours of front, right, back, left, top and bottom
+CUBES = ["one blue green red white blue green", "two blue red white white green green", "three green white red red blue red",
+         "four red blue blue red green white"]
 
 
 def names_of(cells):
@@ -191,12 +219,14 @@ def matching(name, note, edges):
 
 def timetable(name, note, rows):
     """One option for each lesson, period and room; people, classes and rooms are secondary, once for each period."""
-    options = [[row["lesson"]] + [f"{who}-{period}" for who in (row["teacher"], row["class"], room)]
-               for row in rows for room in row["rooms"].split() for period in row["periods"].split()]
-    periods = sorted({period for row in rows for period in row["periods"].split()}, key=int)
-    who = [row["teacher"] for row in rows] + [row["class"] for row in rows] + [room for row in rows for room in row["rooms"].split()]
+    options = [[row.lesson] + [f"{who}-{period}" for who in (row.teacher, row.group, room)]
+               for row in rows for room in row.rooms for period in row.periods]
+    periods = list(dict.fromkeys(period for row in rows for period in row.periods))
+    if all(period.isdigit() for period in periods):
+        periods.sort(key=int)
+    who = [row.teacher for row in rows] + [row.group for row in rows] + [room for row in rows for room in row.rooms]
     busy = [f"{one}-{period}" for one in dict.fromkeys(who) for period in periods]
-    write(name, note, [row["lesson"] for row in rows], busy, options)
+    write(name, note, [row.lesson for row in rows], busy, options)
 
 
 def looks_outwards(cells, cell):
@@ -226,16 +256,17 @@ def squares(name, note, cells, pieces, border=None):
     write(name, note, list(pieces) + list(names.values()), sides, options)
 
 
-def word_squares(name, note, words, marks=("",)):
-    """Squares with a word in each row and in each column, all different; a cell's colour is its letter. Behind each mark go the names
-    of one square."""
+def word_squares(name, note, words, marks=("",), repeat=False):
+    """Squares with a word in each row and in each column, all different unless `repeat` is set; a cell's colour is its letter. Behind
+    each mark go the names of one square."""
     n, slots = len(words[0]), {}
     names = names_of(rectangle(n, n))
     for mark in marks:
         slots.update((f"{mark}across{r}", [mark + names[r, c] for c in range(n)]) for r in range(n))
         slots.update((f"{mark}down{c}", [mark + names[r, c] for r in range(n)]) for c in range(n))
-    options = [[slot, word] + [f"{cell}:{letter}" for cell, letter in zip(cells, word)] for slot, cells in slots.items() for word in words]
-    write(name, note, list(slots), [mark + cell for mark in marks for cell in names.values()] + words, options)
+    options = [[slot] + ([] if repeat else [word]) + [f"{cell}:{letter}" for cell, letter in zip(cells, word)]
+               for slot, cells in slots.items() for word in words]
+    write(name, note, list(slots), [mark + cell for mark in marks for cell in names.values()] + ([] if repeat else words), options)
 
 
 # ---- what the command line gives
@@ -278,10 +309,19 @@ def read_pairs(path):
     return list(dict.fromkeys(tuple(words) for _, words in lines))
 
 
+def sudoku_marks(text):
+    """The 81 digits and dots of a sudoku; frames are passed over. In nine lines of at most nine characters a blank is a dot."""
+    marks = re.sub(r"[^0-9._]", "", text).translate(str.maketrans("0_", ".."))
+    lines = text.strip("\n").splitlines() if "\n" in text else re.findall(".{9}", text)
+    if len(marks) != 81 and len(lines) == 9 and all(re.fullmatch(r"[0-9._ ]{0,9}", line) for line in lines):
+        marks = "".join(line.ljust(9) for line in lines).translate(str.maketrans("0_ ", "..."))
+    return marks
+
+
 def read_sudoku(given):
-    """Nine rows of a sudoku, from 81 characters or from a file with them; frames in it are passed over."""
-    is_sudoku = re.fullmatch(r"[0-9.\s]+", given) and not os.path.exists(given)
-    marks = re.sub(r"[^0-9.]", "", given if is_sudoku else read_text(given)).replace("0", ".")
+    """Nine rows of a sudoku, from 81 characters or from a file with them."""
+    is_sudoku = re.fullmatch(r"[0-9._\s]+", given) and not os.path.exists(given)
+    marks = sudoku_marks(given if is_sudoku else read_text(given))
     if len(marks) != 81:
         stop(f"a sudoku has 81 digits and dots, here are {len(marks)}")
     rows = [marks[k:k + 9] for k in range(0, 81, 9)]
@@ -309,31 +349,110 @@ def read_squares(path):
     return {words[0]: words[1:] for _, words in lines}
 
 
-def read_words(path):
-    """Different words of one length."""
+def read_word_list(path):
+    """Different words."""
     words = list(dict.fromkeys(read_text(path).split())) or stop(f"{path} has no words")
     for word in words:
-        if len(word) != len(words[0]) or re.search(r"[\d:|\0]", word):
-            stop(f"{path}: words of one length, without digits, ':' and '|' are expected, and '{word}' isn't like '{words[0]}'")
+        if re.search(r"[\d:|\0]", word):
+            stop(f"{path}: '{word}' has a digit, ':' or '|', which no word may have here")
     return words
 
 
-def read_lessons(path):
+def read_words(path):
+    """Different words of one length."""
+    words = read_word_list(path)
+    for word in words:
+        if len(word) != len(words[0]):
+            stop(f"{path}: words of one length are expected, and '{word}' isn't as long as '{words[0]}'")
+    return words
+
+
+def read_grid(path):
+    """The rows of a crossword's grid."""
+    rows = [line.rstrip() for line in read_text(path).strip("\n").splitlines()]
+    for number, row in enumerate(rows, 1):
+        if len(row) != len(rows[0]) or re.search(r"[\s\d:|\0]", row):
+            stop(f"{path}, line {number}: rows of one length are expected, of dots, letters and # for black cells")
+    return rows if rows and rows[0] else stop(f"{path} has no rows")
+
+
+def read_nonogram(path):
+    """The lengths of the blocks of each row and of each column."""
+    lines, parts = read_text(path).strip("\n").splitlines(), [[], []]
+    behind = [number for number, line in enumerate(lines) if not line.strip()]
+    if len(behind) != 1:
+        stop(f"{path}: lines of numbers for the rows are expected, one empty line, and lines of numbers for the columns")
+    for number, line in enumerate(lines):
+        if line.strip() and not re.fullmatch(r"\s*\d{1,4}(\s+\d{1,4})*\s*", line):
+            stop(f"{path}, line {number + 1}: numbers are expected")
+        if line.strip():
+            parts[number > behind[0]].append([int(word) for word in line.split() if int(word)])
+    rows, columns = parts
+    if not rows or not columns or max(len(rows), len(columns)) > 999:
+        stop(f"{path}: 1 to 999 rows and columns are expected")
+    if sum(map(sum, rows)) != sum(map(sum, columns)):
+        stop(f"{path}: the rows have {sum(map(sum, rows))} black cells and the columns {sum(map(sum, columns))}")
+    return rows, columns
+
+
+def read_cubes(path):
+    """Cubes by their names, each with its six colours."""
+    lines = [(number, line.split()) for number, line in enumerate(read_text(path).splitlines(), 1)]
+    lines = [(number, words) for number, words in lines if words and not words[0].startswith(("|", "#"))]
+    for number, words in lines:
+        if len(words) != 7 or [other[0] for _, other in lines].count(words[0]) > 1 or re.match(r"(front|right|back|left)-", words[0]):
+            stop(f"{path}, line {number}: a cube's own name and six colours are expected")
+    return {words[0]: words[1:] for _, words in lines}
+
+
+def made_by(kind, *given, **options):
+    """The items and options of a puzzle."""
     try:
-        rows = list(csv.DictReader(read_text(path).splitlines()))
+        return kind(*given, **options)
+    except puzzles.Refused as why:
+        return stop(str(why))
+
+
+@dataclass
+class Lesson:
+    """An hour of a lesson: who gives it to which class, and the rooms and periods that it may have."""
+    lesson: str
+    teacher: str
+    group: str
+    rooms: list
+    periods: list
+
+
+def read_table(path):
+    """The rows of a table by its head, whose columns have commas, semicolons or tabs between."""
+    text = read_text(path)
+    head = text.partition("\n")[0]
+    separator = max(",;\t", key=head.count)
+    try:
+        return list(csv.DictReader(io.StringIO(text), delimiter=separator))
     except csv.Error as why:
-        stop(f"{path} can't be read as a table: {why}")
-    wanted = ["lesson", "teacher", "class", "rooms", "periods"]
-    for number, row in enumerate(rows, 2):
-        lacking = [column for column in wanted if not row.get(column)]
-        if lacking or not all(period.isdigit() for period in row["periods"].split()):
-            what = lacking[0] + " is missing" if lacking else "periods are numbers"
-            stop(f"{path}, line {number}: {what}; the columns are {','.join(wanted)}")
-    lessons = [row["lesson"] for row in rows]
-    for lesson in lessons:
-        if lessons.count(lesson) > 1:
-            stop(f"{path}: the lesson {lesson} stands there twice; give each hour of it a name of its own")
-    return rows
+        return stop(f"{path} can't be read as a table: {why}")
+
+
+def read_lessons(path):
+    """The hours of all lessons. An hour of a lesson that has several is named by its number too."""
+    lessons, wanted = [], ["lesson", "teacher", "class", "rooms", "periods"]
+    for number, row in enumerate(read_table(path), 2):
+        lacking = [column for column in wanted if not (row.get(column) or "").strip()]
+        if lacking:
+            stop(f"{path}, line {number}: {lacking[0]} is missing; the columns are {','.join(wanted)}, and hours if it is wanted")
+        hours = (row.get("hours") or "1").strip()
+        if not re.fullmatch(r"[1-9]\d?", hours):
+            stop(f"{path}, line {number}: hours is a number from 1 to 99")
+        rooms, periods = (re.split(r"[\s;]+", row[column].strip(" ;")) for column in ("rooms", "periods"))
+        if any("-" in period for period in periods):
+            stop(f"{path}, line {number}: a period's name has no '-'")
+        names = [row["lesson"].strip()] if hours == "1" else [f"{row['lesson'].strip()}.{hour}" for hour in range(1, int(hours) + 1)]
+        lessons += [Lesson(name, row["teacher"].strip(), row["class"].strip(), rooms, periods) for name in names]
+    twice = [name for name, count in Counter(lesson.lesson for lesson in lessons).items() if count > 1]
+    if twice:
+        stop(f"{path}: the lesson {twice[0]} stands there twice; a column hours says how often a lesson is given")
+    return lessons
 
 
 def board(given):
@@ -388,16 +507,25 @@ KINDS = {
     "timetable": lambda given, note: timetable(
         "-", note("each lesson once, and no teacher, class or room twice at a time"), read_lessons(given.file)),
     "squares": squares_on_board,
-    "words": lambda given, note: word_squares("-", note("different words in a square, across and down"), read_words(given.file)),
+    "word-square": lambda given, note: word_squares(
+        "-", note(f"{'' if given.repeat else 'different '}words in a square, across and down"), read_words(given.file), repeat=given.repeat),
+    "crossword": lambda given, note: write(
+        "-", note(f"{'' if given.repeat else 'different '}words in a grid, across and down"),
+        *made_by(puzzles.crossword, read_grid(given.grid), read_word_list(given.file), given.repeat)),
+    "nonogram": lambda given, note: write(
+        "-", note("black cells in rows and columns, by the lengths of their blocks"), *made_by(puzzles.nonogram, *read_nonogram(given.file))),
+    "cubes": lambda given, note: write(
+        "-", note("cubes in a row, turned so that no side of the row shows a colour twice"), *puzzles.cubes(read_cubes(given.file))),
 }
 
 
 def make(given):
     """Writes the problem that the command line asks for; its comment tells how it was made."""
-    words = [os.path.basename(word) if os.path.exists(word) else "".join(word.split()) for word in sys.argv[1:]]
+    told = sys.argv[1:sys.argv.index("--out")] if "--out" in sys.argv else sys.argv[1:]
+    words = [os.path.basename(word) if os.path.exists(word) else "".join(word.split()) for word in told]
     if given.kind == "sudoku":
         words[-1] = "".join(read_sudoku(given.given))
-    KINDS[given.kind](given, lambda what: f"{what} (generate.py {' '.join(words)})")
+    KINDS["word-square" if given.kind == "words" else given.kind](given, lambda what: f"{what} (generate.py {' '.join(words)})")
 
 
 def parse():
@@ -411,11 +539,19 @@ def parse():
         tiles.add_argument("--without", metavar="ROW,COLUMN", type=cell, nargs="+", default=[], help="cells that are left out, from 0,0")
     kinds.add_parser("sudoku").add_argument("given", metavar="FILE-or-81-characters", help="digits, and dots or zeros for empty cells")
     for kind, what in (("coloring", "borders, two names a line"), ("matching", "edges, two names a line"),
-                       ("timetable", "lessons, as CSV"), ("words", "words of one length")):
-        kinds.add_parser(kind).add_argument("file", metavar="FILE", help=what)
+                       ("timetable", "lessons, as CSV"), ("word-square", "words of one length"), ("nonogram", "lines of numbers"),
+                       ("cubes", "a name and six colours a line")):
+        kinds.add_parser(kind, aliases=["words"] if kind == "word-square" else []).add_argument("file", metavar="FILE", help=what)
+    crossword = kinds.add_parser("crossword")
+    crossword.add_argument("grid", metavar="GRID", help="rows of dots, letters and #")
+    crossword.add_argument("file", metavar="WORDS", help="words of any length")
+    for kind in ("word-square", "crossword"):
+        kinds.choices[kind].add_argument("--repeat", action="store_true", help="a word may come more than once")
     kinds.choices["coloring"].add_argument("--colors", default="red,green,blue", help="the colours, with commas (default red,green,blue)")
     kinds.choices["squares"].add_argument("file", metavar="FILE", help="a name and four colours a line")
     kinds.choices["squares"].add_argument("--border", metavar="COLOUR", help="the colour of all sides that look outwards")
+    for kind in dict.fromkeys(kinds.choices.values()):
+        kind.add_argument("--out", metavar="FILE", help="where the problem is written, in place of the standard output")
     return parser.parse_args()
 
 
@@ -436,11 +572,17 @@ def examples():
     squares("squares-3x3.dlx", "nine squares, edge to edge in one colour, and grey all round", rectangle(3, 3),
             {line[0]: line.split()[1:] for line in SQUARES}, "grey")
     word_squares("word-square.dlx", "six words across and down, from a list of ten", WORDS.split())
+    write("crossword.dlx", "ten words across and down in a grid of 5 by 5, from a list of forty",
+          *puzzles.crossword(CROSSWORD, CROSSWORD_WORDS.split()))
+    write("nonogram.dlx", "a picture of black cells, by the lengths of their blocks in rows and columns", *puzzles.nonogram(*NONOGRAM))
+    write("instant-insanity.dlx", "four cubes in a row, turned so that no side of the row shows a colour twice",
+          *puzzles.cubes({line.split()[0]: line.split()[1:] for line in CUBES}))
 
 
 def main():
     given = parse()
     if given.kind:
+        OUT[:] = [given.out] if given.out else []
         make(given)
     else:
         examples()

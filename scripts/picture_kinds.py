@@ -1,4 +1,5 @@
 """The kinds of pictures: each is known by the names of a problem's items, and draws an answer as text and on a sheet."""
+import functools
 import itertools
 import math
 import re
@@ -67,6 +68,12 @@ def cell_of(name):
     return (int(found[1]), int(found[2])) if found else None
 
 
+def sheet_cell_of(name):
+    """The same of a name as A1 or C12, whose letter is the column and whose number the row, as in a spreadsheet."""
+    found = re.fullmatch(r"([A-Z])([1-9]\d{0,2})", name)
+    return (int(found[2]) - 1, ord(found[1]) - ord("A")) if found else None
+
+
 def is_connected(cells):
     """Whether the cells hang together by their edges."""
     left, reached = set(cells), []
@@ -81,19 +88,24 @@ def is_connected(cells):
 class Tiling(Kind):
     """Pieces that fill cells; at most one name of an option is that of its piece."""
 
+    @functools.cached_property
+    def cell_of(self):
+        """How names of cells are read: as in a spreadsheet where the problem names none by numbers."""
+        return cell_of if any(map(cell_of, self.items)) else sheet_cell_of
+
     def is_known(self):
-        cells = [[cell_of(name) for name in option] for option in self.options]
-        rows, columns = ({place[k] for place in map(cell_of, self.items) if place} for k in (0, 1))
+        cells = [[self.cell_of(name) for name in option] for option in self.options]
+        rows, columns = ({place[k] for place in map(self.cell_of, self.items) if place} for k in (0, 1))
         return bool(cells) and max(rows | columns, default=LARGEST) < LARGEST and all(found.count(None) <= 1 and len(found) > found.count(None) and
                                    is_connected([cell for cell in found if cell]) for found in cells)
 
     def board(self):
-        areas = {cell_of(name): 0 for name in self.items if cell_of(name)}
+        areas = {self.cell_of(name): 0 for name in self.items if self.cell_of(name)}
         labels = {}
         for k, option in enumerate(self.chosen, 1):
-            piece = next((name for name in option if cell_of(name) is None), "")
-            areas.update((cell_of(name), k) for name in option if cell_of(name))
-            labels.update((cell_of(name), piece) for name in option if cell_of(name))
+            piece = next((name for name in option if self.cell_of(name) is None), "")
+            areas.update((self.cell_of(name), k) for name in option if self.cell_of(name))
+            labels.update((self.cell_of(name), piece) for name in option if self.cell_of(name))
         return Board(labels, areas)
 
     def lines(self):
@@ -243,7 +255,7 @@ class Timetable(Kind):
     """Lessons, each with people, classes and rooms at one period: a table of who and what is busy when."""
 
     def is_known(self):
-        if not self.secondary() or not self.all_match(r".+-\d+", self.secondary()):
+        if not self.secondary() or not self.all_match(r".+-[^-=]+", self.secondary()):
             return False
         return all(len({name.rsplit("-", 1)[1] for name in option if name not in self.primary}) == 1 and
                    sum(name in self.primary for name in option) == 1 for option in self.options)
@@ -255,8 +267,10 @@ class Timetable(Kind):
         for option in self.chosen:
             lesson = next(name for name in option if name in self.primary)
             busy.update((name, lesson) for name in option if name not in self.primary)
-        periods = sorted({int(period) for _, period in split})
-        return [["period"] + who] + [[str(period)] + [busy.get(f"{name}-{period}", "") for name in who] for period in periods]
+        periods = list(dict.fromkeys(period for _, period in split))
+        if all(map(str.isdigit, periods)):
+            periods.sort(key=int)
+        return [["period"] + who] + [[period] + [busy.get(f"{name}-{period}", "") for name in who] for period in periods]
 
     def lines(self):
         return table_text(self.rows())
@@ -397,8 +411,9 @@ class Plain(Kind):
         return True
 
     def lines(self):
-        return [" ".join(name + (f":{colours[name]}" if name in colours else "") for name in option)
-                for option, colours in zip(self.chosen, self.chosen_colours)]
+        head = [] if self.is_none else [f"cover {len(self.chosen)}"]
+        return head + [" ".join(name + (f":{colours[name]}" if name in colours else "") for name in option)
+                       for option, colours in zip(self.chosen, self.chosen_colours)]
 
     def draw(self, paper):
         draw_lines(paper, self.text())
@@ -489,7 +504,64 @@ class Words(Kind):
         self.caption(paper)
 
 
-KINDS = [Sudoku, Queens, Langford, Triples, Tiling, Timetable, Colouring, Matching, Squares, Words]
+class Nonogram(Kind):
+    """Rows and columns of black and white cells."""
+
+    with_colours = True
+
+    def is_known(self):
+        are_lines = self.all_match(r"(row|column)\d+", self.primary)
+        cells = [cell_of(item) for item in self.secondary()]
+        return are_lines and bool(cells) and all(cells) and max(map(max, cells)) < LARGEST and all(
+            colour in ("black", "white") for colours in self.option_colours for colour in colours.values())
+
+    def lines(self):
+        black, cells = self.black(), {cell_of(item) for item in self.secondary()}
+        rows, columns = (range(max(cell[k] for cell in cells) + 1) for k in (0, 1))
+        return ["".join("#" if (r, c) in black else "." for c in columns) for r in rows]
+
+    def black(self):
+        return {cell_of(name) for colours in self.chosen_colours for name, colour in colours.items() if colour == "black"}
+
+    def draw(self, paper):
+        cells = {cell_of(item) for item in self.secondary()}
+        black = self.black()
+        Board({}, {cell: cell for cell in cells}).draw(paper, CELL * 0.6, lambda cell: INK if cell in black else "#fffdf8")
+        self.caption(paper)
+
+
+class Cubes(Kind):
+    """Cubes in a row: each option has a cube and the colour that it shows on each of four sides."""
+
+    SIDES = ("front", "right", "back", "left")
+
+    def is_known(self):
+        def is_turned(option):
+            return [name.partition("-")[0] for name in option[1:]] == list(self.SIDES)
+
+        return bool(self.options) and all(map(is_turned, self.options))
+
+    def shown(self):
+        """For each cube the colours that it shows, in the order of the sides."""
+        return {option[0]: [name.partition("-")[2] for name in option[1:]] for option in self.chosen}
+
+    def lines(self):
+        return table_text([["cube", *self.SIDES]] + [[cube, *colours] for cube, colours in self.shown().items()])
+
+    def draw(self, paper):
+        names = sorted({name.partition("-")[2] for option in self.options for name in option[1:]})
+        for k, side in enumerate(self.SIDES):
+            paper.text((k + 1.5) * 2 * CELL, -CELL / 2, side, 14)
+        for row, (cube, colours) in enumerate(self.shown().items()):
+            paper.text(CELL, (row + 0.5) * CELL, cube, 14)
+            for k, colour in enumerate(colours):
+                fill = KNOWN_COLOURS.get(colour) or FILLS[names.index(colour) % len(FILLS)]
+                paper.box((k + 1) * 2 * CELL, row * CELL, 2 * CELL, CELL, fill, INK, 1.2)
+                paper.text((k + 1.5) * 2 * CELL, (row + 0.5) * CELL, colour, 13)
+        self.caption(paper)
+
+
+KINDS = [Sudoku, Queens, Langford, Triples, Cubes, Tiling, Timetable, Colouring, Matching, Squares, Nonogram, Words]
 
 
 def picture_of(problem, chosen, is_none):

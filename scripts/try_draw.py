@@ -38,6 +38,8 @@ BEGINNINGS = {
     "timetable": ["period  ann       bob       5a        5b        hall      room"], "letters": ["c e", "a d f", "b g"],
     "squares-3x3": ["+-----+-----+-----+", "|  g  |  g  |  g  |", "|g D r|r H y|y A g|"], "word-square": ["t a p", "i c e", "n e t"],
     "pentominoes-6x10": ["+---+---+---+---+---+---+---+---+---+---+", "| L   L | X | F   F | T   T   T | W   W |"],
+    "crossword": ["w i s e", "a   t a r", "s t o r e"], "nonogram": ["....#.....", "...##....."],
+    "instant-insanity": ["cube   front  right  back   left", "-----  -----  -----  -----  -----"],
     "mutilated-chessboard": ["none: the answer is that there is no cover", "    +---+---+---+---+---+---+---+",
                              "    |                           |"],
 }
@@ -161,13 +163,27 @@ def are_words(lines, words):
     return len(set(found)) == 2 * len(rows) and set(found) <= set(words)
 
 
+def are_blocks(lines, rows, columns):
+    """Whether rows and columns of `#` and dots have blocks of these lengths."""
+    lengths = [[len(block) for block in line.replace(".", " ").split()] for line in lines]
+    return lengths == rows and [[len(block) for block in "".join(line).replace(".", " ").split()] for line in zip(*lines)] == columns
+
+
+def are_turned(lines, cubes):
+    """Whether a table of cubes shows each colour once on each side, and of each cube opposite faces opposite."""
+    shown = {line.split()[0]: line.split()[1:] for line in lines[2:]}
+    opposite = {cube: [set(faces[a:b + 1:b - a]) for a, b in ((0, 2), (1, 3), (4, 5))] for cube, faces in cubes.items()}
+    return set(shown) == set(cubes) and all(len(set(side)) == len(cubes) for side in zip(*shown.values())) and all(
+        {colours[0], colours[2]} in opposite[cube] and {colours[1], colours[3]} in opposite[cube] for cube, colours in shown.items())
+
+
 # ---- the tests
 
 def examples(trial):
     generate.HERE = trial.folder
     generate.examples()
     written = [name for name in sorted(os.listdir(trial.folder)) if name.endswith(".dlx")]
-    trial.expect("eleven examples are written", len(written) == 11)
+    trial.expect("fourteen examples are written", len(written) == 14)
     for name in written:
         trial.expect(f"{name} as it stands", content(trial.path(name)) == content(os.path.join(EXAMPLES, name)))
     for name in sorted(os.listdir(os.path.join(EXAMPLES, "pictures"))):
@@ -221,6 +237,38 @@ def boards_with_colours(trial):
     trial.expect("squares without a border", are_squares(trial.made("squares", "2x2", trial.path("four", FOUR))))
     ten = trial.path("ten", generate.WORDS.encode())
     trial.expect("words", are_words(trial.made("words", ten), generate.WORDS.split()))
+    again = trial.made("word-square", trial.path("again", b"ab ba"), "--repeat")
+    trial.expect("words that come again", again == ["a b", "b a"])
+    crossword = trial.made("crossword", trial.path("grid", b".a\n#.\n"), trial.path("two", b"ca at\nat\nta"))
+    trial.expect("a crossword with a given letter", crossword == ["c a", "  t"])
+
+
+def puzzles(trial):
+    rows, columns = generate.NONOGRAM
+    text = "\n\n".join("\n".join(" ".join(map(str, line)) for line in lines) for lines in (rows, columns))
+    trial.expect("a nonogram", are_blocks(trial.made("nonogram", trial.path("blocks", text.encode())), rows, columns))
+    trial.expect("no black cell", trial.made("nonogram", trial.path("white", b"0\n0\n\n0\n0\n0\n")) == ["...", "..."])
+    cubes = {line.split()[0]: line.split()[1:] for line in generate.CUBES}
+    trial.expect("cubes", are_turned(trial.made("cubes", trial.path("cubes", "\n".join(generate.CUBES).encode())), cubes))
+    sheet = trial.drawn(trial.path("sheet.dlx", b"A1 B1 A2 B2\nA1 B1\nA2 B2\n"), trial.path("sheet.svg"))
+    trial.expect("cells as in a spreadsheet", sheet[0] == "+-------+" and len(sheet) == 5)
+    listed = trial.drawn(trial.path("list.dlx", b"x y z\nx y\nz\n"), trial.path("list.svg"))
+    trial.expect("a list with its head", listed == ["cover 2", "x y", "z"])
+    blank = "\n".join(SUDOKU[k:k + 9].replace(".", " ").rstrip() for k in range(0, 81, 9))
+    trial.expect("blanks", is_sudoku(trial.made("sudoku", trial.path("blank", blank.encode())), SUDOKU))
+    trial.expect("underscores", is_sudoku(trial.made("sudoku", SUDOKU.replace(".", "_")), SUDOKU))
+    table = trial.path("week", b"lesson;teacher;class;rooms;periods;hours\nmaths;ann;5a;room;Mon1 Mon2 Tue1;2\nart;bob;5a;room hall;Mon1;1\n")
+    week = [line.split() for line in trial.made("timetable", table)]
+    trial.expect("named periods", [row[0] for row in week[2:]] == ["Mon1", "Mon2", "Tue1"] and sum(week, []).count("art") == 3)
+
+
+def written(trial):
+    """A problem that is refused leaves no file, and one that is not is whole."""
+    for words, status in ((["queens", "142"], 2), (["queens", "4"], 0)):
+        out = trial.path(f"out-{status}.dlx")
+        ended = trial.python("examples/generate.py", *words, "--out", out)
+        there = [name for name in os.listdir(trial.folder) if name.startswith(f"out-{status}")]
+        trial.expect(f"{words} into a file", ended.returncode == status and len(there) == (status == 0) and not ended.stdout)
 
 
 def strange_names(trial):
@@ -249,6 +297,10 @@ def refusals(trial):
                   ["timetable", trial.folder], ["coloring", "nothing"],
                   ["squares", "3x3", trial.path("four", FOUR)], ["squares", "2x2", trial.path("three", b"a b c d\n")],
                   ["words", trial.path("uneven", b"one two three\n")], ["words", trial.path("empty", b"\n")],
+                  ["nonogram", trial.path("lines", b"1\n1\n")], ["nonogram", trial.path("cells", b"1\n\n2\n0\n")],
+                  ["cubes", trial.path("five", b"a r g b w r\n")], ["crossword", trial.path("rows", b"..\n.\n"), trial.path("list", b"ab\n")],
+                  ["crossword", trial.path("black", b"##\n##\n"), trial.path("list", b"ab\n")],
+                  ["timetable", trial.path("head", b"lesson;teacher\na;b\n")],
                   ["triples", "60"], ["matching", trial.path("edges", b"a b c\n")], ["coloring", trial.path("borders", b"a-b c\n")]):
         ended = trial.python("examples/generate.py", *words)
         is_plain = ended.stderr and b"Traceback" not in ended.stderr
@@ -269,7 +321,7 @@ def main():
     want_program(given.program)
     with tempfile.TemporaryDirectory(prefix="try-draw-") as folder:
         trial = Trial(given.program, folder)
-        for tests in (examples, beginnings, kinds, tables_and_graphs, boards_with_colours, strange_names, refusals):
+        for tests in (examples, beginnings, kinds, tables_and_graphs, boards_with_colours, puzzles, written, strange_names, refusals):
             tests(trial)
     print(f"{trial.passed} passed, {trial.failed} failed")
     return 1 if trial.failed else 0

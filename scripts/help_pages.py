@@ -1,0 +1,183 @@
+#!/usr/bin/env python3
+"""Writes a man page and completions for bash and zsh, made from the program's own help.
+
+    scripts/help_pages.py FOLDER
+
+FOLDER gets `solve_cli.1`, `solve_cli.bash` and `_solve_cli`. Each option, argument and sentence in them comes from what the
+built program prints for `--help`, so they can't differ from it. scripts/install.sh puts them where they belong.
+
+It wants the program: (cd crates/solve_cli && rt run) builds it. The exit status is 0, or 2 for a fault of the command line,
+where there is no program, or where its help doesn't read as expected.
+"""
+import os
+import re
+import subprocess
+from dataclasses import dataclass, field
+
+from built import SOLVE_CLI, parser_of, stop, want_program
+
+NAME = "solve_cli"
+
+
+@dataclass
+class Option:
+    """An option: its names, with `--long` last, the name of its value if it takes one, and what it is for."""
+    names: list
+    value: str
+    text: str
+
+
+@dataclass
+class Help:
+    """What the help of a command says."""
+    about: str = ""
+    usage: str = ""
+    commands: dict = field(default_factory=dict)
+    arguments: dict = field(default_factory=dict)
+    options: list = field(default_factory=list)
+    tail: list = field(default_factory=list)
+
+
+def printed(words):
+    """What the program prints for these words and `--help`."""
+    ran = subprocess.run([SOLVE_CLI, *words, "--help"], capture_output=True, text=True)
+    if ran.returncode != 0:
+        stop(f"the program's help ends with status {ran.returncode}")
+    return ran.stdout
+
+
+def option_of(line):
+    """The option that a line of help shows."""
+    shown, text = re.fullmatch(r"\s*(.*?)(?:\s{2,}(.*))?", line).groups()
+    names = re.findall(r"--?[A-Za-z][A-Za-z-]*", shown)
+    value = re.search(r"<(.*?)>", shown)
+    return Option(names, value.group(1) if value else "", text or "")
+
+
+def read_help(words):
+    """The help of a command, read paragraph by paragraph."""
+    help = Help()
+    for number, paragraph in enumerate(printed(words).strip().split("\n\n")):
+        head, *lines = paragraph.splitlines()
+        rows = dict(re.fullmatch(r"\s*(\S+)\s*(.*)", line).groups() for line in lines if line.strip())
+        if head.startswith("Usage: "):
+            help.usage = head.removeprefix("Usage: ")
+        elif head == "Commands:":
+            help.commands = {name: text for name, text in rows.items() if name != "help"}
+        elif head == "Arguments:":
+            help.arguments = {name.strip("<>"): text for name, text in rows.items()}
+        elif head == "Options:":
+            help.options = [option_of(line) for line in lines]
+        elif number == 0:
+            help.about = paragraph
+        else:
+            help.tail.append(paragraph)
+    if not help.usage or not help.options:
+        stop(f"the help of {' '.join([NAME, *words])} has no usage or no options")
+    return help
+
+
+def quoted(text):
+    """Text as troff takes it."""
+    text = text.replace("\\", "\\e").replace("-", "\\-")
+    return "\\&" + text if text[:1] in (".", "'") else text
+
+
+def man_rows(help):
+    """The arguments and options of a command, as troff."""
+    rows = [f".TP\n.I {quoted(name)}\n{quoted(text)}" for name, text in help.arguments.items()]
+    for option in help.options:
+        names = ", ".join(f"\\fB{quoted(name)}\\fR" for name in option.names)
+        value = f" \\fI{quoted(option.value)}\\fR" if option.value else ""
+        rows.append(f".TP\n{names}{value}\n{quoted(option.text)}")
+    return rows
+
+
+def man_page(top, commands):
+    """The man page."""
+    version = subprocess.run([SOLVE_CLI, "--version"], capture_output=True, text=True).stdout.split()[-1]
+    lines = [f'.TH {NAME.upper()} 1 "" "{NAME} {version}" "User Commands"', ".SH NAME", f"{NAME} \\- {quoted(top.about)}", ".SH SYNOPSIS"]
+    lines += [f".B {quoted(help.usage)}\n.br" for help in commands.values()]
+    lines += [".SH DESCRIPTION", quoted(top.about) + ".", *man_rows(Help(options=top.options))]
+    for name, help in commands.items():
+        lines += [f".SH {name.upper()}", quoted(help.about) + ".", *man_rows(help)]
+        lines += [f".PP\n{quoted(paragraph)}" for paragraph in help.tail]
+    return "\n".join(lines) + "\n"
+
+
+def bash_completion(top, commands):
+    """The completion for bash: subcommands first, then options, and files in every place of an argument."""
+    cases = "\n".join(f'        {name}) options="{" ".join(longs(help))}" ;;' for name, help in commands.items())
+    valued = "|".join(sorted({name for help in commands.values() for option in help.options if option.value for name in option.names}))
+    return f"""_{NAME}() {{
+    local word="${{COMP_WORDS[COMP_CWORD]}}" before="${{COMP_WORDS[COMP_CWORD - 1]}}" options="" known
+    if [ "$COMP_CWORD" -eq 1 ]; then
+        COMPREPLY=($(compgen -W "{' '.join([*commands, *longs(top)])}" -- "$word"))
+        return
+    fi
+    case "$before" in {valued}) COMPREPLY=(); return ;; esac
+    case "${{COMP_WORDS[1]}}" in
+{cases}
+    esac
+    case "$word" in
+        -*) COMPREPLY=($(compgen -W "$options" -- "$word")) ;;
+        *) known=$(compgen -f -- "$word"); local IFS=$'\\n'; COMPREPLY=($known) ;;
+    esac
+}}
+complete -o filenames -F _{NAME} {NAME}
+"""
+
+
+def longs(help):
+    """The options of a command, by their long names."""
+    return [option.names[-1] for option in help.options]
+
+
+def zsh_row(option):
+    """An option as `_arguments` of zsh takes it."""
+    text = re.sub(r"([\[\]:'])", r"\\\1", option.text).replace("\\'", "'\\''")
+    value = f":{option.value}:" if option.value else ""
+    return "\n".join(f"                '{name}[{text}]{value}' \\" for name in option.names)
+
+
+def zsh_completion(top, commands):
+    """The completion for zsh."""
+    named = " ".join(f"'{name}:{help.about.replace(chr(39), chr(39) + chr(92) + chr(39) + chr(39))}'" for name, help in commands.items())
+    cases = ""
+    for name, help in commands.items():
+        rows = "\n".join(zsh_row(option) for option in help.options)
+        files = " ".join(f"'{place}:{argument}:_files'" for place, argument in enumerate(help.arguments, 1))
+        cases += f"        {name})\n            _arguments -s \\\n{rows}\n                {files} ;;\n"
+    return f"""#compdef {NAME}
+_{NAME}() {{
+    local context state line
+    _arguments -C '1: :->command' '*:: :->argument'
+    case $state in
+        command) local commands=({named}); _describe command commands ;;
+        argument) case $line[1] in
+{cases}        esac ;;
+    esac
+}}
+_{NAME} "$@"
+"""
+
+
+def main():
+    words = parser_of(__doc__)
+    words.add_argument("folder", metavar="FOLDER")
+    folder = words.parse_args().folder
+    want_program(SOLVE_CLI)
+    top = read_help([])
+    commands = {name: read_help([name]) for name in top.commands}
+    pages = {f"{NAME}.1": man_page(top, commands), f"{NAME}.bash": bash_completion(top, commands), f"_{NAME}": zsh_completion(top, commands)}
+    try:
+        os.makedirs(folder, exist_ok=True)
+        for name, text in pages.items():
+            with open(os.path.join(folder, name), "w", encoding="utf-8") as file:
+                file.write(text)
+    except OSError as error:
+        stop(f"{error.filename}: {error.strerror}")
+
+
+if __name__ == "__main__":
+    main()
