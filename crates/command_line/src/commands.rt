@@ -1,9 +1,9 @@
 //! The program's command and its subcommands, as clap has them.
 
 ghost use Rattle.std.specs.Prelude.{◌≡◌, false, IfOk, codes};
-ghost use Rattle.clap.specs.Words.{app_of, rule_of};
+ghost use Rattle.clap.specs.Words.{app_of, new_app, rule_of};
 ghost use Rattle.clap.specs.declared.builder.command.Command.TheViews.{out-Command};
-ghost use Rattle.command_line.specs.CommandLine.{alone_app, check_app, file_rule, greatest_fuel_rule, number_rule, one_thread_app, simulate_app, sites_app, solve_app, solver_app};
+ghost use Rattle.command_line.specs.CommandLine.{alone_app, check_app, file_rule, greatest_fuel_rule, number_rule, one_thread_app, simulate_app, sites_app, solve_app, solver_app, versioned};
 
 use clap::error::ErrorKind;
 use clap::{Arg, Command, Error};
@@ -60,14 +60,21 @@ fn number_argument<'a>(alloc: Global, id: &'a str, default: &'a str, help: &'a s
         .help(help)
 }
 
+/// A subcommand with a description and the program's version.
+fn described<'a>(alloc: Global, name: &'a str, about: &'a str) -> Command<'a>
+    ensures app { app_of result ≡ versioned (new_app name.now) }
+    ensures local { (out-Command result).has_globals ≡ false }
+{
+    Command::new(alloc, name).about(about).version(VERSION)
+}
+
 fn alone_command<'a>(alloc: Global) -> Result<Command<'a>, AllocError>
     ensures app { IfOk result (λ command. app_of command ≡ alone_app) }
     ensures local { IfOk result (λ command. (out-Command command).has_globals ≡ false) }
 {
-    Command::new(alloc, "alone")
-        .about("Searches the problem on one thread and writes its first exact cover, or none")
+    let about = "Searches the problem on one thread and writes its first exact cover, or none";
+    described(alloc, "alone", about)
         .after_help(SEARCH_STATUSES)
-        .version(VERSION)
         .arg(file_argument(alloc))?
         .arg(fuel_argument(alloc))
 }
@@ -76,10 +83,8 @@ fn check_command<'a>(alloc: Global) -> Result<Command<'a>, AllocError>
     ensures app { IfOk result (λ command. app_of command ≡ check_app) }
     ensures local { IfOk result (λ command. (out-Command command).has_globals ≡ false) }
 {
-    Command::new(alloc, "check")
-        .about("Tests whether an answer to the problem is right")
+    described(alloc, "check", "Tests whether an answer to the problem is right")
         .after_help(CHECK_STATUSES)
-        .version(VERSION)
         .arg(file_argument(alloc))?
         .arg(answer_argument(alloc))?
         .arg(fuel_argument(alloc))
@@ -102,9 +107,7 @@ fn sites_command<'a>(
     );
     let nodes = number_argument(alloc, "nodes", "4", "How many nodes there are, 1 to 16");
     let seed = number_argument(alloc, "seed", "1", "The seed of what is drawn");
-    Command::new(alloc, name)
-        .about(about)
-        .version(VERSION)
+    described(alloc, name, about)
         .arg(file_argument(alloc))?
         .arg(fuel)?
         .arg(nodes)?

@@ -10,8 +10,8 @@ simple : is_simple solver_app ≡ true
 unfolding clap_on_literals
 simple = refl
 
-pub returns-in-Some-spelled : goal.returns-in-Some-spelled
-returns-in-Some-spelled c =
+pub returns-clause-met : goal.returns-clause-met
+returns-clause-met c =
     let m = c.in-Ok-try_get_matches_from_mut.matches in
     let is : app_of c.in-Ok.command ≡ solver_app = c.in-Ok.ensures in
     let h = c.in-Ok-try_get_matches_from_mut.ensures.ok in
