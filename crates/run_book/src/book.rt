@@ -102,7 +102,7 @@ pub fn distinct_sites<J: Run>(books: &[Book<J>]) -> bool
 }
 
 /// Whether one of the books is of the site.
-fn has_site<J: Run>(site: Site, books: &[Book<J>]) -> bool
+pub fn has_site<J: Run>(site: Site, books: &[Book<J>]) -> bool
     ensures { result ≡ has_site site books.now }
 {
     for book in books {

@@ -18,7 +18,7 @@ mod seats;
 mod site_cell;
 mod ticket_rule;
 
-pub use book::{Book, distinct_sites};
+pub use book::{Book, distinct_sites, has_site};
 pub use entry::Entry;
 pub use fault::{BookFault, Missing};
 pub use laws::{
