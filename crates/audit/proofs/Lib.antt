@@ -1,0 +1,9 @@
+mod Lacking
+mod Merging
+mod Opening
+mod Running
+mod Safe
+mod Setting
+mod SiteOrder
+mod Staging
+mod Walking

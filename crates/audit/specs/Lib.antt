@@ -1,0 +1,4 @@
+pub mod Audits
+pub mod Checked
+pub mod Cursors
+pub mod Lacking
