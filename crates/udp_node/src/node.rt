@@ -23,14 +23,18 @@ use node_core::Core;
 use run_book::{Outbox, Room, Run, SiteCell};
 use std::alloc::{AllocError, Global};
 use std::sync::Wait;
+use std::sync::atomic::AtomicBool;
 use std::thread::{self, Threads};
-use std::time::Clock;
+use std::time::{Clock, Duration};
 
 /// How many turns without work a worker has for each of its turns.
 const REST: u64 = 1_000;
 
 /// How many empty receives there are for each turn of the thread that receives.
 const SILENCE: u64 = 10;
+
+/// How long a thread waits where memory ran out, in milliseconds.
+const SHORTAGE: u64 = 1;
 
 /// What a thread is for.
 #[derive(Drop)]
@@ -47,6 +51,15 @@ impl<L: Link> Task<L> {
         match self {
             Task::Work(_) => REST,
             Task::Receive(_) => SILENCE,
+        }
+    }
+
+    /// Whether the site ends where the thread ended by this cause. Without the one that receives, nothing gets there any more; a
+    /// worker whose turns are over leaves the rest to the others.
+    fn ends_site(&self, cause: Cause) -> bool {
+        match self {
+            Task::Work(_) => !matches!(cause, Cause::Over | Cause::Turns),
+            Task::Receive(_) => true,
         }
     }
 }
@@ -99,13 +112,11 @@ impl<N: Room, L: Link> Place<N, L> {
             let mut left = Limits::new(shared.plan.turns, task.waits());
             let (actor, cause) = match task {
                 Task::Work(number) => work(rt, shared, actor, *number, &mut left),
-                Task::Receive(receiver) => {
-                    let ended = receive(rt, shared, actor, receiver, &mut left);
-                    // (nothing that others have for this site gets here any more)
-                    shared.signals.end();
-                    ended
-                }
+                Task::Receive(receiver) => receive(rt, shared, actor, receiver, &mut left),
             };
+            if task.ends_site(cause) {
+                shared.signals.end();
+            }
             let Actor {
                 stand,
                 pass: _,
@@ -120,6 +131,14 @@ impl<N: Room, L: Link> Place<N, L> {
     }
 }
 
+/// Notes what a turn came to, and waits a little where memory ran out. Returns the cause where the thread ends by it.
+fn noted<R: Wait + Clock>(rt: &R, left: &mut Limits, turn: Turn) -> Option<Cause> {
+    if turn == Turn::Starved {
+        thread::sleep(rt, Duration::from_millis(SHORTAGE));
+    }
+    left.note(turn)
+}
+
 /// A worker's turns.
 fn work<J: Run, C: Core + Drop, N: Room, G: Gate, R: Wait + Clock>(
     rt: &R,
@@ -130,6 +149,11 @@ fn work<J: Run, C: Core + Drop, N: Room, G: Gate, R: Wait + Clock>(
 ) -> (Actor<N>, Cause)
     requires here { actor.pass.outbox ≡ shared.now.outbox.now }
 {
+    if shared.is_over() {
+        return (actor, Cause::Turns);
+    }
+    shared.signals.begin_working();
+    shared.signals.muster(rt);
     let node = shared.cell.site().node;
     let Ok(mut worker) = Worker::new(shared.alloc, shared.problem, shared.plan, node, number) else {
         return (actor, Cause::Memory);
@@ -141,10 +165,8 @@ fn work<J: Run, C: Core + Drop, N: Room, G: Gate, R: Wait + Clock>(
         }
         let (after, turn) = worker.turn(rt, shared, actor);
         actor = after;
-        match turn {
-            Turn::Used => left.use_turn(),
-            Turn::Waited => left.wait(),
-            Turn::Ended(cause) => return (actor, cause),
+        if let Some(cause) = noted(rt, left, turn) {
+            return (actor, cause);
         }
     }
     (actor, Cause::Turns)
@@ -160,6 +182,11 @@ fn receive<J: Run, C: Core + Drop, N: Room, L: Link, G: Gate, R: Wait + Clock>(
 ) -> (Actor<N>, Cause)
     requires here { actor.pass.outbox ≡ shared.now.outbox.now }
 {
+    if shared.is_over() {
+        return (actor, Cause::Turns);
+    }
+    shared.signals.begin_receiving();
+    shared.signals.muster(rt);
     let mut actor = actor;
     for number in 0..u64::MAX {
         if left.is_spent() {
@@ -167,17 +194,15 @@ fn receive<J: Run, C: Core + Drop, N: Room, L: Link, G: Gate, R: Wait + Clock>(
         }
         let (after, turn) = receiver.turn(rt, shared, actor, number);
         actor = after;
-        match turn {
-            Turn::Used => left.use_turn(),
-            Turn::Waited => left.wait(),
-            Turn::Ended(cause) => return (actor, cause),
+        if let Some(cause) = noted(rt, left, turn) {
+            return (actor, cause);
         }
     }
     (actor, Cause::Turns)
 }
 
-/// Runs the threads of a node to their ends: its workers, one that receives and one that sends. All seats come back, unless there
-/// is no memory to start with: then no thread ran.
+/// Runs the threads of a node to their ends: its workers, one that receives and one that sends. All seats come back, unless memory
+/// ran out at the start: then none does, and no thread has taken a turn.
 pub fn run_node<
     J: Run + Send + Sync,
     C: Core + Drop + Send,
@@ -195,13 +220,24 @@ pub fn run_node<
     gate: &G,
 ) -> NodeEnd<N>
     requires { problem.now ≡ J.run.problem }
-    ensures { (vec_len result.stands ≡ plan.workers + 1) ⊎ (result.cause ≡ Memory) }
+    ensures all { (vec_len result.stands ≡ plan.workers + 1) ⊎ (result.cause ≡ Memory) }
+    ensures none { (vec_len result.stands ≡ plan.workers + 1)
+        ⊎ ((vec_len result.stands ≡ 0) × (result.taken.turns ≡ 0) × (result.taken.waits ≡ 0)) }
 {
-    run_threads(rt, alloc, cell, problem, link, plan, gate, plan.workers)
+    run_threads(
+        rt,
+        alloc,
+        cell,
+        problem,
+        link,
+        plan,
+        gate,
+        &AtomicBool::new(false),
+    )
 }
 
-/// Runs the threads of the registry to their ends: one that receives and one that sends. The seat comes back, unless there is no
-/// memory to start with: then no thread ran.
+/// Runs the threads of the registry to their ends: one that receives and one that sends. The seat comes back, unless memory ran out
+/// at the start: then it doesn't, and no thread has taken a turn.
 pub fn run_root<
     J: Run + Send + Sync,
     C: Core + Drop + Send,
@@ -217,13 +253,26 @@ pub fn run_root<
     plan: Plan,
 ) -> NodeEnd<N>
     requires { problem.now ≡ J.run.problem }
-    ensures { (vec_len result.stands ≡ 1) ⊎ (result.cause ≡ Memory) }
+    ensures all { (vec_len result.stands ≡ 1) ⊎ (result.cause ≡ Memory) }
+    ensures none { (vec_len result.stands ≡ 1)
+        ⊎ ((vec_len result.stands ≡ 0) × (result.taken.turns ≡ 0) × (result.taken.waits ≡ 0)) }
 {
-    run_threads(rt, alloc, cell, problem, link, plan, &Open, 0)
+    let plan = Plan { workers: 0, ..plan };
+    run_threads(
+        rt,
+        alloc,
+        cell,
+        problem,
+        link,
+        plan,
+        &Open,
+        &AtomicBool::new(false),
+    )
 }
 
-/// Runs the threads of a site with so many workers.
-fn run_threads<
+/// Runs the threads of a site, as `run_node` and `run_root` do, and ends them where the run ends. A plan without workers is that of the
+/// registry.
+pub(crate) fn run_threads<
     J: Run + Send + Sync,
     C: Core + Drop + Send,
     N: Room + Send + Sync,
@@ -238,24 +287,27 @@ fn run_threads<
     link: L,
     plan: Plan,
     gate: &G,
-    workers: u8,
+    ended: &AtomicBool,
 ) -> NodeEnd<N>
     requires { problem.now ≡ J.run.problem }
-    ensures { (vec_len result.stands ≡ workers + 1) ⊎ (result.cause ≡ Memory) }
+    ensures all { (vec_len result.stands ≡ plan.workers + 1) ⊎ (result.cause ≡ Memory) }
+    ensures none { (vec_len result.stands ≡ plan.workers + 1)
+        ⊎ ((vec_len result.stands ≡ 0) × (result.taken.turns ≡ 0) × (result.taken.waits ≡ 0)) }
 {
     let (Ok((outbox, drain)), Ok(twin)) = (Outbox::new(alloc), link.twin()) else {
         return NodeEnd::starved(alloc);
     };
-    let Ok(crew) = Crew::new(rt, alloc, cell, twin, workers) else {
+    let Ok(crew) = Crew::new(rt, alloc, cell, twin, plan.workers) else {
         return NodeEnd::starved(alloc);
     };
-    let signals = Signals::new(crew.places.len() as u64);
+    let signals = Signals::new(crew.places.len() as u64, plan.workers > 0);
     let shared = Shared {
         cell,
         problem,
         outbox: &outbox,
         gate,
         signals: &signals,
+        ended,
         plan,
         alloc,
     };
@@ -267,7 +319,7 @@ fn run_threads<
         turns: plan.turns,
     };
     let (sent, crew) = thread::join(rt, move || send_all(rt, sender), || crew.run(rt, &shared));
-    ended(crew, sent)
+    end_of(crew, sent, signals.is_manned())
 }
 
 /// The threads of a site that act, with the room for what comes of them.
@@ -376,8 +428,8 @@ fn places_for<J: Run, C: Core + Drop, N: Room, L: Link, R: Wait>(
     Ok(places)
 }
 
-/// What came of all threads.
-fn ended<N: Room, L: Link>(crew: Crew<N, L>, sent: Sent) -> NodeEnd<N>
+/// What came of all threads; whether there was one of each kind.
+fn end_of<N: Room, L: Link>(crew: Crew<N, L>, sent: Sent, is_manned: bool) -> NodeEnd<N>
     ensures { vec_len result.stands ≡ crew.workers + 1 }
 {
     let Crew {
@@ -391,6 +443,7 @@ fn ended<N: Room, L: Link>(crew: Crew<N, L>, sent: Sent) -> NodeEnd<N>
         dropped: 0,
         failures: sent.failures,
         taken: sent.taken,
+        is_manned,
         cause: Cause::Turns,
     };
     for place in places {

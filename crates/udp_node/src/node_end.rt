@@ -22,6 +22,8 @@ pub struct NodeEnd<N: Room> {
     /// How many turns that one of its threads took which took the most, and in how many one waited which waited in the most. Each
     /// parcel is a turn of the thread that sends, and each look that found none to send is one in which it waited.
     pub taken: Taken,
+    /// A thread of each kind has begun while the site was to go on. Else the site took part in no search.
+    pub is_manned: bool,
     /// Why they ended: the first of all causes in the order of that type.
     pub cause: Cause,
 }
@@ -29,7 +31,9 @@ pub struct NodeEnd<N: Room> {
 impl<N: Room> NodeEnd<N> {
     /// There was no memory to start a thread.
     pub(crate) fn starved(alloc: Global) -> NodeEnd<N>
-        ensures { result.cause ≡ Memory }
+        ensures cause { result.cause ≡ Memory }
+        ensures stands { vec_len result.stands ≡ 0 }
+        ensures taken { (result.taken.turns ≡ 0) × (result.taken.waits ≡ 0) }
     {
         NodeEnd {
             stands: Vec::new(alloc),
@@ -37,6 +41,7 @@ impl<N: Room> NodeEnd<N> {
             dropped: 0,
             failures: 0,
             taken: Taken::NONE,
+            is_manned: false,
             cause: Cause::Memory,
         }
     }

@@ -12,6 +12,6 @@ pub struct Plan {
     /// How many turns each thread has at most. Those in which it had nothing to do and waited are counted apart: the thread that
     /// receives has ten times as many, the others a thousand times as many.
     pub turns: u64,
-    /// After how many receives in a row without a datagram a site gives up.
+    /// After how many receives a site gives up that brought no packet: the registry none at all, a node none of the registry.
     pub quiet: u64,
 }

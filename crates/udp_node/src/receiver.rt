@@ -10,7 +10,7 @@ use crate::shared::Shared;
 use crate::turn::Turn;
 use crate::worker::after;
 use node_core::{Core, Event};
-use packet_wire::{Body, Packet, read_packet};
+use packet_wire::{Body, Packet, WireFault, read_packet};
 use run_book::{Room, Run};
 use std::sync::Wait;
 use std::thread;
@@ -45,8 +45,9 @@ const GREETING: u64 = 1_000;
 #[derive(Drop)]
 pub struct Receiver<L: Link> {
     link: L,
-    /// How many receives were empty since a packet came last: what is no packet ends no row of them.
-    empty: u64,
+    /// How many receives brought no packet that shows the run going on, since the last one did: at the registry any packet does, at
+    /// a node one of the registry, as nodes ask one another for ever. What is no packet doesn't count.
+    silent: u64,
     /// How many receives were empty since something was said again last.
     pauses: u64,
     /// How many datagrams came since then.
@@ -66,7 +67,7 @@ impl<L: Link> Receiver<L> {
     pub fn new(link: L) -> Receiver<L> {
         Receiver {
             link,
-            empty: 0,
+            silent: 0,
             pauses: 0,
             heard: 0,
             faults: 0,
@@ -92,13 +93,16 @@ impl<L: Link> Receiver<L> {
         requires here { actor.pass.outbox ≡ shared.now.outbox.now }
         ensures here { result.0.pass.outbox ≡ shared.now.outbox.now }
     {
+        if shared.signals.is_over() {
+            return (actor, self.end());
+        }
         if number % GREETING != 0 || shared.cell.site().node == 0 {
             return self.receive(rt, shared, actor);
         }
         let (actor, acted) = actor.act(rt, shared, Event::Greet);
         match after(acted) {
-            Turn::Ended(cause) => (actor, Turn::Ended(cause)),
             Turn::Used | Turn::Waited => self.receive(rt, shared, actor),
+            turn => (actor, turn),
         }
     }
 
@@ -146,10 +150,13 @@ impl<L: Link> Receiver<L> {
         if bytes.len() >= BUFFER {
             return self.dropped(rt, shared, actor);
         }
-        let Ok(packet) = read_packet(shared.alloc, bytes) else {
-            return self.dropped(rt, shared, actor);
+        let packet = match read_packet(shared.alloc, bytes) {
+            Ok(packet) => packet,
+            Err(WireFault::Memory) => return (actor, Turn::Starved),
+            Err(_) => return self.dropped(rt, shared, actor),
         };
-        self.empty = 0;
+        let here = shared.cell.site().node;
+        self.listen(here == 0 || packet.from.node == 0);
         let is_end = matches!(packet.body, Body::Over);
         let (actor, acted) = actor.act(rt, shared, Event::Deliver(packet));
         if acted.is_err() {
@@ -158,11 +165,20 @@ impl<L: Link> Receiver<L> {
         if is_end {
             return (actor, Turn::Ended(Cause::Over));
         }
-        if !self.over && shared.cell.site().node == 0 && tells_end(actor.stand.packets()) {
+        if !self.over && here == 0 && tells_end(actor.stand.packets()) {
             self.over = true;
             self.link.hasten();
         }
         self.counted(rt, shared, actor)
+    }
+
+    /// Counts a receive that brought a packet which shows the run going on, or not.
+    fn listen(&mut self, goes_on: bool) {
+        self.silent = if goes_on {
+            0
+        } else {
+            self.silent.saturating_add(1)
+        };
     }
 
     /// A datagram came that is no packet: that is no turn, or strangers could use them up.
@@ -197,7 +213,7 @@ impl<L: Link> Receiver<L> {
         self.say_again(rt, shared, actor)
     }
 
-    /// What may be lost is said again. The registry ends once it has told the end often enough.
+    /// What may be lost is said again, unless the site can't go on. The registry ends once it has told the end often enough.
     fn say_again<J: Run, C: Core + Drop, N: Room, G: Gate, R: Wait>(
         &mut self,
         rt: &R,
@@ -212,15 +228,15 @@ impl<L: Link> Receiver<L> {
         if self.over {
             self.last = self.last.saturating_add(1);
         }
-        if self.last > LAST {
-            return (actor, Turn::Ended(Cause::Over));
+        if self.last > LAST || self.is_lost(shared) {
+            return (actor, self.end());
         }
         let (actor, acted) = actor.act(rt, shared, Event::Again);
         (actor, after(acted))
     }
 
-    /// Nothing came: what may be lost is said again now and then, and always once the search is over. It ends when
-    /// no packet came for long, or no worker is left.
+    /// Nothing came: what may be lost is said again now and then, and always once the search is over. The thread ends where the
+    /// site can't go on.
     fn wait<J: Run, C: Core + Drop, N: Room, G: Gate, R: Wait + Clock>(
         &mut self,
         rt: &R,
@@ -232,11 +248,10 @@ impl<L: Link> Receiver<L> {
     {
         let nap = if self.over { LAST_NAP } else { NAP };
         thread::sleep(rt, Duration::from_micros(nap));
-        self.empty = self.empty.saturating_add(1);
+        self.listen(false);
         self.pauses = self.pauses.saturating_add(1);
-        let is_deserted = shared.cell.site().node != 0 && shared.signals.is_deserted();
-        if is_deserted || self.empty >= shared.plan.quiet {
-            return (actor, Turn::Ended(Cause::Turns));
+        if self.is_lost(shared) {
+            return (actor, self.end());
         }
         if !self.over && self.pauses < AGAIN {
             return (actor, Turn::Waited);
@@ -244,13 +259,27 @@ impl<L: Link> Receiver<L> {
         let (actor, turn) = self.say_again(rt, shared, actor);
         (actor, waited(turn))
     }
+
+    /// Whether the site can't go on: it is to end, or the run is, nothing shows the run going on for long, or no worker is left.
+    fn is_lost<J: Run, C: Core + Drop, N: Room, G: Gate>(
+        &self,
+        shared: &Shared<'_, '_, '_, '_, '_, J, C, N, G>,
+    ) -> bool {
+        let is_deserted = shared.cell.site().node != 0 && shared.signals.is_deserted();
+        shared.is_over() || is_deserted || self.silent >= shared.plan.quiet
+    }
+
+    /// The thread ends, the registry's with the search where that is over.
+    fn end(&self) -> Turn {
+        Turn::Ended(if self.over { Cause::Over } else { Cause::Turns })
+    }
 }
 
-/// A turn that waited, whatever else it did, unless the thread ends.
+/// A turn that waited, where something was done or not.
 fn waited(turn: Turn) -> Turn {
     match turn {
-        Turn::Ended(cause) => Turn::Ended(cause),
         Turn::Used | Turn::Waited => Turn::Waited,
+        Turn::Starved | Turn::Ended(_) => turn,
     }
 }
 

@@ -18,6 +18,7 @@ use run_book::{Book, Run, published};
 use std::alloc::{AllocError, Global};
 use std::marker::PhantomData;
 use std::sync::Wait;
+use std::sync::atomic::AtomicBool;
 use std::thread::{self, Threads};
 use std::time::Clock;
 
@@ -35,8 +36,9 @@ pub struct RunEnd<J: Run> {
 /// Runs a search over these links, one for each site and the registry's first, each site on threads of its own, until all have
 /// ended; then closes each site's cell.
 ///
-/// A site that had no memory to start or to close has no book: the others go on without it. The only error is want of memory
-/// for the run itself: for the list of its sites before any has started, or for the answer at the end.
+/// All sites end where one has failed: with any cause but that the search is over, once a thread of each kind has begun there. A site
+/// that had no memory to start or to close has no book. The only error is want of memory for the run itself: for the list of its
+/// sites before any has started, or for the answer at the end.
 pub fn run_sites<
     J: Run + Send + Sync,
     L: Link + Send,
@@ -62,6 +64,7 @@ pub fn run_sites<
     let whole = Whole {
         problem,
         gate,
+        ended: &AtomicBool::new(false),
         plan,
         alloc,
         run: PhantomData,

@@ -44,8 +44,22 @@ pub struct Sender<'a, 'b, L: Link> {
 }
 
 /// Sends what is in the outbox, in its order, until no other thread of the site is at work and the outbox is empty; at most so many
-/// parcels, and a thousand times as many looks that find it empty.
+/// parcels, and a thousand times as many looks that find it empty. Then the site ends. Where that is to end already, nothing is sent.
 pub fn send_all<L: Link, R: Wait + Clock>(rt: &R, sender: Sender<'_, '_, L>) -> Sent {
+    if sender.signals.is_over() {
+        return Sent {
+            losses: 0,
+            failures: sender.link.failures(),
+            taken: Taken::NONE,
+        };
+    }
+    sender.signals.begin_sending();
+    sender.signals.muster(rt);
+    send_each(rt, sender)
+}
+
+/// Sends what is in the outbox, as `send_all` does, once the site has begun.
+fn send_each<L: Link, R: Wait + Clock>(rt: &R, sender: Sender<'_, '_, L>) -> Sent {
     let Sender {
         outbox,
         mut drain,
@@ -77,6 +91,7 @@ pub fn send_all<L: Link, R: Wait + Clock>(rt: &R, sender: Sender<'_, '_, L>) -> 
             }
         }
     }
+    signals.end();
     Sent {
         losses,
         failures: link.failures(),

@@ -7,6 +7,7 @@ use cover_problem::Problem;
 use node_core::Core;
 use run_book::{Outbox, Room, Run, SiteCell};
 use std::alloc::Global;
+use std::sync::atomic::{AtomicBool, Ordering};
 
 /// What the threads of a site share.
 #[derive(Drop)]
@@ -21,9 +22,18 @@ pub struct Shared<'a, 'b, 'c, 'd, 'e, J: Run, C: Core + Drop, N: Room, G: Gate> 
     pub gate: &'d G,
     /// What they tell one another beside the lock.
     pub signals: &'e Signals,
+    /// The flag that is raised once the run can't go on: then the site ends, too.
+    pub ended: &'e AtomicBool,
     /// How the site works.
     pub plan: Plan,
     /// Where memory comes from.
     pub alloc: Global,
     pub ghost same: { problem.now ≡ J.run.problem },
+}
+
+impl<J: Run, C: Core + Drop, N: Room, G: Gate> Shared<'_, '_, '_, '_, '_, J, C, N, G> {
+    /// Whether the site is to end, by itself or with the run.
+    pub fn is_over(&self) -> bool {
+        self.signals.is_over() || self.ended.load(Ordering::SeqCst)
+    }
 }

@@ -1,28 +1,79 @@
 use std::sync::atomic::{AtomicBool, AtomicU64, Ordering};
+use std::thread;
+use std::time::{Clock, Duration};
+
+/// How often a thread looks whether the others of its site have begun, before it gives up: for some two seconds.
+const LOOKS: u32 = 10_000;
+
+/// How long it waits between two looks, in microseconds.
+const NAP: u64 = 100;
 
 /// What the threads of a site tell one another beside the lock. No answer depends on it: it says when a look at the core is
-/// worth its entry in the book, how small a worker's job should be, and that all are to end.
+/// worth its entry in the book, how small a worker's job should be, which threads there are, and that all are to end.
 #[derive(Drop)]
 pub struct Signals {
+    /// The thread that receives has begun.
+    receives: AtomicBool,
+    /// The thread that sends has begun.
+    sends: AtomicBool,
+    /// A worker has begun, or there is to be none.
+    works: AtomicBool,
     /// How many threads are at work that put parcels into the outbox.
     running: AtomicU64,
     /// How many events may have left an idle worker something to do.
     stirs: AtomicU64,
     /// How many jobs should be split yet, so that the site has work for its own workers and others.
     hunger: AtomicU64,
-    /// The site receives no more.
+    /// The site is to end.
     over: AtomicBool,
 }
 
 impl Signals {
-    /// So many threads are at work, and nothing was told yet.
-    pub fn new(running: u64) -> Signals {
+    /// So many threads that act are to begin, workers among them or not, and nothing was told yet.
+    pub fn new(running: u64, has_workers: bool) -> Signals {
         Signals {
+            receives: AtomicBool::new(false),
+            sends: AtomicBool::new(false),
+            works: AtomicBool::new(!has_workers),
             running: AtomicU64::new(running),
             stirs: AtomicU64::new(0),
             hunger: AtomicU64::new(0),
             over: AtomicBool::new(false),
         }
+    }
+
+    /// The thread that receives has begun.
+    pub fn begin_receiving(&self) {
+        self.receives.store(true, Ordering::SeqCst);
+    }
+
+    /// The thread that sends has begun.
+    pub fn begin_sending(&self) {
+        self.sends.store(true, Ordering::SeqCst);
+    }
+
+    /// A worker has begun.
+    pub fn begin_working(&self) {
+        self.works.store(true, Ordering::SeqCst);
+    }
+
+    /// Whether a thread of each kind has begun.
+    pub fn is_manned(&self) -> bool {
+        self.receives.load(Ordering::SeqCst)
+            && self.sends.load(Ordering::SeqCst)
+            && self.works.load(Ordering::SeqCst)
+    }
+
+    /// Waits until a thread of each kind has begun, or the site is to end. After some two seconds it ends the site: a thread that
+    /// can't be started runs after the others, which would wait for it.
+    pub fn muster<R: Clock>(&self, rt: &R) {
+        for _look in 0..LOOKS {
+            if self.is_manned() || self.is_over() {
+                return;
+            }
+            thread::sleep(rt, Duration::from_micros(NAP));
+        }
+        self.end();
     }
 
     /// A thread that put parcels into the outbox puts no more.
@@ -67,7 +118,7 @@ impl Signals {
         self.hunger.load(Ordering::Relaxed) > 0
     }
 
-    /// The site receives no more: its searches are stopped, and its workers end.
+    /// The site is to end: its searches are stopped, and no thread of it goes on.
     pub fn end(&self) {
         self.over.store(true, Ordering::SeqCst);
     }
@@ -77,7 +128,7 @@ impl Signals {
         self.over.load(Ordering::SeqCst)
     }
 
-    /// The flag that is raised once the site receives no more.
+    /// The flag that is raised then.
     pub fn over(&self) -> &AtomicBool {
         &self.over
     }

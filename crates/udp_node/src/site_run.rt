@@ -5,9 +5,9 @@ ghost use Rattle.std.specs.Prelude.{◌≡◌, ◌≤◌, IfOk, IfSome};
 ghost use Rattle.run_book.specs.Sites.{opening_of, IsRun, MayBeginIn};
 
 use crate::cause::Cause;
-use crate::gate::Gate;
+use crate::gate::{Gate, Open};
 use crate::link::Link;
-use crate::node::{run_node, run_root};
+use crate::node::run_threads;
 use crate::node_end::NodeEnd;
 use crate::plan::Plan;
 use crate::turn::Taken;
@@ -19,6 +19,7 @@ use spawn_frame::Site;
 use std::alloc::{AllocError, Global};
 use std::marker::{Brand, PhantomData};
 use std::sync::Wait;
+use std::sync::atomic::{AtomicBool, Ordering};
 use std::thread::Threads;
 use std::time::Clock;
 
@@ -35,6 +36,8 @@ pub struct Whole<'a, 'b, J: Run, G: Gate> {
     pub problem: &'a Problem,
     /// What holds workers back.
     pub gate: &'b G,
+    /// The flag that is raised once the run can't go on. No answer depends on it.
+    pub ended: &'b AtomicBool,
     /// How the sites work, and how many there are.
     pub plan: Plan,
     /// Where memory comes from.
@@ -59,9 +62,21 @@ pub struct SiteEnd {
     pub failures: u64,
     /// How many turns its threads took at most, each by itself, and in how many they waited at most.
     pub taken: Taken,
+    /// A thread of each kind has begun while the site was to go on. Else the site took part in no search.
+    pub is_manned: bool,
 }
 
 impl SiteEnd {
+    /// Whether the others can't go on without the site of this node: the registry, and a node that took part and has not heard that
+    /// the search is over, or whose memory ran out.
+    fn ends_run(&self, node: u8) -> bool {
+        match self.cause {
+            Cause::Over => node == 0,
+            Cause::Memory => true,
+            Cause::BookFull | Cause::Faults | Cause::Turns => node == 0 || self.is_manned,
+        }
+    }
+
     /// There was no memory for the site to start, or to close.
     const STARVED: SiteEnd = SiteEnd {
         cause: Cause::Memory,
@@ -69,6 +84,7 @@ impl SiteEnd {
         dropped: 0,
         failures: 0,
         taken: Taken::NONE,
+        is_manned: false,
     };
 }
 
@@ -97,7 +113,7 @@ impl<J: Run, L: Link> SiteRun<J, L> {
         }
     }
 
-    /// Runs the site to its end, once.
+    /// Runs the site to its end, once. Where the others can't go on without it, the run ends.
     pub fn run<G: Gate + Sync, R: Threads + Wait + Clock + Sync>(
         &mut self,
         rt: &R,
@@ -112,6 +128,9 @@ impl<J: Run, L: Link> SiteRun<J, L> {
             let (book, end) = run_site(rt, whole, self.node, link);
             self.book = book;
             self.end = end;
+        }
+        if self.end.ends_run(self.node) {
+            whole.ended.store(true, Ordering::SeqCst);
         }
     }
 
@@ -216,7 +235,20 @@ fn run_registry<
 {
     cores_step_as_their_sites();
     let cell: SiteCell<J, Registry, N> = SiteCell::new(opened, core, ENTRIES);
-    let end = run_root(rt, whole.alloc, &cell, whole.problem, link, whole.plan);
+    let plan = Plan {
+        workers: 0,
+        ..whole.plan
+    };
+    let end = run_threads(
+        rt,
+        whole.alloc,
+        &cell,
+        whole.problem,
+        link,
+        plan,
+        &Open,
+        whole.ended,
+    );
     closed(whole.alloc, cell, end)
 }
 
@@ -246,7 +278,7 @@ fn run_worker_node<
 {
     cores_step_as_their_sites();
     let cell: SiteCell<J, NodeCore, N> = SiteCell::new(opened, core, ENTRIES);
-    let end = run_node(
+    let end = run_threads(
         rt,
         whole.alloc,
         &cell,
@@ -254,6 +286,7 @@ fn run_worker_node<
         link,
         whole.plan,
         whole.gate,
+        whole.ended,
     );
     closed(whole.alloc, cell, end)
 }
@@ -273,6 +306,7 @@ fn closed<J: Run, C: Core + Drop, N: Room>(
         dropped: end.dropped,
         failures: end.failures,
         taken: end.taken,
+        is_manned: end.is_manned,
     };
     let Ok((seats, receipts)) = end.into_lists(alloc) else {
         told.cause = Cause::Memory;

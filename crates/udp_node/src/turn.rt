@@ -7,6 +7,8 @@ pub enum Turn {
     Used,
     /// There was nothing to do, and it waited.
     Waited,
+    /// Something was to be done, but memory ran out.
+    Starved,
     /// The thread ends.
     Ended(Cause),
 }
@@ -33,12 +35,17 @@ impl Taken {
     }
 }
 
+/// How often memory may run out with nothing done in between: then the thread ends.
+const SHORTAGES: u32 = 100;
+
 /// How many turns and waits a thread may take, and how many it took.
 #[derive(Clone, Copy, Debug, PartialEq, Eq)]
 pub struct Limits {
     turns: u64,
     waits: u64,
     taken: Taken,
+    /// How often memory ran out since something was done last.
+    shortages: u32,
 }
 
 impl Limits {
@@ -48,6 +55,7 @@ impl Limits {
             turns,
             waits: turns.saturating_mul(waits),
             taken: Taken::NONE,
+            shortages: 0,
         }
     }
 
@@ -61,8 +69,31 @@ impl Limits {
         self.taken.turns >= self.turns || self.taken.waits >= self.waits
     }
 
+    /// Notes what a turn came to. Returns the cause where the thread ends by it.
+    pub fn note(&mut self, turn: Turn) -> Option<Cause> {
+        match turn {
+            Turn::Used => self.use_turn(),
+            Turn::Waited => self.wait(),
+            Turn::Starved => return self.starve(),
+            Turn::Ended(cause) => return Some(cause),
+        }
+        None
+    }
+
+    /// Memory ran out in a turn. That counts as a wait, and ends the thread where it happens too often.
+    fn starve(&mut self) -> Option<Cause> {
+        self.wait();
+        self.shortages = self.shortages.saturating_add(1);
+        if self.shortages < SHORTAGES {
+            None
+        } else {
+            Some(Cause::Memory)
+        }
+    }
+
     /// It took a turn.
     pub fn use_turn(&mut self) {
+        self.shortages = 0;
         self.taken.turns = self.taken.turns.saturating_add(1);
     }
 

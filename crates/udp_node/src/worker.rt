@@ -77,7 +77,7 @@ impl<'a, J: Run> Worker<'a, J> {
         })
     }
 
-    /// One turn: goes on with what is in hand, or takes up work.
+    /// One turn: goes on with what is in hand, or takes up work, unless the site is to end.
     pub fn turn<C: Core + Drop, N: Room, G: Gate, R: Wait + Clock>(
         &mut self,
         rt: &R,
@@ -87,6 +87,9 @@ impl<'a, J: Run> Worker<'a, J> {
         requires here { actor.pass.outbox ≡ shared.now.outbox.now }
         ensures here { result.0.pass.outbox ≡ shared.now.outbox.now }
     {
+        if shared.signals.is_over() {
+            return (actor, Turn::Ended(Cause::Turns));
+        }
         match mem::replace(&mut self.hand, Hand::Nothing) {
             Hand::Nothing => self.take(rt, shared, actor),
             Hand::Search(job, prefix, fuel) => self.search(rt, shared, actor, job, prefix, fuel),
@@ -143,9 +146,6 @@ impl<'a, J: Run> Worker<'a, J> {
         requires here { actor.pass.outbox ≡ shared.now.outbox.now }
         ensures here { result.0.pass.outbox ≡ shared.now.outbox.now }
     {
-        if shared.signals.is_over() {
-            return (actor, Turn::Ended(Cause::Turns));
-        }
         let idle = self.idle;
         self.idle = idle.saturating_add(1);
         if idle % 64 == 0 {
@@ -263,7 +263,7 @@ impl<'a, J: Run> Worker<'a, J> {
             (Event::Post(job, finding), Refused::Cell(BookFault::Memory)) => {
                 let run = PhantomData;
                 self.hand = Hand::Post(Searched { job, finding, run });
-                Turn::Used
+                Turn::Starved
             }
             (Event::Post(job, finding), Refused::Cell(BookFault::Core(ActFault::NamesSpent))) =>
                 self.search_again(job, &finding),
@@ -294,6 +294,7 @@ pub fn after_refusal(refused: Refused) -> Turn {
         Refused::NoRoom => Turn::Ended(Cause::Memory),
         Refused::Cell(BookFault::BookFull(_)) => Turn::Ended(Cause::BookFull),
         Refused::Cell(BookFault::Core(ActFault::Over)) => Turn::Ended(Cause::Over),
+        Refused::Cell(BookFault::Memory) => Turn::Starved,
         Refused::Cell(_) => Turn::Used,
     }
 }

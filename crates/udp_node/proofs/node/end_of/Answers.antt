@@ -3,7 +3,7 @@ use Rattle.std.specs.List.{All}
 use Rattle.std.specs.Option.{IsSome}
 use Rattle.std.specs.Vec.Iter.{into_iter_items}
 use Rattle.std.proofs.lemmas.List.Elements.{All-rest}
-use Rattle.udp_node.proofs.node.ended.Goals as goal
+use Rattle.udp_node.proofs.node.end_of.Goals as goal
 
 pub loop-place-init : goal.loop-place-init
 loop-place-init g c =
