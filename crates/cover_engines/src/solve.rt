@@ -16,9 +16,9 @@ use std::marker::Brand;
 use std::sync::Wait;
 use std::thread::Threads;
 use std::time::Clock;
-use udp_node::{Gate, Link, Plan, run_sites};
+use udp_node::{Cause, Gate, Link, Plan, SiteEnd, run_sites};
 
-/// After how many receives in a row without a datagram a site gives up.
+/// After how many receives a site gives up that brought it no packet, or a node none of the registry.
 const QUIET: u64 = 6_000;
 
 /// What a run came to.
@@ -31,7 +31,7 @@ pub struct SolveEnd<J: Run> {
 }
 
 /// Lets the registry and as many nodes as the settings have search a problem over these links, the registry's first, each with
-/// threads of its own. The only fault is `Memory`, where there is none for the run itself.
+/// threads of its own. The only fault is `Memory`: the run itself ran out of it, or a site did and there is no answer.
 pub fn solve_engine<
     J: Run + Send + Sync,
     L: Link + Send,
@@ -59,13 +59,21 @@ pub fn solve_engine<
         turns: u64::from(settings.turns),
         quiet: QUIET,
     };
-    match run_sites(rt, alloc, problem, plan, links, gate) {
-        Ok(end) => Ok(SolveEnd {
-            answer: end.answer,
-            books: end.books,
-        }),
-        Err(_) => Err(EngineFault::Memory),
+    let Ok(end) = run_sites(rt, alloc, problem, plan, links, gate) else {
+        return Err(EngineFault::Memory);
+    };
+    if end.answer.is_none() && has_starved(&end.sites) {
+        return Err(EngineFault::Memory);
     }
+    Ok(SolveEnd {
+        answer: end.answer,
+        books: end.books,
+    })
+}
+
+/// Whether a site ended since it ran out of memory.
+fn has_starved(sites: &[SiteEnd]) -> bool {
+    sites.iter().any(|site| matches!(site.cause, Cause::Memory))
 }
 
 /// Lets sites search the problem that the type names, writes what the registry published, and answers the status.
