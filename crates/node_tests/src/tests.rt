@@ -1,6 +1,8 @@
 //! Whole runs of threads, in an order that gates bring about, and over links that lose and disorder.
 
+mod broken;
 mod ends;
+mod failing;
 mod held_gate;
 mod loss;
 mod order;

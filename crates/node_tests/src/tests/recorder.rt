@@ -46,6 +46,10 @@ impl<L: Link> Link for Recorder<L> {
         self.inner.receive(rt, into)
     }
 
+    fn hasten(&mut self) {
+        self.inner.hasten();
+    }
+
     fn twin(&self) -> Result<Recorder<L>, AllocError> {
         let sent = Arc::try_clone(&self.sent)?;
         Ok(Recorder::new(self.alloc, self.inner.twin()?, sent))

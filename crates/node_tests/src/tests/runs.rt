@@ -10,7 +10,7 @@ use std::marker::Brand;
 use std::sync::Wait;
 use std::thread::Threads;
 use std::time::Clock;
-use udp_node::{Gate, Link, Plan, run_sites};
+use udp_node::{Gate, Link, Plan, SiteEnd, run_sites};
 
 /// A problem with its one cover, or none.
 pub type Row = (&'static str, Option<&'static [u16]>);
@@ -44,6 +44,15 @@ pub struct Came {
     pub books: usize,
 }
 
+/// What a run came to, and how its sites ended, the registry first.
+#[derive(Drop)]
+pub struct Ran {
+    /// What it came to.
+    pub came: Came,
+    /// How its sites ended.
+    pub sites: Vec<SiteEnd>,
+}
+
 /// Runs a search of the row's problem over these links; none where memory ran out.
 pub fn run<L: Link + Send, G: Gate + Sync, R: Threads + Wait + Clock + Sync>(
     rt: &R,
@@ -53,6 +62,22 @@ pub fn run<L: Link + Send, G: Gate + Sync, R: Threads + Wait + Clock + Sync>(
     links: Vec<L>,
     gate: &G,
 ) -> Option<Came>
+    requires some { 1 ≤ plan.nodes }
+    requires most { plan.nodes ≤ 16 }
+    requires links { vec_len links ≡ plan.nodes + 1 }
+{
+    Some(run_whole(rt, alloc, row, plan, links, gate)?.came)
+}
+
+/// Runs a search, as `run` does, and reports its sites' ends too.
+pub fn run_whole<L: Link + Send, G: Gate + Sync, R: Threads + Wait + Clock + Sync>(
+    rt: &R,
+    alloc: Global,
+    row: &Row,
+    plan: Plan,
+    links: Vec<L>,
+    gate: &G,
+) -> Option<Ran>
     requires some { 1 ≤ plan.nodes }
     requires most { plan.nodes ≤ 16 }
     requires links { vec_len links ≡ plan.nodes + 1 }
@@ -70,7 +95,7 @@ fn search<J: Run + Send + Sync, L: Link + Send, G: Gate + Sync, R: Threads + Wai
     plan: Plan,
     links: Vec<L>,
     gate: &G,
-) -> Option<Came>
+) -> Option<Ran>
     requires problem { problem.now ≡ J.run.problem }
     requires nodes { plan.nodes ≡ J.run.nodes }
     requires some { 1 ≤ plan.nodes }
@@ -78,9 +103,13 @@ fn search<J: Run + Send + Sync, L: Link + Send, G: Gate + Sync, R: Threads + Wai
     requires links { vec_len links ≡ plan.nodes + 1 }
 {
     let end = run_sites::<J, L, G, R>(rt, alloc, problem, plan, links, gate).ok()?;
-    Some(Came {
+    let came = Came {
         told: judged(end.answer.as_ref(), cover),
         books: end.books.len(),
+    };
+    Some(Ran {
+        came,
+        sites: end.sites,
     })
 }
 

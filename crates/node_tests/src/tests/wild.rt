@@ -117,6 +117,10 @@ impl<L: Link> Link for Wild<L> {
         Ok(Some(bytes))
     }
 
+    fn hasten(&mut self) {
+        self.inner.hasten();
+    }
+
     fn twin(&self) -> Result<Wild<L>, AllocError> {
         Ok(Wild::new(self.alloc, self.inner.twin()?, self.seed))
     }

@@ -1,0 +1,99 @@
+//! Runs over links of which one has a defect: they end soon, and report what went wrong.
+
+use super::broken::{Defect, links_with};
+use super::runs::{COVERED, Told, run, run_whole};
+use std::alloc::Global;
+use std::sync::Wait;
+use std::test::Fail;
+use std::thread::Threads;
+use std::time::Clock;
+use udp_node::{Cause, Open, Plan};
+
+/// Three nodes of two workers each, which never end since they hear nothing.
+const PLAN: Plan = Plan {
+    workers: 2,
+    nodes: 3,
+    fuel: 1,
+    seed: 1,
+    turns: 1_000_000,
+    quiet: u64::MAX,
+};
+
+#[test]
+fn a_site_that_fails_ends_the_run(rt: HostRuntime) -> Result<(), Fail> {
+    for site in 0..4 {
+        let links = links_with(rt.alloc(), PLAN.nodes, site, Defect::Deaf)?;
+        let Some(came) = run(&rt, rt.alloc(), &COVERED, PLAN, links, &Open) else {
+            return Err(Fail::new("memory ran out"));
+        };
+        // (the others may find the cover before a node fails)
+        let is_right = came.told == Told::Nothing || (came.told == Told::Right && site > 0);
+        assert!(rt; is_right, "site {site}");
+        assert_eq!(rt; came.books, 4, "site {site}");
+    }
+    Ok(())
+}
+
+#[test]
+fn nodes_that_do_not_hear_the_registry_end(rt: HostRuntime) -> Result<(), Fail> {
+    let plan = Plan {
+        quiet: 6_000,
+        ..PLAN
+    };
+    let links = links_with(rt.alloc(), plan.nodes, 0, Defect::Mute)?;
+    let Some(came) = run(&rt, rt.alloc(), &COVERED, plan, links, &Open) else {
+        return Err(Fail::new("memory ran out"));
+    };
+    assert_eq!(rt; (came.told, came.books), (Told::Nothing, 4));
+    Ok(())
+}
+
+/// One node with one worker, which gives up soon.
+const SHORT: Plan = Plan {
+    workers: 1,
+    nodes: 1,
+    quiet: 300,
+    ..PLAN
+};
+
+/// Why a site ends, and its losses, its datagrams that are no packets and its link's failures.
+type Numbers = (Cause, u64, u64, u64);
+
+/// Sites whose link has a defect, with their numbers.
+static NUMBERS: [(usize, Defect, Numbers); 3] = [
+    (0, Defect::Deaf, (Cause::Faults, 0, 0, 100)),
+    (1, Defect::Deaf, (Cause::Faults, 0, 0, 100)),
+    (0, Defect::Noisy(7), (Cause::Over, 0, 7, 0)),
+];
+
+/// The numbers of this site at the end of a run where its link has this defect; none where memory ran out.
+fn numbers<R: Threads + Wait + Clock + Sync>(
+    rt: &R,
+    alloc: Global,
+    site: usize,
+    defect: Defect,
+) -> Option<Numbers> {
+    let links = links_with(alloc, SHORT.nodes, site, defect).ok()?;
+    let ran = run_whole(rt, alloc, &COVERED, SHORT, links, &Open)?;
+    let end = ran.sites.get(site)?;
+    Some((end.cause, end.losses, end.dropped, end.failures))
+}
+
+#[test]
+fn numbers_of_a_site_with_a_defect(rt: HostRuntime) -> Result<(), Fail> {
+    for (site, defect, expected) in NUMBERS {
+        let came = numbers(&rt, rt.alloc(), site, defect);
+        assert_eq!(rt; came, Some(expected), "site {site}");
+    }
+    Ok(())
+}
+
+#[test]
+fn a_send_that_fails_is_a_loss(rt: HostRuntime) -> Result<(), Fail> {
+    let Some((cause, losses, dropped, failures)) = numbers(&rt, rt.alloc(), 1, Defect::Stuck) else {
+        return Err(Fail::new("memory ran out"));
+    };
+    assert_eq!(rt; (cause, dropped), (Cause::Turns, 0));
+    assert!(rt; losses > 0 && losses == failures, "{losses} and {failures}");
+    Ok(())
+}
