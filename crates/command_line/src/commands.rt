@@ -25,18 +25,18 @@ fn file_argument<'a>(alloc: Global) -> Arg<'a>
     ensures rule { rule_of result ≡ file_rule (codes "file") }
     ensures own { result.global ≡ false }
 {
-    Arg::new(alloc, "file")
-        .required(true)
-        .help("The problem's file, in the format of DLX1; - is standard input")
+    Arg::new(alloc, "file").required(true).help(
+        "The problem's file, in the format of DLX1; - is standard input",
+    )
 }
 
 fn answer_argument<'a>(alloc: Global) -> Arg<'a>
     ensures rule { rule_of result ≡ file_rule (codes "answer") }
     ensures own { result.global ≡ false }
 {
-    Arg::new(alloc, "answer")
-        .required(true)
-        .help("The answer's file, as alone writes it; - is standard input")
+    Arg::new(alloc, "answer").required(true).help(
+        "The answer's file, as alone writes it; - is standard input",
+    )
 }
 
 fn fuel_argument<'a>(alloc: Global) -> Arg<'a>
@@ -83,11 +83,15 @@ fn check_command<'a>(alloc: Global) -> Result<Command<'a>, AllocError>
     ensures app { IfOk result (λ command. app_of command ≡ check_app) }
     ensures local { IfOk result (λ command. (out-Command command).has_globals ≡ false) }
 {
-    described(alloc, "check", "Tests whether an answer to the problem is right")
-        .after_help(CHECK_STATUSES)
-        .arg(file_argument(alloc))?
-        .arg(answer_argument(alloc))?
-        .arg(fuel_argument(alloc))
+    described(
+        alloc,
+        "check",
+        "Tests whether an answer to the problem is right",
+    )
+    .after_help(CHECK_STATUSES)
+    .arg(file_argument(alloc))?
+    .arg(answer_argument(alloc))?
+    .arg(fuel_argument(alloc))
 }
 
 /// What sites search, how many nodes there are, and the seed of what is drawn.
