@@ -5,7 +5,7 @@ ghost use Rattle.std.specs.Prelude.{◌≡◌};
 use super::alike::is_alike;
 use super::lists::{Lists, act_into};
 use super::refused::Played;
-use super::said::{Comes, LETTERS, Said, are_sent, has_come, packet_of};
+use super::said::{Comes, FOUR_WAYS, LETTERS, Said, are_sent, has_come, packet_of};
 use brancher::Searcher;
 use cover_problem::{Problem, is_prefix};
 use dlx_reader::read_problem;
@@ -219,9 +219,9 @@ impl<'a> Played for Stage<'a> {
     }
 }
 
-/// Plays the script at a node with so many names; the first row that isn't as it says ends it.
-fn play<R: Abort>(rt: &R, alloc: Global, names_limit: u32, rows: &[Row]) {
-    let read = read_problem(alloc, LETTERS.as_bytes()).expect(rt, "a problem");
+/// Plays the script at a node with so many names, which searches this problem; the first row that isn't as it says ends it.
+fn play<R: Abort>(rt: &R, alloc: Global, text: &str, names_limit: u32, rows: &[Row]) {
+    let read = read_problem(alloc, text.as_bytes()).expect(rt, "a problem");
     let mut stage = Stage::new(rt, alloc, &read.problem, names_limit);
     for (number, row) in rows.iter().enumerate() {
         let right = stage.plays(rt, *row);
@@ -446,6 +446,65 @@ pub static TOGETHER: [Row; 18] = [
     (Take, Taken(&[0, 1]), &[]),
 ];
 
+/// A thief gets several children with one packet. Each is said again, redone, returned and aborted by itself.
+pub static SHARED: [Row; 15] = [
+    ROOT_GIVEN,
+    (Take, Taken(&[]), &[]),
+    (Post(1), Moved, &[]),
+    (
+        Hears(NODE_2, Said::Steal),
+        Moved,
+        &[(NODE_2, Said::GiveMany(&[], &[(0, 1, 0), (1, 1, 1)]))],
+    ),
+    (
+        Again,
+        Moved,
+        &[
+            (NODE_2, Said::Give(0, 1, &[0])),
+            (NODE_2, Said::Give(1, 1, &[1])),
+        ],
+    ),
+    // Of two that are ready one is given.
+    (
+        Hears(NODE_2, Said::Steal),
+        Moved,
+        &[(NODE_2, Said::Give(2, 1, &[2]))],
+    ),
+    // Those that go together need not follow one another, nor stand at one attempt.
+    (Redo(1), Moved, &[]),
+    (Redo(0), Moved, &[]),
+    (
+        Hears(NODE_2, Said::Steal),
+        Moved,
+        &[(NODE_2, Said::GiveMany(&[], &[(0, 2, 0), (1, 2, 1)]))],
+    ),
+    (
+        Hears(NODE_2, Said::Return(1, 1, None)),
+        Moved,
+        &[(NODE_2, Said::Refuse(1, 1, Cause::Superseded))],
+    ),
+    (
+        Hears(NODE_2, Said::Return(1, 2, None)),
+        Moved,
+        &[(NODE_2, Said::Accept(1, 2, None))],
+    ),
+    (
+        Hears(NODE_2, Said::Return(2, 1, Some(&[2]))),
+        Moved,
+        &[(NODE_2, Said::Accept(2, 1, Some(&[2])))],
+    ),
+    (Take, Ripe(ROOT), &[]),
+    (
+        Finish(ROOT),
+        Moved,
+        &[
+            (NODE_2, Said::Abort(0, 2)),
+            (REGISTRY, Said::Return(0, 1, Some(&[2]))),
+        ],
+    ),
+    (Hears(NODE_2, Said::Steal), Moved, &[(NODE_2, Said::NoWork)]),
+];
+
 /// A guest's owner wants it no more: all below is aborted, and the thief below told.
 pub static DROPPED: [Row; 9] = [
     ROOT_GIVEN,
@@ -505,37 +564,42 @@ pub static FIRST_FAULTS: [Row; 13] = [
 
 #[test]
 fn a_node_of_one_name(rt: HostRuntime) {
-    play(&rt, rt.alloc(), 1, &ONE_NAME);
+    play(&rt, rt.alloc(), LETTERS, 1, &ONE_NAME);
 }
 
 #[test]
 fn a_child_is_stolen_and_aborted(rt: HostRuntime) {
-    play(&rt, rt.alloc(), 2, &STOLEN);
+    play(&rt, rt.alloc(), LETTERS, 2, &STOLEN);
 }
 
 #[test]
 fn children_that_come_together(rt: HostRuntime) {
-    play(&rt, rt.alloc(), 2, &TOGETHER);
+    play(&rt, rt.alloc(), LETTERS, 2, &TOGETHER);
+}
+
+#[test]
+fn children_that_go_together(rt: HostRuntime) {
+    play(&rt, rt.alloc(), FOUR_WAYS, 4, &SHARED);
 }
 
 #[test]
 fn a_thief_runs_anew(rt: HostRuntime) {
-    play(&rt, rt.alloc(), 2, &RUNS_ANEW);
+    play(&rt, rt.alloc(), LETTERS, 2, &RUNS_ANEW);
 }
 
 #[test]
 fn a_guest_is_dropped(rt: HostRuntime) {
-    play(&rt, rt.alloc(), 2, &DROPPED);
+    play(&rt, rt.alloc(), LETTERS, 2, &DROPPED);
 }
 
 #[test]
 fn a_stale_job_is_refused(rt: HostRuntime) {
-    play(&rt, rt.alloc(), 1, &STALE);
+    play(&rt, rt.alloc(), LETTERS, 1, &STALE);
 }
 
 #[test]
 fn the_first_fault_is_told(rt: HostRuntime) {
-    play(&rt, rt.alloc(), 1, &FIRST_FAULTS);
+    play(&rt, rt.alloc(), LETTERS, 1, &FIRST_FAULTS);
 }
 
 /// Whether a Greet puts equal packets into both lists, behind what stands there.

@@ -5,7 +5,7 @@
 //! to be refused from outside, for which `scripts/refuse_growth.c` is meant.
 
 use super::lists::Lists;
-use super::said::{Comes, LETTERS, Said, has_come};
+use super::said::{Comes, FOUR_WAYS, LETTERS, Said, has_come};
 use super::{node, registry};
 use dlx_reader::read_problem;
 use node_core::{ActFault, Reply};
@@ -88,9 +88,9 @@ fn play<S: Played, R: Abort>(
     }
 }
 
-/// Plays a script at a node with so many names, with one list and with two.
-fn play_at_node<R: Abort>(rt: &R, alloc: Global, names_limit: u32, rows: &[node::Row]) {
-    let read = read_problem(alloc, LETTERS.as_bytes()).expect(rt, "a problem");
+/// Plays a script at a node with so many names, which searches this problem, with one list and with two.
+fn play_at_node<R: Abort>(rt: &R, alloc: Global, text: &str, names_limit: u32, rows: &[node::Row]) {
+    let read = read_problem(alloc, text.as_bytes()).expect(rt, "a problem");
     for both in [false, true] {
         let mut tried = node::Stage::new(rt, alloc, &read.problem, names_limit);
         let mut twin = node::Stage::new(rt, alloc, &read.problem, names_limit);
@@ -111,13 +111,14 @@ fn play_at_registry<R: Abort>(rt: &R, alloc: Global, rows: &[registry::Row]) {
 #[test]
 fn refused_memory_at_a_node(rt: HostRuntime) {
     let alloc = rt.alloc();
-    play_at_node(&rt, alloc, 1, &node::ONE_NAME);
-    play_at_node(&rt, alloc, 2, &node::STOLEN);
-    play_at_node(&rt, alloc, 2, &node::RUNS_ANEW);
-    play_at_node(&rt, alloc, 2, &node::TOGETHER);
-    play_at_node(&rt, alloc, 2, &node::DROPPED);
-    play_at_node(&rt, alloc, 1, &node::STALE);
-    play_at_node(&rt, alloc, 1, &node::FIRST_FAULTS);
+    play_at_node(&rt, alloc, LETTERS, 1, &node::ONE_NAME);
+    play_at_node(&rt, alloc, LETTERS, 2, &node::STOLEN);
+    play_at_node(&rt, alloc, LETTERS, 2, &node::RUNS_ANEW);
+    play_at_node(&rt, alloc, LETTERS, 2, &node::TOGETHER);
+    play_at_node(&rt, alloc, FOUR_WAYS, 4, &node::SHARED);
+    play_at_node(&rt, alloc, LETTERS, 2, &node::DROPPED);
+    play_at_node(&rt, alloc, LETTERS, 1, &node::STALE);
+    play_at_node(&rt, alloc, LETTERS, 1, &node::FIRST_FAULTS);
 }
 
 #[test]

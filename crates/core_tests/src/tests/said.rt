@@ -10,6 +10,9 @@ use std::process::Abort;
 /// Seven items and six options, with one cover: options 3, 4 and 0.
 pub const LETTERS: &str = "a b c d e f g\nc e\na d g\nb c f\na d f\nb g\nd e g\n";
 
+/// One item and four options that name it alone.
+pub const FOUR_WAYS: &str = "a\na\na\na\na\n";
+
 /// What a packet says.
 #[derive(Clone, Copy)]
 pub enum Said {

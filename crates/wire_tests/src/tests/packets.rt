@@ -314,7 +314,7 @@ fn changed_bytes_are_read_as_they_are(rt: HostRuntime) {
     }
 }
 
-static FIRST_FAULTS: [(&[u8], WireFault); 33] = [
+static FIRST_FAULTS: [(&[u8], WireFault); 41] = [
     (b"DN\x01\x03\x02\0\0\0\x01\0\0\0\0\x01", Magic),
     (b"D", Short),
     (b"DN", Magic),
@@ -322,8 +322,12 @@ static FIRST_FAULTS: [(&[u8], WireFault); 33] = [
     // In the second version there is but one kind.
     (b"CN\x02", Short),
     (b"CN\x02\x03", Kind),
-    // A GiveMany has a node to send it, 2 to 8 children, and at most 999 options before them.
+    (b"CN\x02\x05", Kind),
+    (b"CN\x02\x0b", Kind),
+    // A GiveMany goes from a node to another one, and has 2 to 8 children and at most 999 options before them.
     (b"CN\x02\x04\0\0\0\0\x01\x02\0\0\0\x01", Field),
+    (b"CN\x02\x04\x01\0\0\0\x01\0\0\0\0\x01", Field),
+    (b"CN\x02\x04\x01\0\0\0\x01\x01\0\0\0\x02", Field),
     (b"CN\x02\x04\x01\0\0\0\x01\x02\0\0\0\x01\x01", Field),
     (b"CN\x02\x04\x01\0\0\0\x01\x02\0\0\0\x01\x09", Field),
     (b"CN\x02\x04\x01\0\0\0\x01\x02\0\0\0\x01\x08\x03\xe8", Field),
@@ -335,6 +339,23 @@ static FIRST_FAULTS: [(&[u8], WireFault); 33] = [
     ),
     (
         b"CN\x02\x04\x01\0\0\0\x01\x02\0\0\0\x01\x02\0\0\0\0\0\x01\0\0\0\x01\0\0\0\0\0\x02",
+        Short,
+    ),
+    (
+        b"CN\x02\x04\x01\0\0\0\x01\x02\0\0\0\x01\x02\0\0\0\0\0\x01\0\0\0\x01\0\0\0\0\0\0",
+        Field,
+    ),
+    // A child has an attempt and an option.
+    (
+        b"CN\x02\x04\x01\0\0\0\x01\x02\0\0\0\x01\x02\0\0\0\0\0\x01\0\0\0\0",
+        Field,
+    ),
+    (
+        b"CN\x02\x04\x01\0\0\0\x01\x02\0\0\0\x01\x02\0\0\0\0\0\x01\0\0\0\x01\x4e\x20",
+        Field,
+    ),
+    (
+        b"CN\x02\x04\x01\0\0\0\x01\x02\0\0\0\x01\x02\0\0\0\0\0\x01\0\0\0\x01\x4e\x1f",
         Short,
     ),
     (b"CN\0\x0b\x11", Version),
