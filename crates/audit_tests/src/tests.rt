@@ -1,0 +1,3 @@
+//! Books of small runs, and what an audit finds.
+
+mod audits;
