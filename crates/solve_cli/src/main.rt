@@ -1,7 +1,7 @@
 //! `solve_cli`: finds an exact cover of a problem in the format of Knuth's DLX1, or shows that there is none.
 #![tactic(auto)]
 
-ghost use Rattle.std.specs.Prelude.{◌≡◌};
+ghost use Rattle.std.specs.Prelude.{◌≡◌, IfOk};
 
 pub use command_line::{SettingsFault, settings};
 pub use cover_engines::{
@@ -27,7 +27,9 @@ use udp_node::Open;
 type Source = CountedReader<Either<File, Stdin>>;
 
 /// Opens what a word of the command line names: a file, or standard input for `-`.
-fn open(rt: &HostRuntime, name: &str) -> io::Result<Source> {
+fn open(rt: &HostRuntime, name: &str) -> io::Result<Source>
+    ensures { IfOk result (λ source. source.failures ≡ 0) }
+{
     if name == STANDARD_INPUT {
         return Ok(CountedReader::new(Either::Right(rt.stdin())));
     }
