@@ -312,7 +312,7 @@ def read_pairs(path):
 def sudoku_marks(text):
     """The 81 digits and dots of a sudoku; frames are passed over. In nine lines of at most nine characters a blank is a dot."""
     marks = re.sub(r"[^0-9._]", "", text).translate(str.maketrans("0_", ".."))
-    lines = text.strip("\n").splitlines() if "\n" in text else re.findall(".{9}", text)
+    lines = text.removesuffix("\n").split("\n") if "\n" in text else re.findall(".{9}", text)
     if len(marks) != 81 and len(lines) == 9 and all(re.fullmatch(r"[0-9._ ]{0,9}", line) for line in lines):
         marks = "".join(line.ljust(9) for line in lines).translate(str.maketrans("0_ ", "..."))
     return marks

@@ -11,6 +11,8 @@
 #include <stdatomic.h>
 #include <stdio.h>
 #include <stdlib.h>
+#include <sys/syscall.h>
+#include <unistd.h>
 
 typedef int create(pthread_t *, const pthread_attr_t *, void *(*)(void *), void *);
 
@@ -31,7 +33,8 @@ __attribute__((constructor)) static void begin(void)
     from = number("REFUSE_FROM");
 }
 
-__attribute__((destructor)) static void end(void)
+/* The program ends here, and runs no destructor. */
+void _exit(int status)
 {
     const char *name = getenv("GROWTHS_FILE");
     long count = atomic_load(&growths);
@@ -40,6 +43,8 @@ __attribute__((destructor)) static void end(void)
         fprintf(file, "%ld\n", count);
         fclose(file);
     }
+    syscall(SYS_exit_group, status);
+    __builtin_unreachable();
 }
 
 /* What the C library has under a name. */
