@@ -4,7 +4,8 @@
     python3 bench/cores.py
 
 `cycle` is a steal from the first packet to the last: eight events and four packets, a thousand and ten thousand times over;
-each leaves one guest more in the node's table. The others are packets that are delivered, a million times each. Beside each, a
+each leaves one guest more in the node's table. `share-1`, `share-2` and `share-8` are a Steal and the Give of so many children
+to a node that begins, and a redo of each child. The others are packets that are delivered, a million times each. Beside each, a
 plain loop only copies the same packets. Both run by turns, three times each, and the least user time of the whole process
 counts.
 
@@ -22,6 +23,8 @@ from built import parser_of, want_program, WORKBENCH  # noqa: E402
 
 # what happens, how many events it is, and how many times
 ROWS = [("cycle", 8, 1_000), ("cycle", 8, 10_000)] + [
+    (f"share-{share}", 2 + share, 100_000) for share in (1, 2, 8)
+] + [
     (kind, 1, 1_000_000)
     for kind in ("hello", "members", "steal", "give", "no-work", "return", "accept", "refuse", "abort")
 ]

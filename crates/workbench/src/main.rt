@@ -1,8 +1,8 @@
 //! `workbench`: programs for those who work on the protocol.
 //!
 //! `workbench act KIND TIMES` lets cores take events, so many times over; `workbench copy KIND TIMES` only copies the packets
-//! that go with them. A KIND is `cycle`, a steal from the first packet to the last, or the name of a packet that is
-//! delivered. `bench/cores.py` takes the times of both.
+//! that go with them. A KIND is `cycle`, a steal from the first packet to the last, `share-1`, `share-2` or `share-8`, a Steal with
+//! the Give of so many children, or the name of a packet that is delivered. `bench/cores.py` takes the times of both.
 //!
 //! `workbench greet THREADS TIMES` lets so many threads greet at one cell, each so many times; with 0 threads a core without a lock.
 //! `bench/cells.py` takes their times.
@@ -21,6 +21,8 @@ mod cells;
 mod cycle;
 mod deliveries;
 mod fault;
+mod many_units;
+mod shares;
 mod sites;
 mod table;
 
@@ -28,6 +30,7 @@ use crate::cells::{greet_cell, greet_core};
 use crate::cycle::{act_cycles, copy_packets, packets};
 use crate::deliveries::{act_deliveries, packet_of};
 use crate::fault::BenchFault;
+use crate::shares::{act_shares, share_in, share_packets};
 use crate::sites::run_over_memory;
 use crate::table::{measure_children, measure_guests};
 use dlx_reader::read_problem;
@@ -45,6 +48,9 @@ const ONE_ITEM: &str = "a\n";
 
 /// Lets cores take the events of this kind so many times.
 fn act(alloc: Global, kind: &str, times: u64) -> Result<(), BenchFault> {
+    if let Some(share) = share_in(kind) {
+        return act_shares(alloc, share, times);
+    }
     let Ok(read) = read_problem(alloc, ONE_ITEM.as_bytes()) else {
         return Err(BenchFault::Memory);
     };
@@ -56,6 +62,9 @@ fn act(alloc: Global, kind: &str, times: u64) -> Result<(), BenchFault> {
 
 /// Copies the packets of this kind so many times.
 fn copy(alloc: Global, kind: &str, times: u64) -> Result<(), BenchFault> {
+    if let Some(share) = share_in(kind) {
+        return copy_packets(alloc, &share_packets(alloc, share)?, times);
+    }
     if kind == "cycle" {
         return copy_packets(alloc, &packets(alloc)?, times);
     }
