@@ -1,0 +1,10 @@
+pub mod Behind
+pub mod Choosing
+pub mod Counted
+pub mod Keying
+pub mod Layered
+pub mod Leveled
+pub mod Lowest
+pub mod Marked
+pub mod Taking
+pub mod Words

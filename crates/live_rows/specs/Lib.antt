@@ -1,0 +1,4 @@
+pub mod Counting
+pub mod Levels
+pub mod Rows
+pub mod Trying

@@ -1,0 +1,73 @@
+//! What is kept of each level: its live options, the keys of its primary items, and the least of these.
+
+ghost use Rattle.std.specs.Prelude.{◌≡◌, ◌+◌, ◌*◌, ◌<◌, ◌≤◌, [], ◌∷◌, ◌++◌, length, IfOk};
+ghost use Rattle.option_sets.specs.Sets.{words_of};
+ghost use Rattle.live_rows.specs.Counting.{IsLive};
+ghost use Rattle.live_rows.specs.Levels.{AreLevels, level_at};
+
+use crate::level::{count_first, count_level, fill_first, level_at, spare_level};
+use option_sets::OptionSets;
+use std::alloc::{AllocError, Global};
+
+/// The levels of a search, that of the empty prefix first. Each begins where the one before it ends.
+#[derive(Drop)]
+pub struct Levels {
+    /// The words of the live options of each level.
+    pub live: Vec<u64>,
+    /// The key of each primary item at each level.
+    pub keys: Vec<u32>,
+    /// The least key at each level.
+    pub leasts: Vec<u32>,
+}
+
+impl Levels {
+    /// Room for all levels, and that of the empty prefix; the only error is want of memory.
+    pub fn build(alloc: Global, sets: &OptionSets) -> Result<Levels, AllocError>
+        ensures { IfOk result (λ levels. AreLevels sets.now [] levels) }
+    {
+        let primary = sets.problem().primary();
+        let live = first_live(alloc, sets, primary + 1)?;
+        let mut keys = vec![in alloc; 0u32; (primary + 1) * primary]?;
+        let mut leasts = vec![in alloc; 0u32; primary + 1]?;
+        let all = level_at(&live, sets.words(), 0);
+        leasts[0] = count_first(sets, all, &mut keys);
+        Ok(Levels { live, keys, leasts })
+    }
+
+    /// The words of the live options of a level.
+    #[inline(always)]
+    pub fn live_at(&self, sets: &OptionSets, depth: usize) -> &[u64]
+        requires { depth * words_of sets.now + words_of sets.now
+            ≤ length self.now.live.items }
+        ensures { result.now ≡ level_at (words_of sets.now) depth self.now.live.items }
+    {
+        level_at(&self.live, sets.words(), depth)
+    }
+
+    /// Makes the level of some chosen options and one more, which is live once these are chosen.
+    #[inline(always)]
+    pub fn push(&mut self, sets: &OptionSets, chosen: &[u16], option: u16)
+        requires levels { AreLevels sets.now chosen.now self.old }
+        requires room { length chosen.now < sets.now.primary }
+        requires option { option < length sets.now.options }
+        ensures { AreLevels sets.now (chosen.now ++ option ∷ []) self.new }
+    {
+        let depth = chosen.len();
+        spare_level(sets, &mut self.live, depth, option);
+        let live = level_at(&self.live, sets.words(), depth + 1);
+        self.leasts[depth + 1] = count_level(sets, live, &mut self.keys, depth, option);
+    }
+}
+
+/// Room for the live options of so many levels, in the first of them all options. The only error is want of memory.
+fn first_live(alloc: Global, sets: &OptionSets, levels: usize) -> Result<Vec<u64>, AllocError>
+    requires some { words_of sets.now ≤ levels * words_of sets.now }
+    requires small { levels * words_of sets.now ≤ 1000000 }
+    ensures long { IfOk result (λ live. length live.items ≡ levels * words_of sets.now) }
+    ensures all { IfOk result
+        (λ live. IsLive sets.now [] (level_at (words_of sets.now) 0 live.items)) }
+{
+    let mut live = vec![in alloc; 0u64; levels * sets.words()]?;
+    fill_first(sets, &mut live);
+    Ok(live)
+}
