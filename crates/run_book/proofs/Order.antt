@@ -1,5 +1,5 @@
 -- What is put in and taken out keeps its order.
-use Rattle.std.proofs.Common.{◌≡◌, ◌≢◌, ℕ, zero, suc, ◌<◌, List, [], ◌∷◌, ◌++◌, length, set, refl, sym, ap, ◌∙◌, subst, ⊎_elim, arith, None, MatchOption, Option, Some, append_assoc, append-nil, length-append}
+use Rattle.std.proofs.Common.{◌≡◌, ◌≢◌, ℕ, zero, suc, ◌<◌, List, [], ◌∷◌, ◌++◌, length, set, refl, sym, ap, ◌∙◌, subst, ⊎_elim, arith, None, MatchOption, Option, Some, MatchResult, OnErr, Result, Ok, Err, append_assoc, append-nil, length-append}
 use lib.ListN.{get_elem?}
 use mathlib.Core.Option.{some, some-injective, some-ne-none}
 use Rattle.crossbeam_queue.proofs.Lists.{at_set, at_snoc}
@@ -125,8 +125,14 @@ drain_finds pass v is = subst (λ k. Learns IsInOrder k v (FindsAsDrain v)) (sym
 
 -- ---- what a refused parcel and a missing one tell
 
-pub it_was_full : (known : Known) (n : ℕ) → n ≡ 1024 → Held n (Finds known) → FoundFull known.seen
+it_was_full : (known : Known) (n : ℕ) → n ≡ 1024 → Held n (Finds known) → FoundFull known.seen
 it_was_full known n is held = (held.2.0, ap length held.2.1 ∙ held.1 ∙ is, held.2.2)
+
+-- the same where a parcel comes back
+pub full_where_refused : {A : Type 0} (P : A → Type 0) (known new : Known) (parcel : Parcel) (n : ℕ) (result : Result A Parcel) → n ≡ 1024
+    → MatchResult result P (λ x. (x ≡ parcel) × (new ≡ known) × Held n (Finds known)) → OnErr result (FoundFull known.seen)
+full_where_refused P known new parcel n (Ok done) is told = tt
+full_where_refused P known new parcel n (Err back) is told = it_was_full known n is told.2
 
 nothing_held : (l : List Parcel) → length l ≡ 0 → l ≡ []
 nothing_held [] e = refl

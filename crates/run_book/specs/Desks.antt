@@ -1,11 +1,12 @@
 -- What stands under the lock of a cell.
-use Rattle.std.specs.Prelude.{◌≡◌, ℕ, ◌<◌, ◌≤◌, true, List, [], length}
+use Rattle.std.specs.Prelude.{◌≡◌, ℕ, ◌<◌, ◌≤◌, true, List, [], length, Option, None, Some}
 use Rattle.cover_problem.specs.Prefix.{is_prefix}
 use Rattle.cover_problem.specs.Problem.{Problem}
 use Rattle.cover_problem.specs.declared.limits.TheConstants.{MOST_ITEMS}
 use Rattle.node_core.specs.Acting.{StepOf}
 use Rattle.node_core.specs.Formed.{AllFormed}
 use Rattle.node_core.specs.SiteView.{View}
+use Rattle.node_core.specs.declared.act_fault.ActFault.{ActFault}
 use Rattle.node_core.specs.declared.event.Event.{Event}
 use Rattle.node_core.specs.declared.event.Event.TheVariants.{Take}
 use Rattle.node_core.specs.declared.reply.Reply.{Reply}
@@ -15,7 +16,7 @@ use Rattle.run_book.specs.Entries.{Entry}
 use Rattle.run_book.specs.Sites.{FormedAt, RunName, StepsAt}
 use Rattle.run_book.specs.Tickets.{RegisterView}
 use Rattle.run_book.specs.declared.fault.BookFault.{BookFault}
-use Rattle.run_book.specs.declared.fault.BookFault.TheVariants.{BookFull}
+use Rattle.run_book.specs.declared.fault.BookFault.TheVariants.{BookFull, Core}
 use Rattle.spawn_frame.specs.declared.site.Site.{Site}
 
 -- a core's history: its entries, how many it may have, and how many seats were given out
@@ -40,6 +41,19 @@ pub record IsDesk (run : RunName) (site : Site) (names : ℕ) (Step : StepOf) (p
 abbrev pub IsTold : BookFault → ℕ → ℕ → Type 0
 IsTold (BookFull told) many limit = (told ≡ many) × (many ≡ limit)
 IsTold _ many limit = many < limit
+
+-- The site refuses the event with the fault: so the rules of its core say, at a view to which entries led it.
+pub record Refuses (run : RunName) (site : Site) (names : ℕ) (rules : Problem → View → Event → Option ActFault) (event : Event)
+    (fault : ActFault) : Type 0 where
+  pub entries : List Entry
+  pub view : View
+  pub leads : EndsIn run (record { site = site; entries = entries }) names view
+  pub refusal : rules run.problem view event ≡ Some fault
+
+-- the fault of a core that a book's fault tells
+abbrev pub fault_told : BookFault → Option ActFault
+fault_told (Core fault) = Some fault
+fault_told _ = None
 
 -- the most numbers that the reply to an event may hold: only a Take is told a prefix
 abbrev pub room_for : Event → ℕ

@@ -96,6 +96,11 @@ HasReceipt known placed = known ≡ Stands placed
 abbrev pub no_entry : Entry
 no_entry = record { event = Take; reply = Idle; packets = [] }
 
+-- the receipt that the holder has
+abbrev pub placed_in : Knows → Placed
+placed_in (Stands placed) = placed
+placed_in _ = record { place = 0; entry = no_entry }
+
 -- the name of no table
 abbrev pub no_table : TableId
 no_table = record { words = 0; slots = 0; views_name = 0; atom = 0; block = 0; offset = 0; slot_names = [] }

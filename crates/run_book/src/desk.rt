@@ -1,8 +1,8 @@
-ghost use Rattle.std.specs.Prelude.{◌≡◌, ℕ, ◌+◌, ◌<◌, ◌≤◌, [], ◌∷◌, ◌++◌, length, sum, vec_len, IfErr, IfNone, IfOk, IfSome, OnErr, OnOk};
-ghost use Rattle.node_core.specs.Acting.{Acts};
+ghost use Rattle.std.specs.Prelude.{◌≡◌, ℕ, ◌+◌, ◌<◌, ◌≤◌, [], ◌∷◌, ◌++◌, length, sum, vec_len, None, IfErr, IfNone, IfOk, IfSome, OnErr, OnOk};
+ghost use Rattle.node_core.specs.Acting.{named_fault, Acts};
 ghost use Rattle.node_core.specs.Refusal.{IsFit};
 ghost use Rattle.run_book.specs.Closing.{IsMissing};
-ghost use Rattle.run_book.specs.Desks.{IsLawful, IsTold};
+ghost use Rattle.run_book.specs.Desks.{fault_told, IsLawful, IsTold, Refuses};
 ghost use Rattle.run_book.specs.Places.{AllStand, AreBelow, places};
 ghost use Rattle.run_book.specs.Sites.{opening_of, IsRun, MayBeginIn, StepsAt};
 
@@ -10,8 +10,8 @@ use crate::book::Book;
 use crate::entry::Entry;
 use crate::fault::{BookFault, Missing};
 use crate::opened::Opened;
-use crate::prepared::{Prepared, copied_reply};
-use crate::register::{Receipt, Register};
+use crate::prepared::{AnswerRoom, Prepared, copied_reply};
+use crate::register::{Receipt, Register, Stub};
 use crate::room::{Room, Run};
 use crate::seats::{Seat, Seats};
 use node_core::{ActFault, Core, Event, Reply};
@@ -99,7 +99,8 @@ impl<J: Run, C: Core + Drop, N: Room> Desk<J, C, N> {
 
     /// Why an event can't be entered for which memory ran out.
     pub fn fault(&self) -> BookFault
-        ensures { IsTold result (length self.now.entries) self.now.limit }
+        ensures told { IsTold result (length self.now.entries) self.now.limit }
+        ensures none { fault_told result ≡ None }
     {
         let many = self.entries.len() as u64;
         if many >= self.limit {
@@ -112,21 +113,23 @@ impl<J: Run, C: Core + Drop, N: Room> Desk<J, C, N> {
     /// Lets the core act, and enters what it did.
     pub fn act(
         &mut self,
-        seat: Seat<N>,
+        seat: &mut Seat<N>,
         prepared: Prepared,
-    ) -> Result<(Seat<N>, Receipt<N>), (Seat<N>, Event, BookFault)>
+    ) -> Result<Receipt<N>, (Event, BookFault)>
         requires fit { IsFit J.run.problem prepared.event }
-        ensures entered { IfOk result (λ done.
-            self.new.entries ≡ self.old.entries ++ done.1.entry ∷ []) }
-        ensures place { IfOk result (λ done. done.1.place ≡ length self.old.entries) }
-        ensures event { IfOk result (λ done. done.1.entry.event ≡ prepared.event) }
-        ensures lawful { IfOk result (λ done. IsLawful J.run.problem done.1.entry) }
-        ensures seat { IfOk result (λ done. done.0 ≡ seat + 1) }
+        ensures entered { IfOk result (λ receipt.
+            self.new.entries ≡ self.old.entries ++ receipt.entry ∷ []) }
+        ensures place { IfOk result (λ receipt. receipt.place ≡ length self.old.entries) }
+        ensures event { IfOk result (λ receipt. receipt.entry.event ≡ prepared.event) }
+        ensures lawful { IfOk result (λ receipt. IsLawful J.run.problem receipt.entry) }
+        ensures seat { OnOk result (seat.new ≡ seat.old + 1) }
         ensures room { OnOk result (length self.old.entries < self.old.limit) }
-        ensures refused { OnErr result (self.new ≡ self.old) }
-        ensures back { IfErr result (λ back. (back.0 ≡ seat) × (back.1 ≡ prepared.event)) }
+        ensures refused { OnErr result ((self.new ≡ self.old) × (seat.new ≡ seat.old)) }
+        ensures back { IfErr result (λ back. back.0 ≡ prepared.event) }
         ensures fault { IfErr result (λ back.
-            IsTold back.2 (length self.old.entries) self.old.limit) }
+            IsTold back.1 (length self.old.entries) self.old.limit) }
+        ensures refusal { IfErr result (λ back. IfSome (fault_told back.1)
+            (Refuses J.run N.site N.limit C.refusal prepared.event)) }
     {
         let place = self.entries.len() as u64;
         let Prepared {
@@ -136,22 +139,27 @@ impl<J: Run, C: Core + Drop, N: Room> Desk<J, C, N> {
             room,
         } = prepared;
         if place >= self.limit {
-            return Err((seat, event, BookFault::BookFull(place)));
+            return Err((event, BookFault::BookFull(place)));
         }
         if self.entries.reserve(1).is_err() {
-            return Err((seat, event, BookFault::Memory));
+            return Err((event, BookFault::Memory));
         }
+        let AnswerRoom {
+            prefix,
+            packets,
+            copies,
+        } = room;
         let Done {
             reply,
             packets,
             copies,
-        } = match run(&mut self.core, event) {
+        } = match run(&mut self.core, event, packets, copies) {
             Ok(done) => done,
-            Err(fault) => return Err((seat, told, of_core(fault))),
+            Err(fault) => return Err((told, of_core(fault))),
         };
         let entry = Entry {
             event: kept,
-            reply: copied_reply(&reply, room),
+            reply: copied_reply(&reply, prefix),
             packets: copies,
         };
         let told = Entry {
@@ -161,7 +169,8 @@ impl<J: Run, C: Core + Drop, N: Room> Desk<J, C, N> {
         };
         let receipt = self.register.enter(place, &entry, told);
         self.entries.push_reserved(entry);
-        Ok((self.seats.count(seat), receipt))
+        self.seats.count(seat);
+        Ok(receipt)
     }
 
     /// The book, with all seats and receipts back.
@@ -203,20 +212,58 @@ impl<J: Run, C: Core + Drop, N: Room> Desk<J, C, N> {
         register.look();
         Ok(Book::new(site, entries))
     }
+
+    /// The book, with all seats back, and the stubs of all receipts.
+    pub fn settle(
+        self,
+        site: Site,
+        seats: Vec<Seat<N>>,
+        stubs: Vec<Stub<N>>,
+    ) -> Result<Book<J>, Missing>
+        requires { site ≡ N.site }
+        ensures book { IfOk result (λ book. book ≡ record { site = site; entries = self.entries }) }
+        ensures stand { IfOk result (λ _. AllStand self.entries stubs.items) }
+        ensures each { IfOk result (λ _. AreBelow (length self.entries) (places stubs.items)) }
+        ensures counted { IfOk result (λ _. sum seats.items ≡ length self.entries) }
+        ensures cause { IfErr result (λ cause.
+            IsMissing cause seats.items (vec_len stubs) self.given) }
+    {
+        if let Some(cause) = missing(self.seats.given(), seats.as_slice(), stubs.len()) {
+            return Err(cause);
+        }
+        let Desk {
+            core: _,
+            entries,
+            limit: _,
+            register,
+            seats: all,
+            run: _,
+        } = self;
+        all.close(seats);
+        let mut register = register.take_stubs(stubs);
+        register.look();
+        Ok(Book::new(site, entries))
+    }
 }
 
-/// Lets a core act.
-fn run<C: Core>(core: &mut C, event: Event) -> Result<Done, ActFault>
+/// Lets a core act, and put its packets into these lists.
+fn run<C: Core>(
+    core: &mut C,
+    event: Event,
+    mut packets: Vec<Packet>,
+    mut copies: Vec<Packet>,
+) -> Result<Done, ActFault>
     requires fit { IsFit (C.problem core.old) event }
+    requires packets { packets.items ≡ [] }
+    requires copies { copies.items ≡ [] }
     ensures problem { C.problem core.new ≡ C.problem core.old }
     ensures acts { IfOk result (λ done.
         Acts C.step (C.problem core.old) (C.view core.old) event done.reply done.packets.items
         (C.view core.new)) }
+    ensures refusal { IfErr result (λ fault.
+        named_fault fault ≡ C.refusal (C.problem core.old) (C.view core.old) event) }
     ensures err { OnErr result (C.view core.new ≡ C.view core.old) }
 {
-    let alloc = core.allocator();
-    let mut packets = Vec::new(alloc);
-    let mut copies = Vec::new(alloc);
     let reply = core.act_both(event, &mut packets, &mut copies)?;
     Ok(Done {
         reply,
@@ -228,6 +275,7 @@ fn run<C: Core>(core: &mut C, event: Event) -> Result<Done, ActFault>
 /// A core's fault as one of a book: want of memory is the same here.
 fn of_core(fault: ActFault) -> BookFault
     ensures told { (many limit : ℕ) → many < limit → IsTold result many limit }
+    ensures fault { fault_told result ≡ named_fault fault }
 {
     match fault {
         ActFault::Memory => BookFault::Memory,

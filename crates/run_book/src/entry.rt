@@ -41,4 +41,11 @@ impl Entry {
     {
         self.packets.as_slice()
     }
+
+    /// What it came to, by itself.
+    pub fn into_reply(self) -> Reply
+        ensures { result ≡ self.reply }
+    {
+        self.reply
+    }
 }

@@ -28,7 +28,7 @@ pub use laws::{
 pub use opened::Opened;
 pub use outbox::{CAPACITY, Drain, Outbox, Pass};
 pub use parcel::Parcel;
-pub use register::Receipt;
+pub use register::{Receipt, Stub};
 pub use room::{Room, Run};
 pub use run_books::{published, registry_book};
 pub use seats::Seat;

@@ -1,4 +1,4 @@
-ghost use Rattle.std.specs.Prelude.{◌≡◌, [], None, IfErr, IfOk, IfSome};
+ghost use Rattle.std.specs.Prelude.{◌≡◌, [], None, IfErr, IfOk, IfSome, OnErr, OnOk};
 ghost use Rattle.run_book.specs.Outbox.{has_taken, FoundEmpty, FoundFull, HasPut};
 
 use crate::parcel::Parcel;
@@ -84,28 +84,54 @@ impl Outbox {
     }
 
     /// Puts a parcel in behind all others. It comes back only if the outbox was full at one moment of the call.
-    pub fn push<R: Wait>(&self, rt: &R, pass: Pass, parcel: Parcel) -> Result<Pass, (Pass, Parcel)>
+    pub fn put<R: Wait>(&self, rt: &R, pass: &mut Pass, parcel: Parcel) -> Result<(), Parcel>
+        requires here { pass.old.outbox ≡ self.now }
+        ensures put { OnOk result (HasPut pass.old parcel pass.new) }
+        ensures here { pass.new.outbox ≡ pass.old.outbox }
+        ensures back { IfErr result (λ back. back ≡ parcel) }
+        ensures same { OnErr result (pass.new ≡ pass.old) }
+        ensures full { OnErr result (FoundFull pass.old.seen) }
+    {
+        self.queue.push_as::<Puts, R>(rt, &mut pass.inner, parcel)
+    }
+
+    /// Puts a parcel in, as `put` does; the pass comes back in any case.
+    pub fn push<R: Wait>(
+        &self,
+        rt: &R,
+        mut pass: Pass,
+        parcel: Parcel,
+    ) -> Result<Pass, (Pass, Parcel)>
         requires here { pass.outbox ≡ self.now }
         ensures put { IfOk result (λ after. HasPut pass parcel after) }
         ensures back { IfErr result (λ back. back ≡ (pass, parcel)) }
         ensures full { IfErr result (λ _. FoundFull pass.seen) }
     {
-        let Pass { mut inner } = pass;
-        match self.queue.push_as::<Puts, R>(rt, &mut inner, parcel) {
-            Ok(()) => Ok(Pass { inner }),
-            Err(parcel) => Err((Pass { inner }, parcel)),
+        match self.put(rt, &mut pass, parcel) {
+            Ok(()) => Ok(pass),
+            Err(parcel) => Err((pass, parcel)),
         }
     }
 
     /// Takes out the first parcel. There is none only if the outbox was empty at one moment of the call.
-    pub fn pop<R: Wait>(&self, rt: &R, drain: Drain) -> (Drain, Option<Parcel>)
+    pub fn take<R: Wait>(&self, rt: &R, drain: &mut Drain) -> Option<Parcel>
+        requires here { drain.old.outbox ≡ self.now }
+        ensures taken { IfSome result (λ parcel. drain.new ≡ has_taken drain.old parcel) }
+        ensures here { drain.new.outbox ≡ drain.old.outbox }
+        ensures none { result ≡ None → drain.new ≡ drain.old }
+        ensures empty { result ≡ None → FoundEmpty drain.old.taken }
+    {
+        self.queue.pop_as::<Takes, R>(rt, &mut drain.inner)
+    }
+
+    /// Takes out the first parcel, as `take` does; the drain comes back in any case.
+    pub fn pop<R: Wait>(&self, rt: &R, mut drain: Drain) -> (Drain, Option<Parcel>)
         requires here { drain.outbox ≡ self.now }
         ensures taken { IfSome result.1 (λ parcel. result.0 ≡ has_taken drain parcel) }
         ensures none { result.1 ≡ None → result.0 ≡ drain }
         ensures empty { result.1 ≡ None → FoundEmpty drain.taken }
     {
-        let Drain { mut inner } = drain;
-        let parcel = self.queue.pop_as::<Takes, R>(rt, &mut inner);
-        (Drain { inner }, parcel)
+        let parcel = self.take(rt, &mut drain);
+        (drain, parcel)
     }
 }

@@ -3,19 +3,30 @@ ghost use Rattle.run_book.specs.Desks.{prefix_in, room_for};
 
 use cover_problem::{MOST_ITEMS, Numbers};
 use node_core::{Event, Reply};
-use std::alloc::Global;
+use packet_wire::{Body, Packet};
+use std::alloc::{AllocError, Global};
 
-/// An event with all that is to be made before a core acts on it: two copies, and the room for a copy of a reply's prefix.
+/// An event with all that is to be made before a core acts on it: two copies, and the room for what comes of it.
 #[derive(Drop)]
 pub struct Prepared {
     pub event: Event,
     pub kept: Event,
     pub told: Event,
-    pub room: Vec<u16>,
+    pub room: AnswerRoom,
     pub ghost kept_same: { kept ≡ event },
     pub ghost told_same: { told ≡ event },
-    pub ghost empty: { room.items ≡ [] },
-    pub ghost wide: { room_for event ≤ vec_capacity room },
+    pub ghost wide: { room_for event ≤ vec_capacity room.prefix },
+}
+
+/// The room for a copy of a reply's prefix, and two empty lists of packets.
+#[derive(Drop)]
+pub struct AnswerRoom {
+    pub prefix: Vec<u16>,
+    pub packets: Vec<Packet>,
+    pub copies: Vec<Packet>,
+    pub ghost no_prefix: { prefix.items ≡ [] },
+    pub ghost no_packets: { packets.items ≡ [] },
+    pub ghost no_copies: { copies.items ≡ [] },
 }
 
 impl Prepared {
@@ -30,7 +41,7 @@ impl Prepared {
         let Ok(told) = event.copy() else {
             return Err(event);
         };
-        let Ok(room) = Vec::with_capacity(alloc, numbers_for(&event)) else {
+        let Ok(room) = AnswerRoom::new(alloc, &event) else {
             return Err(event);
         };
         Ok(Prepared {
@@ -39,6 +50,32 @@ impl Prepared {
             told,
             room,
         })
+    }
+}
+
+impl AnswerRoom {
+    /// The room for what comes of this event. The only error is want of memory.
+    fn new(alloc: Global, event: &Event) -> Result<AnswerRoom, AllocError>
+        ensures { IfOk result (λ room. room_for event.now ≤ vec_capacity room.prefix) }
+    {
+        let packets = packets_for(event);
+        Ok(AnswerRoom {
+            prefix: Vec::with_capacity(alloc, numbers_for(event))?,
+            packets: Vec::with_capacity(alloc, packets)?,
+            copies: Vec::with_capacity(alloc, packets)?,
+        })
+    }
+}
+
+/// How many packets an event mostly puts out. A list that grows by itself would have room for four at once, and stays in the book.
+fn packets_for(event: &Event) -> usize {
+    match event {
+        Event::Ask(_) | Event::Greet | Event::Redo(_) => 1,
+        Event::Deliver(packet) => usize::from(matches!(
+            packet.body,
+            Body::Steal | Body::Return { .. }
+        )),
+        Event::Take | Event::Post(_, _) | Event::Finish(_) | Event::Again => 0,
     }
 }
 

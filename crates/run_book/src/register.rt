@@ -40,6 +40,50 @@ impl<N: Room> Model for Receipt<N> {
         × HasReceipt (known r.token) (placed r.place r.event r.reply r.packets.items) };
 }
 
+/// What is left of a receipt once its packets were sent. Contracts see it as the receipt; it takes no memory.
+#[derive(Drop)]
+pub struct Stub<N: Room> {
+    token: Token,
+    room: PhantomData<N>,
+}
+
+impl<N: Room> Model for Stub<N> {
+    ghost use Rattle.std.specs.Prelude.{◌≡◌, []};
+    ghost use Rattle.crossbeam_queue.specs.Passes.{view as known};
+    ghost use Rattle.run_book.specs.Entries.{Placed};
+    ghost use Rattle.run_book.specs.Tickets.{placed_in, HasReceipt};
+
+    ghost Value = { Placed };
+
+    ghost view = { λ s. placed_in (known s.token) };
+
+    ghost invariant = { λ s. (s.token.table_id ≡ N.table) × (s.token.me.1 ≡ [])
+        × HasReceipt (known s.token) (placed_in (known s.token)) };
+}
+
+impl<N: Room> Receipt<N> {
+    /// Its stub, and what was entered.
+    pub fn into_parts(self) -> (Stub<N>, Entry)
+        ensures stub { result.0 ≡ self }
+        ensures entry { result.1 ≡ self.entry }
+    {
+        let Receipt {
+            place: _,
+            event,
+            reply,
+            packets,
+            token,
+            room,
+        } = self;
+        let entry = Entry {
+            event,
+            reply,
+            packets,
+        };
+        (Stub { token, room }, entry)
+    }
+}
+
 /// What makes the receipts of a log's entries, and takes them back.
 #[derive(Drop)]
 pub struct Register<N: Room> {
@@ -111,7 +155,28 @@ impl<N: Room> Register<N> {
             room: _,
         } = self;
         for receipt in receipts {
-            take_in(&carrier, &mut keeper, receipt);
+            let (stub, _) = receipt.into_parts();
+            take_in(&carrier, &mut keeper, stub);
+        }
+        Register {
+            carrier,
+            keeper,
+            room: PhantomData,
+        }
+    }
+
+    /// Takes receipts back by their stubs.
+    pub fn take_stubs(self, stubs: Vec<Stub<N>>) -> Register<N>
+        ensures log { result.log ≡ self.log }
+        ensures back { result.back ≡ self.back ++ stubs.items }
+    {
+        let Register {
+            carrier,
+            mut keeper,
+            room: _,
+        } = self;
+        for stub in stubs {
+            take_in(&carrier, &mut keeper, stub);
         }
         Register {
             carrier,
@@ -143,20 +208,13 @@ fn ticket<E: Entered>(carrier: &Carrier, keeper: &mut Token, entry: &Entry) -> T
 }
 
 /// The keeper takes a receipt back.
-fn take_in<N: Room>(carrier: &Carrier, keeper: &mut Token, receipt: Receipt<N>)
+fn take_in<N: Room>(carrier: &Carrier, keeper: &mut Token, stub: Stub<N>)
     requires here { keeper.old.table_id ≡ N.table }
     requires carrier { IsPassOf carrier.now keeper.old }
     requires keeper { IsKeeper (view keeper.old) }
     ensures same { IsSamePass keeper.old keeper.new }
-    ensures keeper { view keeper.new ≡ taken_back (view keeper.old) receipt }
+    ensures keeper { view keeper.new ≡ taken_back (view keeper.old) stub }
 {
-    let Receipt {
-        place: _,
-        event: _,
-        reply: _,
-        packets: _,
-        token,
-        room: _,
-    } = receipt;
+    let Stub { token, room: _ } = stub;
     carrier.absorb::<TakeBack>(keeper, token);
 }

@@ -89,20 +89,16 @@ impl<N: Room> Seats<N> {
     }
 
     /// The seat counts one receipt more.
-    pub fn count(&mut self, seat: Seat<N>) -> Seat<N>
+    pub fn count(&mut self, seat: &mut Seat<N>)
         requires room { self.old.total < 18446744073709551615 }
-        ensures seat { result ≡ seat + 1 }
+        ensures seat { seat.new ≡ seat.old + 1 }
         ensures total { self.new.total ≡ self.old.total + 1 }
         ensures given { self.new.given ≡ self.old.given }
     {
-        let Seat { mut share, count } = seat;
         // (for what it tells: that no share counts more than all together)
-        self.book.audit(&mut share);
-        self.book.add(&mut share, 1);
-        Seat {
-            share,
-            count: count + 1,
-        }
+        self.book.audit(&mut seat.share);
+        self.book.add(&mut seat.share, 1);
+        seat.count += 1;
     }
 
     /// All seats are back: they count all receipts.

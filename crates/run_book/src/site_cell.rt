@@ -1,7 +1,7 @@
-ghost use Rattle.std.specs.Prelude.{◌≡◌, ℕ, ◌+◌, length, sum, vec_len, IfErr, IfOk};
+ghost use Rattle.std.specs.Prelude.{◌≡◌, ℕ, ◌+◌, length, sum, vec_len, IfErr, IfOk, IfSome, OnErr, OnOk};
 ghost use Rattle.node_core.specs.Refusal.{IsFit};
 ghost use Rattle.run_book.specs.Closing.{IsMissing};
-ghost use Rattle.run_book.specs.Desks.{IsLawful};
+ghost use Rattle.run_book.specs.Desks.{fault_told, IsLawful, Refuses};
 ghost use Rattle.run_book.specs.Places.{AllStand, AreBelow, places};
 ghost use Rattle.run_book.specs.Sites.{opening_of, IsRun, MayBeginIn, StepsAt};
 
@@ -11,7 +11,7 @@ use crate::desk::Desk;
 use crate::fault::{BookFault, Missing};
 use crate::opened::Opened;
 use crate::prepared::Prepared;
-use crate::register::Receipt;
+use crate::register::{Receipt, Stub};
 use crate::room::{Room, Run};
 use crate::seats::Seat;
 use node_core::{Core, Event};
@@ -80,11 +80,36 @@ impl<J: Run, C: Core + Drop, N: Room> SiteCell<J, C, N> {
     /// Hands an event to the core. It is entered with what the core did, and the receipt tells the same.
     ///
     /// `BookFull` comes exactly where the book has as many entries as it may have. The core may refuse the event: it then
-    /// enters nothing. Where memory ran out nothing has happened. With each fault the seat and the event come back.
+    /// enters nothing. Where memory ran out nothing has happened. With each fault the event comes back.
+    pub fn act_at<R: Wait>(
+        &self,
+        rt: &R,
+        seat: &mut Seat<N>,
+        event: Event,
+    ) -> Result<Receipt<N>, (Event, BookFault)>
+        requires fit { IsFit J.run.problem event }
+        ensures event { IfOk result (λ receipt. receipt.entry.event ≡ event) }
+        ensures lawful { IfOk result (λ receipt. IsLawful J.run.problem receipt.entry) }
+        ensures seat { OnOk result (seat.new ≡ seat.old + 1) }
+        ensures unchanged { OnErr result (seat.new ≡ seat.old) }
+        ensures back { IfErr result (λ back. back.0 ≡ event) }
+        ensures refusal { IfErr result (λ back. IfSome (fault_told back.1)
+            (Refuses J.run N.site N.limit C.refusal event)) }
+    {
+        match Prepared::new(self.alloc, event) {
+            Ok(prepared) => self.lock.lock(rt).act(seat, prepared),
+            Err(event) => {
+                let fault = self.lock.lock(rt).fault();
+                Err((event, fault))
+            }
+        }
+    }
+
+    /// Hands an event to the core, as `act_at` does; the seat comes back in any case.
     pub fn act<R: Wait>(
         &self,
         rt: &R,
-        seat: Seat<N>,
+        mut seat: Seat<N>,
         event: Event,
     ) -> Result<(Seat<N>, Receipt<N>), (Seat<N>, Event, BookFault)>
         requires fit { IsFit J.run.problem event }
@@ -92,13 +117,12 @@ impl<J: Run, C: Core + Drop, N: Room> SiteCell<J, C, N> {
         ensures lawful { IfOk result (λ done. IsLawful J.run.problem done.1.entry) }
         ensures seat { IfOk result (λ done. done.0 ≡ seat + 1) }
         ensures back { IfErr result (λ back. (back.0 ≡ seat) × (back.1 ≡ event)) }
+        ensures refusal { IfErr result (λ back. IfSome (fault_told back.2)
+            (Refuses J.run N.site N.limit C.refusal event)) }
     {
-        match Prepared::new(self.alloc, event) {
-            Ok(prepared) => self.lock.lock(rt).act(seat, prepared),
-            Err(event) => {
-                let fault = self.lock.lock(rt).fault();
-                Err((seat, event, fault))
-            }
+        match self.act_at(rt, &mut seat, event) {
+            Ok(receipt) => Ok((seat, receipt)),
+            Err((event, fault)) => Err((seat, event, fault)),
         }
     }
 
@@ -142,5 +166,23 @@ impl<J: Run, C: Core + Drop, N: Room> SiteCell<J, C, N> {
                 })
             }
         }
+    }
+
+    /// The book, once all seats are back, and the stubs of all receipts, as `close` gives it. Where something is missing, what is
+    /// handed in is let go.
+    pub fn settle(self, seats: Vec<Seat<N>>, stubs: Vec<Stub<N>>) -> Result<Book<J>, Missing>
+        ensures site { IfOk result (λ book. book.site ≡ N.site) }
+        ensures stand { IfOk result (λ book. AllStand book.entries stubs.items) }
+        ensures each { IfOk result (λ book. AreBelow (length book.entries) (places stubs.items)) }
+        ensures counted { IfOk result (λ book. sum seats.items ≡ length book.entries) }
+        ensures cause { IfErr result (λ cause.
+            (given : ℕ) × IsMissing cause seats.items (vec_len stubs) given) }
+    {
+        let SiteCell {
+            site,
+            alloc: _,
+            lock,
+        } = self;
+        lock.into_inner().settle(site, seats, stubs)
     }
 }

@@ -1,2 +1,3 @@
+pub mod Hands
 pub mod Links
 pub mod Numbers

@@ -1,88 +1,97 @@
-ghost use Rattle.std.specs.Prelude.{◌≡◌, IfErr};
+ghost use Rattle.std.specs.Prelude.{◌≡◌, true, IfErr, IfOk};
+ghost use Rattle.node_core.specs.Formed.{AllFormed};
 ghost use Rattle.node_core.specs.Refusal.{IsFit};
+ghost use Rattle.packet_wire.specs.WellFormed.{is_well_formed};
+ghost use Rattle.run_book.specs.Desks.{IsLawful};
 
 use crate::gate::Gate;
 use crate::shared::Shared;
-use crate::signals::Signals;
 use crate::stand::{Refused, Stand};
 use node_core::{Core, Event, Reply};
-use packet_wire::{Body, Packet, is_well_formed, write_packet};
-use run_book::{Outbox, Parcel, Pass, Room, Run};
-use std::alloc::Global;
+use packet_wire::{Body, Packet, write_packet};
+use run_book::{Entry, Parcel, Pass, Room, Run};
+use std::alloc::{AllocError, Global};
 use std::sync::Wait;
 
 /// A thread that acts at a site: its stand, and its way into the outbox.
 #[derive(Drop)]
-pub struct Actor<N: Room> {
+pub struct Actor<'a, J: Run, C: Core + Drop, N: Room, G: Gate> {
+    /// What the threads of the site share.
+    pub shared: &'a Shared<'a, J, C, N, G>,
     /// Its seat and receipts.
-    pub stand: Stand<N>,
+    stand: Stand<N>,
     /// Its right to put parcels into the outbox.
-    pub pass: Pass,
+    pass: Pass,
     /// How many parcels didn't get into the outbox; the greatest number stays.
     pub losses: u64,
+    ghost here: { pass.outbox ≡ shared.now.outbox.now },
 }
 
-impl<N: Room> Actor<N> {
-    /// Hands an event to the site's cell, and once it is entered puts its packets into the outbox: the lock of the core is
-    /// free then. An event that is refused comes back.
-    pub fn act<J: Run, C: Core + Drop, G: Gate, R: Wait>(
-        self,
+impl<'a, J: Run, C: Core + Drop, N: Room, G: Gate> Actor<'a, J, C, N, G> {
+    /// A thread that hasn't acted so far. The only error is that no seats are left.
+    pub fn new<R: Wait>(
         rt: &R,
-        shared: &Shared<'_, '_, '_, '_, '_, J, C, N, G>,
-        event: Event,
-    ) -> (Actor<N>, Result<(), (Event, Refused)>)
-        requires fit { IsFit J.run.problem event }
-        requires here { self.pass.outbox ≡ shared.now.outbox.now }
-        ensures here { result.0.pass.outbox ≡ shared.now.outbox.now }
-        ensures back { IfErr result.1 (λ back. back.0 ≡ event) }
-    {
-        let Actor {
-            stand,
-            pass,
-            losses,
-        } = self;
-        let stirs = may_stir(&event);
-        let (stand, acted) = stand.act(rt, shared.cell, event);
-        let actor = Actor {
-            stand,
-            pass,
-            losses,
-        };
-        match acted {
-            Ok(()) => {
-                actor.signal(shared.signals, stirs, shared.plan.workers);
-                (actor.put_last(rt, shared.alloc, shared.outbox), Ok(()))
-            }
-            Err(back) => (actor, Err(back)),
-        }
+        shared: &'a Shared<'a, J, C, N, G>,
+    ) -> Result<Actor<'a, J, C, N, G>, AllocError> {
+        Ok(Actor {
+            shared,
+            stand: Stand::new(rt, shared.alloc, shared.cell)?,
+            pass: shared.outbox.pass(),
+            losses: 0,
+        })
     }
 
-    /// Tells the other threads of the site what came of the last event: that there may be something to do, or that work is short.
-    fn signal(&self, signals: &Signals, stirs: bool, workers: u8) {
-        let reply = self.stand.reply();
-        if stirs && matches!(reply, Some(Reply::Moved)) {
+    /// Hands an event to the site's cell, and once it is entered puts its packets into the outbox: the lock of the core is
+    /// free then. It returns what was entered; an event that is refused comes back.
+    pub fn act<R: Wait>(&mut self, rt: &R, event: Event) -> Result<Entry, (Event, Refused)>
+        requires { IsFit J.run.problem event }
+        ensures lawful { IfOk result (λ entry. IsLawful J.run.problem entry) }
+        ensures back { IfErr result (λ back. back.0 ≡ event) }
+    {
+        let stirs = may_stir(&event);
+        let entry = self.stand.act(rt, self.shared.cell, event)?;
+        self.signal(&entry, stirs);
+        self.put_all(rt, entry.packets());
+        Ok(entry)
+    }
+
+    /// Its seat and receipts.
+    pub fn into_stand(self) -> Stand<N> {
+        self.stand
+    }
+
+    /// Signals to the other threads of the site what came of an event: that there may be something to do, or that work is short.
+    fn signal(&self, entry: &Entry, stirs: bool) {
+        let signals = self.shared.signals;
+        let reply = entry.reply();
+        if stirs && matches!(reply, Reply::Moved) {
             signals.stir();
         }
-        if matches!(reply, Some(Reply::Idle)) || tells_no_work(self.stand.packets()) {
-            signals.starve(u64::from(workers) * 2);
+        if matches!(reply, Reply::Idle) || tells_no_work(entry.packets()) {
+            signals.starve(u64::from(self.shared.plan.workers) * 2);
         }
     }
 
-    /// Puts the packets into the outbox that were put out last.
-    fn put_last<R: Wait>(self, rt: &R, alloc: Global, outbox: &Outbox) -> Actor<N>
-        requires here { self.pass.outbox ≡ outbox.now }
-        ensures here { result.pass.outbox ≡ outbox.now }
+    /// Puts the packets into the outbox, in their order.
+    #[tactic(auto, using(node_core::proofs::Each::each_at))]
+    fn put_all<R: Wait>(&mut self, rt: &R, packets: &[Packet])
+        requires { AllFormed packets.now }
     {
-        let Actor {
-            stand,
-            pass,
-            losses,
-        } = self;
-        let (pass, lost) = put_packets(rt, alloc, outbox, pass, stand.packets());
-        Actor {
-            stand,
-            pass,
-            losses: losses.saturating_add(lost),
+        for packet in packets {
+            self.put(rt, packet);
+        }
+    }
+
+    /// Puts a packet into the outbox. It is lost where there is no memory for its spelling, or the outbox is full.
+    fn put<R: Wait>(&mut self, rt: &R, packet: &Packet)
+        requires { is_well_formed packet.now ≡ true }
+    {
+        let is_put = match parcel_of(self.shared.alloc, packet) {
+            Ok(parcel) => self.shared.outbox.put(rt, &mut self.pass, parcel).is_ok(),
+            Err(AllocError) => false,
+        };
+        if !is_put {
+            self.losses = self.losses.saturating_add(1);
         }
     }
 }
@@ -103,59 +112,14 @@ fn tells_no_work(packets: &[Packet]) -> bool {
         .any(|packet| matches!(packet.body, Body::NoWork))
 }
 
-/// Puts the packets into the outbox, in their order; answers how many did not get there.
-fn put_packets<R: Wait>(
-    rt: &R,
-    alloc: Global,
-    outbox: &Outbox,
-    mut pass: Pass,
-    packets: &[Packet],
-) -> (Pass, u64)
-    requires here { pass.outbox ≡ outbox.now }
-    ensures here { result.0.outbox ≡ outbox.now }
+/// The packet's spelling, for its receiver. The only error is want of memory.
+fn parcel_of(alloc: Global, packet: &Packet) -> Result<Parcel, AllocError>
+    requires { is_well_formed packet.now ≡ true }
 {
-    let mut lost = 0u64;
-    for packet in packets {
-        let (after, is_put) = put_packet(rt, alloc, outbox, pass, packet);
-        pass = after;
-        if !is_put {
-            lost = lost.saturating_add(1);
-        }
-    }
-    (pass, lost)
-}
-
-/// Puts a packet into the outbox; whether there was memory for its spelling, and the outbox not full.
-fn put_packet<R: Wait>(
-    rt: &R,
-    alloc: Global,
-    outbox: &Outbox,
-    pass: Pass,
-    packet: &Packet,
-) -> (Pass, bool)
-    requires here { pass.outbox ≡ outbox.now }
-    ensures here { result.0.outbox ≡ outbox.now }
-{
-    let Some(parcel) = parcel_of(alloc, packet) else {
-        return (pass, false);
-    };
-    match outbox.push(rt, pass, parcel) {
-        Ok(pass) => (pass, true),
-        Err(back) => {
-            let (pass, parcel) = back;
-            drop(parcel);
-            (pass, false)
-        }
-    }
-}
-
-/// The packet's spelling, for its receiver; none where memory ran out.
-fn parcel_of(alloc: Global, packet: &Packet) -> Option<Parcel> {
-    if !is_well_formed(packet) {
-        return None;
-    }
     let mut bytes = Vec::new(alloc);
-    write_packet(alloc, packet, &mut bytes).ok()?;
-    let to = packet.to.node;
-    Some(Parcel { to, bytes })
+    write_packet(alloc, packet, &mut bytes)?;
+    Ok(Parcel {
+        to: packet.to.node,
+        bytes,
+    })
 }

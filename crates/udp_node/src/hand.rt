@@ -1,4 +1,5 @@
-ghost use Rattle.std.specs.Prelude.{◌≡◌, ◌≤◌};
+ghost use Rattle.std.specs.Prelude.{◌≡◌, ◌≤◌, true};
+ghost use Rattle.cover_problem.specs.Prefix.{is_prefix};
 ghost use Rattle.cover_problem.specs.Search.{outcome};
 
 use brancher::Finding;
@@ -6,6 +7,16 @@ use cover_problem::Numbers;
 use run_book::Run;
 use spawn_frame::Job;
 use std::marker::PhantomData;
+
+/// A job that is to be searched: its prefix, with so many visits.
+#[derive(Drop)]
+pub struct Wanted<J: Run> {
+    pub job: Job,
+    pub prefix: Numbers,
+    pub fuel: u64,
+    pub run: PhantomData<J>,
+    pub ghost lawful: { is_prefix J.run.problem prefix ≡ true },
+}
 
 /// A job that was searched, with what came of it in the run's problem.
 #[derive(Drop)]
@@ -15,6 +26,7 @@ pub struct Searched<J: Run> {
     pub run: PhantomData<J>,
     pub ghost fuel: { 1 ≤ finding.fuel },
     pub ghost outcome: { finding.outcome ≡ outcome J.run.problem finding.prefix finding.fuel },
+    pub ghost lawful: { is_prefix J.run.problem finding.prefix ≡ true },
 }
 
 /// What a worker has in hand between its turns.
@@ -22,8 +34,8 @@ pub struct Searched<J: Run> {
 pub enum Hand<J: Run> {
     /// Nothing: it takes up work.
     Nothing,
-    /// A job that is to be searched: its prefix, with so many visits.
-    Search(Job, Numbers, u64),
+    /// A job that is to be searched.
+    Search(Wanted<J>),
     /// What came of a search, which is to be posted.
     Post(Searched<J>),
 }

@@ -1,7 +1,6 @@
 //! The threads of a site, from their start to their end.
 
-ghost use Rattle.std.specs.List.{All};
-ghost use Rattle.std.specs.Prelude.{◌≡◌, ◌+◌, ◌<◌, ◌≤◌, ◌⊎◌, IfOk, IsSome, vec_len};
+ghost use Rattle.std.specs.Prelude.{◌≡◌, ◌+◌, ◌<◌, ◌≤◌, ◌⊎◌, IfOk, vec_len};
 ghost use Rattle.std.specs.Vec.{vec_capacity};
 ghost use Rattle.udp_node.specs.declared.cause.Cause.TheVariants.{Memory};
 
@@ -64,68 +63,37 @@ impl<L: Link> Task<L> {
     }
 }
 
-/// A thread of a site that acts: its stand while it doesn't run.
+/// A thread of a site that acts, from its start to its end.
 #[derive(Drop)]
-struct Place<N: Room, L: Link> {
+struct Place<'a, J: Run, C: Core + Drop, N: Room, L: Link, G: Gate> {
     task: Task<L>,
-    stand: Option<Stand<N>>,
-    losses: u64,
+    actor: Actor<'a, J, C, N, G>,
     taken: Taken,
     cause: Cause,
 }
 
-impl<N: Room, L: Link> Place<N, L> {
+impl<'a, J: Run, C: Core + Drop, N: Room, L: Link, G: Gate> Place<'a, J, C, N, L, G> {
     /// A thread before its start.
-    fn new(task: Task<L>, stand: Stand<N>) -> Place<N, L>
-        ensures { IsSome result.stand }
-    {
+    fn new(task: Task<L>, actor: Actor<'a, J, C, N, G>) -> Place<'a, J, C, N, L, G> {
         Place {
             task,
-            stand: Some(stand),
-            losses: 0,
+            actor,
             taken: Taken::NONE,
             cause: Cause::Turns,
         }
     }
 
     /// Runs the thread to its end.
-    fn run<J: Run, C: Core + Drop, G: Gate, R: Wait + Clock>(
-        &mut self,
-        rt: &R,
-        shared: &Shared<'_, '_, '_, '_, '_, J, C, N, G>,
-    )
-        ensures { IsSome self.old.stand → IsSome self.new.stand }
-    {
-        let Place {
-            task,
-            stand: place,
-            losses: lost,
-            taken,
-            cause: why,
-        } = self;
-        if let Some(stand) = place.take() {
-            let actor = Actor {
-                stand,
-                pass: shared.outbox.pass(),
-                losses: 0,
-            };
-            let mut left = Limits::new(shared.plan.turns, task.waits());
-            let (actor, cause) = match task {
-                Task::Work(number) => work(rt, shared, actor, *number, &mut left),
-                Task::Receive(receiver) => receive(rt, shared, actor, receiver, &mut left),
-            };
-            if task.ends_site(cause) {
-                shared.signals.end();
-            }
-            let Actor {
-                stand,
-                pass: _,
-                losses,
-            } = actor;
-            *lost = losses;
-            *taken = left.taken();
-            *why = cause;
-            *place = Some(stand);
+    fn run<R: Wait + Clock>(&mut self, rt: &R) {
+        let shared = self.actor.shared;
+        let mut left = Limits::new(shared.plan.turns, self.task.waits());
+        self.cause = match &mut self.task {
+            Task::Work(number) => work(rt, &mut self.actor, *number, &mut left),
+            Task::Receive(receiver) => receive(rt, &mut self.actor, receiver, &mut left),
+        };
+        self.taken = left.taken();
+        if self.task.ends_site(self.cause) {
+            shared.signals.end();
         }
         shared.signals.leave();
     }
@@ -142,63 +110,55 @@ fn noted<R: Wait + Clock>(rt: &R, left: &mut Limits, turn: Turn) -> Option<Cause
 /// A worker's turns.
 fn work<J: Run, C: Core + Drop, N: Room, G: Gate, R: Wait + Clock>(
     rt: &R,
-    shared: &Shared<'_, '_, '_, '_, '_, J, C, N, G>,
-    actor: Actor<N>,
+    actor: &mut Actor<'_, J, C, N, G>,
     number: u8,
     left: &mut Limits,
-) -> (Actor<N>, Cause)
-    requires here { actor.pass.outbox ≡ shared.now.outbox.now }
-{
+) -> Cause {
+    let shared = actor.shared;
     if shared.is_over() {
-        return (actor, Cause::Turns);
+        return Cause::Turns;
     }
     shared.signals.begin_working();
     shared.signals.muster(rt);
     let node = shared.cell.site().node;
     let Ok(mut worker) = Worker::new(shared.alloc, shared.problem, shared.plan, node, number) else {
-        return (actor, Cause::Memory);
+        return Cause::Memory;
     };
-    let mut actor = actor;
     for _turn in 0..u64::MAX {
         if left.is_spent() {
             break;
         }
-        let (after, turn) = worker.turn(rt, shared, actor);
-        actor = after;
+        let turn = worker.turn(rt, actor);
         if let Some(cause) = noted(rt, left, turn) {
-            return (actor, cause);
+            return cause;
         }
     }
-    (actor, Cause::Turns)
+    Cause::Turns
 }
 
 /// The turns of the thread that receives.
 fn receive<J: Run, C: Core + Drop, N: Room, L: Link, G: Gate, R: Wait + Clock>(
     rt: &R,
-    shared: &Shared<'_, '_, '_, '_, '_, J, C, N, G>,
-    actor: Actor<N>,
+    actor: &mut Actor<'_, J, C, N, G>,
     receiver: &mut Receiver<L>,
     left: &mut Limits,
-) -> (Actor<N>, Cause)
-    requires here { actor.pass.outbox ≡ shared.now.outbox.now }
-{
+) -> Cause {
+    let shared = actor.shared;
     if shared.is_over() {
-        return (actor, Cause::Turns);
+        return Cause::Turns;
     }
     shared.signals.begin_receiving();
     shared.signals.muster(rt);
-    let mut actor = actor;
     for number in 0..u64::MAX {
         if left.is_spent() {
             break;
         }
-        let (after, turn) = receiver.turn(rt, shared, actor, number);
-        actor = after;
+        let turn = receiver.turn(rt, actor, number);
         if let Some(cause) = noted(rt, left, turn) {
-            return (actor, cause);
+            return cause;
         }
     }
-    (actor, Cause::Turns)
+    Cause::Turns
 }
 
 /// Runs the threads of a node to their ends: its workers, one that receives and one that sends. All seats come back, unless memory
@@ -297,10 +257,7 @@ pub(crate) fn run_threads<
     let (Ok((outbox, drain)), Ok(twin)) = (Outbox::new(alloc), link.twin()) else {
         return NodeEnd::starved(alloc);
     };
-    let Ok(crew) = Crew::new(rt, alloc, cell, twin, plan.workers) else {
-        return NodeEnd::starved(alloc);
-    };
-    let signals = Signals::new(crew.places.len() as u64, plan.workers > 0);
+    let signals = Signals::new(u64::from(plan.workers) + 1, plan.workers > 0);
     let shared = Shared {
         cell,
         problem,
@@ -311,6 +268,9 @@ pub(crate) fn run_threads<
         plan,
         alloc,
     };
+    let Ok(crew) = Crew::new(rt, &shared, twin, plan.workers) else {
+        return NodeEnd::starved(alloc);
+    };
     let sender = Sender {
         outbox: &outbox,
         drain,
@@ -318,36 +278,34 @@ pub(crate) fn run_threads<
         signals: &signals,
         turns: plan.turns,
     };
-    let (sent, crew) = thread::join(rt, move || send_all(rt, sender), || crew.run(rt, &shared));
+    let (sent, crew) = thread::join(rt, move || send_all(rt, sender), move || crew.run(rt));
     end_of(crew, sent, signals.is_manned())
 }
 
 /// The threads of a site that act, with the room for what comes of them.
 #[derive(Drop)]
-struct Crew<N: Room, L: Link> {
-    places: Vec<Place<N, L>>,
+struct Crew<'a, J: Run, C: Core + Drop, N: Room, L: Link, G: Gate> {
+    places: Vec<Place<'a, J, C, N, L, G>>,
     stands: Vec<Stand<N>>,
     workers: u8,
-    ghost all: { All (λ place. IsSome place.stand) places.items },
     ghost many: { vec_len places ≡ workers + 1 },
     ghost none: { vec_len stands ≡ 0 },
     ghost room: { vec_len places ≤ vec_capacity stands },
 }
 
-impl<N: Room, L: Link> Crew<N, L> {
+impl<'a, J: Run, C: Core + Drop, N: Room, L: Link, G: Gate> Crew<'a, J, C, N, L, G> {
     /// The threads before their start: the one that receives, and so many workers. The only error is want of memory, or that no
     /// seats are left.
-    fn new<J: Run, C: Core + Drop, R: Wait>(
+    fn new<R: Wait>(
         rt: &R,
-        alloc: Global,
-        cell: &SiteCell<J, C, N>,
+        shared: &'a Shared<'a, J, C, N, G>,
         twin: L,
         workers: u8,
-    ) -> Result<Crew<N, L>, AllocError>
+    ) -> Result<Crew<'a, J, C, N, L, G>, AllocError>
         ensures { IfOk result (λ crew. crew.workers ≡ workers) }
     {
-        let stands = Vec::with_capacity(alloc, usize::from(workers) + 1)?;
-        let places = places_for(rt, alloc, cell, twin, workers)?;
+        let stands = Vec::with_capacity(shared.alloc, usize::from(workers) + 1)?;
+        let places = places_for(rt, shared, twin, workers)?;
         Ok(Crew {
             places,
             stands,
@@ -356,23 +314,21 @@ impl<N: Room, L: Link> Crew<N, L> {
     }
 
     /// Runs them to their ends.
-    fn run<
-        J: Run + Send + Sync,
-        C: Core + Drop + Send,
-        G: Gate + Sync,
-        R: Threads + Wait + Clock + Sync,
-    >(self, rt: &R, shared: &Shared<'_, '_, '_, '_, '_, J, C, N, G>) -> Crew<N, L>
+    fn run<R: Threads + Wait + Clock + Sync>(self, rt: &R) -> Crew<'a, J, C, N, L, G>
     where
+        J: Send + Sync,
+        C: Send,
         N: Send + Sync,
         L: Send,
-        ensures { result.workers ≡ self.workers }
+        G: Sync,
+        ensures { result.workers ≡ self.entry.workers }
     {
         let Crew {
             mut places,
             stands,
             workers,
         } = self;
-        run_places(rt, shared, &mut places);
+        run_places(rt, &mut places);
         Crew {
             places,
             stands,
@@ -389,10 +345,8 @@ fn run_places<
     L: Link + Send,
     G: Gate + Sync,
     R: Threads + Wait + Clock + Sync,
->(rt: &R, shared: &Shared<'_, '_, '_, '_, '_, J, C, N, G>, places: &mut Vec<Place<N, L>>)
-    requires { All (λ place. IsSome place.stand) places.old.items }
-    ensures all { All (λ place. IsSome place.stand) places.new.items }
-    ensures many { vec_len places.new ≡ vec_len places.old }
+>(rt: &R, places: &mut Vec<Place<'_, J, C, N, L, G>>)
+    ensures { vec_len places.new ≡ vec_len places.old }
 {
     let count = places.len();
     if count == 0 {
@@ -402,35 +356,36 @@ fn run_places<
         rt,
         places.as_mut_slice(),
         count,
-        &|_, place| { place.run(rt, shared) },
+        &|_, place| { place.run(rt) },
     );
 }
 
 /// The threads before their start: the one that receives, and so many workers. The only error is want of memory, or that no seats
 /// are left.
-fn places_for<J: Run, C: Core + Drop, N: Room, L: Link, R: Wait>(
+fn places_for<'a, J: Run, C: Core + Drop, N: Room, L: Link, G: Gate, R: Wait>(
     rt: &R,
-    alloc: Global,
-    cell: &SiteCell<J, C, N>,
+    shared: &'a Shared<'a, J, C, N, G>,
     twin: L,
     workers: u8,
-) -> Result<Vec<Place<N, L>>, AllocError>
-    ensures all { IfOk result (λ places. All (λ place. IsSome place.stand) places.items) }
-    ensures many { IfOk result (λ places. vec_len places ≡ workers + 1) }
+) -> Result<Vec<Place<'a, J, C, N, L, G>>, AllocError>
+    ensures { IfOk result (λ places. vec_len places ≡ workers + 1) }
 {
-    let mut places = Vec::with_capacity(alloc, usize::from(workers) + 1)?;
+    let mut places = Vec::with_capacity(shared.alloc, usize::from(workers) + 1)?;
     let receiver = Task::Receive(Receiver::new(twin));
-    places.push(Place::new(receiver, Stand::new(rt, alloc, cell)?))?;
+    places.push(Place::new(receiver, Actor::new(rt, shared)?))?;
     for worker in 0..workers {
-        let stand = Stand::new(rt, alloc, cell)?;
-        places.push(Place::new(Task::Work(worker), stand))?;
+        places.push(Place::new(Task::Work(worker), Actor::new(rt, shared)?))?;
     }
     Ok(places)
 }
 
 /// What came of all threads; whether there was one of each kind.
-fn end_of<N: Room, L: Link>(crew: Crew<N, L>, sent: Sent, is_manned: bool) -> NodeEnd<N>
-    ensures { vec_len result.stands ≡ crew.workers + 1 }
+fn end_of<J: Run, C: Core + Drop, N: Room, L: Link, G: Gate>(
+    crew: Crew<'_, J, C, N, L, G>,
+    sent: Sent,
+    is_manned: bool,
+) -> NodeEnd<N>
+    ensures { vec_len result.stands ≡ crew.entry.workers + 1 }
 {
     let Crew {
         places,
@@ -453,16 +408,17 @@ fn end_of<N: Room, L: Link>(crew: Crew<N, L>, sent: Sent, is_manned: bool) -> No
 }
 
 /// The end of a site with that of one thread more.
-fn with_place<N: Room, L: Link>(end: NodeEnd<N>, place: Place<N, L>) -> NodeEnd<N>
-    requires stand { IsSome place.stand }
-    requires room { vec_len end.stands < vec_capacity end.stands }
+fn with_place<J: Run, C: Core + Drop, N: Room, L: Link, G: Gate>(
+    end: NodeEnd<N>,
+    place: Place<'_, J, C, N, L, G>,
+) -> NodeEnd<N>
+    requires { vec_len end.stands < vec_capacity end.stands }
     ensures one { vec_len result.stands ≡ vec_len end.stands + 1 }
     ensures capacity { vec_capacity result.stands ≡ vec_capacity end.stands }
 {
     let Place {
         task,
-        stand,
-        losses,
+        actor,
         taken,
         cause,
     } = place;
@@ -471,13 +427,11 @@ fn with_place<N: Room, L: Link>(end: NodeEnd<N>, place: Place<N, L>) -> NodeEnd<
         Task::Work(_) => (0, 0),
     };
     let mut end = end;
-    end.losses = end.losses.saturating_add(losses);
+    end.losses = end.losses.saturating_add(actor.losses);
     end.dropped = end.dropped.saturating_add(dropped);
     end.failures = end.failures.saturating_add(failures);
     end.taken = end.taken.max(taken);
     end.cause = end.cause.min(cause);
-    if let Some(stand) = stand {
-        end.stands.push_reserved(stand);
-    }
+    end.stands.push_reserved(actor.into_stand());
     end
 }

@@ -5,13 +5,13 @@ ghost use Rattle.udp_node.specs.declared.cause.Cause.TheVariants.{Memory};
 use crate::cause::Cause;
 use crate::stand::Stand;
 use crate::turn::Taken;
-use run_book::{Receipt, Room, Seat};
+use run_book::{Room, Seat, Stub};
 use std::alloc::Global;
 
 /// How the threads of a site ended. The greatest numbers stay.
 #[derive(Drop)]
 pub struct NodeEnd<N: Room> {
-    /// All their seats, each with as many receipts as it counts.
+    /// All their seats, each with the stubs of as many receipts as it counts.
     pub stands: Vec<Stand<N>>,
     /// How many parcels were lost: the outbox was full, or the link didn't send them.
     pub losses: u64,
@@ -46,9 +46,9 @@ impl<N: Room> NodeEnd<N> {
         }
     }
 
-    /// All seats, and all receipts. It comes back whole where memory ran out, or no list has room
+    /// All seats, and the stubs of all receipts. It comes back whole where memory ran out, or no list has room
     /// for so many.
-    pub fn into_lists(self, alloc: Global) -> Result<(Vec<Seat<N>>, Vec<Receipt<N>>), NodeEnd<N>>
+    pub fn into_lists(self, alloc: Global) -> Result<(Vec<Seat<N>>, Vec<Stub<N>>), NodeEnd<N>>
         ensures seats { IfOk result (λ lists. vec_len lists.0 ≡ vec_len self.stands) }
         ensures counted { IfOk result (λ lists. sum lists.0.items ≡ vec_len lists.1) }
         ensures back { IfErr result (λ back. back.stands.items ≡ self.stands.items) }
@@ -56,13 +56,13 @@ impl<N: Room> NodeEnd<N> {
         let Some(many) = receipts_of(&self.stands) else {
             return Err(self);
         };
-        let (Ok(seats), Ok(receipts)) = (
+        let (Ok(seats), Ok(stubs)) = (
             Vec::with_capacity(alloc, self.stands.len()),
             Vec::with_capacity(alloc, many),
         ) else {
             return Err(self);
         };
-        Ok(parted(self.stands, seats, receipts))
+        Ok(parted(self.stands, seats, stubs))
     }
 }
 
@@ -77,34 +77,34 @@ fn receipts_of<N: Room>(stands: &[Stand<N>]) -> Option<usize>
     Some(many)
 }
 
-/// Puts the seats and receipts of all stands into these lists, which have room for them.
+/// Puts the seats and stubs of all stands into these lists, which have room for them.
 fn parted<N: Room>(
     stands: Vec<Stand<N>>,
     mut seats: Vec<Seat<N>>,
-    mut receipts: Vec<Receipt<N>>,
-) -> (Vec<Seat<N>>, Vec<Receipt<N>>)
-    requires empty { (vec_len seats ≡ 0) × (vec_len receipts ≡ 0) }
+    mut stubs: Vec<Stub<N>>,
+) -> (Vec<Seat<N>>, Vec<Stub<N>>)
+    requires empty { (vec_len seats ≡ 0) × (vec_len stubs ≡ 0) }
     requires seats { vec_len stands ≤ vec_capacity seats }
-    requires receipts { sum_by (λ stand. stand.seat) stands.items ≤ vec_capacity receipts }
+    requires stubs { sum_by (λ stand. stand.seat) stands.items ≤ vec_capacity stubs }
     ensures seats { vec_len result.0 ≡ vec_len stands }
     ensures counted { sum result.0.items ≡ vec_len result.1 }
 {
     for stand in stands {
         let (seat, own) = stand.into_parts();
         seats.push_reserved(seat);
-        receipts = with_all(receipts, own);
+        stubs = with_all(stubs, own);
     }
-    (seats, receipts)
+    (seats, stubs)
 }
 
-/// The receipts with these after them, for which there is room.
-fn with_all<N: Room>(mut receipts: Vec<Receipt<N>>, own: Vec<Receipt<N>>) -> Vec<Receipt<N>>
-    requires { vec_len receipts + vec_len own ≤ vec_capacity receipts }
-    ensures many { vec_len result ≡ vec_len receipts + vec_len own }
-    ensures capacity { vec_capacity result ≡ vec_capacity receipts }
+/// The stubs with these after them, for which there is room.
+fn with_all<N: Room>(mut stubs: Vec<Stub<N>>, own: Vec<Stub<N>>) -> Vec<Stub<N>>
+    requires { vec_len stubs + vec_len own ≤ vec_capacity stubs }
+    ensures many { vec_len result ≡ vec_len stubs + vec_len own }
+    ensures capacity { vec_capacity result ≡ vec_capacity stubs }
 {
-    for receipt in own {
-        receipts.push_reserved(receipt);
+    for stub in own {
+        stubs.push_reserved(stub);
     }
-    receipts
+    stubs
 }

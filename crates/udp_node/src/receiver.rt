@@ -1,14 +1,12 @@
 //! The thread of a site that receives.
 
-ghost use Rattle.std.specs.Prelude.{◌≡◌};
-
 use crate::actor::Actor;
 use crate::cause::Cause;
 use crate::gate::Gate;
 use crate::link::Link;
 use crate::shared::Shared;
 use crate::turn::Turn;
-use crate::worker::after;
+use crate::worker::{after, after_refusal};
 use node_core::{Core, Event};
 use packet_wire::{Body, Packet, WireFault, read_packet};
 use run_book::{Room, Run};
@@ -86,23 +84,18 @@ impl<L: Link> Receiver<L> {
     pub fn turn<J: Run, C: Core + Drop, N: Room, G: Gate, R: Wait + Clock>(
         &mut self,
         rt: &R,
-        shared: &Shared<'_, '_, '_, '_, '_, J, C, N, G>,
-        actor: Actor<N>,
+        actor: &mut Actor<'_, J, C, N, G>,
         number: u64,
-    ) -> (Actor<N>, Turn)
-        requires here { actor.pass.outbox ≡ shared.now.outbox.now }
-        ensures here { result.0.pass.outbox ≡ shared.now.outbox.now }
-    {
-        if shared.signals.is_over() {
-            return (actor, self.end());
+    ) -> Turn {
+        if actor.shared.signals.is_over() {
+            return self.end();
         }
-        if number % GREETING != 0 || shared.cell.site().node == 0 {
-            return self.receive(rt, shared, actor);
+        if number % GREETING != 0 || actor.shared.cell.site().node == 0 {
+            return self.receive(rt, actor);
         }
-        let (actor, acted) = actor.act(rt, shared, Event::Greet);
-        match after(acted) {
-            Turn::Used | Turn::Waited => self.receive(rt, shared, actor),
-            turn => (actor, turn),
+        match after(actor.act(rt, Event::Greet)) {
+            Turn::Used | Turn::Waited => self.receive(rt, actor),
+            turn => turn,
         }
     }
 
@@ -110,28 +103,24 @@ impl<L: Link> Receiver<L> {
     fn receive<J: Run, C: Core + Drop, N: Room, G: Gate, R: Wait + Clock>(
         &mut self,
         rt: &R,
-        shared: &Shared<'_, '_, '_, '_, '_, J, C, N, G>,
-        actor: Actor<N>,
-    ) -> (Actor<N>, Turn)
-        requires here { actor.pass.outbox ≡ shared.now.outbox.now }
-        ensures here { result.0.pass.outbox ≡ shared.now.outbox.now }
-    {
+        actor: &mut Actor<'_, J, C, N, G>,
+    ) -> Turn {
         let mut buffer = [0; BUFFER];
         match self.link.receive(rt, &mut buffer) {
             Ok(Some(bytes)) => {
                 self.faults = 0;
-                self.hear(rt, shared, actor, &buffer[..bytes])
+                self.hear(rt, actor, &buffer[..bytes])
             }
             Ok(None) => {
                 self.faults = 0;
-                self.wait(rt, shared, actor)
+                self.wait(rt, actor)
             }
             Err(_) => {
                 self.faults = self.faults.saturating_add(1);
                 if self.faults >= FAULTS {
-                    return (actor, Turn::Ended(Cause::Faults));
+                    return Turn::Ended(Cause::Faults);
                 }
-                (actor, Turn::Used)
+                Turn::Used
             }
         }
     }
@@ -140,36 +129,32 @@ impl<L: Link> Receiver<L> {
     fn hear<J: Run, C: Core + Drop, N: Room, G: Gate, R: Wait + Clock>(
         &mut self,
         rt: &R,
-        shared: &Shared<'_, '_, '_, '_, '_, J, C, N, G>,
-        actor: Actor<N>,
+        actor: &mut Actor<'_, J, C, N, G>,
         bytes: &[u8],
-    ) -> (Actor<N>, Turn)
-        requires here { actor.pass.outbox ≡ shared.now.outbox.now }
-        ensures here { result.0.pass.outbox ≡ shared.now.outbox.now }
-    {
+    ) -> Turn {
         if bytes.len() >= BUFFER {
-            return self.dropped(rt, shared, actor);
+            return self.dropped(rt, actor);
         }
-        let packet = match read_packet(shared.alloc, bytes) {
+        let packet = match read_packet(actor.shared.alloc, bytes) {
             Ok(packet) => packet,
-            Err(WireFault::Memory) => return (actor, Turn::Starved),
-            Err(_) => return self.dropped(rt, shared, actor),
+            Err(WireFault::Memory) => return Turn::Starved,
+            Err(_) => return self.dropped(rt, actor),
         };
-        let here = shared.cell.site().node;
+        let here = actor.shared.cell.site().node;
         self.listen(here == 0 || packet.from.node == 0);
         let is_end = matches!(packet.body, Body::Over);
-        let (actor, acted) = actor.act(rt, shared, Event::Deliver(packet));
-        if acted.is_err() {
-            return (actor, after(acted));
-        }
+        let entry = match actor.act(rt, Event::Deliver(packet)) {
+            Ok(entry) => entry,
+            Err(back) => return after_refusal(back.1),
+        };
         if is_end {
-            return (actor, Turn::Ended(Cause::Over));
+            return Turn::Ended(Cause::Over);
         }
-        if !self.over && here == 0 && tells_end(actor.stand.packets()) {
+        if !self.over && here == 0 && tells_end(entry.packets()) {
             self.over = true;
             self.link.hasten();
         }
-        self.counted(rt, shared, actor)
+        self.counted(rt, actor)
     }
 
     /// Counts a receive that brought a packet which shows the run going on, or not.
@@ -185,54 +170,40 @@ impl<L: Link> Receiver<L> {
     fn dropped<J: Run, C: Core + Drop, N: Room, G: Gate, R: Wait>(
         &mut self,
         rt: &R,
-        shared: &Shared<'_, '_, '_, '_, '_, J, C, N, G>,
-        actor: Actor<N>,
-    ) -> (Actor<N>, Turn)
-        requires here { actor.pass.outbox ≡ shared.now.outbox.now }
-        ensures here { result.0.pass.outbox ≡ shared.now.outbox.now }
-    {
+        actor: &mut Actor<'_, J, C, N, G>,
+    ) -> Turn {
         self.dropped = self.dropped.saturating_add(1);
-        let (actor, turn) = self.counted(rt, shared, actor);
-        (actor, waited(turn))
+        waited(self.counted(rt, actor))
     }
 
     /// A datagram more came: after some what may be lost is said again.
     fn counted<J: Run, C: Core + Drop, N: Room, G: Gate, R: Wait>(
         &mut self,
         rt: &R,
-        shared: &Shared<'_, '_, '_, '_, '_, J, C, N, G>,
-        actor: Actor<N>,
-    ) -> (Actor<N>, Turn)
-        requires here { actor.pass.outbox ≡ shared.now.outbox.now }
-        ensures here { result.0.pass.outbox ≡ shared.now.outbox.now }
-    {
+        actor: &mut Actor<'_, J, C, N, G>,
+    ) -> Turn {
         self.heard = self.heard.saturating_add(1);
         if self.heard < HEARD {
-            return (actor, Turn::Used);
+            return Turn::Used;
         }
-        self.say_again(rt, shared, actor)
+        self.say_again(rt, actor)
     }
 
     /// What may be lost is said again, unless the site can't go on. The registry ends once it has told the end often enough.
     fn say_again<J: Run, C: Core + Drop, N: Room, G: Gate, R: Wait>(
         &mut self,
         rt: &R,
-        shared: &Shared<'_, '_, '_, '_, '_, J, C, N, G>,
-        actor: Actor<N>,
-    ) -> (Actor<N>, Turn)
-        requires here { actor.pass.outbox ≡ shared.now.outbox.now }
-        ensures here { result.0.pass.outbox ≡ shared.now.outbox.now }
-    {
+        actor: &mut Actor<'_, J, C, N, G>,
+    ) -> Turn {
         self.pauses = 0;
         self.heard = 0;
         if self.over {
             self.last = self.last.saturating_add(1);
         }
-        if self.last > LAST || self.is_lost(shared) {
-            return (actor, self.end());
+        if self.last > LAST || self.is_lost(actor.shared) {
+            return self.end();
         }
-        let (actor, acted) = actor.act(rt, shared, Event::Again);
-        (actor, after(acted))
+        after(actor.act(rt, Event::Again))
     }
 
     /// Nothing came: what may be lost is said again now and then, and always once the search is over. The thread ends where the
@@ -240,30 +211,25 @@ impl<L: Link> Receiver<L> {
     fn wait<J: Run, C: Core + Drop, N: Room, G: Gate, R: Wait + Clock>(
         &mut self,
         rt: &R,
-        shared: &Shared<'_, '_, '_, '_, '_, J, C, N, G>,
-        actor: Actor<N>,
-    ) -> (Actor<N>, Turn)
-        requires here { actor.pass.outbox ≡ shared.now.outbox.now }
-        ensures here { result.0.pass.outbox ≡ shared.now.outbox.now }
-    {
+        actor: &mut Actor<'_, J, C, N, G>,
+    ) -> Turn {
         let nap = if self.over { LAST_NAP } else { NAP };
         thread::sleep(rt, Duration::from_micros(nap));
         self.listen(false);
         self.pauses = self.pauses.saturating_add(1);
-        if self.is_lost(shared) {
-            return (actor, self.end());
+        if self.is_lost(actor.shared) {
+            return self.end();
         }
         if !self.over && self.pauses < AGAIN {
-            return (actor, Turn::Waited);
+            return Turn::Waited;
         }
-        let (actor, turn) = self.say_again(rt, shared, actor);
-        (actor, waited(turn))
+        waited(self.say_again(rt, actor))
     }
 
     /// Whether the site can't go on: it is to end, or the run is, nothing shows the run going on for long, or no worker is left.
     fn is_lost<J: Run, C: Core + Drop, N: Room, G: Gate>(
         &self,
-        shared: &Shared<'_, '_, '_, '_, '_, J, C, N, G>,
+        shared: &Shared<'_, J, C, N, G>,
     ) -> bool {
         let is_deserted = shared.cell.site().node != 0 && shared.signals.is_deserted();
         shared.is_over() || is_deserted || self.silent >= shared.plan.quiet

@@ -98,7 +98,7 @@ fn runs_for<J: Run, L: Link>(alloc: Global, links: Vec<L>) -> Result<Vec<SiteRun
 /// Runs all sites to their ends, at once.
 fn run_all<J: Run + Send + Sync, L: Link + Send, G: Gate + Sync, R: Threads + Wait + Clock + Sync>(
     rt: &R,
-    whole: &Whole<'_, '_, J, G>,
+    whole: &Whole<'_, J, G>,
     runs: &mut Vec<SiteRun<J, L>>,
 )
     requires numbered { AreNumbered (λ site. site.node) runs.old.items }

@@ -29,7 +29,7 @@ pub struct Sent {
 
 /// What the thread that sends is given.
 #[derive(Drop)]
-pub struct Sender<'a, 'b, L: Link> {
+pub struct Sender<'a, L: Link> {
     /// What waits to be sent.
     pub outbox: &'a Outbox,
     /// The right to take it out.
@@ -37,7 +37,7 @@ pub struct Sender<'a, 'b, L: Link> {
     /// Where it is sent.
     pub link: L,
     /// Where it is told that the others of the site are done.
-    pub signals: &'b Signals,
+    pub signals: &'a Signals,
     /// How many parcels it sends at most.
     pub turns: u64,
     pub ghost same: { drain.outbox ≡ outbox.now },
@@ -45,7 +45,7 @@ pub struct Sender<'a, 'b, L: Link> {
 
 /// Sends what is in the outbox, in its order, until no other thread of the site is at work and the outbox is empty; at most so many
 /// parcels, and a thousand times as many looks that find it empty. Then the site ends. Where that is to end already, nothing is sent.
-pub fn send_all<L: Link, R: Wait + Clock>(rt: &R, sender: Sender<'_, '_, L>) -> Sent {
+pub fn send_all<L: Link, R: Wait + Clock>(rt: &R, sender: Sender<'_, L>) -> Sent {
     if sender.signals.is_over() {
         return Sent {
             losses: 0,
@@ -59,7 +59,7 @@ pub fn send_all<L: Link, R: Wait + Clock>(rt: &R, sender: Sender<'_, '_, L>) -> 
 }
 
 /// Sends what is in the outbox, as `send_all` does, once the site has begun.
-fn send_each<L: Link, R: Wait + Clock>(rt: &R, sender: Sender<'_, '_, L>) -> Sent {
+fn send_each<L: Link, R: Wait + Clock>(rt: &R, sender: Sender<'_, L>) -> Sent {
     let Sender {
         outbox,
         mut drain,
@@ -75,9 +75,7 @@ fn send_each<L: Link, R: Wait + Clock>(rt: &R, sender: Sender<'_, '_, L>) -> Sen
         }
         // (read before the look: what the last thread put in is found by it)
         let is_last = signals.is_left();
-        let (after, parcel) = outbox.pop(rt, drain);
-        drain = after;
-        match parcel {
+        match outbox.take(rt, &mut drain) {
             Some(parcel) => {
                 left.use_turn();
                 if link.send(rt, parcel.to, &parcel.bytes).is_err() {

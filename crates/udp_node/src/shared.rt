@@ -11,19 +11,19 @@ use std::sync::atomic::{AtomicBool, Ordering};
 
 /// What the threads of a site share.
 #[derive(Drop)]
-pub struct Shared<'a, 'b, 'c, 'd, 'e, J: Run, C: Core + Drop, N: Room, G: Gate> {
+pub struct Shared<'a, J: Run, C: Core + Drop, N: Room, G: Gate> {
     /// The core and its history.
     pub cell: &'a SiteCell<J, C, N>,
     /// What is searched.
-    pub problem: &'b Problem,
+    pub problem: &'a Problem,
     /// What waits to be sent.
-    pub outbox: &'c Outbox,
+    pub outbox: &'a Outbox,
     /// What holds workers back.
-    pub gate: &'d G,
+    pub gate: &'a G,
     /// What they tell one another beside the lock.
-    pub signals: &'e Signals,
+    pub signals: &'a Signals,
     /// The flag that is raised once the run can't go on: then the site ends, too.
-    pub ended: &'e AtomicBool,
+    pub ended: &'a AtomicBool,
     /// How the site works.
     pub plan: Plan,
     /// Where memory comes from.
@@ -31,7 +31,7 @@ pub struct Shared<'a, 'b, 'c, 'd, 'e, J: Run, C: Core + Drop, N: Room, G: Gate> 
     pub ghost same: { problem.now ≡ J.run.problem },
 }
 
-impl<J: Run, C: Core + Drop, N: Room, G: Gate> Shared<'_, '_, '_, '_, '_, J, C, N, G> {
+impl<J: Run, C: Core + Drop, N: Room, G: Gate> Shared<'_, J, C, N, G> {
     /// Whether the site is to end, by itself or with the run.
     pub fn is_over(&self) -> bool {
         self.signals.is_over() || self.ended.load(Ordering::SeqCst)

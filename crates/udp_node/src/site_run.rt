@@ -31,13 +31,13 @@ const NAMES: u32 = 1_000_000;
 
 /// What all sites of a run are given.
 #[derive(Drop)]
-pub struct Whole<'a, 'b, J: Run, G: Gate> {
+pub struct Whole<'a, J: Run, G: Gate> {
     /// What is searched.
     pub problem: &'a Problem,
     /// What holds workers back.
-    pub gate: &'b G,
+    pub gate: &'a G,
     /// The flag that is raised once the run can't go on. No answer depends on it.
-    pub ended: &'b AtomicBool,
+    pub ended: &'a AtomicBool,
     /// How the sites work, and how many there are.
     pub plan: Plan,
     /// Where memory comes from.
@@ -117,7 +117,7 @@ impl<J: Run, L: Link> SiteRun<J, L> {
     pub fn run<G: Gate + Sync, R: Threads + Wait + Clock + Sync>(
         &mut self,
         rt: &R,
-        whole: &Whole<'_, '_, J, G>,
+        whole: &Whole<'_, J, G>,
     )
     where
         J: Send + Sync,
@@ -151,7 +151,7 @@ impl<J: Run, L: Link> SiteRun<J, L> {
 /// Runs the site of a node to its end. There is no book where there was no memory for it.
 fn run_site<J: Run + Send + Sync, L: Link + Send, G: Gate + Sync, R: Threads + Wait + Clock + Sync>(
     rt: &R,
-    whole: &Whole<'_, '_, J, G>,
+    whole: &Whole<'_, J, G>,
     node: u8,
     link: L,
 ) -> (Option<Book<J>>, SiteEnd)
@@ -172,7 +172,7 @@ fn run_site<J: Run + Send + Sync, L: Link + Send, G: Gate + Sync, R: Threads + W
 /// Starts the registry, and runs it to its end. The only error is want of memory at the start.
 fn start_registry<J: Run + Send + Sync, L: Link + Send, G: Gate, R: Threads + Wait + Clock + Sync>(
     rt: &R,
-    whole: &Whole<'_, '_, J, G>,
+    whole: &Whole<'_, J, G>,
     link: L,
 ) -> Result<(Option<Book<J>>, SiteEnd), AllocError>
     ensures { IfOk result (λ ended. IfSome ended.0 (λ book. book.site.node ≡ 0)) }
@@ -191,7 +191,7 @@ fn start_node<
     R: Threads + Wait + Clock + Sync,
 >(
     rt: &R,
-    whole: &Whole<'_, '_, J, G>,
+    whole: &Whole<'_, J, G>,
     node: u8,
     link: L,
 ) -> Result<(Option<Book<J>>, SiteEnd), AllocError>
@@ -218,7 +218,7 @@ fn run_registry<
     R: Threads + Wait + Clock + Sync,
 >(
     rt: &R,
-    whole: &Whole<'_, '_, J, G>,
+    whole: &Whole<'_, J, G>,
     opened: Opened,
     core: Registry,
     link: L,
@@ -261,7 +261,7 @@ fn run_worker_node<
     R: Threads + Wait + Clock + Sync,
 >(
     rt: &R,
-    whole: &Whole<'_, '_, J, G>,
+    whole: &Whole<'_, J, G>,
     opened: Opened,
     core: NodeCore,
     link: L,
@@ -308,12 +308,12 @@ fn closed<J: Run, C: Core + Drop, N: Room>(
         taken: end.taken,
         is_manned: end.is_manned,
     };
-    let Ok((seats, receipts)) = end.into_lists(alloc) else {
+    let Ok((seats, stubs)) = end.into_lists(alloc) else {
         told.cause = Cause::Memory;
         return (None, told);
     };
-    match cell.close(seats, receipts) {
+    match cell.settle(seats, stubs) {
         Ok(book) => (Some(book), told),
-        Err(_) => (None, told),
+        Err(_missing) => (None, told),
     }
 }

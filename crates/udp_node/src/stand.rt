@@ -1,18 +1,18 @@
-ghost use Rattle.std.specs.Prelude.{◌≡◌, ◌+◌, vec_len, IfErr, IfOk, OnErr, OnOk};
+ghost use Rattle.std.specs.Prelude.{◌≡◌, ◌+◌, vec_len, IfErr, IfOk};
 ghost use Rattle.node_core.specs.Refusal.{IsFit};
+ghost use Rattle.run_book.specs.Desks.{IsLawful};
 
-use node_core::{Core, Event, Reply};
-use packet_wire::Packet;
-use run_book::{BookFault, Receipt, Room, Run, Seat, SiteCell};
+use node_core::{Core, Event};
+use run_book::{BookFault, Entry, Room, Run, Seat, SiteCell, Stub};
 use std::alloc::{AllocError, Global};
 use std::sync::Wait;
 
-/// A seat with its receipts: as many as it counts.
+/// A seat with the stubs of its receipts: as many as it counts.
 #[derive(Drop)]
 pub struct Stand<N: Room> {
     seat: Seat<N>,
-    receipts: Vec<Receipt<N>>,
-    ghost whole: { seat ≡ vec_len receipts },
+    stubs: Vec<Stub<N>>,
+    ghost whole: { seat ≡ vec_len stubs },
 }
 
 /// Why an event was not entered.
@@ -34,48 +34,32 @@ impl<N: Room> Stand<N> {
         let seat = cell.seat(rt)?;
         Ok(Stand {
             seat,
-            receipts: Vec::new(alloc),
+            stubs: Vec::new(alloc),
         })
     }
 
-    /// Hands an event to the cell; once it is entered its receipt is the last one. Else the event comes back.
+    /// Hands an event to the cell, and returns what was entered. Else the event comes back.
     pub fn act<J: Run, C: Core + Drop, R: Wait>(
-        self,
+        &mut self,
         rt: &R,
         cell: &SiteCell<J, C, N>,
         event: Event,
-    ) -> (Stand<N>, Result<(), (Event, Refused)>)
+    ) -> Result<Entry, (Event, Refused)>
         requires { IsFit J.run.problem event }
-        ensures { IfErr result.1 (λ back. back.0 ≡ event) }
+        ensures entry { IfOk result (λ entry. entry.event ≡ event) }
+        ensures lawful { IfOk result (λ entry. IsLawful J.run.problem entry) }
+        ensures back { IfErr result (λ back. back.0 ≡ event) }
     {
-        let Stand { seat, mut receipts } = self;
-        if receipts.reserve(1).is_err() {
-            return (Stand { seat, receipts }, Err((event, Refused::NoRoom)));
+        if self.stubs.reserve(1).is_err() {
+            return Err((event, Refused::NoRoom));
         }
-        match cell.act(rt, seat, event) {
-            Ok((seat, receipt)) => {
-                receipts.push_reserved(receipt);
-                (Stand { seat, receipts }, Ok(()))
+        match cell.act_at(rt, &mut self.seat, event) {
+            Ok(receipt) => {
+                let (stub, entry) = receipt.into_parts();
+                self.stubs.push_reserved(stub);
+                Ok(entry)
             }
-            Err((seat, event, fault)) => {
-                (Stand { seat, receipts }, Err((event, Refused::Cell(fault))))
-            }
-        }
-    }
-
-    /// What the event came to that was entered last.
-    pub fn reply(&self) -> Option<&Reply> {
-        match self.receipts.last() {
-            Some(receipt) => Some(&receipt.reply),
-            None => None,
-        }
-    }
-
-    /// The packets that were put out last, in their order.
-    pub fn packets(&self) -> &[Packet] {
-        match self.receipts.last() {
-            Some(receipt) => receipt.packets.as_slice(),
-            None => &[],
+            Err((event, fault)) => Err((event, Refused::Cell(fault))),
         }
     }
 
@@ -83,15 +67,15 @@ impl<N: Room> Stand<N> {
     pub fn count(&self) -> usize
         ensures { result ≡ self.now.seat }
     {
-        self.receipts.len()
+        self.stubs.len()
     }
 
-    /// Its seat and receipts.
-    pub fn into_parts(self) -> (Seat<N>, Vec<Receipt<N>>)
+    /// Its seat, and the stubs of its receipts.
+    pub fn into_parts(self) -> (Seat<N>, Vec<Stub<N>>)
         ensures seat { result.0 ≡ self.seat }
-        ensures receipts { result.0 ≡ vec_len result.1 }
+        ensures stubs { result.0 ≡ vec_len result.1 }
     {
-        let Stand { seat, receipts } = self;
-        (seat, receipts)
+        let Stand { seat, stubs } = self;
+        (seat, stubs)
     }
 }

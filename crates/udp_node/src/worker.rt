@@ -1,25 +1,24 @@
 //! A worker of a node.
 
-ghost use Rattle.std.specs.Prelude.{◌≡◌, ◌≤◌};
-ghost use Rattle.node_core.specs.Refusal.{IsFit};
-ghost use Rattle.node_core.specs.Results.{IsRight};
+ghost use Rattle.std.specs.Prelude.{◌≡◌, true};
+ghost use Rattle.cover_problem.specs.Prefix.{is_prefix};
+ghost use Rattle.udp_node.specs.Hands.{IsPosted};
 
 use crate::actor::Actor;
 use crate::cause::Cause;
 use crate::gate::Gate;
-use crate::hand::{Hand, Searched};
+use crate::hand::{Hand, Searched, Wanted};
 use crate::pace::Pace;
 use crate::plan::Plan;
-use crate::shared::Shared;
 use crate::stand::Refused;
 use crate::turn::Turn;
 use brancher::{Finding, Outcome, Searcher};
-use cover_problem::{Numbers, Problem, is_prefix};
+use cover_problem::{Numbers, Problem};
 use node_core::{ActFault, Core, Event, Reply};
 use rand_core::utils::NextWord;
 use rand_pcg::Pcg32;
-use run_book::{BookFault, Room, Run};
-use spawn_frame::{Job, Unit};
+use run_book::{BookFault, Entry, Room, Run};
+use spawn_frame::Job;
 use std::alloc::{AllocError, Global};
 use std::marker::PhantomData;
 use std::sync::Wait;
@@ -41,14 +40,6 @@ pub struct Worker<'a, J: Run> {
     node: u8,
     alloc: Global,
     ghost same: { searcher.problem ≡ J.run.problem },
-}
-
-/// What a Take found.
-#[derive(Drop)]
-enum Found {
-    Nothing,
-    Work(Job, Numbers),
-    Frame(Unit),
 }
 
 impl<'a, J: Run> Worker<'a, J> {
@@ -81,19 +72,15 @@ impl<'a, J: Run> Worker<'a, J> {
     pub fn turn<C: Core + Drop, N: Room, G: Gate, R: Wait + Clock>(
         &mut self,
         rt: &R,
-        shared: &Shared<'_, '_, '_, '_, '_, J, C, N, G>,
-        actor: Actor<N>,
-    ) -> (Actor<N>, Turn)
-        requires here { actor.pass.outbox ≡ shared.now.outbox.now }
-        ensures here { result.0.pass.outbox ≡ shared.now.outbox.now }
-    {
-        if shared.signals.is_over() {
-            return (actor, Turn::Ended(Cause::Turns));
+        actor: &mut Actor<'_, J, C, N, G>,
+    ) -> Turn {
+        if actor.shared.signals.is_over() {
+            return Turn::Ended(Cause::Turns);
         }
         match mem::replace(&mut self.hand, Hand::Nothing) {
-            Hand::Nothing => self.take(rt, shared, actor),
-            Hand::Search(job, prefix, fuel) => self.search(rt, shared, actor, job, prefix, fuel),
-            Hand::Post(searched) => self.post(rt, shared, actor, searched),
+            Hand::Nothing => self.take(rt, actor),
+            Hand::Search(wanted) => self.search(rt, actor, wanted),
+            Hand::Post(searched) => self.post(rt, actor, searched),
         }
     }
 
@@ -101,38 +88,42 @@ impl<'a, J: Run> Worker<'a, J> {
     fn take<C: Core + Drop, N: Room, G: Gate, R: Wait + Clock>(
         &mut self,
         rt: &R,
-        shared: &Shared<'_, '_, '_, '_, '_, J, C, N, G>,
-        actor: Actor<N>,
-    ) -> (Actor<N>, Turn)
-        requires here { actor.pass.outbox ≡ shared.now.outbox.now }
-        ensures here { result.0.pass.outbox ≡ shared.now.outbox.now }
-    {
-        let stirs = shared.signals.stirs();
+        actor: &mut Actor<'_, J, C, N, G>,
+    ) -> Turn {
+        let stirs = actor.shared.signals.stirs();
         if self.looked_at == Some(stirs) {
-            return self.rest(rt, shared, actor);
+            return self.rest(rt, actor);
         }
-        let (actor, acted) = actor.act(rt, shared, Event::Take);
-        if let Err(back) = acted {
-            return (actor, after_refusal(back.1));
-        }
-        match found_in(actor.stand.reply()) {
-            Ok(Found::Work(job, prefix)) => {
+        let taken = match actor.act(rt, Event::Take) {
+            Ok(entry) => entry.into_reply(),
+            Err(back) => return after_refusal(back.1),
+        };
+        match taken {
+            Reply::Taken(job, prefix) => {
                 self.idle = 0;
                 let fuel = self
                     .pace
-                    .fuel(prefix.as_slice().len(), shared.signals.is_hungry());
-                self.search(rt, shared, actor, job, prefix, fuel)
+                    .fuel(prefix.as_slice().len(), actor.shared.signals.is_hungry());
+                let run = PhantomData;
+                self.search(
+                    rt,
+                    actor,
+                    Wanted {
+                        job,
+                        prefix,
+                        fuel,
+                        run,
+                    },
+                )
             }
-            Ok(Found::Frame(unit)) => {
+            Reply::Ripe(unit) => {
                 self.idle = 0;
-                let (actor, acted) = actor.act(rt, shared, Event::Finish(unit));
-                (actor, after(acted))
+                after(actor.act(rt, Event::Finish(unit)))
             }
-            Ok(Found::Nothing) => {
+            Reply::Idle | Reply::Moved | Reply::Ignored => {
                 self.looked_at = Some(stirs);
-                self.rest(rt, shared, actor)
+                self.rest(rt, actor)
             }
-            Err(_) => (actor, Turn::Ended(Cause::Memory)),
         }
     }
 
@@ -140,22 +131,17 @@ impl<'a, J: Run> Worker<'a, J> {
     fn rest<C: Core + Drop, N: Room, G: Gate, R: Wait + Clock>(
         &mut self,
         rt: &R,
-        shared: &Shared<'_, '_, '_, '_, '_, J, C, N, G>,
-        actor: Actor<N>,
-    ) -> (Actor<N>, Turn)
-        requires here { actor.pass.outbox ≡ shared.now.outbox.now }
-        ensures here { result.0.pass.outbox ≡ shared.now.outbox.now }
-    {
+        actor: &mut Actor<'_, J, C, N, G>,
+    ) -> Turn {
         let idle = self.idle;
         self.idle = idle.saturating_add(1);
         if idle % 64 == 0 {
-            let victim = self.victim(shared.plan.nodes);
-            let (actor, acted) = actor.act(rt, shared, Event::Ask(victim));
-            return (actor, after(acted));
+            let victim = self.victim(actor.shared.plan.nodes);
+            return after(actor.act(rt, Event::Ask(victim)));
         }
-        let workers = u64::from(shared.plan.nodes) * u64::from(shared.plan.workers);
+        let workers = u64::from(actor.shared.plan.nodes) * u64::from(actor.shared.plan.workers);
         thread::sleep(rt, Duration::from_micros(nap(idle, workers)));
-        (actor, Turn::Waited)
+        Turn::Waited
     }
 
     /// Another site, picked at random: in place of the own node the registry.
@@ -171,34 +157,35 @@ impl<'a, J: Run> Worker<'a, J> {
     fn search<C: Core + Drop, N: Room, G: Gate, R: Wait + Clock>(
         &mut self,
         rt: &R,
-        shared: &Shared<'_, '_, '_, '_, '_, J, C, N, G>,
-        actor: Actor<N>,
-        job: Job,
-        prefix: Numbers,
-        fuel: u64,
-    ) -> (Actor<N>, Turn)
-        requires here { actor.pass.outbox ≡ shared.now.outbox.now }
-        ensures here { result.0.pass.outbox ≡ shared.now.outbox.now }
-    {
-        let prefix = prefix.into_vec();
-        if !is_prefix(shared.problem, &prefix) {
-            return (actor, Turn::Used);
-        }
+        actor: &mut Actor<'_, J, C, N, G>,
+        wanted: Wanted<J>,
+    ) -> Turn {
+        let Wanted {
+            job,
+            prefix,
+            fuel,
+            run,
+        } = wanted;
         let fuel = fuel.max(1);
         match self
             .searcher
-            .find_until(prefix, fuel, shared.signals.over())
+            .find_until(prefix.into_vec(), fuel, actor.shared.signals.over())
         {
             Ok(Some((finding, visits))) => {
                 self.pace
                     .note(finding.prefix().len(), finding.outcome(), visits);
-                let run = PhantomData;
-                self.post(rt, shared, actor, Searched { job, finding, run })
+                self.post(rt, actor, Searched { job, finding, run })
             }
-            Ok(None) => (actor, Turn::Ended(Cause::Turns)),
+            Ok(None) => Turn::Ended(Cause::Turns),
             Err(prefix) => {
-                self.hand = Hand::Search(job, Numbers::from_vec(prefix), fuel);
-                (actor, Turn::Ended(Cause::Memory))
+                let prefix = Numbers::from_vec(prefix);
+                self.hand = Hand::Search(Wanted {
+                    job,
+                    prefix,
+                    fuel,
+                    run,
+                });
+                Turn::Ended(Cause::Memory)
             }
         }
     }
@@ -207,16 +194,12 @@ impl<'a, J: Run> Worker<'a, J> {
     fn post<C: Core + Drop, N: Room, G: Gate, R: Wait + Clock>(
         &mut self,
         rt: &R,
-        shared: &Shared<'_, '_, '_, '_, '_, J, C, N, G>,
-        actor: Actor<N>,
+        actor: &mut Actor<'_, J, C, N, G>,
         searched: Searched<J>,
-    ) -> (Actor<N>, Turn)
-        requires here { actor.pass.outbox ≡ shared.now.outbox.now }
-        ensures here { result.0.pass.outbox ≡ shared.now.outbox.now }
-    {
-        if !shared.gate.pass(self.number, &searched.job) {
+    ) -> Turn {
+        if !actor.shared.gate.pass(self.number, &searched.job) {
             self.hand = Hand::Post(searched);
-            return (actor, Turn::Used);
+            return Turn::Used;
         }
         let Searched {
             job,
@@ -224,30 +207,36 @@ impl<'a, J: Run> Worker<'a, J> {
             run: _,
         } = searched;
         let outcome = finding.outcome();
-        let (actor, acted) = actor.act(rt, shared, Event::Post(job, finding));
-        match acted {
-            Ok(()) => {
+        match actor.act(rt, Event::Post(job, finding)) {
+            Ok(_entry) => {
                 if outcome == Outcome::Spent {
-                    shared.signals.feed();
+                    actor.shared.signals.feed();
                 }
-                shared.gate.posted(self.number, &job);
-                (actor, Turn::Used)
+                actor.shared.gate.posted(self.number, &job);
+                Turn::Used
             }
             Err(back) => {
                 let (event, refused) = back;
-                (actor, self.keep(event, refused))
+                self.keep(event, refused)
             }
         }
     }
 
     /// A job is to be searched again, with sixteen times the fuel.
     fn search_again(&mut self, job: Job, finding: &Finding) -> Turn
-        requires { IsRight J.run.problem finding.now }
+        requires { is_prefix J.run.problem finding.now.prefix ≡ true }
     {
         match Vec::from_slice(self.alloc, finding.prefix()) {
             Ok(prefix) => {
                 let fuel = finding.fuel().saturating_mul(16);
-                self.hand = Hand::Search(job, Numbers::from_vec(prefix), fuel);
+                let prefix = Numbers::from_vec(prefix);
+                let run = PhantomData;
+                self.hand = Hand::Search(Wanted {
+                    job,
+                    prefix,
+                    fuel,
+                    run,
+                });
                 Turn::Used
             }
             Err(_) => Turn::Ended(Cause::Memory),
@@ -257,7 +246,7 @@ impl<'a, J: Run> Worker<'a, J> {
     /// What a refused Post leaves in hand: it is posted again where memory ran out, and searched again, with sixteen
     /// times the fuel, where no names are left for its children.
     fn keep(&mut self, event: Event, refused: Refused) -> Turn
-        requires { IsFit J.run.problem event }
+        requires { IsPosted J.run.problem event }
     {
         match (event, refused) {
             (Event::Post(job, finding), Refused::Cell(BookFault::Memory)) => {
@@ -279,15 +268,6 @@ fn nap(idle: u32, workers: u64) -> u64 {
     more.saturating_add(20).min(1_000)
 }
 
-/// What the reply to a Take tells; the only error is want of memory.
-fn found_in(reply: Option<&Reply>) -> Result<Found, AllocError> {
-    match reply {
-        Some(Reply::Taken(job, prefix)) => Ok(Found::Work(*job, prefix.copy()?)),
-        Some(Reply::Ripe(unit)) => Ok(Found::Frame(*unit)),
-        _ => Ok(Found::Nothing),
-    }
-}
-
 /// Whether a thread ends whose event was refused, and why.
 pub fn after_refusal(refused: Refused) -> Turn {
     match refused {
@@ -300,9 +280,9 @@ pub fn after_refusal(refused: Refused) -> Turn {
 }
 
 /// The same of an event that may have been entered.
-pub fn after(acted: Result<(), (Event, Refused)>) -> Turn {
+pub fn after(acted: Result<Entry, (Event, Refused)>) -> Turn {
     match acted {
-        Ok(()) => Turn::Used,
+        Ok(_entry) => Turn::Used,
         Err(back) => after_refusal(back.1),
     }
 }

@@ -34,6 +34,8 @@ enum Script {
     Two,
     /// One seat, and a Greet more than fits.
     Full,
+    /// One seat, and a Greet: the stub of its receipt closes the cell.
+    Stub,
     /// So many seats, each on a thread of its own, with 100 Greets each.
     Threads(u8),
 }
@@ -147,6 +149,26 @@ fn full<J: Run, C: Core + Drop, N: Room, R: Wait>(
     Some(event == Event::Greet && fault == BookFault::BookFull(1) && book.entries().len() == 1)
 }
 
+/// The script of a Greet of which the stub is kept.
+fn stub<J: Run, C: Core + Drop, N: Room, R: Wait>(
+    rt: &R,
+    alloc: Global,
+    cell: SiteCell<J, C, N>,
+) -> Option<bool> {
+    let seat = cell.seat(rt).ok()?;
+    let (seat, receipt) = cell.act(rt, seat, Event::Greet).ok()?;
+    let (stub, entry) = receipt.into_parts();
+    let mut seats = Vec::new(alloc);
+    seats.push(seat).ok()?;
+    let mut stubs = Vec::new(alloc);
+    stubs.push(stub).ok()?;
+    let book = cell.settle(seats, stubs).ok()?;
+    let [kept] = book.entries() else {
+        return None;
+    };
+    Some(is_greet(kept) && is_greet(&entry) && entry.into_reply() == Reply::Moved)
+}
+
 /// The script of threads that greet at once.
 fn threads<
     J: Run + Send + Sync,
@@ -197,14 +219,16 @@ fn play<J: Run + Send + Sync, N: Room + Send + Sync, R: Threads + Wait + Sync>(
     match script {
         Script::Two => two(rt, alloc, cell),
         Script::Full => full(rt, alloc, cell),
+        Script::Stub => stub(rt, alloc, cell),
         Script::Threads(count) => threads(rt, alloc, cell, count),
     }
 }
 
 /// Each script, with the number of entries that its cell takes.
-static SCRIPTS: [(Script, u64); 4] = [
+static SCRIPTS: [(Script, u64); 5] = [
     (Script::Two, 3),
     (Script::Full, 1),
+    (Script::Stub, 1),
     (Script::Threads(2), 200),
     (Script::Threads(8), 1000),
 ];

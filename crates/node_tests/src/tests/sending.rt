@@ -138,8 +138,7 @@ fn act_when_asked<J: Run, C: Core + Drop, N: Room, R: Wait>(
             break;
         }
         if meeting.is_asked() {
-            let (kept, _) = stand.act(rt, cell, Event::Greet);
-            stand = kept;
+            let _ = stand.act(rt, cell, Event::Greet);
             meeting.answered.fetch_add(1, Ordering::SeqCst);
         } else {
             thread::yield_now();

@@ -1,12 +1,9 @@
 use Rattle.std.proofs.Common.{◌≡◌, ◌+◌, vec_len}
-use Rattle.std.specs.List.{All}
-use Rattle.std.specs.Option.{IsSome}
 use Rattle.std.specs.Vec.{vec_capacity}
-use Rattle.std.specs.Vec.Iter.{into_iter_items, into_iter_len}
+use Rattle.std.specs.Vec.Iter.{into_iter_len}
 use Rattle.udp_node.proofs.node.end_of.Given as goal
 
 abbrev pub invariant-loop-place : goal.invariant-loop-place
 invariant-loop-place g l =
     (vec_len l.end.stands + into_iter_len l.place-iterator ≡ vec_len l.fn.crew.places)
     × (vec_capacity l.end.stands ≡ vec_capacity l.fn.crew.stands)
-    × All (λ place. IsSome place.stand) (into_iter_items l.place-iterator)

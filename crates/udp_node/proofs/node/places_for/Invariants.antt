@@ -1,7 +1,5 @@
 use Rattle.std.proofs.Common.{◌≡◌, ◌+◌, vec_len}
-use Rattle.std.specs.List.{All}
-use Rattle.std.specs.Option.{IsSome}
 use Rattle.udp_node.proofs.node.places_for.Given as goal
 
 abbrev pub invariant-loop-worker : goal.invariant-loop-worker
-invariant-loop-worker g l = (vec_len l.places ≡ l.worker + 1) × All (λ p. IsSome p.stand) l.places.items
+invariant-loop-worker g l = vec_len l.places ≡ l.worker + 1
