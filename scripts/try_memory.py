@@ -9,14 +9,15 @@ growths between these marks and refuses one: then the event has to be answered b
 as they were, and the same event, given again, has to come to what the script says. Each growth of each event is refused once.
 
 That of table_tests splits units of a table, and each `spawn` is such an event. One whose children fit into the last page has to
-go well whatever is refused: it asks for no memory, or the run goes wrong.
+go well whatever is refused: it asks for no memory, or the run goes wrong. That of audit_tests audits books, and each audit is one:
+where memory is refused, another audit has to find what the row says.
 
-For each kind of event the table has how many growths it takes with one list (`act`, and `spawn`) and with two (`act_both`), the least
-and the most, how many were refused, how many of these the event answered by want of memory, and how many runs went wrong. --list only
-lists the kinds of events with their growths, and refuses none.
+For each kind of event the table has how many growths it takes with one list (`act`, `spawn` and `audit`) and with two (`act_both`),
+the least and the most, how many were refused, how many of these the event answered by want of memory, and how many runs went wrong.
+--list only lists the kinds of events with their growths, and refuses none.
 
-It wants cc and the built tests: rt test in crates/core_tests and in crates/table_tests builds them, and so does rt ci. The exit
-status is 0, 1 where a run went wrong, 2 for a fault of the command line or where something is missing.
+It wants cc and the built tests: rt test in crates/core_tests, crates/table_tests and crates/audit_tests builds them, and so does
+rt ci. The exit status is 0, 1 where a run went wrong, 2 for a fault of the command line or where something is missing.
 """
 import collections
 import os
@@ -26,13 +27,14 @@ import tempfile
 
 from built import parser_of, program_of, stop, TOP, want_command
 
-CRATES = ("core_tests", "table_tests")
+CRATES = ("core_tests", "table_tests", "audit_tests")
 CAREFUL = "refused_memory"
 KINDS = (
     "Take", "Post", "Finish", "Ask", "Redo", "Again", "Greet", "Hello", "Members", "Steal", "Give", "NoWork", "Return", "Accept",
     "Refuse", "Abort", "Over", "spawn", "spawn within a page", "GiveMany",
+    "audit",
 )
-OF_TABLE = (KINDS.index("spawn"), KINDS.index("spawn within a page"))
+PLACES = {"spawn": "table", "spawn within a page": "table", "audit": "books"}
 
 # What is told of an event: its kind, where it was, whether packets went to two lists, the growths that it asked for, which of them
 # was refused, or 0, and whether it was answered by want of memory.
@@ -43,7 +45,7 @@ def told(line):
     """What a line of refuse_growth.c tells."""
     number, growths, refused, memory = map(int, line.split())
     kind = number // 4
-    place = "table" if kind in OF_TABLE else "registry" if number // 2 % 2 == 1 else "node"
+    place = PLACES.get(KINDS[kind], "registry" if number // 2 % 2 == 1 else "node")
     return Told(kind, place, number % 2 == 1, growths, refused, memory == 1)
 
 
@@ -132,7 +134,7 @@ def count(library, test, kinds):
 
 def table(kinds):
     """The rows of the table."""
-    yield "| Event | At | `act`, `spawn` | `act_both` | Refused | Answered Memory | Wrong |\n|---|---|---|---|---|---|---|"
+    yield "| Event | At | `act`, `spawn`, `audit` | `act_both` | Refused | Answered Memory | Wrong |\n|---|---|---|---|---|---|---|"
     for (kind, place), seen in sorted(kinds.items()):
         cells = [KINDS[kind], place, span(seen.growths[False]), span(seen.growths[True])]
         yield f"| {' | '.join(cells)} | {seen.refused} | {seen.memory} | {seen.wrong} |"

@@ -101,7 +101,7 @@ def bad_input(folder):
 def command_line():
     for words, status in [((), 2), (("--help",), 0), (("--version",), 0), (("alone", "--help"), 0), (("alone",), 2),
                           (("alone", "x", "--fuel", "0"), 2), (("alone", "x", "--fuel", "+1"), 2),
-                          (("solve", "x", "--audit"), 2), (("solve", "x"), 3), (("alone", b"\xff"), 2)]:
+                          (("alone", "x", "--audit"), 2), (("solve", "x", "--audit"), 3), (("solve", "x"), 3), (("alone", b"\xff"), 2)]:
         out, errors, ended = run(*words)
         expect(f"words {words}", ended == status and (bool(out), bool(errors)) == (status == 0, status != 0))
 

@@ -1,11 +1,12 @@
 #!/usr/bin/env python3
 """Runs `solve` on two small problems and on every example, or on the files that are named.
 
-    python3 scripts/try_solve.py [--times N] [--nodes N] [--workers N] [--fuel N] [--limit SECONDS] [FILE ..]
+    python3 scripts/try_solve.py [--times N] [--nodes N] [--workers N] [--fuel N] [--limit SECONDS] [--audit] [FILE ..]
 
 Each problem is solved so many times by nodes with threads of their own. Every answer is given to `check`, which has to call it
 right, and of the two small problems the answer's text is known. With no turns at all there has to be no answer. A table tells,
-problem by problem, how many runs answered, how many were wrong, and the least, the middle and the greatest time in seconds.
+problem by problem, how many runs answered, how many were wrong, and the least, the middle and the greatest time in seconds. With
+--audit each run is audited, and one whose audit isn't clean is wrong.
 
 It wants the program: (cd crates/solve_cli && rt run) builds it. The exit status is 0 where no run was wrong (one without an
 answer is none), 1 where one was or took longer than the limit, 2 for a fault of the command line or where there is no program.
@@ -34,6 +35,7 @@ def words():
     parser.add_argument("--workers", default="2", help="how many workers a node has (default 2)")
     parser.add_argument("--fuel", default="1000", help="how many prefixes a search may visit at first (default 1000)")
     parser.add_argument("--limit", type=float, default=120, help="after how many seconds a run is given up (default 120)")
+    parser.add_argument("--audit", action="store_true", help="audit each run")
     parser.add_argument("files", nargs="*", metavar="FILE", help="the files, in place of the small problems and all of examples/")
     return parser.parse_args()
 
@@ -52,18 +54,31 @@ def is_right(file, text, answer_file):
     return checked.returncode == 0 and checked.stdout == "right\n"
 
 
+def audit_option(given):
+    return ["--audit"] if given.audit else []
+
+
+def answer_of(run, given):
+    """What a run wrote before its audit's line, or None where an audit was asked for and isn't clean."""
+    if not given.audit:
+        return run.stdout
+    answer, clean, rest = run.stdout.rpartition("audit clean\n")
+    return answer if clean and not rest else None
+
+
 def solved(file, seed, given, expected, answer_file):
     """The time, whether there was an answer, and whether the run was wrong."""
     options = ["--seed", str(seed), "--nodes", given.nodes, "--workers", given.workers, "--fuel", given.fuel]
     begun = time.monotonic()
-    run = output([SOLVE_CLI, "solve", file, *options], given.limit)
+    run = output([SOLVE_CLI, "solve", file, *options, *audit_option(given)], given.limit)
     seconds = time.monotonic() - begun
     if run is None:
         return seconds, False, True
+    answer = answer_of(run, given)
     if run.returncode == 4:
-        return seconds, False, run.stdout != "no answer\n"
-    known = expected is None or run.stdout == expected
-    wrong = run.returncode not in (0, 1) or not known or not is_right(file, run.stdout, answer_file)
+        return seconds, False, answer != "no answer\n"
+    known = expected is None or answer == expected
+    wrong = answer is None or run.returncode not in (0, 1) or not known or not is_right(file, answer, answer_file)
     return seconds, True, wrong
 
 
@@ -78,9 +93,9 @@ def tell(name, file, given, expected, answer_file):
     return wrong
 
 
-def says_nothing_without_turns(file):
-    run = output([SOLVE_CLI, "solve", file, "--turns", "0"], 60)
-    return run is not None and run.returncode == 4 and run.stdout == "no answer\n"
+def says_nothing_without_turns(file, given):
+    run = output([SOLVE_CLI, "solve", file, "--turns", "0", *audit_option(given)], 60)
+    return run is not None and run.returncode == 4 and answer_of(run, given) == "no answer\n"
 
 
 def problems(given, folder):
@@ -107,7 +122,7 @@ def main():
         answer_file = os.path.join(folder, "answer")
         for name, file, expected in problems(given, folder):
             wrong += tell(name, file, given, expected, answer_file)
-            if not says_nothing_without_turns(file):
+            if not says_nothing_without_turns(file, given):
                 print(f"wrong: {name} with no turns")
                 wrong += 1
     sys.exit(1 if wrong else 0)

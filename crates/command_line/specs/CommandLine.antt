@@ -1,6 +1,7 @@
 -- The command line of the program, as the shape of a clap command, and what its words spell.
-use Rattle.std.specs.Prelude.{◌≡◌, ◌≢◌, ◌≤◌, ◌<◌, ◌^◌, ℕ, List, [], ◌∷◌, Option, Some, None, codes, option_map, true}
+use Rattle.std.specs.Prelude.{◌≡◌, ◌≢◌, ◌≤◌, ◌<◌, ◌^◌, ◌↔◌, ℕ, Bool, List, [], ◌∷◌, Option, Some, None, codes, option_map, true}
 use Rattle.std.specs.Str.Parse.{IsNumeral, digits_value}
+use Rattle.clap.specs.declared.builder.action.ArgAction.TheVariants.{SetTrue}
 use Rattle.clap.specs.declared.error.kind.ErrorKind.{ErrorKind}
 use Rattle.clap.specs.declared.error.kind.ErrorKind.TheVariants.{DisplayHelp, DisplayVersion}
 use Rattle.clap.specs.Words.{App, Row, Rule, Text, new_app, new_rule, with_rule, with_subcommand, first_of}
@@ -15,6 +16,10 @@ file_rule id = record (new_rule id) { required = true }
 -- an option with a value and its default
 abbrev pub number_rule : Text → Text → Rule
 number_rule id default = record (new_rule id) { long = Some id; defaults = default ∷ [] }
+
+-- an option without a value
+abbrev pub flag_rule : Text → Rule
+flag_rule id = record (new_rule id) { long = Some id; action = Some SetTrue }
 
 -- the fuel, which is the greatest number where it is not given
 abbrev pub greatest_fuel_rule : Rule
@@ -42,10 +47,10 @@ abbrev pub simulate_app : App
 simulate_app =
     with_rule (with_rule (sites_app (codes "simulate")) (number_rule (codes "turns") (codes "10000"))) (number_rule (codes "restarts") (codes "0"))
 
--- the same with how long threads go on, and how many there are
+-- the same with how long threads go on, how many there are, and whether their books are audited
 abbrev pub solve_app : App
 solve_app =
-    with_rule (with_rule (sites_app (codes "solve")) (number_rule (codes "turns") (codes "1000000"))) (number_rule (codes "workers") (codes "2"))
+    with_rule (with_rule (with_rule (sites_app (codes "solve")) (number_rule (codes "turns") (codes "1000000"))) (number_rule (codes "workers") (codes "2"))) (flag_rule (codes "audit"))
 
 -- a command that wants one of its subcommands
 abbrev pub wanting_subcommand : App → App
@@ -80,6 +85,11 @@ abbrev pub SpellsOr : ℕ → Option Text → ℕ → Type 0
 SpellsOr default None number = number ≡ default
 SpellsOr default (Some text) number = Spells text number
 
+-- the flag is set just where its entry is `true`, which clap enters for the option, as `false` where it is not given; a subcommand
+-- that lacks the option has no entry
+abbrev pub IsFlag : Option Text → Bool → Type 0
+IsFlag given flag = (flag ≡ true) ↔ (given ≡ Some (codes "true"))
+
 -- a check has the answer that was given, and no other mode has one
 abbrev pub IsAnswerFile : Mode → Option Text → Option Text → Type 0
 IsAnswerFile modes.Check answer given = (text : Text) × (given ≡ Some text) × (answer ≡ Some text)
@@ -98,6 +108,7 @@ pub record AreSpelled (name : Text) (given : Text → Option Text) (settings : S
   pub workers_given : SpellsOr 2 (given (codes "workers")) settings.workers
   pub turns_given : SpellsOr 10000 (given (codes "turns")) settings.turns
   pub restarts_given : SpellsOr 0 (given (codes "restarts")) settings.restarts
+  pub audit_given : IsFlag (given (codes "audit")) settings.audit
 
 -- The problem and the answer are both to be read from standard input.
 pub record ReadsInputTwice (settings : Settings) : Type 0 where

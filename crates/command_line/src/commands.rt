@@ -3,10 +3,10 @@
 ghost use Rattle.std.specs.Prelude.{◌≡◌, false, IfOk, codes};
 ghost use Rattle.clap.specs.Words.{app_of, new_app, rule_of};
 ghost use Rattle.clap.specs.declared.builder.command.Command.TheViews.{out-Command};
-ghost use Rattle.command_line.specs.CommandLine.{alone_app, check_app, file_rule, greatest_fuel_rule, number_rule, one_thread_app, simulate_app, sites_app, solve_app, solver_app, versioned};
+ghost use Rattle.command_line.specs.CommandLine.{alone_app, check_app, file_rule, flag_rule, greatest_fuel_rule, number_rule, one_thread_app, simulate_app, sites_app, solve_app, solver_app, versioned};
 
 use clap::error::ErrorKind;
-use clap::{Arg, Command, Error};
+use clap::{Arg, ArgAction, Command, Error};
 use run_settings::Mode;
 use std::alloc::{AllocError, Global};
 
@@ -57,6 +57,17 @@ fn number_argument<'a>(alloc: Global, id: &'a str, default: &'a str, help: &'a s
     Arg::new(alloc, id)
         .long(id)
         .default_value(default)
+        .help(help)
+}
+
+/// An option of what sites do that has no value.
+fn flag_argument<'a>(alloc: Global, id: &'a str, help: &'a str) -> Arg<'a>
+    ensures rule { rule_of result ≡ flag_rule id.now }
+    ensures own { result.global ≡ false }
+{
+    Arg::new(alloc, id)
+        .long(id)
+        .action(ArgAction::SetTrue)
         .help(help)
 }
 
@@ -154,9 +165,15 @@ fn solve_command<'a>(alloc: Global) -> Result<Command<'a>, AllocError>
         "How many turns a thread takes, up to 10000000",
     );
     let workers = number_argument(alloc, "workers", "2", "How many workers a node has, 1 to 8");
+    let audit = flag_argument(
+        alloc,
+        "audit",
+        "Whether the sites' books are one run is tested and written; status 6 where they are not found to be",
+    );
     sites_command(alloc, "solve", about)?
         .arg(turns)?
-        .arg(workers)
+        .arg(workers)?
+        .arg(audit)
 }
 
 /// What one thread does.

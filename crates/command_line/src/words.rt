@@ -2,7 +2,7 @@
 
 ghost use Rattle.std.specs.Prelude.{Option, ◌≡◌, ◌≢◌, ◌↔◌, true, IfNone, IfOk, IfSome, codes, is_some, map, option_map};
 ghost use Rattle.clap.specs.Words.{Text, first_value, found_of, subcommand_of};
-ghost use Rattle.command_line.specs.CommandLine.{AreMet, AreSpelled, IsAnswerFile, ReadsInputTwice, mode_word, solver_app};
+ghost use Rattle.command_line.specs.CommandLine.{AreMet, AreSpelled, IsAnswerFile, IsFlag, ReadsInputTwice, mode_word, solver_app};
 
 use crate::commands::{solver_command, value_error};
 use crate::fault::{SettingsFault, fault_of};
@@ -55,6 +55,13 @@ fn answer_file<'a>(mode: Mode, inner: &ArgMatches<'a>) -> Option<Option<&'a str>
     }
 }
 
+/// Whether a flag is set; it isn't where the subcommand lacks it.
+fn is_set(inner: &ArgMatches<'_>, id: &str) -> bool
+    ensures { IsFlag (first_value (found_of inner.now) id.now) result }
+{
+    matches!(inner.get_str(id), Some("true"))
+}
+
 /// The settings that a subcommand's matches spell; none where a number is out of its range.
 fn spelled<'a>(name: &'a str, inner: &ArgMatches<'a>) -> Option<Settings<'a>>
     ensures some { IfSome result (AreSpelled name.now (first_value (found_of inner.now))) }
@@ -72,6 +79,7 @@ fn spelled<'a>(name: &'a str, inner: &ArgMatches<'a>) -> Option<Settings<'a>>
         workers: workers(inner)?,
         turns: turns(inner)?,
         restarts: restarts(inner)?,
+        audit: is_set(inner, "audit"),
     })
 }
 

@@ -1,3 +1,5 @@
+pub mod Findings
+pub mod Checked
 pub mod Listed
 pub mod Outputs
 pub mod Publishing

@@ -1,4 +1,5 @@
 pub mod Alone
+pub mod Audit
 pub mod Check
 pub mod Engines
 pub mod Output

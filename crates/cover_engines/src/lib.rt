@@ -3,6 +3,7 @@
 #![tactic(auto)]
 
 mod alone;
+mod audited;
 mod check;
 mod engine;
 mod fault;
@@ -14,6 +15,7 @@ mod solve;
 mod telling;
 
 pub use alone::{AloneEnd, alone_engine};
+pub use audited::{Finding, write_audited};
 pub use check::{CheckEnd, check_engine};
 pub use engine::EngineEnd;
 pub use fault::EngineFault;

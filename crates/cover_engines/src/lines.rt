@@ -1,6 +1,7 @@
 //! The lines that an engine writes, each with the status that goes with it.
 
-ghost use Rattle.std.specs.Prelude.{◌≡◌, ◌-◌, ◌<◌, ◌^◌, option_map, IfSome};
+ghost use Rattle.std.specs.Prelude.{◌≡◌, ◌-◌, ◌<◌, ◌^◌, option_map, IfErr, IfSome};
+ghost use Rattle.dlx_reader.specs.Devices.{IsCounted};
 ghost use Rattle.dlx_reader.specs.Writing.{IsWritable};
 ghost use Rattle.cover_engines.specs.Output.{answer_said, published_said, said, IsOutput};
 
@@ -14,6 +15,8 @@ pub fn write_line<W: Sink>(text: &[u8], status: u8, sink: &mut W) -> Result<u8, 
     ensures output { IsOutput (said text.now status) (W.contents sink.old)
         (W.contents sink.new) result }
     ensures failed { result ≡ Err EngineFault.Write → W.failed sink.old < W.failed sink.new }
+    ensures fault { IfErr result (λ fault. fault ≡ EngineFault.Write) }
+    ensures counted { IsCounted (W.failed sink.old) (W.failed sink.new) result }
 {
     match write_bytes(text, sink) {
         Ok(()) => Ok(status),
@@ -32,6 +35,7 @@ pub fn write_solution<W: Sink>(
     ensures output { IsOutput (answer_said problem.now answer.now) (W.contents sink.old)
         (W.contents sink.new) result }
     ensures failed { result ≡ Err EngineFault.Write → W.failed sink.old < W.failed sink.new }
+    ensures counted { IsCounted (W.failed sink.old) (W.failed sink.new) result }
 {
     if write_answer(problem, answer, sink).is_err() {
         return Err(EngineFault::Write);
@@ -54,6 +58,7 @@ pub fn write_published<W: Sink>(
         (λ answer. answer.now) published.entry))
         (W.contents sink.old) (W.contents sink.new) result }
     ensures failed { result ≡ Err EngineFault.Write → W.failed sink.old < W.failed sink.new }
+    ensures counted { IsCounted (W.failed sink.old) (W.failed sink.new) result }
 {
     match published {
         Some(answer) => write_solution(problem, answer, sink),

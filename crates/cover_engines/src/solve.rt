@@ -1,15 +1,18 @@
 //! `solve`: sites with threads of their own search a problem.
 
-ghost use Rattle.std.specs.Prelude.{◌≡◌, ◌+◌, ◌-◌, ◌<◌, ◌^◌, vec_len, IfErr, IfOk};
+ghost use Rattle.std.specs.Prelude.{◌≡◌, ◌+◌, ◌-◌, ◌<◌, ◌^◌, true, false, vec_len, IfErr, IfOk};
 ghost use Rattle.run_book.specs.Runs.{IsRunEnd};
+ghost use Rattle.cover_engines.specs.Audit.{AuditSays};
 ghost use Rattle.cover_engines.specs.Output.{IsOutputOf};
 ghost use Rattle.cover_engines.specs.Solve.{run_of, RunSays};
 
+use crate::audited::write_audited;
 use crate::fault::EngineFault;
 use crate::lines::write_published;
+use audit::audit;
 use cover_problem::{Answer, Problem};
 use dlx_reader::Sink;
-use run_book::{Book, Run};
+use run_book::{Book, Run, a_book_tells_what_is_published};
 use run_settings::Settings;
 use std::alloc::Global;
 use std::marker::Brand;
@@ -102,11 +105,45 @@ fn write_run<
     write_published(problem, end.answer.as_ref(), sink)
 }
 
+/// Lets sites search the problem that the type names, audits their books, writes what the registry published and what was found,
+/// and answers the status. Nothing is written before the audit ends.
+fn write_audited_run<
+    J: Run + Send + Sync,
+    L: Link + Send,
+    G: Gate + Sync,
+    W: Sink,
+    R: Threads + Wait + Clock + Sync,
+>(
+    rt: &R,
+    alloc: Global,
+    settings: &Settings,
+    problem: &Problem,
+    links: Vec<L>,
+    gate: &G,
+    sink: &mut W,
+) -> Result<u8, EngineFault>
+    requires run { J.run ≡ record { problem = problem.now; nodes = settings.now.nodes } }
+    requires links { vec_len links ≡ settings.now.nodes + 1 }
+    requires failed { W.failed sink.old < 2 ^ 64 - 1 }
+    ensures output { IsOutputOf (AuditSays J.run) (W.contents sink.old) (W.contents sink.new)
+        result }
+    ensures failed { result ≡ Err EngineFault.Write → W.failed sink.old < W.failed sink.new }
+{
+    a_book_tells_what_is_published();
+    let end: SolveEnd<J> = solve_engine(rt, alloc, settings, problem, links, gate)?;
+    let found = audit(alloc, &end.books);
+    write_audited(alloc, problem, end.answer.as_ref(), found, sink)
+}
+
 /// Lets sites search a problem, as `solve_engine` does, writes what the registry published, or `no answer` where it published
 /// nothing, and answers the status: 0 for a cover, 1 for none, 4 for no answer.
 ///
-/// The faults are `Write`, where the sink failed, and `Memory`. After `Write` a beginning of the answer's text was written, after
-/// `Memory` nothing.
+/// Where the settings ask for an audit, the books of the run are audited before anything is written, and a line of what was found
+/// follows: `audit clean`, and the answer is right whatever the network delivered, or `audit unclean` with the cause, and the status
+/// is 6.
+///
+/// The faults are `Write`, where the sink failed, and `Memory`. After `Write` a beginning of the text was written, after `Memory`
+/// nothing.
 pub fn solve_problem<L: Link + Send, G: Gate + Sync, W: Sink, R: Threads + Wait + Clock + Sync>(
     rt: &R,
     alloc: Global,
@@ -118,9 +155,18 @@ pub fn solve_problem<L: Link + Send, G: Gate + Sync, W: Sink, R: Threads + Wait 
 ) -> Result<u8, EngineFault>
     requires links { vec_len links ≡ settings.now.nodes + 1 }
     requires failed { W.failed sink.old < 2 ^ 64 - 1 }
-    ensures output { IsOutputOf (RunSays (run_of problem.now settings.now)) (W.contents sink.old)
+    ensures output { settings.now.audit ≡ false →
+        IsOutputOf (RunSays (run_of problem.now settings.now)) (W.contents sink.old)
+        (W.contents sink.new) result }
+    ensures audited { settings.now.audit ≡ true →
+        IsOutputOf (AuditSays (run_of problem.now settings.now)) (W.contents sink.old)
         (W.contents sink.new) result }
     ensures failed { result ≡ Err EngineFault.Write → W.failed sink.old < W.failed sink.new }
 {
+    if settings.audit {
+        return write_audited_run::<Brand, L, G, W, R>(
+            rt, alloc, settings, problem, links, gate, sink,
+        );
+    }
     write_run::<Brand, L, G, W, R>(rt, alloc, settings, problem, links, gate, sink)
 }

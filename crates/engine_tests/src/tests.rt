@@ -1,6 +1,7 @@
 //! What the engines write of texts in memory, and what is told where devices fail.
 
 mod alone;
+mod audited;
 mod check;
 mod devices;
 mod long;

@@ -19,7 +19,7 @@ pub enum Mode {
     Solve,
 }
 
-/// The settings of a run. A number that goes with another subcommand has its default.
+/// The settings of a run. What goes with another subcommand has its default.
 #[derive(Clone, Copy)]
 pub struct Settings<'a> {
     /// What is to be done.
@@ -40,6 +40,8 @@ pub struct Settings<'a> {
     pub turns: u32,
     /// How many restarts may be drawn, up to 100.
     pub restarts: u32,
+    /// Whether the books of a run are audited.
+    pub audit: bool,
     pub ghost answered: { mode ≡ Mode.Check → is_some answer ≡ true },
     pub ghost some_fuel: { 1 ≤ fuel },
     pub ghost some_nodes: { 1 ≤ nodes },

@@ -1,4 +1,4 @@
-//! `solve` over sockets: the texts of its answers, and that it comes to answers, which no contract says.
+//! `solve` over sockets: the texts of its answers, and that it comes to answers and its audits are clean, which no contract says.
 //!
 //! Of the bugs of `cover_engines` that are kept outside the gate, `most_runs_answer` finds `always_no_answer`.
 
@@ -7,6 +7,7 @@ use dlx_reader::{CountedWriter, read_problem};
 use run_settings::{Mode, Settings};
 use std::alloc::Global;
 use std::net::Net;
+use std::process::Abort;
 use std::sync::Wait;
 use std::test::Fail;
 use std::thread::Threads;
@@ -39,8 +40,8 @@ const RUNS: u64 = 10;
 /// How many of them are to come to an answer at least.
 const LEAST: u64 = 5;
 
-/// The settings that the command line has by default, with this seed and so many turns.
-fn settings(seed: u64, turns: u32) -> Settings<'static> {
+/// The settings that the command line has by default, with this seed and so many turns, and with an audit or without.
+fn settings(seed: u64, turns: u32, audit: bool) -> Settings<'static> {
     Settings {
         mode: Mode::Solve,
         file: "a.dlx",
@@ -51,6 +52,7 @@ fn settings(seed: u64, turns: u32) -> Settings<'static> {
         workers: 2,
         turns: turns.min(10_000_000),
         restarts: 0,
+        audit,
     }
 }
 
@@ -69,31 +71,59 @@ fn solve<R: Threads + Wait + Clock + Net + Sync>(
     Ok((out, status))
 }
 
+/// What is told behind an answer, or behind that none came: with an audit, that the books are one run.
+fn line_behind(audit: bool) -> &'static [u8] {
+    if audit { b"audit clean\n" } else { b"" }
+}
+
+/// Whether this was told, and behind it what an audit has to find.
+fn is_told(told: &[u8], out: &str, audit: bool) -> bool {
+    match told.split_at_checked(out.len()) {
+        Some((front, behind)) => front == out.as_bytes() && behind == line_behind(audit),
+        None => false,
+    }
+}
+
 /// How many runs of the row's problem came to its answer; a fault where one told anything else, but that no answer came.
 fn answers<R: Threads + Wait + Clock + Net + Sync>(
     rt: &R,
     alloc: Global,
     (text, out, status): Row,
+    audit: bool,
 ) -> Result<u64, Fail> {
     let mut answers = 0u64;
     for seed in 0..RUNS {
-        let (told, came) = solve(rt, alloc, text, &settings(seed, 1_000_000))?;
-        if (told.as_slice(), came) == (out.as_bytes(), status) {
+        let (told, came) = solve(rt, alloc, text, &settings(seed, 1_000_000, audit))?;
+        if is_told(&told, out, audit) && came == status {
             answers = answers.saturating_add(1);
-        } else if (told.as_slice(), came) != (NOTHING.0.as_bytes(), NOTHING.1) {
-            return Err(Fail::new("another answer was told"));
+        } else if !is_told(&told, NOTHING.0, audit) || came != NOTHING.1 {
+            return Err(Fail::new("another answer was told, or an audit was not clean"));
         }
     }
     Ok(answers)
 }
 
-#[test]
-fn most_runs_answer(rt: HostRuntime) -> Result<(), Fail> {
+/// Most runs of each problem answer.
+fn most_answer<R: Abort + Threads + Wait + Clock + Net + Sync>(
+    rt: &R,
+    alloc: Global,
+    audit: bool,
+) -> Result<(), Fail> {
     for row in ROWS.iter() {
-        let answers = answers(&rt, rt.alloc(), *row)?;
+        let answers = answers(rt, alloc, *row, audit)?;
         assert!(rt; answers >= LEAST, "{answers} runs came to an answer");
     }
     Ok(())
+}
+
+#[test]
+fn most_runs_answer(rt: HostRuntime) -> Result<(), Fail> {
+    most_answer(&rt, rt.alloc(), false)
+}
+
+#[test]
+fn the_books_of_runs_are_clean(rt: HostRuntime) -> Result<(), Fail> {
+    most_answer(&rt, rt.alloc(), true)
 }
 
 /// Whether a run without turns tells that no answer came.
@@ -101,16 +131,18 @@ fn is_silent<R: Threads + Wait + Clock + Net + Sync>(
     rt: &R,
     alloc: Global,
     text: &str,
+    audit: bool,
 ) -> Result<bool, Fail> {
-    let (told, came) = solve(rt, alloc, text, &settings(1, 0))?;
-    Ok(told.as_slice() == NOTHING.0.as_bytes() && came == NOTHING.1)
+    let (told, came) = solve(rt, alloc, text, &settings(1, 0, audit))?;
+    Ok(is_told(&told, NOTHING.0, audit) && came == NOTHING.1)
 }
 
 #[test]
 fn no_turns_and_no_answer(rt: HostRuntime) -> Result<(), Fail> {
     for (text, _, _) in ROWS.iter() {
-        let is_silent = is_silent(&rt, rt.alloc(), text)?;
-        assert!(rt; is_silent);
+        let plain = is_silent(&rt, rt.alloc(), text, false)?;
+        let audited = is_silent(&rt, rt.alloc(), text, true)?;
+        assert!(rt; plain && audited);
     }
     Ok(())
 }

@@ -1,6 +1,8 @@
-//! Books of runs, and what an audit finds.
+//! Books of runs, and what an audit finds, also where memory is refused. These tests refuse none themselves: it has to be refused
+//! from outside, for which `scripts/refuse_growth.c` is meant.
 
-ghost use Rattle.std.specs.Prelude.{◌≡◌, ◌≤◌};
+ghost use Rattle.std.specs.Prelude.{◌≡◌, ◌≤◌, true};
+ghost use Rattle.run_book.specs.Books.{are_distinct};
 ghost use Rattle.run_book.specs.Sites.{opening_of, IsRun, MayBeginIn};
 
 use audit::{Clean, Unclean, audit};
@@ -16,6 +18,7 @@ use run_book::{
 use spawn_frame::Site;
 use std::alloc::Global;
 use std::marker::Brand;
+use std::process::Abort;
 use std::sync::Wait;
 use std::test::*;
 
@@ -292,8 +295,36 @@ fn node_in<J: Run, R: Wait>(
     node_book::<J, Brand, R>(rt, alloc, opened, core, acts)
 }
 
+/// Nothing else in these tests asks for so many bytes, or for a few hundred more.
+const MARK: usize = 6_000_000;
+
+/// The mark of an audit's beginning.
+const AUDIT: usize = 80;
+
+/// The marks of its end: it found something, or memory was refused.
+const ANSWERED: usize = 128;
+
+const REFUSED: usize = 129;
+
+/// Tells a number to whoever counts growths, by asking for memory of a size that nothing else asks for.
+fn mark<R: Abort>(rt: &R, alloc: Global, number: usize) {
+    let room: Vec<u8> = Vec::with_capacity(alloc, MARK.wrapping_add(number)).expect(rt, "memory");
+    assert!(rt; room.capacity() >= MARK);
+}
+
+/// What an audit between marks finds, and where memory was refused, what another one finds.
+fn audited<J: Run, R: Abort>(rt: &R, alloc: Global, books: &[Book<J>]) -> Result<Clean, Unclean>
+    requires { are_distinct books.now ≡ true }
+{
+    mark(rt, alloc, AUDIT);
+    let found = audit(alloc, books);
+    let refused = found == Err(Unclean::Memory);
+    mark(rt, alloc, if refused { REFUSED } else { ANSWERED });
+    if refused { audit(alloc, books) } else { found }
+}
+
 /// What an audit of the row's books finds.
-fn finds<J: Run, R: Wait>(
+fn finds<J: Run, R: Abort + Wait>(
     rt: &R,
     alloc: Global,
     problem: &Problem,
@@ -314,11 +345,11 @@ fn finds<J: Run, R: Wait>(
     if !distinct_sites(&books) {
         return None;
     }
-    Some(audit(alloc, &books))
+    Some(audited(rt, alloc, &books))
 }
 
 #[test]
-fn audits(rt: HostRuntime) -> Result<(), Fail> {
+fn refused_memory_in_an_audit(rt: HostRuntime) -> Result<(), Fail> {
     let alloc = rt.alloc();
     let read = read_problem(alloc, ITEM.as_bytes())?;
     for row in &ROWS {

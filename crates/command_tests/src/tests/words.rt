@@ -23,7 +23,8 @@ fn is_read<R: Abort>(
     (workers, turns, restarts): (u8, u32, u32),
 ) -> bool {
     let settings = settings(alloc, words).expect(rt, "lawful words");
-    settings.mode == mode
+    !settings.audit
+        && settings.mode == mode
         && settings.file == file
         && settings.answer == answer
         && settings.fuel == fuel
@@ -118,8 +119,25 @@ fn reads_all_words(rt: HostRuntime) {
     );
 }
 
+/// Words that ask for an audit, or don't.
+static AUDITS: [(&[&str], bool); 5] = [
+    (&["solve_cli", "solve", "a.dlx", "--audit"], true),
+    (&["solve_cli", "solve", "--audit", "a.dlx"], true),
+    (&["solve_cli", "solve", "a.dlx"], false),
+    (&["solve_cli", "alone", "--", "--audit"], false),
+    (&["solve_cli", "simulate", "a.dlx"], false),
+];
+
+#[test]
+fn reads_whether_to_audit(rt: HostRuntime) {
+    for (words, audit) in AUDITS.iter() {
+        let settings = settings(rt.alloc(), words).expect(&rt, "lawful words");
+        assert!(rt; settings.audit == *audit);
+    }
+}
+
 /// Each with the status.
-static WORDS: [(&[&str], u8); 39] = [
+static WORDS: [(&[&str], u8); 45] = [
     (&["solve_cli"], 2),
     (&["solve_cli", "--help"], 0),
     (&["solve_cli", "--version"], 0),
@@ -140,7 +158,13 @@ static WORDS: [(&[&str], u8); 39] = [
     (&["solve_cli", "solve", "a", "--nodes", "17"], 2),
     (&["solve_cli", "solve", "a", "--turns", "10000001"], 2),
     (&["solve_cli", "solve", "a", "--restarts", "0"], 2),
-    (&["solve_cli", "solve", "a", "--audit"], 2),
+    (&["solve_cli", "solve", "a", "--audit"], 9),
+    (&["solve_cli", "solve", "a", "--audit", "--audit"], 2),
+    (&["solve_cli", "solve", "a", "--audit=true"], 2),
+    (&["solve_cli", "solve", "a", "--audit", "true"], 2),
+    (&["solve_cli", "alone", "a", "--audit"], 2),
+    (&["solve_cli", "check", "a", "b", "--audit"], 2),
+    (&["solve_cli", "simulate", "a", "--audit"], 2),
     (&["solve_cli", "simulate", "a", "--workers", "2"], 2),
     (&["solve_cli", "alone", "a", "--fuel"], 2),
     (&["solve_cli", "alone", "a", "--fuel", "0"], 2),

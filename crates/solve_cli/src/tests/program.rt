@@ -4,7 +4,7 @@ use crate::run_words;
 use std::fs;
 
 /// Each with its status; the files are those that are written below.
-static WORDS: [(&[&str], u8); 17] = [
+static WORDS: [(&[&str], u8); 18] = [
     (&["solve_cli"], 2),
     (&["solve_cli", "--help"], 0),
     (&["solve_cli", "check", "--help"], 0),
@@ -25,6 +25,10 @@ static WORDS: [(&[&str], u8); 17] = [
     (&["solve_cli", "simulate", "p.dlx"], 0),
     (&["solve_cli", "simulate", "p.dlx", "--fuel", "1"], 0),
     (&["solve_cli", "solve", "p.dlx", "--turns", "0"], 4),
+    (
+        &["solve_cli", "solve", "p.dlx", "--turns", "0", "--audit"],
+        4,
+    ),
 ];
 
 #[test]

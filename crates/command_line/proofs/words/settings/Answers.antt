@@ -2,7 +2,7 @@ use Rattle.std.proofs.Common.{◌≡◌, ◌∙◌, ap, refl, sym, subst, codes,
 use Rattle.clap.specs.Words.{App, Text, app_of, is_simple, subcommand_of, subcommand_rows_of, found_of, rows_of}
 use Rattle.clap.proofs.OnLiterals.{clap_on_literals}
 use Rattle.clap.proofs.WalkLemmas.{first_value-rows}
-use Rattle.command_line.specs.CommandLine.{solver_app, IsAnswerFile, SpellsFuel, SpellsOr}
+use Rattle.command_line.specs.CommandLine.{solver_app, IsAnswerFile, IsFlag, SpellsFuel, SpellsOr}
 use Rattle.command_line.proofs.Pairs.{met_pair}
 use Rattle.command_line.proofs.words.settings.Goals as goal
 
@@ -38,5 +38,6 @@ returns-clause-met c =
         workers_given = subst (λ (value : Option Text). SpellsOr 2 value s.workers) (first_value-rows f (codes "workers")) given.workers_given;
         turns_given = subst (λ (value : Option Text). SpellsOr 10000 value s.turns) (first_value-rows f (codes "turns")) given.turns_given;
         restarts_given = subst (λ (value : Option Text). SpellsOr 0 value s.restarts) (first_value-rows f (codes "restarts")) given.restarts_given;
+        audit_given = subst (λ (value : Option Text). IsFlag value s.audit) (first_value-rows f (codes "audit")) given.audit_given;
       };
     }
