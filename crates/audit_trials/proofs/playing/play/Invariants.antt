@@ -1,5 +1,5 @@
 use Rattle.node_core.specs.Requests.{registry}
-use Rattle.changed_books.proofs.playing.play.Given as goal
+use Rattle.audit_trials.proofs.playing.play.Given as goal
 
 abbrev pub ghosts-root_played-N-Ledger : goal.ghosts-root_played-N-Ledger
 ghosts-root_played-N-Ledger g a = record { name = a.opened.name; parts = 18446744073709551615 }

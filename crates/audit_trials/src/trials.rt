@@ -16,7 +16,7 @@ use std::marker::Brand;
 use std::mem;
 use std::sync::{Arc, Wait};
 use std::thread::Threads;
-use std::time::Clock;
+use std::time::{Clock, Instant};
 use udp_node::{MemoryLink, Open, Plan, RunEnd, Wires, run_sites};
 
 /// The links of so many sites. The only error is out of memory.
@@ -109,13 +109,79 @@ fn try_change<J: Run, R: Wait>(
     told
 }
 
+/// What is done with the books of a run.
+#[derive(Clone, Copy, Debug, PartialEq, Eq)]
+pub enum Trial {
+    /// They are printed, and audited as they are and with so many changes.
+    Changes(u32),
+    /// Their audit is timed.
+    Time,
+    /// Nothing: what a run without an audit takes.
+    Nothing,
+}
+
+/// Prints the books and what an audit of them finds, and then the changes.
+fn tell_changes<J: Run, R: Wait>(
+    trials: &Trials<'_>,
+    threads: &R,
+    problem: &Problem,
+    rng: &mut Pcg32,
+    books: &mut [Book<J>],
+    changes: u32,
+) -> Result<(), TrialFault>
+    requires problem { problem.now ≡ J.run.problem }
+    requires nodes { trials.now.nodes ≡ J.run.nodes }
+    requires some { 1 ≤ trials.now.nodes }
+    requires most { trials.now.nodes ≤ LAST_NODE }
+{
+    tell_all(trials.rt, trials.alloc, books)?;
+    if books.is_empty() {
+        return Err(TrialFault::Unexpected);
+    }
+    let mut player: Player<J> = Player::new(trials.alloc, problem)?;
+    for _ in 0..changes {
+        try_change(trials, threads, &mut player, rng, books)?;
+    }
+    Ok(())
+}
+
+/// How many entries the books have together.
+fn entries_of<J: Run>(books: &[Book<J>]) -> usize {
+    let mut entries = 0usize;
+    for book in books {
+        entries = entries.saturating_add(book.entries().len());
+    }
+    entries
+}
+
+/// Prints how many books there are, how many entries they have, and how many nanoseconds an audit of them takes.
+fn tell_time<J: Run, C: Clock>(
+    trials: &Trials<'_>,
+    clock: &C,
+    books: &[Book<J>],
+) -> Result<(), TrialFault> {
+    if !distinct_sites(books) {
+        return Err(TrialFault::Unexpected);
+    }
+    let Ok(start) = Instant::now(clock) else {
+        return Err(TrialFault::Unexpected);
+    };
+    let found = audit(trials.alloc, books);
+    let Ok(time) = start.elapsed(clock) else {
+        return Err(TrialFault::Unexpected);
+    };
+    let (many, entries) = (books.len(), entries_of(books));
+    println!(trials.rt; "{many} {entries} {} {found:?}", time.as_nanos())?;
+    Ok(())
+}
+
 /// The trials of a run whose name the type has.
 fn tell_run<J: Run + Send + Sync, R: Threads + Wait + Clock + Sync>(
     rt: &HostRuntime,
     threads: &R,
     problem: &Problem,
     plan: Plan,
-    changes: u32,
+    trial: Trial,
 ) -> Result<(), TrialFault>
     requires run { J.run ≡ record { problem = problem.now; nodes = plan.nodes } }
     requires some { 1 ≤ plan.nodes }
@@ -125,34 +191,31 @@ fn tell_run<J: Run + Send + Sync, R: Threads + Wait + Clock + Sync>(
     let links = links(alloc, plan.nodes + 1)?;
     let end: RunEnd<J> = run_sites(threads, alloc, problem, plan, links, &Open)?;
     let mut books = end.books;
-    tell_all(rt, alloc, &books)?;
-    if books.is_empty() {
-        return Err(TrialFault::Unexpected);
-    }
     let trials = Trials {
         rt,
         alloc,
         nodes: plan.nodes,
     };
-    let mut player: Player<J> = Player::new(alloc, problem)?;
     let mut rng = Pcg32::new(plan.seed, 0);
-    for _ in 0..changes {
-        try_change(&trials, threads, &mut player, &mut rng, &mut books)?;
+    match trial {
+        Trial::Changes(changes) => {
+            tell_changes(&trials, threads, problem, &mut rng, &mut books, changes)
+        }
+        Trial::Time => tell_time(&trials, threads, &books),
+        Trial::Nothing => Ok(()),
     }
-    Ok(())
 }
 
-/// Lets sites search a problem over links in memory, prints their books and what an audit of them finds; then so many times
-/// changes one entry, and prints the changed book and what an audit finds.
+/// Lets sites search a problem over links in memory, and does this with their books.
 pub fn tell_trials<R: Threads + Wait + Clock + Sync>(
     rt: &HostRuntime,
     threads: &R,
     problem: &Problem,
     plan: Plan,
-    changes: u32,
+    trial: Trial,
 ) -> Result<(), TrialFault>
     requires some { 1 ≤ plan.nodes }
     requires most { plan.nodes ≤ LAST_NODE }
 {
-    tell_run::<Brand, R>(rt, threads, problem, plan, changes)
+    tell_run::<Brand, R>(rt, threads, problem, plan, trial)
 }
