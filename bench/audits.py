@@ -19,7 +19,7 @@ import tempfile
 HERE = os.path.dirname(os.path.abspath(__file__))
 sys.path.insert(0, os.path.join(HERE, "..", "scripts"))
 from built import parser_of, program_of, want_program  # noqa: E402
-from instances import torus_queens  # noqa: E402
+from instances import generate, torus_queens  # noqa: E402
 
 PROGRAM = program_of("audit_trials")
 ROWS = [10, 12, 14]
@@ -42,12 +42,12 @@ def main():
     print("|---|---|---|---|---|")
     is_clean = True
     with tempfile.TemporaryDirectory() as folder:
-        os.chdir(folder)
+        generate.HERE, file = folder, os.path.join(folder, "torus.dlx")
         for rows in ROWS:
-            torus_queens("torus", rows)
+            torus_queens("torus.dlx", rows)
             for nodes in NODES:
-                _, plain = run("torus.dlx", nodes, "nothing")
-                (books, entries, time, found), audited = run("torus.dlx", nodes, "time")
+                _, plain = run(file, nodes, "nothing")
+                (books, entries, time, found), audited = run(file, nodes, "time")
                 is_clean = is_clean and found.strip() == "Ok(Clean)"
                 print(f"| {books} | {int(entries):,} | {int(time) / 1e9:.3f} | {plain:,.0f} | {audited - plain:,.0f} |", flush=True)
     sys.exit(0 if is_clean else 1)
