@@ -9,7 +9,8 @@ use crate::player::Player;
 use node_core::{Core, Event, NodeCore};
 use root_registry::Registry;
 use run_book::{
-    Book, BookFault, Opened, Room, Run, SiteCell, cores_step_as_their_sites, sites_begin,
+    Book, BookFault, Opened, Room, Run, Seat, SiteCell, Stub, cores_step_as_their_sites,
+    sites_begin,
 };
 use spawn_frame::Site;
 use std::alloc::Global;
@@ -21,6 +22,27 @@ const ENTRIES: u64 = 1_000_000;
 
 /// How many children a node names at most.
 const NAMES: u32 = 1_000_000;
+
+/// A player's event at a cell: the stub of its receipt; none where the core refuses it, or where it may not be handed to one.
+fn happens<J: Run, C: Core + Drop, N: Room, R: Wait>(
+    rt: &R,
+    player: &mut Player<'_, J>,
+    cell: &SiteCell<J, C, N>,
+    seat: &mut Seat<N>,
+    event: Event,
+) -> Result<Option<Stub<N>>, TrialFault> {
+    let Some(fit) = player.fit(event)? else {
+        return Ok(None);
+    };
+    match cell.act_at(rt, seat, fit) {
+        Ok(receipt) => {
+            let (stub, _entry) = receipt.into_parts();
+            Ok(Some(stub))
+        }
+        Err((_event, BookFault::Memory)) => Err(TrialFault::Memory),
+        Err((_event, _fault)) => Ok(None),
+    }
+}
 
 /// The book of a cell that is handed these events, one after the other. Those that the core refuses aren't entered.
 fn played<J: Run, C: Core + Drop, N: Room, R: Wait>(
@@ -34,13 +56,8 @@ fn played<J: Run, C: Core + Drop, N: Room, R: Wait>(
     let mut stubs = Vec::with_capacity(alloc, events.len())?;
     let mut seat = cell.seat(rt)?;
     for event in events {
-        let Some(fit) = player.fit(event)? else {
-            continue;
-        };
-        match cell.act_at(rt, &mut seat, fit) {
-            Ok(receipt) => stubs.push(receipt.into_parts().0)?,
-            Err((_, BookFault::Memory)) => return Err(TrialFault::Memory),
-            Err(_) => {}
+        if let Some(stub) = happens(rt, player, &cell, &mut seat, event)? {
+            stubs.push(stub)?;
         }
     }
     seats.push(seat)?;
