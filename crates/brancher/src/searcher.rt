@@ -5,39 +5,52 @@ ghost use Rattle.cover_problem.specs.Search.{Covers, first, outcome, visits};
 ghost use Rattle.cover_problem.specs.declared.limits.TheConstants.{MOST_ITEMS};
 
 use crate::finding::Finding;
+use crate::kernel::Kernel;
 use crate::outcome::Outcome;
-use crate::visit::{Visit, visit_below};
+use crate::tables::Tables;
+use crate::visit::Visit;
 use crate::watch::{Unwatched, Watch};
 use cover_problem::Problem;
-use dancing_links::Links;
 use std::alloc::{AllocError, Global};
 use std::marker::Model;
 
-/// A search over one problem, by dancing links.
+/// A search over one problem, by dancing links or over sets of live options.
 #[derive(Drop)]
 pub struct Searcher<'a> {
-    links: Links<'a>,
+    kernel: Kernel<'a>,
     alloc: Global,
 }
 
 impl<'a> Model for Searcher<'a> {
+    ghost use Rattle.brancher.specs.Kernels.{choices_in};
     ghost use Rattle.brancher.specs.Searching.{Searching};
 
     ghost Value = { Searching };
 
-    ghost view = { λ s. record { problem = s.links.problem; found = s.links.chosen } };
+    ghost view = { λ s. record {
+      problem = (choices_in s.kernel).problem;
+      found = (choices_in s.kernel).chosen;
+    } };
 }
 
 impl<'a> Searcher<'a> {
     ghost use Rattle.brancher.specs.Finding.{finding_by};
     ghost use Rattle.brancher.specs.Visit.{outcome_told, IsVisit, took};
 
-    /// A search over the problem; the only error is want of memory.
+    /// A search over the problem, by dancing links; the only error is want of memory.
     pub fn new(alloc: Global, problem: &'a Problem) -> Result<Searcher<'a>, AllocError>
         ensures { IfOk result (λ s. s.problem ≡ problem.now) }
     {
-        let links = Links::build(alloc, problem)?;
-        Ok(Searcher { links, alloc })
+        let kernel = Kernel::linked(alloc, problem)?;
+        Ok(Searcher { kernel, alloc })
+    }
+
+    /// A search over the tables of a problem, which several searches may share; the only error is out of memory.
+    pub fn over(alloc: Global, tables: &'a Tables<'a>) -> Result<Searcher<'a>, AllocError>
+        ensures { IfOk result (λ s. s.problem ≡ tables.now) }
+    {
+        let kernel = Kernel::over(alloc, tables)?;
+        Ok(Searcher { kernel, alloc })
     }
 
     /// Searches for the first cover below a prefix, with at most so many visits.
@@ -70,7 +83,7 @@ impl<'a> Searcher<'a> {
             (visits self.old.problem prefix.now) fuel prefix.now self.new.found result }
         ensures stopped { result ≡ Visit.Stopped → W.may_stop ≡ true }
     {
-        visit_below(&mut self.links, prefix, fuel, watch)
+        self.kernel.visit(prefix, fuel, watch)
     }
 
     /// Searches as `search` does, and copies out what it came to; `found` is the cover then, too. It takes the room for a
@@ -86,7 +99,7 @@ impl<'a> Searcher<'a> {
         ensures unchanged { OnErr result (self.new ≡ self.old) }
         ensures back { IfErr result (λ list. list.items ≡ prefix.items) }
     {
-        let Ok(room) = Vec::with_capacity(self.alloc, self.links.problem().primary()) else {
+        let Ok(room) = Vec::with_capacity(self.alloc, self.kernel.problem().primary()) else {
             return Err(prefix);
         };
         let outcome = self.search(&prefix, fuel);
@@ -126,7 +139,7 @@ impl<'a> Searcher<'a> {
         ensures unchanged { OnErr result (self.new ≡ self.old) }
         ensures back { IfErr result (λ list. list.items ≡ prefix.items) }
     {
-        let Ok(room) = Vec::with_capacity(self.alloc, self.links.problem().primary()) else {
+        let Ok(room) = Vec::with_capacity(self.alloc, self.kernel.problem().primary()) else {
             return Err(prefix);
         };
         let (outcome, made) = match self.visit(&prefix, fuel, watch) {
@@ -144,8 +157,8 @@ impl<'a> Searcher<'a> {
         ensures short { length result.now ≤ MOST_ITEMS }
         ensures few { length result.now ≤ self.now.problem.primary }
     {
-        self.links.problem();
-        self.links.chosen()
+        self.kernel.problem();
+        self.kernel.chosen()
     }
 }
 

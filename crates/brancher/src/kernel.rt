@@ -1,0 +1,13 @@
+//! What a searcher chooses its options in.
+
+use dancing_links::Links;
+use live_rows::LiveRows;
+
+/// What a searcher chooses its options in.
+#[derive(Drop)]
+pub(crate) enum Kernel<'a> {
+    /// Options as columns of linked nodes.
+    Links(Links<'a>),
+    /// Sets of live options, level by level.
+    Rows(LiveRows<'a>),
+}

@@ -1,0 +1,76 @@
+//! What a searcher asks of its kernel: each call goes on to whichever it is.
+
+ghost use Rattle.std.specs.Prelude.{◌≡◌, true, IfOk};
+ghost use Rattle.cover_problem.specs.Prefix.{is_prefix};
+ghost use Rattle.cover_problem.specs.Problem.{IsProblem};
+ghost use Rattle.cover_problem.specs.Search.{first, visits};
+ghost use Rattle.brancher.specs.Kernels.{choices_in};
+ghost use Rattle.brancher.specs.Visit.{IsVisit};
+
+use crate::kernel::Kernel;
+use crate::tables::Tables;
+use crate::visit::{Visit, visit_below};
+use crate::watch::Watch;
+use choices::Branching;
+use cover_problem::Problem;
+use dancing_links::Links;
+use live_rows::LiveRows;
+use std::alloc::{AllocError, Global};
+
+impl<'a> Kernel<'a> {
+    /// Links of the problem; the only error is want of memory.
+    pub(crate) fn linked(alloc: Global, problem: &'a Problem) -> Result<Kernel<'a>, AllocError>
+        ensures { IfOk result (λ kernel. (choices_in kernel).problem ≡ problem.now) }
+    {
+        Ok(Kernel::Links(Links::build(alloc, problem)?))
+    }
+
+    /// Live rows over the tables' sets, or links where there are none; the only error is want of memory.
+    pub(crate) fn over(alloc: Global, tables: &'a Tables<'a>) -> Result<Kernel<'a>, AllocError>
+        ensures { IfOk result (λ kernel. (choices_in kernel).problem ≡ tables.now) }
+    {
+        match tables.sets() {
+            Some(sets) => Ok(Kernel::Rows(LiveRows::build(alloc, sets)?)),
+            None => Kernel::linked(alloc, tables.problem()),
+        }
+    }
+
+    /// The problem.
+    pub(crate) fn problem(&self) -> &Problem
+        ensures problem { result.now ≡ (choices_in self.now).problem }
+        ensures lawful { IsProblem (choices_in self.now).problem }
+    {
+        match self {
+            Kernel::Links(links) => links.problem(),
+            Kernel::Rows(rows) => rows.problem(),
+        }
+    }
+
+    /// The chosen options.
+    pub(crate) fn chosen(&self) -> &[u16]
+        ensures chosen { result.now ≡ (choices_in self.now).chosen }
+        ensures prefix { is_prefix (choices_in self.now).problem (choices_in self.now).chosen
+            ≡ true }
+    {
+        match self {
+            Kernel::Links(links) => links.chosen(),
+            Kernel::Rows(rows) => rows.chosen(),
+        }
+    }
+
+    /// Puts a prefix in place of what is chosen, and visits it and what is below it.
+    pub(crate) fn visit<W: Watch>(&mut self, prefix: &[u16], fuel: u64, watch: &W) -> Visit
+        requires { is_prefix (choices_in self.old).problem prefix.now ≡ true }
+        ensures problem { (choices_in self.new).problem ≡ (choices_in self.old).problem }
+        ensures lawful { IsProblem (choices_in self.old).problem }
+        ensures visit { IsVisit (first (choices_in self.old).problem prefix.now)
+            (visits (choices_in self.old).problem prefix.now) fuel prefix.now
+            (choices_in self.new).chosen result }
+        ensures stopped { result ≡ Visit.Stopped → W.may_stop ≡ true }
+    {
+        match self {
+            Kernel::Links(links) => visit_below(links, prefix, fuel, watch),
+            Kernel::Rows(rows) => visit_below(rows, prefix, fuel, watch),
+        }
+    }
+}
