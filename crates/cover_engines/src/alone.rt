@@ -11,7 +11,7 @@ use crate::engine::EngineEnd;
 use crate::fault::EngineFault;
 use crate::input::{problem_of, read_all};
 use crate::lines::{write_line, write_solution};
-use brancher::{Outcome, Searcher};
+use brancher::{Outcome, Searcher, Tables};
 use cover_problem::{Answer, Problem, in_order};
 use dlx_reader::{Sink, Source};
 use std::alloc::Global;
@@ -51,7 +51,10 @@ fn write_alone<W: Sink>(
         (W.contents sink.new) result }
     ensures failed { result ≡ Err EngineFault.Write → W.failed sink.old < W.failed sink.new }
 {
-    let Ok(mut searcher) = Searcher::new(alloc, problem) else {
+    let Ok(tables) = Tables::build(alloc, problem) else {
+        return Err(EngineFault::Memory);
+    };
+    let Ok(mut searcher) = Searcher::over(alloc, &tables) else {
         return Err(EngineFault::Memory);
     };
     match searcher.search(&[], fuel) {

@@ -12,7 +12,7 @@ use crate::engine::EngineEnd;
 use crate::fault::EngineFault;
 use crate::input::{answer_of, problem_of, read_all};
 use crate::lines::write_line;
-use brancher::{Outcome, Searcher};
+use brancher::{Outcome, Searcher, Tables};
 use cover_problem::{Answer, Problem, Verdict, check_cover};
 use dlx_reader::{Sink, Source};
 use std::alloc::{AllocError, Global};
@@ -94,7 +94,10 @@ fn write_none<W: Sink>(
         (W.contents sink.new) result }
     ensures failed { result ≡ Err EngineFault.Write → W.failed sink.old < W.failed sink.new }
 {
-    let Ok(mut searcher) = Searcher::new(alloc, problem) else {
+    let Ok(tables) = Tables::build(alloc, problem) else {
+        return Err(EngineFault::Memory);
+    };
+    let Ok(mut searcher) = Searcher::over(alloc, &tables) else {
         return Err(EngineFault::Memory);
     };
     match searcher.search(&[], fuel) {

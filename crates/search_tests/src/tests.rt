@@ -1,6 +1,7 @@
 //! Links and searches of small problems, and of random ones.
 
 mod coloured;
+mod fuels;
 mod links;
 mod plain;
 mod search;

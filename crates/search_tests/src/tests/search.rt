@@ -2,7 +2,7 @@
 
 use super::links::choose;
 use super::texts::{LETTERS, problem_of};
-use brancher::{Branch, Finding, Outcome, Searcher, branch, children};
+use brancher::{Branch, Finding, Outcome, Searcher, Tables, branch, children};
 use cover_problem::{Problem, is_prefix};
 use dancing_links::Links;
 use std::alloc::Global;
@@ -18,7 +18,7 @@ fn outcome_of(first: &[u16]) -> Outcome {
 }
 
 /// Whether the search of the empty prefix finds this first with so much fuel.
-fn finds(searcher: &mut Searcher, fuel: u64, first: &[u16]) -> bool {
+pub fn finds(searcher: &mut Searcher, fuel: u64, first: &[u16]) -> bool {
     searcher.search(&[], fuel.max(1)) == outcome_of(first)
         && (first.is_empty() || searcher.found() == first)
 }
@@ -31,11 +31,13 @@ fn takes(searcher: &mut Searcher, visits: u64, first: &[u16]) -> bool {
     finds(searcher, visits, first)
 }
 
-/// Whether the search of the empty prefix takes so many visits, and finds this first.
+/// Whether the search of the empty prefix takes so many visits, and finds this first: by links, and over sets of live options.
 pub fn ends_so<R: Abort>(rt: &R, alloc: Global, text: &str, visits: u64, first: &[u16]) -> bool {
     let problem = problem_of(rt, alloc, text);
-    let mut searcher = Searcher::new(alloc, &problem).expect(rt, "memory");
-    takes(&mut searcher, visits, first)
+    let tables = Tables::of_sets(alloc, &problem).expect(rt, "memory");
+    let mut links = Searcher::new(alloc, &problem).expect(rt, "memory");
+    let mut rows = Searcher::over(alloc, &tables).expect(rt, "memory");
+    takes(&mut links, visits, first) && takes(&mut rows, visits, first)
 }
 
 /// A problem, the visits of its empty prefix, and what is found first.

@@ -5,10 +5,10 @@ use Rattle.cover_engines.proofs.alone.write_alone.Goals as goal
 
 pub returns-in-Cover-clause-output : goal.returns-in-Cover-clause-output
 returns-in-Cover-clause-output g c =
-    let came : Covers c.found.result.now ≡ outcome c.args.problem.now [] c.args.fuel = rw (c.found.ensures.found, ← c.in-Ok.ensures) c.in-Cover.ensures.outcome in
+    let came : Covers c.found.result.now ≡ outcome c.args.problem.now [] c.args.fuel = rw (c.found.ensures.found, ← c.in-Ok.ensures, ← c.in-Ok-over.ensures) c.in-Cover.ensures.outcome in
     rw (tells c.args.problem.now c.args.fuel (Covers c.found.result.now) came) c.write_found.ensures.output
 
 pub returns-clause-output : goal.returns-clause-output
 returns-clause-output g c =
-    let came : Spent ≡ outcome c.args.problem.now [] c.args.fuel = rw (← c.in-Ok.ensures) c.in-Spent.ensures.outcome in
+    let came : Spent ≡ outcome c.args.problem.now [] c.args.fuel = rw (← c.in-Ok.ensures, ← c.in-Ok-over.ensures) c.in-Spent.ensures.outcome in
     rw (tells c.args.problem.now c.args.fuel Spent came) c.write_line.ensures.output
