@@ -62,7 +62,8 @@ pub fn solve_engine<
         turns: u64::from(settings.turns),
         quiet: QUIET,
     };
-    let Ok(end) = run_sites(rt, alloc, problem, plan, links, gate) else {
+    let restarts = settings.restarts as u8;
+    let Ok(end) = run_sites(rt, alloc, problem, plan, restarts, links, gate) else {
         return Err(EngineFault::Memory);
     };
     if end.answer.is_none() && has_starved(&end.sites) {

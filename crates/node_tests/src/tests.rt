@@ -11,5 +11,6 @@ mod plain;
 mod recorder;
 mod runs;
 mod sending;
+mod starts;
 mod strangers;
 mod wild;
