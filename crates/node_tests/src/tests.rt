@@ -3,6 +3,7 @@
 mod broken;
 mod ends;
 mod failing;
+mod fails_once;
 mod held_gate;
 mod loss;
 mod order;
