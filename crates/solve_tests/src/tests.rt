@@ -40,8 +40,8 @@ const RUNS: u64 = 10;
 /// How many of them are to come to an answer at least.
 const LEAST: u64 = 5;
 
-/// The settings that the command line has by default, with this seed and so many turns, and with an audit or without.
-fn settings(seed: u64, turns: u32, audit: bool) -> Settings<'static> {
+/// The settings that the command line has by default, with this seed, so many turns and restarts, and with an audit or without.
+fn settings(seed: u64, turns: u32, restarts: u32, audit: bool) -> Settings<'static> {
     Settings {
         mode: Mode::Solve,
         file: "a.dlx",
@@ -51,7 +51,7 @@ fn settings(seed: u64, turns: u32, audit: bool) -> Settings<'static> {
         seed,
         workers: 2,
         turns: turns.min(10_000_000),
-        restarts: 0,
+        restarts: restarts.min(100),
         audit,
     }
 }
@@ -84,16 +84,19 @@ fn is_told(told: &[u8], out: &str, audit: bool) -> bool {
     }
 }
 
-/// How many runs of the row's problem came to its answer; a fault where one told anything else, but that no answer came.
+/// How many runs of the row's problem, with so many restarts, came to its answer; a fault where one told anything else, but that no
+/// answer came.
 fn answers<R: Threads + Wait + Clock + Net + Sync>(
     rt: &R,
     alloc: Global,
     (text, out, status): Row,
+    restarts: u32,
     audit: bool,
 ) -> Result<u64, Fail> {
     let mut answers = 0u64;
     for seed in 0..RUNS {
-        let (told, came) = solve(rt, alloc, text, &settings(seed, 1_000_000, audit))?;
+        let settings = settings(seed, 1_000_000, restarts, audit);
+        let (told, came) = solve(rt, alloc, text, &settings)?;
         if is_told(&told, out, audit) && came == status {
             answers = answers.saturating_add(1);
         } else if !is_told(&told, NOTHING.0, audit) || came != NOTHING.1 {
@@ -107,10 +110,11 @@ fn answers<R: Threads + Wait + Clock + Net + Sync>(
 fn most_answer<R: Abort + Threads + Wait + Clock + Net + Sync>(
     rt: &R,
     alloc: Global,
+    restarts: u32,
     audit: bool,
 ) -> Result<(), Fail> {
     for row in ROWS.iter() {
-        let answers = answers(rt, alloc, *row, audit)?;
+        let answers = answers(rt, alloc, *row, restarts, audit)?;
         assert!(rt; answers >= LEAST, "{answers} runs came to an answer");
     }
     Ok(())
@@ -118,12 +122,17 @@ fn most_answer<R: Abort + Threads + Wait + Clock + Net + Sync>(
 
 #[test]
 fn most_runs_answer(rt: HostRuntime) -> Result<(), Fail> {
-    most_answer(&rt, rt.alloc(), false)
+    most_answer(&rt, rt.alloc(), 0, false)
 }
 
 #[test]
 fn the_books_of_runs_are_clean(rt: HostRuntime) -> Result<(), Fail> {
-    most_answer(&rt, rt.alloc(), true)
+    most_answer(&rt, rt.alloc(), 0, true)
+}
+
+#[test]
+fn the_books_of_restarted_runs_are_clean(rt: HostRuntime) -> Result<(), Fail> {
+    most_answer(&rt, rt.alloc(), 3, true)
 }
 
 /// Whether a run without turns tells that no answer came.
@@ -133,7 +142,7 @@ fn is_silent<R: Threads + Wait + Clock + Net + Sync>(
     text: &str,
     audit: bool,
 ) -> Result<bool, Fail> {
-    let (told, came) = solve(rt, alloc, text, &settings(1, 0, audit))?;
+    let (told, came) = solve(rt, alloc, text, &settings(1, 0, 0, audit))?;
     Ok(is_told(&told, NOTHING.0, audit) && came == NOTHING.1)
 }
 
