@@ -1,6 +1,6 @@
 //! One site of a run, from its first start to its books.
 
-ghost use Rattle.std.specs.Prelude.{◌≡◌, ◌+◌, ◌≤◌, true, is_some, suc, vec_len, IfOk, IfSome};
+ghost use Rattle.std.specs.Prelude.{◌≡◌, ◌+◌, ◌≤◌, None, true, is_some, suc, vec_len, IfOk, IfSome};
 ghost use Rattle.std.specs.Vec.{vec_capacity};
 ghost use Rattle.node_core.specs.Requests.{registry};
 ghost use Rattle.run_book.specs.Sites.{opening_of, IsRun, MayBeginIn};
@@ -176,7 +176,8 @@ impl<J: Run, L: Link> SiteRun<J, L> {
     where
         J: Send + Sync,
         L: Send,
-        requires { self.old.starts ≡ 0 }
+        requires taken { self.old.link ≡ None }
+        requires none { self.old.starts ≡ 0 }
         ensures { self.new.node ≡ self.old.node }
     {
         for _start in 0..self.restarts {
@@ -196,7 +197,9 @@ impl<J: Run, L: Link> SiteRun<J, L> {
     where
         J: Send + Sync,
         L: Send,
-        requires { self.old.starts ≤ self.old.restarts }
+        requires taken { self.old.link ≡ None }
+        requires left { self.old.starts ≤ self.old.restarts }
+        ensures taken { self.new.link ≡ None }
         ensures node { self.new.node ≡ self.old.node }
         ensures restarts { self.new.restarts ≡ self.old.restarts }
         ensures starts { self.new.starts ≡ self.old.starts + 1 }

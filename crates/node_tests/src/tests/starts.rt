@@ -1,8 +1,11 @@
 //! Runs in which node 1 begins anew.
 
-use super::ends::wires;
+use super::broken::{Defect, links_with};
+use super::ends::{recorded, wires};
 use super::runs::{COVERED, Came, Told, run_starts};
-use spawn_frame::{Job, Unit};
+use packet_wire::{Body, Packet};
+use spawn_frame::{Job, Site, Unit};
+use std::sync::{Arc, Mutex};
 use std::test::Fail;
 use udp_node::{Gate, Open, Plan};
 
@@ -40,12 +43,17 @@ fn a_restart_frees_the_root(rt: HostRuntime) -> Result<(), Fail> {
     Ok(())
 }
 
-/// The plans: two nodes of two workers each, whose starts are long or short.
-static TURNS: [(u64, u8); 4] = [(1_000_000, 1), (2_000, 3), (2_000, 10), (1_000, 100)];
+/// How many turns there are and restarts: a start is long or short; and whether an answer has to come.
+static TURNS: [(u64, u8, bool); 4] = [
+    (1_000_000, 1, true),
+    (2_000, 3, false),
+    (2_000, 10, false),
+    (1_000, 100, false),
+];
 
 #[test]
 fn any_number_of_restarts(rt: HostRuntime) -> Result<(), Fail> {
-    for (turns, restarts) in TURNS {
+    for (turns, restarts, answers) in TURNS {
         let plan = Plan {
             workers: 2,
             nodes: 2,
@@ -56,12 +64,43 @@ fn any_number_of_restarts(rt: HostRuntime) -> Result<(), Fail> {
         let Some(ran) = run_starts(&rt, rt.alloc(), &COVERED, plan, restarts, links, &Open) else {
             return Err(Fail::new("memory ran out"));
         };
-        assert_ne!(rt; ran.came.told, Told::Wrong, "{restarts} restarts");
-        assert_eq!(rt;
-            ran.came.books,
-            3 + usize::from(restarts),
-            "{restarts} restarts"
-        );
+        let Came { told, books } = ran.came;
+        let is_right = told == Told::Right || (told == Told::Nothing && !answers);
+        assert!(rt; is_right, "{restarts} restarts");
+        assert_eq!(rt; books, 3 + usize::from(restarts), "{restarts} restarts");
     }
+    Ok(())
+}
+
+/// How often node 1 has greeted the registry in this incarnation.
+fn greetings(sent: &[Packet], incarnation: u32) -> usize {
+    let from = Site {
+        node: 1,
+        incarnation,
+    };
+    sent.iter()
+        .filter(|packet| packet.from == from && packet.body == Body::Hello)
+        .count()
+}
+
+/// A node greets at its first receive, and at each thousandth after that.
+#[test]
+fn a_start_that_hears_nothing_ends_after_its_turns(rt: HostRuntime) -> Result<(), Fail> {
+    let alloc = rt.alloc();
+    let plan = Plan {
+        turns: 2_000,
+        quiet: u64::MAX,
+        ..PLAN
+    };
+    let sent = Arc::new(alloc, Mutex::new(Vec::new(alloc)))?;
+    let mute = links_with(alloc, plan.nodes, 0, Defect::Mute)?;
+    let links = recorded(alloc, mute, &sent)?;
+    let Some(ran) = run_starts(&rt, alloc, &COVERED, plan, 1, links, &Open) else {
+        return Err(Fail::new("memory ran out"));
+    };
+    assert_eq!(rt; ran.came.told, Told::Nothing);
+    let sent = sent.lock(&rt);
+    assert_eq!(rt; greetings(&sent, 1), 1, "the first start");
+    assert!(rt; greetings(&sent, 2) > 1, "the last start");
     Ok(())
 }

@@ -43,7 +43,7 @@ fn publishes<R: Abort>(rt: &R, alloc: Global, node: u8, before: usize) -> bool {
     let mut rng = Pcg32::seed_from_u64(1);
     simulate(&mut world, &mut rng, 1, 0, 0).expect(rt, "memory");
     match world.published() {
-        Some(Answer::Cover(options)) => options.as_slice() == [0, 3, 4],
+        Some(Answer::Cover(options)) => options.as_slice() == [0, 3, 4].as_slice(),
         _ => false,
     }
 }
