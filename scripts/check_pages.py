@@ -1,20 +1,22 @@
 #!/usr/bin/env python3
-"""Checks that what the pages name is there.
+"""Checks the pages: the names in them, their links, words, lengths and tables of options.
 
     python3 scripts/check_pages.py [PAGE ..]
 
-Without words it reads every page (*.md) of the repository. In each it looks at what stands in backquotes, outside of blocks
-of code:
+Without a PAGE it checks every page (*.md) of the repository. Names are read in backquotes, outside of blocks of code:
 
-- a word with `_`, or with a capital and a small letter, has to stand in the code as a whole word;
-- of `crate::name` the name has to stand in that crate, and of `Type::name` both words in one file;
-- on the page of a crate a small word in brackets has to be the name of a clause there;
-- a path has to be that of a file or folder, from the top or from some folder on; a file of definitions may lack its ending.
+- a word with `_`, or with a capital and a small letter, is a whole word of the code;
+- in `crate::name` the name is in that crate, and in `Type::name` both words are in one file;
+- on the page of a crate, a small word in brackets is the name of a clause there;
+- a path is that of a file or folder, from the top or from some folder on; a file of definitions may lack its ending.
 
-Words of capitals alone are taken for places that a reader fills in, and what a build makes (`out`) is passed over. The
-target of each link that is no address has to be there, and its heading too. The code is what stands in crates,
-scripts, bench and examples, but for pages, bugs and the comments of Rattle; the names of files count too. Each name that isn't
-there is printed with its page and line, and a last line counts them. The exit status is 1 if there is any, else 0.
+Words of capitals alone are places that a reader fills in. The code is what is in crates, scripts, bench and examples, without pages,
+bugs and the comments of Rattle; names of files count too.
+
+The target of each link exists, and its heading. Outside of code no page uses a word of REFUSED, and none is longer than LIMITS says.
+The options in the tables of README, SOLVE and SIMULATE are those of the program's help.
+
+Each mistake is printed with its page and line, and a last line counts them. The exit status is 1 if there is any, else 0.
 """
 import argparse
 import glob
@@ -26,8 +28,21 @@ TOP = os.path.dirname(os.path.dirname(os.path.abspath(__file__)))
 CODE = ("crates", "scripts", "bench", "examples")
 PASSED = {".git", "out", "__pycache__"}
 ENDINGS = (".md", ".rt", ".antt", ".py", ".dlx", ".edit", ".csv", ".svg", ".c", ".txt")
-# what is of the system or the language, and need not be here
+# of the system or the language, so not in the code
 KNOWN = {"/dev/stdin"}
+# words that no page uses
+REFUSED = ("tells", "stands", "anew", "want of memory", "of which no clause speaks", "comes to", "told by")
+# how many words a page may have, and the pages of all crates together
+LIMITS = {
+    "README.md": 1050, "CONTRIBUTING.md": 1000,
+    "docs/PROMISES.md": 1700, "docs/PROTOCOL.md": 2500, "docs/SOLVE.md": 1150, "docs/DEFINITIONS.md": 650, "docs/GATE.md": 260,
+    "docs/DECISIONS.md": 2900, "docs/FORMAT.md": 1500, "docs/SIMULATE.md": 1000,
+    "bench/README.md": 1250, "bench/TRIED.md": 400, "examples/README.md": 2250,
+}
+CRATE_LIMIT, CRATES_LIMIT = 550, 6900
+# the command whose options a page's table lists, and the file that has the help
+TABLES = {"docs/SOLVE.md": "solve", "docs/SIMULATE.md": "simulate"}
+COMMANDS = "crates/command_line/src/commands.rt"
 
 
 def all_paths():
@@ -159,9 +174,8 @@ def found_in(prose, pattern):
         yield prose.count("\n", 0, found.start()) + 1, found[1]
 
 
-def missing_in(page, repository):
+def missing_in(page, prose, repository):
     """What a page names that isn't there, with the number of the line."""
-    prose = prose_of(page)
     for number, quoted in found_in(prose, r"`((?:[^`\n]|\n(?!\n))+)`"):
         for name, path in named_in(quoted):
             if not (repository.has_path(name) if path else repository.has_name(name)):
@@ -175,19 +189,94 @@ def missing_in(page, repository):
             yield number, target
 
 
+def refused_in(prose):
+    """The words of a page that nobody would say, with the number of the line."""
+    plain = re.sub(r"`(?:[^`\n]|\n(?!\n))+`", lambda quoted: "\n" * quoted[0].count("\n"), prose)
+    words = "|".join(re.sub(" ", r"\\s+", word) for word in REFUSED)
+    for number, word in found_in(plain, rf"(?i)\b({words})\b"):
+        yield number, f'"{" ".join(word.split())}" is no plain English'
+
+
+def length_of(page):
+    """How many words a page has."""
+    with open(page, encoding="utf-8") as file:
+        return len(file.read().split())
+
+
+def limit_of(name):
+    """How many words a page may have, if there is a limit."""
+    return CRATE_LIMIT if re.fullmatch(r"crates/\w+/README\.md", name) else LIMITS.get(name)
+
+
+def lengths_in(page, name):
+    """A page that is too long."""
+    limit, length = limit_of(name), length_of(page)
+    if limit and length > limit:
+        yield 1, f"{length} words, more than {limit}"
+
+
+def options_of(function, bodies):
+    """The options that a function of the program's help adds, with those of the functions that it calls."""
+    body = bodies[function]
+    called = set(re.findall(r"\b(\w+)\(", body)) & set(bodies) - {function}
+    own = re.findall(r'\.long\("([\w-]+)"\)|_argument\(\s*alloc,\s*"([\w-]+)"', body)
+    return {name for pair in own for name in pair if name}.union(*(options_of(other, bodies) for other in called))
+
+
+def options_in_help():
+    """The options of each subcommand, as the code of the help has them."""
+    with open(os.path.join(TOP, COMMANDS), encoding="utf-8") as file:
+        parts = re.split(r"^(?:pub )?fn (\w+)", file.read(), flags=re.MULTILINE)
+    bodies = dict(zip(parts[1::2], parts[2::2]))
+    return {name[:-8]: options_of(name, bodies) for name in bodies if name.endswith("_command")}
+
+
+def options_in_page(page, name):
+    """The options of each subcommand in the tables of a page, with the number of the line."""
+    with open(page, encoding="utf-8") as file:
+        text = file.read()
+    if name in TABLES:
+        yield 1, TABLES[name], set(re.findall(r"^\| `--([\w-]+)`", text, re.MULTILINE))
+    elif name == "README.md":
+        for number, row in found_in(text, r"(?m:^)\| `solve_cli (\w+ [^`]*)`"):
+            yield number, row.split()[0], set(re.findall(r"--([\w-]+)", row))
+
+
+def options_wrong_in(page, name):
+    """Options in a page's tables that the help lacks, or the other way round."""
+    helped = options_in_help()
+    for number, command, options in options_in_page(page, name):
+        for option in sorted(options ^ helped.get(command, set())):
+            yield number, f"--{option} of {command} is not in the {'help' if option in options else 'table'}"
+
+
+def mistakes_in(page, repository):
+    """The names of a page that aren't there, and its other mistakes, each with the number of the line."""
+    name = os.path.relpath(page, TOP).replace(os.sep, "/")
+    prose = prose_of(page)
+    names = list(missing_in(page, prose, repository))
+    others = [*refused_in(prose), *lengths_in(page, name), *options_wrong_in(page, name)]
+    return names, others
+
+
 def main():
     parser = argparse.ArgumentParser(description=__doc__, formatter_class=argparse.RawDescriptionHelpFormatter)
     parser.add_argument("pages", nargs="*", metavar="PAGE", help="a page to read, in place of all")
     given = parser.parse_args().pages
     repository = Repository()
     pages = given or [os.path.join(TOP, path) for path in sorted(repository.paths) if path.endswith(".md")]
-    missing = 0
+    missing, wrong = 0, 0
     for page in pages:
-        for number, name in missing_in(page, repository):
-            print(f"{os.path.relpath(page, TOP)}:{number}: {name}")
-            missing += 1
-    print(f"{len(pages)} pages, {missing} names that are not there")
-    return 1 if missing else 0
+        names, others = mistakes_in(page, repository)
+        for number, what in sorted(names + others):
+            print(f"{os.path.relpath(page, TOP)}:{number}: {what}")
+        missing, wrong = missing + len(names), wrong + len(others)
+    together = sum(map(length_of, glob.glob(os.path.join(TOP, "crates", "*", "README.md"))))
+    if together > CRATES_LIMIT and not given:
+        print(f"crates/*/README.md: {together} words, more than {CRATES_LIMIT}")
+        wrong += 1
+    print(f"{len(pages)} pages, {missing} names that are not there, {wrong} other mistakes")
+    return 1 if missing or wrong else 0
 
 
 if __name__ == "__main__":
