@@ -1,11 +1,17 @@
 //! `solve` over sockets: the texts of its answers, and that it comes to answers and its audits are clean, which no contract says.
 //!
-//! Of the bugs of `cover_engines` that are kept outside the gate, `most_runs_answer` finds `always_no_answer`.
+//! Of the bugs of `cover_engines` that are kept outside the gate, `most_runs_answer` finds `always_no_answer`, and
+//! `a_restarted_node_has_a_book_of_each_start` finds `restarts_are_not_handed_on`.
 
-use cover_engines::{links, solve_problem};
+ghost use Rattle.std.specs.Prelude.{◌≡◌};
+
+use cover_engines::{links, solve_engine, solve_problem};
+use cover_problem::Problem;
 use dlx_reader::{CountedWriter, read_problem};
+use run_book::Run;
 use run_settings::{Mode, Settings};
 use std::alloc::Global;
+use std::marker::Brand;
 use std::net::Net;
 use std::process::Abort;
 use std::sync::Wait;
@@ -133,6 +139,30 @@ fn the_books_of_runs_are_clean(rt: HostRuntime) -> Result<(), Fail> {
 #[test]
 fn the_books_of_restarted_runs_are_clean(rt: HostRuntime) -> Result<(), Fail> {
     most_answer(&rt, rt.alloc(), 3, true)
+}
+
+/// How many books a run of the problem leaves.
+fn count_books<J: Run + Send + Sync, R: Threads + Wait + Clock + Net + Sync>(
+    rt: &R,
+    alloc: Global,
+    settings: &Settings<'_>,
+    problem: &Problem,
+) -> Result<usize, Fail>
+    requires problem { problem.now ≡ J.run.problem }
+    requires nodes { settings.now.nodes ≡ J.run.nodes }
+{
+    let links = links(rt, alloc, settings.nodes)?;
+    let end = solve_engine::<J, _, _, R>(rt, alloc, settings, problem, links, &Open)?;
+    Ok(end.books.len())
+}
+
+#[test]
+fn a_restarted_node_has_a_book_of_each_start(rt: HostRuntime) -> Result<(), Fail> {
+    let read = read_problem(rt.alloc(), ROWS[0].0.as_bytes())?;
+    let settings = settings(1, 1_000_000, 3, false);
+    let books = count_books::<Brand, _>(&rt, rt.alloc(), &settings, &read.problem)?;
+    assert_eq!(rt; books, 5 + 3);
+    Ok(())
 }
 
 /// Whether a run without turns tells that no answer came.

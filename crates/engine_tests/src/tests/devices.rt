@@ -1,4 +1,7 @@
 //! What is told where devices fail or memory is refused.
+//!
+//! Of the bugs of `cover_engines` that are kept outside the gate, `a_writer_that_fails_at_each_byte` finds
+//! `failed_write_is_told_as_memory`.
 
 use super::texts::LETTERS;
 use super::told::Told;

@@ -1,4 +1,7 @@
-//! Runs over links of which one has a defect: they end soon, and report what went wrong.
+//! Runs over links of which one has a defect: they end soon, and report what went wrong, or go on where they can.
+//!
+//! Of the bugs of `udp_node` that are kept outside the gate, `a_link_may_fail_once` finds `one_failed_receive_ends_a_site` and
+//! `a_failed_send_ends_the_sender`, and `numbers_of_a_site_with_a_defect` finds `ends_after_99_failed_receives`.
 
 use super::broken::{Defect, links_with};
 use super::fails_once::{AfterFault, Fault, links_that_fail};
