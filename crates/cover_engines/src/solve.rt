@@ -34,7 +34,7 @@ pub struct SolveEnd<J: Run> {
 }
 
 /// Lets the registry and as many nodes as the settings have search a problem over these links, the registry's first, each with
-/// threads of its own; node 1 begins anew as often as they have restarts. The only fault is `Memory`: the run itself ran out of it,
+/// threads of its own; node 1 restarts as often as they say. The only fault is `Memory`: the run itself ran out of it,
 /// or a site did and there is no answer.
 pub fn solve_engine<
     J: Run + Send + Sync,

@@ -1,10 +1,10 @@
--- Starts of a node that begins anew: the plan of each, and their books.
+-- Starts of a node that restarts: the plan of each, and their books.
 use Rattle.std.specs.Prelude.{◌≡◌, ℕ, suc, ◌/◌, ◌==◌, ◌&&◌, nat_le, Bool, if◌then◌else◌, List, [], ◌∷◌}
 use Rattle.run_book.specs.Books.{BookView}
 use Rattle.udp_node.specs.declared.plan.Plan.{Plan}
 
--- the plan of each start of a site that starts so many times more than once: its turns are shared evenly, rounded down; once the
--- search was over at an earlier start, a later one gives up at its first receive without a packet
+-- the plan of each start of a site that restarts so many times: the turns are shared evenly, rounded down; once the search is over at
+-- a start, a later one gives up at its first receive without a packet
 abbrev pub start_plan : Plan → ℕ → Bool → Plan
 start_plan plan restarts is_over = record plan { turns = plan.turns / suc restarts; quiet = if is_over then 1 else plan.quiet }
 

@@ -46,8 +46,8 @@ enum Task<L: Link> {
 }
 
 impl<L: Link> Task<L> {
-    /// How many turns it may take, and in how many more it may wait. At a site that begins anew the one that receives waits in none
-    /// more: with so many waits a start would last for hours.
+    /// How many turns it may take, and in how many more it may wait. In a start that another follows, the one that receives waits in
+    /// none more: else the start would last for hours.
     fn limits(&self, turns: u64, is_last: bool) -> Limits {
         match self {
             Task::Work(_) => Limits::new(turns, REST),

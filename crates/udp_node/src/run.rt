@@ -26,7 +26,7 @@ use std::time::Clock;
 pub struct RunEnd<J: Run> {
     /// What the registry published, by its book; nothing where it published nothing, or its book is not there.
     pub answer: Option<Answer>,
-    /// The books of the sites that closed, the registry's first and the nodes' in their order; of a node that began anew one of each
+    /// The books of the sites that closed, the registry's first and the nodes' in their order; of a node that restarted, one of each
     /// start.
     pub books: Vec<Book<J>>,
     /// How each site ended, the registry first and the nodes in their order.
@@ -36,9 +36,9 @@ pub struct RunEnd<J: Run> {
 /// Runs a search over these links, one for each site and the registry's first, each site on threads of its own, until all have
 /// ended; then closes each site's cell.
 ///
-/// Node 1 begins anew so many times, each time with an empty table and the next incarnation, whatever it held; its turns are shared
-/// evenly among its starts, and in all but the last each empty receive is a turn. Its link stays open over all of them. Once the
-/// search was over at a start, the later ones give up at their first receive without a packet.
+/// Node 1 restarts so many times, each time with an empty table and the next incarnation, whatever it held. Its turns are shared
+/// evenly among its starts, and in all but the last an empty receive is a turn. Its link stays open over all of them. Once the search
+/// is over at a start, the later ones give up at their first receive without a packet.
 ///
 /// All sites end where one has failed: with any cause but that the search is over, once a thread of each kind has begun there. A site
 /// that had no memory to start or to close has no book. The only error is want of memory for the run itself: for the list of its
@@ -86,7 +86,7 @@ pub fn run_sites<
     })
 }
 
-/// The sites before they run, each with its link; node 1 begins anew so many times. The only error is want of memory.
+/// The sites before they run, each with its link; node 1 restarts so many times. The only error is want of memory.
 fn runs_for<J: Run, L: Link>(
     alloc: Global,
     restarts: u8,

@@ -26,7 +26,7 @@ pub struct Shared<'a, J: Run, C: Core + Drop, N: Room, G: Gate> {
     pub ended: &'a AtomicBool,
     /// How the site works.
     pub plan: Plan,
-    /// The site does not begin anew.
+    /// No start of the site follows.
     pub is_last: bool,
     /// Where memory comes from.
     pub alloc: Global,

@@ -114,7 +114,7 @@ impl SiteEnd {
 pub struct SiteRun<J: Run, L: Link> {
     pub node: u8,
     pub link: Option<L>,
-    /// How often it begins anew.
+    /// How often it restarts.
     pub restarts: u8,
     /// How many starts there were.
     pub starts: u32,
@@ -130,7 +130,7 @@ pub struct SiteRun<J: Run, L: Link> {
 }
 
 impl<J: Run, L: Link> SiteRun<J, L> {
-    /// The site of a node before it runs; node 1 begins anew so many times. The only error is want of memory.
+    /// The site of a node before it runs; node 1 restarts so many times. The only error is want of memory.
     pub fn new(alloc: Global, node: u8, restarts: u8, link: L) -> Result<SiteRun<J, L>, AllocError>
         requires { node ≤ J.run.nodes }
         ensures { IfOk result (λ site. site.node ≡ node) }

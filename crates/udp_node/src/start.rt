@@ -3,17 +3,17 @@ ghost use Rattle.udp_node.specs.Starts.{start_plan};
 
 use crate::plan::Plan;
 
-/// One start of a site: a node may end and begin anew, with an empty table and the next incarnation.
+/// One start of a site. A node that restarts has several, each with an empty table and the next incarnation.
 #[derive(Clone, Copy, Debug, PartialEq, Eq)]
 pub struct Start {
     /// How the site works in it.
     pub plan: Plan,
-    /// The site does not begin anew. Else each empty receive is one of its turns, so that this start ends.
+    /// No start follows. Else an empty receive is one of the turns, so that this start ends in time.
     pub is_last: bool,
 }
 
 impl Start {
-    /// The one start of a site that doesn't begin anew.
+    /// The only start of a site.
     pub fn only(plan: Plan) -> Start
         ensures { result.plan ≡ plan }
     {
@@ -23,7 +23,8 @@ impl Start {
         }
     }
 
-    /// A start of a site with this plan, which begins anew so many times; whether the search was over at an earlier start.
+    /// A start of a site that has this plan and restarts so many times: whether the search was over at an earlier start, and whether
+    /// it is the last one.
     pub fn of(plan: Plan, restarts: u8, is_over: bool, is_last: bool) -> Start
         ensures { result.plan ≡ start_plan plan restarts is_over }
     {

@@ -85,7 +85,7 @@ pub fn run_whole<L: Link + Send, G: Gate + Sync, R: Threads + Wait + Clock + Syn
     run_starts(rt, alloc, row, plan, 0, links, gate)
 }
 
-/// The same where node 1 begins anew so many times.
+/// The same where node 1 restarts so many times.
 pub fn run_starts<L: Link + Send, G: Gate + Sync, R: Threads + Wait + Clock + Sync>(
     rt: &R,
     alloc: Global,

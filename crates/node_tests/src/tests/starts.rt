@@ -1,4 +1,4 @@
-//! Runs in which node 1 begins anew.
+//! Runs in which node 1 restarts.
 //!
 //! Of the bugs of `udp_node` that are kept outside the gate, `a_restart_frees_the_root` finds `no_node_is_restarted`,
 //! `any_number_of_restarts` finds `books_of_later_starts_are_lost`, and `a_start_that_hears_nothing_ends_after_its_turns` finds
