@@ -100,7 +100,8 @@ fn runs_for<J: Run, L: Link>(
     let mut runs = Vec::with_capacity(alloc, links.len())?;
     for link in links {
         let node = runs.len() as u8;
-        runs.push(SiteRun::new(alloc, node, restarts, link)?)?;
+        let site = SiteRun::new(alloc, node, restarts, link)?;
+        runs.push(site)?;
     }
     Ok(runs)
 }
@@ -145,8 +146,9 @@ fn gathered<J: Run, L: Link>(
 
 /// The books with these after them. The only error is want of memory.
 fn with_all<J: Run>(mut books: Vec<Book<J>>, own: Vec<Book<J>>) -> Result<Vec<Book<J>>, AllocError>
+    requires { All (IsBook J.run) books.items }
     ensures more { IfOk result (λ more. more.items ≡ books.items ++ own.items) }
-    ensures books { IfOk result (λ _. All (IsBook J.run) own.items) }
+    ensures books { IfOk result (λ more. All (IsBook J.run) more.items) }
 {
     for book in own {
         // (for what the getter says: that it is a book of the run)

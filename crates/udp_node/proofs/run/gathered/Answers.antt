@@ -1,8 +1,6 @@
 use Rattle.std.proofs.Common.{rules, ◌≡◌, true, suc, ◌++◌, ◌∷◌, [], length, arith, refl, subst}
 use Rattle.std.proofs.lemmas.List.{length_push}
-use Rattle.std.proofs.lemmas.List.Elements.{All-append}
 use Rattle.std.specs.Vec.Iter.{into_iter_items}
-use Rattle.run_book.specs.Books.{IsBook}
 use Rattle.udp_node.specs.Starts.{are_starts}
 use Rattle.udp_node.proofs.Gathering.{AreGathered, NumberedFrom, before_next_node, gathered_all, numbered_from}
 use Rattle.udp_node.proofs.run.gathered.Goals as goal
@@ -22,18 +20,18 @@ loop-site-preserved g c =
     let site = c.in-Some.site in
     let here = length c.loop-site.yielded in
     let books = c.loop-site.books.items in
-    let own = c.into_end.result.0.items in
+    let own = c.into_end-own.result.0.items in
     let first : into_iter_items c.loop-site.site-iterator ≡ site ∷ into_iter_items c.next.new.self = search rules in
     let rest : NumberedFrom (λ site. site.node) here (site ∷ into_iter_items c.next.new.self) = rw first at i.rest in
     let next : length (c.loop-site.yielded ++ site ∷ []) ≡ suc here = omega (arith, length_push c.loop-site.yielded site) in
     let more = c.in_ok-books.ensures in
-    let starts : are_starts here 1 (suc (suc site.starts)) own ≡ true = rw rest.0 at c.into_end.ensures in
-    let all = gathered_all here 1 (suc (suc site.starts)) books own i.gathered starts in
+    let starts : are_starts here 1 (suc site.starts) own ≡ true = rw rest.0 at c.into_end-own.ensures in
+    let all = gathered_all here 1 (suc site.starts) books own i.gathered starts in
     record {
       rest = rw next rest.1;
       gathered = rw (next, more.more) (record {
-        before = before_next_node here (suc (suc site.starts)) 1 (books ++ own) all.before;
+        before = before_next_node here (suc site.starts) 1 (books ++ own) all.before;
         distinct = all.distinct;
       });
-      books = rw more.more (All-append (IsBook g.J.Run.run) books own i.books more.books);
+      books = more.books;
     }

@@ -8,5 +8,5 @@ abbrev pub invariant-loop-book : goal.invariant-loop-book
 invariant-loop-book g l = record {
   so_far : l.books.items ≡ l.fn.books.items ++ l.yielded;
   all : l.yielded ++ into_iter_items l.book-iterator ≡ l.fn.own.items;
-  books : All (IsBook g.J.Run.run) l.yielded;
+  books : All (IsBook g.J.Run.run) l.books.items;
 }

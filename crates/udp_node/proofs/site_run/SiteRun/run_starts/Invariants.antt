@@ -1,5 +1,5 @@
 use Rattle.std.proofs.Common.{◌≡◌, None}
-use Rattle.udp_node.proofs.site_run.run_starts.Given as goal
+use Rattle.udp_node.proofs.site_run.SiteRun.run_starts.Given as goal
 
 abbrev pub invariant-loop-_start : goal.invariant-loop-_start
 invariant-loop-_start g l = record {
