@@ -8,8 +8,8 @@ use spawn_frame::Site;
 use std::alloc::Global;
 use std::test::Fail;
 
-/// What an audit found, whether an answer was published, what is written, and the status.
-type Row = (Finding, Option<Answer>, &'static str, u8);
+/// What an audit found, whether it was published that there is no cover, what is written, and the status.
+type Row = (Finding, bool, &'static str, u8);
 
 const REGISTRY: Site = Site {
     node: 0,
@@ -23,33 +23,38 @@ const NODE: Site = Site {
 };
 
 static ROWS: [Row; 5] = [
-    (Ok(Clean), None, "no answer\naudit clean\n", 4),
-    (Ok(Clean), Some(Answer::NoCover), "none\naudit clean\n", 1),
+    (Ok(Clean), false, "no answer\naudit clean\n", 4),
+    (Ok(Clean), true, "none\naudit clean\n", 1),
     (
         Err(Unclean::MissingBook(NODE)),
-        None,
+        false,
         "no answer\naudit unclean: MissingBook node 16 incarnation 4294967295\n",
         6,
     ),
     (
         Err(Unclean::MissingBook(REGISTRY)),
-        Some(Answer::NoCover),
+        true,
         "none\naudit unclean: MissingBook node 0 incarnation 1\n",
         6,
     ),
     (
         Err(Unclean::NeverSent(REGISTRY, 1_000_000)),
-        Some(Answer::NoCover),
+        true,
         "none\naudit unclean: NeverSent node 0 incarnation 1 place 1000000\n",
         6,
     ),
 ];
 
 /// Whether the row's text is written, with its status.
-fn is_written(alloc: Global, (found, published, text, status): &Row) -> Result<bool, Fail> {
+fn is_written(alloc: Global, (found, is_none, text, status): &Row) -> Result<bool, Fail> {
     let read = read_problem(alloc, b"a\n")?;
     let mut out = Vec::new(alloc);
     let mut sink = CountedWriter::new(&mut out);
+    let published = if *is_none {
+        Some(Answer::NoCover)
+    } else {
+        None
+    };
     let came = write_audited(alloc, &read.problem, published.as_ref(), *found, &mut sink)?;
     Ok(came == *status && out.as_slice() == text.as_bytes())
 }

@@ -1,0 +1,57 @@
+#!/usr/bin/env python3
+"""Times audits of the books of real runs.
+
+    python3 bench/audits.py
+
+Four and sixteen nodes of one worker search queens on a torus over links in memory, one visit a search, so that their books grow long:
+boards of 10, 12 and 14 rows give some 10,000, 100,000 and 1,000,000 entries. The table has the number of books and of entries, the seconds of
+the audit, the megabytes of the run with its books, and those that the audit adds: the greatest memory of a run with an audit less
+that of one without.
+
+It wants the program: (cd crates/audit_trials && rt run) builds it. The exit status is 0, 1 where an audit is unclean, or 2 for a
+fault of the command line or where the program is missing.
+"""
+import os
+import subprocess
+import sys
+import tempfile
+
+HERE = os.path.dirname(os.path.abspath(__file__))
+sys.path.insert(0, os.path.join(HERE, "..", "scripts"))
+from built import parser_of, program_of, want_program  # noqa: E402
+from instances import generate, torus_queens  # noqa: E402
+
+PROGRAM = program_of("audit_trials")
+ROWS = [10, 12, 14]
+NODES = [4, 16]
+
+
+def run(file, nodes, what):
+    """What a run prints, and its greatest memory in megabytes."""
+    process = subprocess.Popen([PROGRAM, file, str(nodes), "1", "1", "1", "100000000", what], stdout=subprocess.PIPE, text=True)
+    text = process.stdout.read()
+    _, status, usage = os.wait4(process.pid, 0)
+    process.returncode = os.waitstatus_to_exitcode(status)
+    return text.split(maxsplit=3), usage.ru_maxrss / 1024
+
+
+def main():
+    parser_of(__doc__).parse_args()
+    want_program(PROGRAM, "audit_trials")
+    print("| Books | Entries | Seconds | MB of the run | MB of the audit |")
+    print("|---|---|---|---|---|")
+    is_clean = True
+    with tempfile.TemporaryDirectory() as folder:
+        generate.HERE, file = folder, os.path.join(folder, "torus.dlx")
+        for rows in ROWS:
+            torus_queens("torus.dlx", rows)
+            for nodes in NODES:
+                _, plain = run(file, nodes, "nothing")
+                (books, entries, time, found), audited = run(file, nodes, "time")
+                is_clean = is_clean and found.strip() == "Ok(Clean)"
+                print(f"| {books} | {int(entries):,} | {int(time) / 1e9:.3f} | {plain:,.0f} | {audited - plain:,.0f} |", flush=True)
+    sys.exit(0 if is_clean else 1)
+
+
+if __name__ == "__main__":
+    main()
