@@ -8,6 +8,9 @@ right, and of the two small problems the answer's text is known. With no turns a
 problem by problem, how many runs answered, how many were wrong, and the least, the middle and the greatest time in seconds. With
 --audit each run is audited, and one whose audit isn't clean is wrong.
 
+Where no file is named, the two small problems and three of the examples are solved once more with 0, 1, 3 and 100 restarts of the
+first node, and with so few turns that restarts fall into the runs.
+
 It wants the program: (cd crates/solve_cli && rt run) builds it. The exit status is 0 where no run was wrong (one without an
 answer is none), 1 where one was or took longer than the limit, 2 for a fault of the command line or where there is no program.
 """
@@ -26,6 +29,10 @@ SMALL = [
     ("letters, with a cover", LETTERS, "cover 3\nc e\na d f\nb g\n"),
     ("letters, without", LETTERS.replace("b g\n", ""), "none\n"),
 ]
+
+RESTARTED = ["mutilated-chessboard.dlx", "pentominoes-6x10.dlx", "queens-8.dlx"]
+RESTARTS = ["0", "1", "3", "100"]
+FEW_TURNS = "5000"
 
 
 def words():
@@ -66,11 +73,11 @@ def answer_of(run, given):
     return answer if clean and not rest else None
 
 
-def solved(file, seed, given, expected, answer_file):
-    """The time, whether there was an answer, and whether the run was wrong."""
+def solved(file, seed, given, expected, answer_file, more):
+    """The time, whether there was an answer, and whether the run was wrong; with these options more."""
     options = ["--seed", str(seed), "--nodes", given.nodes, "--workers", given.workers, "--fuel", given.fuel]
     begun = time.monotonic()
-    run = output([SOLVE_CLI, "solve", file, *options, *audit_option(given)], given.limit)
+    run = output([SOLVE_CLI, "solve", file, *options, *more, *audit_option(given)], given.limit)
     seconds = time.monotonic() - begun
     if run is None:
         return seconds, False, True
@@ -82,9 +89,9 @@ def solved(file, seed, given, expected, answer_file):
     return seconds, True, wrong
 
 
-def tell(name, file, given, expected, answer_file):
+def tell(name, file, given, expected, answer_file, more=()):
     """Tells of one problem's runs, and answers how many were wrong."""
-    runs = [solved(file, seed, given, expected, answer_file) for seed in range(1, given.times + 1)]
+    runs = [solved(file, seed, given, expected, answer_file, more) for seed in range(1, given.times + 1)]
     times = [seconds for seconds, _, _ in runs]
     answered = sum(answer for _, answer, _ in runs)
     wrong = sum(bad for _, _, bad in runs)
@@ -112,6 +119,16 @@ def problems(given, folder):
     return found + [(os.path.basename(file), file, None) for file in examples]
 
 
+def tell_restarted(given, found, answer_file):
+    """Tells of runs in which the first node restarts, and answers how many were wrong."""
+    wrong = 0
+    for name, file, expected in found:
+        for restarts in RESTARTS:
+            more = ["--restarts", restarts, "--turns", FEW_TURNS]
+            wrong += tell(f"{name}, {restarts} restarts", file, given, expected, answer_file, more)
+    return wrong
+
+
 def main():
     given = words()
     want_program(SOLVE_CLI)
@@ -120,11 +137,15 @@ def main():
     print("|---|---|---|---|---|---|---|")
     with tempfile.TemporaryDirectory() as folder:
         answer_file = os.path.join(folder, "answer")
-        for name, file, expected in problems(given, folder):
+        found = problems(given, folder)
+        for name, file, expected in found:
             wrong += tell(name, file, given, expected, answer_file)
             if not says_nothing_without_turns(file, given):
                 print(f"wrong: {name} with no turns")
                 wrong += 1
+        if not given.files:
+            few = [row for row in found if row[2] or row[0] in RESTARTED]
+            wrong += tell_restarted(given, few, answer_file)
     sys.exit(1 if wrong else 0)
 
 

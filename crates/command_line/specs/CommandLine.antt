@@ -47,10 +47,10 @@ abbrev pub simulate_app : App
 simulate_app =
     with_rule (with_rule (sites_app (codes "simulate")) (number_rule (codes "turns") (codes "10000"))) (number_rule (codes "restarts") (codes "0"))
 
--- the same with how long threads go on, how many there are, and whether their books are audited
+-- the same with how long threads go on, how often a node is restarted, how many threads there are, and whether the books are audited
 abbrev pub solve_app : App
 solve_app =
-    with_rule (with_rule (with_rule (sites_app (codes "solve")) (number_rule (codes "turns") (codes "1000000"))) (number_rule (codes "workers") (codes "2"))) (flag_rule (codes "audit"))
+    with_rule (with_rule (with_rule (with_rule (sites_app (codes "solve")) (number_rule (codes "turns") (codes "1000000"))) (number_rule (codes "restarts") (codes "0"))) (number_rule (codes "workers") (codes "2"))) (flag_rule (codes "audit"))
 
 -- a command that wants one of its subcommands
 abbrev pub wanting_subcommand : App → App

@@ -164,6 +164,12 @@ fn solve_command<'a>(alloc: Global) -> Result<Command<'a>, AllocError>
         "1000000",
         "How many turns a thread takes, up to 10000000",
     );
+    let restarts = number_argument(
+        alloc,
+        "restarts",
+        "0",
+        "How often node 1 is restarted, up to 100",
+    );
     let workers = number_argument(alloc, "workers", "2", "How many workers a node has, 1 to 8");
     let audit = flag_argument(
         alloc,
@@ -172,6 +178,7 @@ fn solve_command<'a>(alloc: Global) -> Result<Command<'a>, AllocError>
     );
     sites_command(alloc, "solve", about)?
         .arg(turns)?
+        .arg(restarts)?
         .arg(workers)?
         .arg(audit)
 }

@@ -77,7 +77,7 @@ pub fn turns(inner: &ArgMatches<'_>) -> Option<u32>
     Some(turns as u32)
 }
 
-/// How many restarts are drawn, up to 100.
+/// How many restarts there are, up to 100.
 pub fn restarts(inner: &ArgMatches<'_>) -> Option<u32>
     ensures given { IfSome result
         (SpellsOr 0 (first_value (found_of inner.now) (codes "restarts"))) }

@@ -34,7 +34,8 @@ pub struct SolveEnd<J: Run> {
 }
 
 /// Lets the registry and as many nodes as the settings have search a problem over these links, the registry's first, each with
-/// threads of its own. The only fault is `Memory`: the run itself ran out of it, or a site did and there is no answer.
+/// threads of its own; node 1 restarts as often as they say. The only fault is `Memory`: the run itself ran out of it,
+/// or a site did and there is no answer.
 pub fn solve_engine<
     J: Run + Send + Sync,
     L: Link + Send,
@@ -62,7 +63,8 @@ pub fn solve_engine<
         turns: u64::from(settings.turns),
         quiet: QUIET,
     };
-    let Ok(end) = run_sites(rt, alloc, problem, plan, links, gate) else {
+    let restarts = settings.restarts as u8;
+    let Ok(end) = run_sites(rt, alloc, problem, plan, restarts, links, gate) else {
         return Err(EngineFault::Memory);
     };
     if end.answer.is_none() && has_starved(&end.sites) {

@@ -3,6 +3,7 @@
 mod broken;
 mod ends;
 mod failing;
+mod fails_once;
 mod held_gate;
 mod loss;
 mod order;
@@ -11,5 +12,6 @@ mod plain;
 mod recorder;
 mod runs;
 mod sending;
+mod starts;
 mod strangers;
 mod wild;

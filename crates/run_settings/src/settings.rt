@@ -38,7 +38,7 @@ pub struct Settings<'a> {
     pub workers: u8,
     /// How many turns a simulation, or each thread, may take, up to 10,000,000.
     pub turns: u32,
-    /// How many restarts may be drawn, up to 100.
+    /// How many restarts a simulation may draw, or how often node 1 is restarted in a run over sockets; up to 100.
     pub restarts: u32,
     /// Whether the books of a run are audited.
     pub audit: bool,

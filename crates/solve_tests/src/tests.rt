@@ -1,11 +1,17 @@
 //! `solve` over sockets: the texts of its answers, and that it comes to answers and its audits are clean, which no contract says.
 //!
-//! Of the bugs of `cover_engines` that are kept outside the gate, `most_runs_answer` finds `always_no_answer`.
+//! Of the bugs of `cover_engines` that are kept outside the gate, `most_runs_answer` finds `always_no_answer`, and
+//! `a_restarted_node_has_a_book_of_each_start` finds `restarts_are_not_handed_on`.
 
-use cover_engines::{links, solve_problem};
+ghost use Rattle.std.specs.Prelude.{◌≡◌};
+
+use cover_engines::{links, solve_engine, solve_problem};
+use cover_problem::Problem;
 use dlx_reader::{CountedWriter, read_problem};
+use run_book::Run;
 use run_settings::{Mode, Settings};
 use std::alloc::Global;
+use std::marker::Brand;
 use std::net::Net;
 use std::process::Abort;
 use std::sync::Wait;
@@ -40,8 +46,8 @@ const RUNS: u64 = 10;
 /// How many of them are to come to an answer at least.
 const LEAST: u64 = 5;
 
-/// The settings that the command line has by default, with this seed and so many turns, and with an audit or without.
-fn settings(seed: u64, turns: u32, audit: bool) -> Settings<'static> {
+/// The settings that the command line has by default, with this seed, so many turns and restarts, and with an audit or without.
+fn settings(seed: u64, turns: u32, restarts: u32, audit: bool) -> Settings<'static> {
     Settings {
         mode: Mode::Solve,
         file: "a.dlx",
@@ -51,7 +57,7 @@ fn settings(seed: u64, turns: u32, audit: bool) -> Settings<'static> {
         seed,
         workers: 2,
         turns: turns.min(10_000_000),
-        restarts: 0,
+        restarts: restarts.min(100),
         audit,
     }
 }
@@ -84,16 +90,19 @@ fn is_told(told: &[u8], out: &str, audit: bool) -> bool {
     }
 }
 
-/// How many runs of the row's problem came to its answer; a fault where one told anything else, but that no answer came.
+/// How many runs of the row's problem, with so many restarts, came to its answer; a fault where one told anything else, but that no
+/// answer came.
 fn answers<R: Threads + Wait + Clock + Net + Sync>(
     rt: &R,
     alloc: Global,
     (text, out, status): Row,
+    restarts: u32,
     audit: bool,
 ) -> Result<u64, Fail> {
     let mut answers = 0u64;
     for seed in 0..RUNS {
-        let (told, came) = solve(rt, alloc, text, &settings(seed, 1_000_000, audit))?;
+        let settings = settings(seed, 1_000_000, restarts, audit);
+        let (told, came) = solve(rt, alloc, text, &settings)?;
         if is_told(&told, out, audit) && came == status {
             answers = answers.saturating_add(1);
         } else if !is_told(&told, NOTHING.0, audit) || came != NOTHING.1 {
@@ -107,10 +116,11 @@ fn answers<R: Threads + Wait + Clock + Net + Sync>(
 fn most_answer<R: Abort + Threads + Wait + Clock + Net + Sync>(
     rt: &R,
     alloc: Global,
+    restarts: u32,
     audit: bool,
 ) -> Result<(), Fail> {
     for row in ROWS.iter() {
-        let answers = answers(rt, alloc, *row, audit)?;
+        let answers = answers(rt, alloc, *row, restarts, audit)?;
         assert!(rt; answers >= LEAST, "{answers} runs came to an answer");
     }
     Ok(())
@@ -118,12 +128,41 @@ fn most_answer<R: Abort + Threads + Wait + Clock + Net + Sync>(
 
 #[test]
 fn most_runs_answer(rt: HostRuntime) -> Result<(), Fail> {
-    most_answer(&rt, rt.alloc(), false)
+    most_answer(&rt, rt.alloc(), 0, false)
 }
 
 #[test]
 fn the_books_of_runs_are_clean(rt: HostRuntime) -> Result<(), Fail> {
-    most_answer(&rt, rt.alloc(), true)
+    most_answer(&rt, rt.alloc(), 0, true)
+}
+
+#[test]
+fn the_books_of_restarted_runs_are_clean(rt: HostRuntime) -> Result<(), Fail> {
+    most_answer(&rt, rt.alloc(), 3, true)
+}
+
+/// How many books a run of the problem leaves.
+fn count_books<J: Run + Send + Sync, R: Threads + Wait + Clock + Net + Sync>(
+    rt: &R,
+    alloc: Global,
+    settings: &Settings<'_>,
+    problem: &Problem,
+) -> Result<usize, Fail>
+    requires problem { problem.now ≡ J.run.problem }
+    requires nodes { settings.now.nodes ≡ J.run.nodes }
+{
+    let links = links(rt, alloc, settings.nodes)?;
+    let end = solve_engine::<J, _, _, R>(rt, alloc, settings, problem, links, &Open)?;
+    Ok(end.books.len())
+}
+
+#[test]
+fn a_restarted_node_has_a_book_of_each_start(rt: HostRuntime) -> Result<(), Fail> {
+    let read = read_problem(rt.alloc(), ROWS[0].0.as_bytes())?;
+    let settings = settings(1, 1_000_000, 3, false);
+    let books = count_books::<Brand, _>(&rt, rt.alloc(), &settings, &read.problem)?;
+    assert_eq!(rt; books, 5 + 3);
+    Ok(())
 }
 
 /// Whether a run without turns tells that no answer came.
@@ -133,7 +172,7 @@ fn is_silent<R: Threads + Wait + Clock + Net + Sync>(
     text: &str,
     audit: bool,
 ) -> Result<bool, Fail> {
-    let (told, came) = solve(rt, alloc, text, &settings(1, 0, audit))?;
+    let (told, came) = solve(rt, alloc, text, &settings(1, 0, 0, audit))?;
     Ok(is_told(&told, NOTHING.0, audit) && came == NOTHING.1)
 }
 

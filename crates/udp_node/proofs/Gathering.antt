@@ -1,15 +1,13 @@
--- Books that are gathered in the order of their nodes are of different sites.
-use Rattle.std.proofs.Common.{◌≡◌, ℕ, suc, ◌+◌, ◌<◌, true, false, not, ◌==◌, List, [], ◌∷◌, ◌++◌, length, get_or, Option, None, Some, IfSome, append-nil, arith, refl, sym, ap, subst, inl, inr, ◌∙◌}
-use Rattle.std.proofs.lemmas.Bool.{and_from, and_parts, cases_lt, eqb-true, false_from_ne_true, not-true, or_from, or_parts}
-use Rattle.std.proofs.lemmas.List.{get_or_push, length_push}
-use Rattle.std.proofs.lemmas.List.Elements.{All-push}
-use Rattle.std.specs.List.{All}
-use Rattle.std.specs.Option.{option_to_list}
+-- Books that are gathered in the order of their nodes and starts are of different sites.
+use Rattle.std.proofs.Common.{◌≡◌, ℕ, suc, ◌+◌, ◌<◌, ◌≤◌, ◌⊎◌, true, false, not, ◌&&◌, ◌==◌, leb, List, [], ◌∷◌, ◌++◌, length, get_or, append-nil, arith, refl, sym, ap, subst, inl, inr, ◌∙◌}
+use Rattle.std.proofs.lemmas.Bool.{and_from, and_parts, cases_lt, eq-eqb, eqb-true, false_from_ne_true, le-leb, leb-true, not-true, or_from, or_parts}
+use Rattle.std.proofs.lemmas.List.{append_assoc, get_or_push, length_push}
 use Rattle.std.proofs.Math.ListN.{get_or-append}
 use Rattle.run_book.specs.Books.{are_distinct, has_site, BookView}
 use Rattle.spawn_frame.specs.Names.{same_site}
 use Rattle.spawn_frame.specs.declared.site.Site.{Site}
 use Rattle.udp_node.specs.Numbers.{AreNumbered}
+use Rattle.udp_node.specs.Starts.{are_starts}
 
 -- ---- numbers
 
@@ -34,25 +32,84 @@ from_places number first (x ∷ xs) each =
 pub numbered_from : {X : Type 0} (number : X → ℕ) (xs : List X) → AreNumbered number xs → NumberedFrom number 0 xs
 numbered_from number xs each = from_places number 0 xs (λ k d h. omega (arith, each k d h))
 
--- ---- sites
+-- ---- one start
 
--- the books are of nodes below this one
-abbrev pub AreBelow : ℕ → List BookView → Type 0
-AreBelow node [] = Unit {0}
-AreBelow node (book ∷ books) = (book.site.node < node) × AreBelow node books
+start_parts : (node first next : ℕ) (book : BookView) (books : List BookView) → are_starts node first next (book ∷ books) ≡ true
+    → (book.site.node ≡ node) × (first ≤ book.site.incarnation) × (are_starts node (suc book.site.incarnation) next books ≡ true)
+start_parts node first next book books starts =
+    let rest = are_starts node (suc book.site.incarnation) next books in
+    let outer = and_parts ((book.site.node == node) && leb first book.site.incarnation) rest starts in
+    let inner = and_parts (book.site.node == node) (leb first book.site.incarnation) outer.0 in
+    (eqb-true book.site.node node inner.0, leb-true first book.site.incarnation inner.1, outer.1)
 
-below_next : (node : ℕ) (books : List BookView) → AreBelow node books → AreBelow (suc node) books
-below_next node [] below = tt
-below_next node (book ∷ books) below = (omega (arith, below.0), below_next node books below.1)
+start_from : (node first next : ℕ) (book : BookView) (books : List BookView) → book.site.node ≡ node → first ≤ book.site.incarnation
+    → are_starts node (suc book.site.incarnation) next books ≡ true → are_starts node first next (book ∷ books) ≡ true
+start_from node first next book books here at rest =
+    and_from ((book.site.node == node) && leb first book.site.incarnation) (are_starts node (suc book.site.incarnation) next books)
+    (and_from (book.site.node == node) (leb first book.site.incarnation) (eq-eqb book.site.node node here) (le-leb first book.site.incarnation at))
+    rest
 
-below_more : (node : ℕ) (books : List BookView) (book : BookView) → AreBelow node books → book.site.node ≡ node → AreBelow (suc node) (books ++ book ∷ [])
-below_more node [] book below at = (omega (arith, at), tt)
-below_more node (b ∷ books) book below at = (omega (arith, below.0), below_more node books book below.1 at)
+-- ---- starts
 
--- sites of different nodes are different
-apart : (s t : Site) → (s.node ≡ t.node → ⊥) → same_site s t ≡ false
-apart s t differ =
-    false_from_ne_true (same_site s t) (λ same. differ (eqb-true s.node t.node (and_parts (s.node == t.node) (s.incarnation == t.incarnation) same).0))
+-- there is room above the incarnations for one more
+pub starts_later : (node first next : ℕ) (books : List BookView) → are_starts node first next books ≡ true → are_starts node first (suc next) books ≡ true
+starts_later node first next [] starts = le-leb first (suc next) (omega (arith, leb-true first next starts))
+starts_later node first next (book ∷ books) starts =
+    let parts = start_parts node first next book books starts in
+    start_from node first (suc next) book books parts.0 parts.1 (starts_later node (suc book.site.incarnation) next books parts.2)
+
+-- the book of the next start
+pub starts_more : (node first next : ℕ) (books : List BookView) (book : BookView) → are_starts node first next books ≡ true → book.site.node ≡ node → book.site.incarnation ≡ next
+    → are_starts node first (suc next) (books ++ book ∷ []) ≡ true
+starts_more node first next [] book starts here at =
+    start_from node first (suc next) book [] here (omega (arith, at, leb-true first next starts)) (le-leb (suc book.site.incarnation) (suc next) (omega (arith, at)))
+starts_more node first next (b ∷ books) book starts here at =
+    let parts = start_parts node first next b books starts in
+    start_from node first (suc next) b (books ++ book ∷ []) parts.0 parts.1 (starts_more node (suc b.site.incarnation) next books book parts.2 here at)
+
+-- ---- sites in turn
+
+-- the site comes before this incarnation of this node, where books are gathered
+abbrev pub IsBefore : ℕ → ℕ → Site → Type 0
+IsBefore node next site = (site.node < node) ⊎ ((site.node ≡ node) × (site.incarnation < next))
+
+-- the books are of such sites
+abbrev pub AreBefore : ℕ → ℕ → List BookView → Type 0
+AreBefore node next [] = Unit {0}
+AreBefore node next (book ∷ books) = IsBefore node next book.site × AreBefore node next books
+
+is_before_later : (node next later : ℕ) (site : Site) → next ≤ later → IsBefore node next site → IsBefore node later site
+is_before_later node next later site h (inl below) = inl below
+is_before_later node next later site h (inr same) = inr (same.0, omega (arith, h, same.1))
+
+before_later : (node next later : ℕ) (books : List BookView) → next ≤ later → AreBefore node next books → AreBefore node later books
+before_later node next later [] h before = tt
+before_later node next later (book ∷ books) h before = (is_before_later node next later book.site h before.0, before_later node next later books h before.1)
+
+is_before_next : (node next first : ℕ) (site : Site) → IsBefore node next site → IsBefore (suc node) first site
+is_before_next node next first site (inl below) = inl (omega (arith, below))
+is_before_next node next first site (inr same) = inl (omega (arith, same.0))
+
+-- all of a node come before the next node
+pub before_next_node : (node next first : ℕ) (books : List BookView) → AreBefore node next books → AreBefore (suc node) first books
+before_next_node node next first [] before = tt
+before_next_node node next first (book ∷ books) before = (is_before_next node next first book.site before.0, before_next_node node next first books before.1)
+
+before_more : (node next : ℕ) (books : List BookView) (book : BookView) → AreBefore node next books → IsBefore node next book.site → AreBefore node next (books ++ book ∷ [])
+before_more node next [] book before is = (is, tt)
+before_more node next (b ∷ books) book before is = (before.0, before_more node next books book before.1 is)
+
+-- a site that comes before another is another one
+apart : (s t : Site) → IsBefore s.node s.incarnation t → same_site s t ≡ false
+apart s t before =
+    false_from_ne_true (same_site s t) (λ same.
+    let parts = and_parts (s.node == t.node) (s.incarnation == t.incarnation) same in
+    let node = eqb-true s.node t.node parts.0 in
+    let incarnation = eqb-true s.incarnation t.incarnation parts.1 in
+    elim before [
+      | inl below ↦ omega (arith, below, node)
+      | inr later ↦ omega (arith, later.1, incarnation)
+    ])
 
 -- a site that none of the books has, but for one more at the end
 none_more : (site : Site) (books : List BookView) (book : BookView) → has_site site books ≡ false → same_site book.site site ≡ false → has_site site (books ++ book ∷ []) ≡ false
@@ -61,29 +118,36 @@ none_more site (b ∷ books) book none other =
     let parts = or_parts (same_site b.site site) (has_site site books) none in
     or_from (same_site b.site site) (has_site site (books ++ book ∷ [])) parts.0 (none_more site books book parts.1 other)
 
-distinct_more : (node : ℕ) (books : List BookView) (book : BookView) → AreBelow node books → book.site.node ≡ node → are_distinct books ≡ true
+distinct_more : (books : List BookView) (book : BookView) → AreBefore book.site.node book.site.incarnation books → are_distinct books ≡ true
     → are_distinct (books ++ book ∷ []) ≡ true
-distinct_more node [] book below at distinct = refl
-distinct_more node (b ∷ books) book below at distinct =
+distinct_more [] book before distinct = refl
+distinct_more (b ∷ books) book before distinct =
     let parts = and_parts (not (has_site b.site books)) (are_distinct books) distinct in
     let none : has_site b.site books ≡ false = not-true (has_site b.site books) parts.0 in
-    let other : same_site book.site b.site ≡ false = apart book.site b.site (λ same. omega (arith, at, below.0, same)) in
+    let other : same_site book.site b.site ≡ false = apart book.site b.site before.0 in
     and_from (not (has_site b.site (books ++ book ∷ []))) (are_distinct (books ++ book ∷ []))
     (ap not (none_more b.site books book none other))
-    (distinct_more node books book below.1 at parts.1)
+    (distinct_more books book before.1 parts.1)
 
--- ---- a book more, where there is one
+-- ---- the books of a node's starts after those before them
 
-pub below_with : (node : ℕ) (books : List BookView) (book : Option BookView) → AreBelow node books → IfSome book (λ b. b.site.node ≡ node)
-    → AreBelow (suc node) (books ++ option_to_list book)
-below_with node books None below at = subst (AreBelow (suc node)) (sym (append-nil books)) (below_next node books below)
-below_with node books (Some book) below at = below_more node books book below at
+-- What is known of the books that were gathered so far: they are of different sites, all before this one.
+pub record AreGathered (node next : ℕ) (books : List BookView) : Type 0 where
+  pub before : AreBefore node next books
+  pub distinct : are_distinct books ≡ true
 
-pub distinct_with : (node : ℕ) (books : List BookView) (book : Option BookView) → AreBelow node books → IfSome book (λ b. b.site.node ≡ node)
-    → are_distinct books ≡ true → are_distinct (books ++ option_to_list book) ≡ true
-distinct_with node books None below at distinct = ap are_distinct (append-nil books) ∙ distinct
-distinct_with node books (Some book) below at distinct = distinct_more node books book below at distinct
-
-pub all_with : (P : BookView → Type 0) (books : List BookView) (book : Option BookView) → All P books → IfSome book P → All P (books ++ option_to_list book)
-all_with P books None all is = subst (All P) (sym (append-nil books)) all
-all_with P books (Some book) all is = All-push P books book all is
+pub gathered_all : (node first next : ℕ) (books own : List BookView) → AreGathered node first books → are_starts node first next own ≡ true → AreGathered node next (books ++ own)
+gathered_all node first next books [] gathered starts =
+    subst (AreGathered node next) (sym (append-nil books)) (record {
+      before = before_later node first next books (leb-true first next starts) gathered.before;
+      distinct = gathered.distinct;
+    })
+gathered_all node first next books (book ∷ own) gathered starts =
+    let parts = start_parts node first next book own starts in
+    let later = suc book.site.incarnation in
+    let here : AreBefore node book.site.incarnation books = before_later node first book.site.incarnation books parts.1 gathered.before in
+    let more : AreGathered node later (books ++ book ∷ []) = record {
+      before = before_more node later books book (before_later node book.site.incarnation later books (omega arith) here) (inr (parts.0, omega arith));
+      distinct = distinct_more books book (subst (λ n. AreBefore n book.site.incarnation books) (sym parts.0) here) gathered.distinct;
+    } in
+    subst (AreGathered node next) (append_assoc books (book ∷ []) own) (gathered_all node later next (books ++ book ∷ []) own more parts.2)

@@ -1,3 +1,4 @@
 pub mod Hands
 pub mod Links
 pub mod Numbers
+pub mod Starts

@@ -18,6 +18,7 @@ mod shared;
 mod signals;
 mod site_run;
 mod stand;
+mod start;
 mod turn;
 mod udp_link;
 mod worker;

@@ -15,6 +15,7 @@ use crate::sender::{Sender, Sent, send_all};
 use crate::shared::Shared;
 use crate::signals::Signals;
 use crate::stand::Stand;
+use crate::start::Start;
 use crate::turn::{Limits, Taken, Turn};
 use crate::worker::Worker;
 use cover_problem::Problem;
@@ -45,11 +46,13 @@ enum Task<L: Link> {
 }
 
 impl<L: Link> Task<L> {
-    /// How many turns it may wait in for each of its turns.
-    fn waits(&self) -> u64 {
+    /// How many turns it may take, and in how many more it may wait. In a start that another follows, the one that receives waits in
+    /// none more: else the start would last for hours.
+    fn limits(&self, turns: u64, is_last: bool) -> Limits {
         match self {
-            Task::Work(_) => REST,
-            Task::Receive(_) => SILENCE,
+            Task::Work(_) => Limits::new(turns, REST),
+            Task::Receive(_) if is_last => Limits::new(turns, SILENCE),
+            Task::Receive(_) => Limits::in_all(turns),
         }
     }
 
@@ -86,7 +89,7 @@ impl<'a, J: Run, C: Core + Drop, N: Room, L: Link, G: Gate> Place<'a, J, C, N, L
     /// Runs the thread to its end.
     fn run<R: Wait + Clock>(&mut self, rt: &R) {
         let shared = self.actor.shared;
-        let mut left = Limits::new(shared.plan.turns, self.task.waits());
+        let mut left = self.task.limits(shared.plan.turns, shared.is_last);
         self.cause = match &mut self.task {
             Task::Work(number) => work(rt, &mut self.actor, *number, &mut left),
             Task::Receive(receiver) => receive(rt, &mut self.actor, receiver, &mut left),
@@ -190,7 +193,7 @@ pub fn run_node<
         cell,
         problem,
         link,
-        plan,
+        Start::only(plan),
         gate,
         &AtomicBool::new(false),
     )
@@ -224,14 +227,14 @@ pub fn run_root<
         cell,
         problem,
         link,
-        plan,
+        Start::only(plan),
         &Open,
         &AtomicBool::new(false),
     )
 }
 
-/// Runs the threads of a site, as `run_node` and `run_root` do, and ends them where the run ends. A plan without workers is that of the
-/// registry.
+/// Runs the threads of a site in one of its starts, as `run_node` and `run_root` do, and ends them where the run ends. A plan without
+/// workers is that of the registry.
 pub(crate) fn run_threads<
     J: Run + Send + Sync,
     C: Core + Drop + Send,
@@ -245,15 +248,16 @@ pub(crate) fn run_threads<
     cell: &SiteCell<J, C, N>,
     problem: &Problem,
     link: L,
-    plan: Plan,
+    start: Start,
     gate: &G,
     ended: &AtomicBool,
 ) -> NodeEnd<N>
     requires { problem.now ≡ J.run.problem }
-    ensures all { (vec_len result.stands ≡ plan.workers + 1) ⊎ (result.cause ≡ Memory) }
-    ensures none { (vec_len result.stands ≡ plan.workers + 1)
+    ensures all { (vec_len result.stands ≡ start.plan.workers + 1) ⊎ (result.cause ≡ Memory) }
+    ensures none { (vec_len result.stands ≡ start.plan.workers + 1)
         ⊎ ((vec_len result.stands ≡ 0) × (result.taken.turns ≡ 0) × (result.taken.waits ≡ 0)) }
 {
+    let Start { plan, is_last } = start;
     let (Ok((outbox, drain)), Ok(twin)) = (Outbox::new(alloc), link.twin()) else {
         return NodeEnd::starved(alloc);
     };
@@ -266,6 +270,7 @@ pub(crate) fn run_threads<
         signals: &signals,
         ended,
         plan,
+        is_last,
         alloc,
     };
     let Ok(crew) = Crew::new(rt, &shared, twin, plan.workers) else {

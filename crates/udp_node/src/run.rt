@@ -1,8 +1,7 @@
 //! A whole run: all its sites at once.
 
-ghost use Rattle.std.specs.Prelude.{◌≡◌, ◌+◌, ◌<◌, ◌≤◌, ◌++◌, [], true, vec_len, IfOk, IfSome};
+ghost use Rattle.std.specs.Prelude.{◌≡◌, ◌+◌, ◌<◌, ◌≤◌, ◌++◌, [], true, vec_len, IfOk};
 ghost use Rattle.std.specs.List.{All};
-ghost use Rattle.std.specs.Option.{option_to_list};
 ghost use Rattle.run_book.specs.Books.{are_distinct, IsBook};
 ghost use Rattle.run_book.specs.Runs.{IsRunEnd};
 ghost use Rattle.run_book.specs.Sites.{IsRun};
@@ -27,7 +26,8 @@ use std::time::Clock;
 pub struct RunEnd<J: Run> {
     /// What the registry published, by its book; nothing where it published nothing, or its book is not there.
     pub answer: Option<Answer>,
-    /// The books of the sites that closed, the registry's first and the nodes' in their order.
+    /// The books of the sites that closed, the registry's first and the nodes' in their order; of a node that restarted, one of each
+    /// start.
     pub books: Vec<Book<J>>,
     /// How each site ended, the registry first and the nodes in their order.
     pub sites: Vec<SiteEnd>,
@@ -35,6 +35,10 @@ pub struct RunEnd<J: Run> {
 
 /// Runs a search over these links, one for each site and the registry's first, each site on threads of its own, until all have
 /// ended; then closes each site's cell.
+///
+/// Node 1 restarts so many times, each time with an empty table and the next incarnation, whatever it held. Its turns are shared
+/// evenly among its starts, and in all but the last an empty receive is a turn. Its link stays open over all of them. Once the search
+/// is over at a start, the later ones give up at their first receive without a packet.
 ///
 /// All sites end where one has failed: with any cause but that the search is over, once a thread of each kind has begun there. A site
 /// that had no memory to start or to close has no book. The only error is want of memory for the run itself: for the list of its
@@ -49,6 +53,7 @@ pub fn run_sites<
     alloc: Global,
     problem: &Problem,
     plan: Plan,
+    restarts: u8,
     links: Vec<L>,
     gate: &G,
 ) -> Result<RunEnd<J>, AllocError>
@@ -69,9 +74,9 @@ pub fn run_sites<
         alloc,
         run: PhantomData,
     };
-    let books = Vec::with_capacity(alloc, links.len())?;
+    let books = Vec::with_capacity(alloc, links.len() + usize::from(restarts))?;
     let sites = Vec::with_capacity(alloc, links.len())?;
-    let mut runs = runs_for(alloc, links)?;
+    let mut runs = runs_for(alloc, restarts, links)?;
     run_all(rt, &whole, &mut runs);
     let (books, sites) = gathered(runs, books, sites)?;
     Ok(RunEnd {
@@ -81,8 +86,12 @@ pub fn run_sites<
     })
 }
 
-/// The sites before they run, each with its link. The only error is want of memory.
-fn runs_for<J: Run, L: Link>(alloc: Global, links: Vec<L>) -> Result<Vec<SiteRun<J, L>>, AllocError>
+/// The sites before they run, each with its link; node 1 restarts so many times. The only error is want of memory.
+fn runs_for<J: Run, L: Link>(
+    alloc: Global,
+    restarts: u8,
+    links: Vec<L>,
+) -> Result<Vec<SiteRun<J, L>>, AllocError>
     requires run { IsRun J.run }
     requires links { vec_len links ≡ J.run.nodes + 1 }
     ensures many { IfOk result (λ runs. vec_len runs ≡ vec_len links) }
@@ -90,7 +99,9 @@ fn runs_for<J: Run, L: Link>(alloc: Global, links: Vec<L>) -> Result<Vec<SiteRun
 {
     let mut runs = Vec::with_capacity(alloc, links.len())?;
     for link in links {
-        runs.push(SiteRun::new(runs.len() as u8, link))?;
+        let node = runs.len() as u8;
+        let site = SiteRun::new(alloc, node, restarts, link)?;
+        runs.push(site)?;
     }
     Ok(runs)
 }
@@ -114,7 +125,7 @@ fn run_all<J: Run + Send + Sync, L: Link + Send, G: Gate + Sync, R: Threads + Wa
     );
 }
 
-/// The books of the sites that have one, and how each site ended. The only error is want of memory.
+/// The books of the sites that have some, and how each site ended. The only error is want of memory.
 fn gathered<J: Run, L: Link>(
     runs: Vec<SiteRun<J, L>>,
     mut books: Vec<Book<J>>,
@@ -126,22 +137,20 @@ fn gathered<J: Run, L: Link>(
     ensures distinct { IfOk result (λ all. are_distinct all.0.items ≡ true) }
 {
     for site in runs {
-        let (book, end) = site.into_end();
+        let (own, end) = site.into_end();
         sites.push(end)?;
-        books = with_book(books, book)?;
+        books = with_all(books, own)?;
     }
     Ok((books, sites))
 }
 
-/// The books with this one after them, where there is one. The only error is want of memory.
-fn with_book<J: Run>(
-    mut books: Vec<Book<J>>,
-    book: Option<Book<J>>,
-) -> Result<Vec<Book<J>>, AllocError>
-    ensures more { IfOk result (λ more. more.items ≡ books.items ++ option_to_list book) }
-    ensures book { IfOk result (λ _. IfSome book (IsBook J.run)) }
+/// The books with these after them. The only error is want of memory.
+fn with_all<J: Run>(mut books: Vec<Book<J>>, own: Vec<Book<J>>) -> Result<Vec<Book<J>>, AllocError>
+    requires { All (IsBook J.run) books.items }
+    ensures more { IfOk result (λ more. more.items ≡ books.items ++ own.items) }
+    ensures books { IfOk result (λ more. All (IsBook J.run) more.items) }
 {
-    if let Some(book) = book {
+    for book in own {
         // (for what the getter says: that it is a book of the run)
         let _site = book.site();
         books.push(book)?;

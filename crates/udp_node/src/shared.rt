@@ -26,6 +26,8 @@ pub struct Shared<'a, J: Run, C: Core + Drop, N: Room, G: Gate> {
     pub ended: &'a AtomicBool,
     /// How the site works.
     pub plan: Plan,
+    /// No start of the site follows.
+    pub is_last: bool,
     /// Where memory comes from.
     pub alloc: Global,
     pub ghost same: { problem.now ≡ J.run.problem },

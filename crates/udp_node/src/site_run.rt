@@ -1,8 +1,10 @@
-//! One site of a run, from its start to its book.
+//! One site of a run, from its first start to its books.
 
-ghost use Rattle.std.proofs.Props.{props};
-ghost use Rattle.std.specs.Prelude.{◌≡◌, ◌≤◌, IfOk, IfSome};
+ghost use Rattle.std.specs.Prelude.{◌≡◌, ◌+◌, ◌≤◌, None, true, is_some, suc, vec_len, IfOk, IfSome};
+ghost use Rattle.std.specs.Vec.{vec_capacity};
+ghost use Rattle.node_core.specs.Requests.{registry};
 ghost use Rattle.run_book.specs.Sites.{opening_of, IsRun, MayBeginIn};
+ghost use Rattle.udp_node.specs.Starts.{are_starts};
 
 use crate::cause::Cause;
 use crate::gate::{Gate, Open};
@@ -10,6 +12,7 @@ use crate::link::Link;
 use crate::node::run_threads;
 use crate::node_end::NodeEnd;
 use crate::plan::Plan;
+use crate::start::Start;
 use crate::turn::Taken;
 use cover_problem::Problem;
 use node_core::{Core, NodeCore};
@@ -49,7 +52,7 @@ pub struct Whole<'a, J: Run, G: Gate> {
     pub ghost nodes: { plan.nodes ≡ J.run.nodes },
 }
 
-/// How a site of a run ended. The greatest numbers stay.
+/// How a site of a run ended, over all its starts. The greatest numbers stay.
 #[derive(Clone, Copy, Debug, PartialEq, Eq)]
 pub struct SiteEnd {
     /// Why its threads ended: the first of all causes in the order of that type.
@@ -62,11 +65,23 @@ pub struct SiteEnd {
     pub failures: u64,
     /// How many turns its threads took at most, each by itself, and in how many they waited at most.
     pub taken: Taken,
-    /// A thread of each kind has begun while the site was to go on. Else the site took part in no search.
+    /// In some start a thread of each kind has begun while the site was to go on. Else the site took part in no search.
     pub is_manned: bool,
 }
 
 impl SiteEnd {
+    /// The end of these starts and of a later one.
+    fn with(self, later: SiteEnd) -> SiteEnd {
+        SiteEnd {
+            cause: self.cause.min(later.cause),
+            losses: self.losses.saturating_add(later.losses),
+            dropped: self.dropped.saturating_add(later.dropped),
+            failures: self.failures.saturating_add(later.failures),
+            taken: self.taken.max(later.taken),
+            is_manned: self.is_manned || later.is_manned,
+        }
+    }
+
     /// Whether the others can't go on without the site of this node: the registry, and a node that took part and has not heard that
     /// the search is over, or whose memory ran out.
     fn ends_run(&self, node: u8) -> bool {
@@ -77,43 +92,62 @@ impl SiteEnd {
         }
     }
 
-    /// There was no memory for the site to start, or to close.
-    const STARVED: SiteEnd = SiteEnd {
-        cause: Cause::Memory,
+    /// There was no start: with any other end it is that end.
+    const NONE: SiteEnd = SiteEnd {
+        cause: Cause::Turns,
         losses: 0,
         dropped: 0,
         failures: 0,
         taken: Taken::NONE,
         is_manned: false,
     };
+
+    /// There was no memory for the site to start, or to close.
+    const STARVED: SiteEnd = SiteEnd {
+        cause: Cause::Memory,
+        ..SiteEnd::NONE
+    };
 }
 
-/// A site of a run: its link before it runs, its book and how it ended afterwards.
+/// A site of a run: its link before it runs, its books and how it ended afterwards.
 #[derive(Drop)]
 pub struct SiteRun<J: Run, L: Link> {
     pub node: u8,
     pub link: Option<L>,
-    pub book: Option<Book<J>>,
+    /// How often it restarts.
+    pub restarts: u8,
+    /// How many starts there were.
+    pub starts: u32,
+    /// The books of these starts, in their order, with room for one of each.
+    pub books: Vec<Book<J>>,
     pub end: SiteEnd,
     pub ghost there: { node ≤ J.run.nodes },
-    pub ghost own: { IfSome book (λ book. book.site.node ≡ node) } by { Prim.hlevel props },
+    pub ghost once: { node ≡ 0 → restarts ≡ 0 },
+    pub ghost fresh: { is_some link ≡ true → starts ≡ 0 },
+    pub ghost own: { are_starts node 1 (suc starts) books.items ≡ true },
+    pub ghost few: { vec_len books ≤ starts },
+    pub ghost room: { restarts + 1 ≤ vec_capacity books },
 }
 
 impl<J: Run, L: Link> SiteRun<J, L> {
-    /// The site of a node before it runs.
-    pub fn new(node: u8, link: L) -> SiteRun<J, L>
+    /// The site of a node before it runs; node 1 restarts so many times. The only error is want of memory.
+    pub fn new(alloc: Global, node: u8, restarts: u8, link: L) -> Result<SiteRun<J, L>, AllocError>
         requires { node ≤ J.run.nodes }
-        ensures { result.node ≡ node }
+        ensures { IfOk result (λ site. site.node ≡ node) }
     {
-        SiteRun {
+        let restarts = if node == 1 { restarts } else { 0 };
+        Ok(SiteRun {
             node,
             link: Some(link),
-            book: None,
-            end: SiteEnd::STARVED,
-        }
+            restarts,
+            starts: 0,
+            books: Vec::with_capacity(alloc, usize::from(restarts) + 1)?,
+            end: SiteEnd::NONE,
+        })
     }
 
-    /// Runs the site to its end, once. Where the others can't go on without it, the run ends.
+    /// Runs all starts of the site to their ends, once, one after the other. Where the others can't go on without the site then, the
+    /// run ends.
     pub fn run<G: Gate + Sync, R: Threads + Wait + Clock + Sync>(
         &mut self,
         rt: &R,
@@ -125,43 +159,100 @@ impl<J: Run, L: Link> SiteRun<J, L> {
         ensures { self.new.node ≡ self.old.node }
     {
         if let Some(link) = self.link.take() {
-            let (book, end) = run_site(rt, whole, self.node, link);
-            self.book = book;
-            self.end = end;
+            self.run_starts(rt, whole, link);
         }
         if self.end.ends_run(self.node) {
             whole.ended.store(true, Ordering::SeqCst);
         }
     }
 
-    /// Its book, if it has one, and how it ended.
-    pub fn into_end(self) -> (Option<Book<J>>, SiteEnd)
-        ensures { IfSome result.0 (λ book. book.site.node ≡ self.node) }
+    /// Runs all starts of the site to their ends. Its link stays open over all of them: the last has it, the others a twin of it.
+    fn run_starts<G: Gate + Sync, R: Threads + Wait + Clock + Sync>(
+        &mut self,
+        rt: &R,
+        whole: &Whole<'_, J, G>,
+        link: L,
+    )
+    where
+        J: Send + Sync,
+        L: Send,
+        requires taken { self.old.link ≡ None }
+        requires none { self.old.starts ≡ 0 }
+        ensures { self.new.node ≡ self.old.node }
+    {
+        for _start in 0..self.restarts {
+            let twin = link.twin();
+            self.start(rt, whole, twin);
+        }
+        self.start(rt, whole, Ok(link));
+    }
+
+    /// Runs one start more to its end, over this link, unless there is no memory for it.
+    fn start<G: Gate + Sync, R: Threads + Wait + Clock + Sync>(
+        &mut self,
+        rt: &R,
+        whole: &Whole<'_, J, G>,
+        link: Result<L, AllocError>,
+    )
+    where
+        J: Send + Sync,
+        L: Send,
+        requires taken { self.old.link ≡ None }
+        requires left { self.old.starts ≤ self.old.restarts }
+        ensures taken { self.new.link ≡ None }
+        ensures node { self.new.node ≡ self.old.node }
+        ensures restarts { self.new.restarts ≡ self.old.restarts }
+        ensures starts { self.new.starts ≡ self.old.starts + 1 }
+    {
+        let is_over = self.end.cause == Cause::Over;
+        let is_last = self.starts >= u32::from(self.restarts);
+        let start = Start::of(whole.plan, self.restarts, is_over, is_last);
+        self.starts += 1;
+        let site = Site {
+            node: self.node,
+            incarnation: self.starts,
+        };
+        let (book, end) = run_site(rt, whole, site, start, link);
+        if let Some(book) = book {
+            self.books.push_reserved(book);
+        }
+        self.end = self.end.with(end);
+    }
+
+    /// The books of its starts, in their order, and how it ended.
+    pub fn into_end(self) -> (Vec<Book<J>>, SiteEnd)
+        ensures { are_starts self.node 1 (suc self.starts) result.0.items ≡ true }
     {
         let SiteRun {
             node: _,
             link: _,
-            book,
+            restarts: _,
+            starts: _,
+            books,
             end,
         } = self;
-        (book, end)
+        (books, end)
     }
 }
 
-/// Runs the site of a node to its end. There is no book where there was no memory for it.
+/// Runs a start of a site to its end. There is no book where there was no memory for it.
 fn run_site<J: Run + Send + Sync, L: Link + Send, G: Gate + Sync, R: Threads + Wait + Clock + Sync>(
     rt: &R,
     whole: &Whole<'_, J, G>,
-    node: u8,
-    link: L,
+    site: Site,
+    start: Start,
+    link: Result<L, AllocError>,
 ) -> (Option<Book<J>>, SiteEnd)
-    requires { node ≤ whole.now.plan.nodes }
-    ensures { IfSome result.0 (λ book. book.site.node ≡ node) }
+    requires there { site.node ≤ whole.now.plan.nodes }
+    requires some { 1 ≤ site.incarnation }
+    requires registry { site.node ≡ 0 → site.incarnation ≡ 1 }
+    requires plan { start.plan.nodes ≡ whole.now.plan.nodes }
+    ensures { IfSome result.0 (λ book. book.site ≡ site) }
 {
-    let ran = if node == 0 {
-        start_registry(rt, whole, link)
+    let ran = if site.node == 0 {
+        start_registry(rt, whole, start, link)
     } else {
-        start_node(rt, whole, node, link)
+        start_node(rt, whole, site, start, link)
     };
     match ran {
         Ok(ended) => ended,
@@ -173,14 +264,16 @@ fn run_site<J: Run + Send + Sync, L: Link + Send, G: Gate + Sync, R: Threads + W
 fn start_registry<J: Run + Send + Sync, L: Link + Send, G: Gate, R: Threads + Wait + Clock + Sync>(
     rt: &R,
     whole: &Whole<'_, J, G>,
-    link: L,
+    start: Start,
+    link: Result<L, AllocError>,
 ) -> Result<(Option<Book<J>>, SiteEnd), AllocError>
-    ensures { IfOk result (λ ended. IfSome ended.0 (λ book. book.site.node ≡ 0)) }
+    ensures { IfOk result (λ ended. IfSome ended.0 (λ book. book.site ≡ registry)) }
 {
     sites_begin();
+    let link = link?;
     let opened = Opened::new(whole.alloc)?;
     let core = Registry::start(whole.alloc, whole.problem, whole.plan.nodes)?;
-    Ok(run_registry::<J, Brand, L, G, R>(rt, whole, opened, core, link))
+    Ok(run_registry::<J, Brand, L, G, R>(rt, whole, start, opened, core, link))
 }
 
 /// Starts the site of a node, and runs it to its end. The only error is want of memory at the start.
@@ -192,21 +285,20 @@ fn start_node<
 >(
     rt: &R,
     whole: &Whole<'_, J, G>,
-    node: u8,
-    link: L,
+    site: Site,
+    start: Start,
+    link: Result<L, AllocError>,
 ) -> Result<(Option<Book<J>>, SiteEnd), AllocError>
-    requires some { 1 ≤ node }
-    requires most { node ≤ whole.now.plan.nodes }
-    ensures { IfOk result (λ ended. IfSome ended.0 (λ book. book.site.node ≡ node)) }
+    requires some { 1 ≤ site.node }
+    requires most { site.node ≤ whole.now.plan.nodes }
+    requires incarnation { 1 ≤ site.incarnation }
+    ensures { IfOk result (λ ended. IfSome ended.0 (λ book. book.site ≡ site)) }
 {
     sites_begin();
-    let site = Site {
-        node,
-        incarnation: 1,
-    };
+    let link = link?;
     let opened = Opened::new(whole.alloc)?;
     let core = NodeCore::start(whole.alloc, whole.problem, site, whole.plan.nodes, NAMES)?;
-    Ok(run_worker_node::<J, Brand, L, G, R>(rt, whole, opened, core, link))
+    Ok(run_worker_node::<J, Brand, L, G, R>(rt, whole, start, opened, core, link))
 }
 
 /// Runs the registry, which begins, to its end.
@@ -219,6 +311,7 @@ fn run_registry<
 >(
     rt: &R,
     whole: &Whole<'_, J, G>,
+    start: Start,
     opened: Opened,
     core: Registry,
     link: L,
@@ -237,7 +330,7 @@ fn run_registry<
     let cell: SiteCell<J, Registry, N> = SiteCell::new(opened, core, ENTRIES);
     let plan = Plan {
         workers: 0,
-        ..whole.plan
+        ..start.plan
     };
     let end = run_threads(
         rt,
@@ -245,7 +338,7 @@ fn run_registry<
         &cell,
         whole.problem,
         link,
-        plan,
+        Start { plan, ..start },
         &Open,
         whole.ended,
     );
@@ -262,6 +355,7 @@ fn run_worker_node<
 >(
     rt: &R,
     whole: &Whole<'_, J, G>,
+    start: Start,
     opened: Opened,
     core: NodeCore,
     link: L,
@@ -284,7 +378,7 @@ fn run_worker_node<
         &cell,
         whole.problem,
         link,
-        whole.plan,
+        start,
         whole.gate,
         whole.ended,
     );

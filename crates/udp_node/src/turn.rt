@@ -43,6 +43,8 @@ const SHORTAGES: u32 = 100;
 pub struct Limits {
     turns: u64,
     waits: u64,
+    /// A wait is one of the turns.
+    counts_waits: bool,
     taken: Taken,
     /// How often memory ran out since something was done last.
     shortages: u32,
@@ -54,8 +56,17 @@ impl Limits {
         Limits {
             turns,
             waits: turns.saturating_mul(waits),
+            counts_waits: false,
             taken: Taken::NONE,
             shortages: 0,
+        }
+    }
+
+    /// So many turns and waits together.
+    pub fn in_all(turns: u64) -> Limits {
+        Limits {
+            counts_waits: true,
+            ..Limits::new(turns, 1)
         }
     }
 
@@ -66,7 +77,16 @@ impl Limits {
 
     /// Whether either is used up.
     pub fn is_spent(&self) -> bool {
-        self.taken.turns >= self.turns || self.taken.waits >= self.waits
+        self.used() >= self.turns || self.taken.waits >= self.waits
+    }
+
+    /// How many of the turns are used up.
+    fn used(&self) -> u64 {
+        if self.counts_waits {
+            self.taken.turns.saturating_add(self.taken.waits)
+        } else {
+            self.taken.turns
+        }
     }
 
     /// Notes what a turn came to. Returns the cause where the thread ends by it.

@@ -114,7 +114,7 @@ fn run_named<J: Run + Send + Sync, R: Threads + Wait + Clock + Sync>(
     requires most { plan.nodes ≤ LAST_NODE }
 {
     let links = links(alloc, plan.nodes + 1)?;
-    let end: RunEnd<J> = run_sites(rt, alloc, problem, plan, links, &Open)?;
+    let end: RunEnd<J> = run_sites(rt, alloc, problem, plan, 0, links, &Open)?;
     let RunEnd {
         answer,
         books,

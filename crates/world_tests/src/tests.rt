@@ -1,5 +1,6 @@
 //! Worlds as scripts of events.
 
 mod chance;
+mod restarts;
 mod runs;
 mod said;

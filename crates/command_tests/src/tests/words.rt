@@ -81,9 +81,11 @@ fn reads_words_of_solve(rt: HostRuntime) {
         "8",
         "--turns",
         "10000000",
+        "--restarts",
+        "100",
         "a.dlx",
     ];
-    let limits = (8, 10_000_000, 0);
+    let limits = (8, 10_000_000, 100);
     assert!(rt; is_read(&rt, rt.alloc(), words.as_slice(), asked, (7, 16, 0), limits));
 }
 
@@ -137,7 +139,7 @@ fn reads_whether_to_audit(rt: HostRuntime) {
 }
 
 /// Each with the status.
-static WORDS: [(&[&str], u8); 45] = [
+static WORDS: [(&[&str], u8); 46] = [
     (&["solve_cli"], 2),
     (&["solve_cli", "--help"], 0),
     (&["solve_cli", "--version"], 0),
@@ -157,7 +159,8 @@ static WORDS: [(&[&str], u8); 45] = [
     (&["solve_cli", "solve", "a", "--workers", "9"], 2),
     (&["solve_cli", "solve", "a", "--nodes", "17"], 2),
     (&["solve_cli", "solve", "a", "--turns", "10000001"], 2),
-    (&["solve_cli", "solve", "a", "--restarts", "0"], 2),
+    (&["solve_cli", "solve", "a", "--restarts", "0"], 9),
+    (&["solve_cli", "solve", "a", "--restarts", "101"], 2),
     (&["solve_cli", "solve", "a", "--audit"], 9),
     (&["solve_cli", "solve", "a", "--audit", "--audit"], 2),
     (&["solve_cli", "solve", "a", "--audit=true"], 2),

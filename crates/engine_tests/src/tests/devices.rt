@@ -1,5 +1,9 @@
 //! What is told where devices fail or memory is refused.
+//!
+//! Of the bugs of `cover_engines` that are kept outside the gate, `a_writer_that_fails_at_each_byte` finds
+//! `failed_write_is_told_as_memory`.
 
+use super::texts::LETTERS;
 use super::told::Told;
 use cover_engines::{EngineFault, alone_engine, check_engine, tell, tell_fault};
 use dlx_reader::{CountedReader, CountedWriter};
@@ -74,6 +78,61 @@ fn a_closed_writer(rt: HostRuntime) {
     let ended = alone_engine(rt.alloc(), 1, &mut source, &mut CountedWriter::new(Closed));
     let fault = ended.err().expect(&rt, "a closed writer");
     assert!(rt; told(rt.alloc(), &fault).is("", "cannot write\n", 3));
+}
+
+/// A writer that takes one byte a call, so many times, and then fails.
+#[derive(Drop)]
+struct ByteByByte {
+    taken: Vec<u8>,
+    left: usize,
+}
+
+impl Write for ByteByByte {
+    fn write(&mut self, buf: &[u8]) -> io::Result<usize> {
+        match buf {
+            [first, ..] if self.left > 0 && self.taken.push(*first).is_ok() => {
+                self.left = self.left.saturating_sub(1);
+                Ok(1)
+            }
+            _ => Err(io::ErrorKind::BrokenPipe.into()),
+        }
+    }
+
+    fn flush(&mut self) -> io::Result<()> {
+        Ok(())
+    }
+}
+
+/// The answer to the problem of the letters.
+static COVER: &[u8] = b"cover 3\nc e\na d f\nb g\n";
+
+/// Whether all before this call of the writer is written, and the fault told, or the status where the answer has no more bytes.
+fn writes_until(alloc: Global, call: usize) -> bool {
+    let mut writer = ByteByByte {
+        taken: Vec::new(alloc),
+        left: call.saturating_sub(1),
+    };
+    let mut source = CountedReader::new(LETTERS.as_bytes());
+    let ended = alone_engine(
+        alloc,
+        u64::MAX,
+        &mut source,
+        &mut CountedWriter::new(&mut writer),
+    );
+    let is_told = match ended {
+        Err(EngineFault::Write) => call <= COVER.len(),
+        Ok(end) => call > COVER.len() && end.status == 0,
+        Err(_) => false,
+    };
+    is_told && COVER.get(..call.saturating_sub(1)) == Some(writer.taken.as_slice())
+}
+
+#[test]
+fn a_writer_that_fails_at_each_byte(rt: HostRuntime) {
+    assert_eq!(rt; COVER.len(), 22);
+    for call in 1..24 {
+        assert!(rt; writes_until(rt.alloc(), call), "call {call}");
+    }
 }
 
 #[test]

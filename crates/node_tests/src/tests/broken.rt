@@ -15,6 +15,8 @@ pub enum Defect {
     None,
     /// Each receive fails.
     Deaf,
+    /// The next receives, so many, fail.
+    DeafFor(u64),
     /// All that is sent is lost.
     Mute,
     /// Each send fails.
@@ -63,7 +65,7 @@ impl Link for Broken {
         match self.defect {
             Defect::Mute => return Ok(()),
             Defect::Stuck => return Err(self.fail()),
-            Defect::None | Defect::Deaf | Defect::Noisy(_) => {}
+            Defect::None | Defect::Deaf | Defect::DeafFor(_) | Defect::Noisy(_) => {}
         }
         match self.inner.send(rt, to, bytes) {
             Ok(()) => Ok(()),
@@ -74,11 +76,16 @@ impl Link for Broken {
     fn receive<R: Wait>(&mut self, rt: &R, into: &mut [u8]) -> Result<Option<usize>, LinkFault> {
         match self.defect {
             Defect::Deaf => return Err(self.fail()),
+            Defect::DeafFor(more) if more > 0 => {
+                self.defect = Defect::DeafFor(more - 1);
+                return Err(self.fail());
+            }
             Defect::Noisy(more) if more > 0 => {
                 self.defect = Defect::Noisy(more - 1);
                 return Ok(Some(into.len().min(1)));
             }
-            Defect::None | Defect::Mute | Defect::Stuck | Defect::Noisy(_) => {}
+            Defect::None | Defect::Mute | Defect::Stuck | Defect::DeafFor(_) | Defect::Noisy(_) =>
+                {}
         }
         match self.inner.receive(rt, into) {
             Ok(came) => Ok(came),

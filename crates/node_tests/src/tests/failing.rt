@@ -1,9 +1,14 @@
-//! Runs over links of which one has a defect: they end soon, and report what went wrong.
+//! Runs over links of which one has a defect: they end soon, and report what went wrong, or go on where they can.
+//!
+//! Of the bugs of `udp_node` that are kept outside the gate, `a_link_may_fail_once` finds `one_failed_receive_ends_a_site` and
+//! `a_failed_send_ends_the_sender`, and `numbers_of_a_site_with_a_defect` finds `ends_after_99_failed_receives`.
 
 use super::broken::{Defect, links_with};
+use super::fails_once::{AfterFault, Fault, links_that_fail};
 use super::runs::{COVERED, Told, run, run_whole};
 use std::alloc::Global;
-use std::sync::Wait;
+use std::sync::atomic::AtomicBool;
+use std::sync::{Arc, Wait};
 use std::test::Fail;
 use std::thread::Threads;
 use std::time::Clock;
@@ -60,9 +65,12 @@ const SHORT: Plan = Plan {
 type Numbers = (Cause, u64, u64, u64);
 
 /// Sites whose link has a defect, with their numbers.
-static NUMBERS: [(usize, Defect, Numbers); 3] = [
+static NUMBERS: [(usize, Defect, Numbers); 6] = [
     (0, Defect::Deaf, (Cause::Faults, 0, 0, 100)),
     (1, Defect::Deaf, (Cause::Faults, 0, 0, 100)),
+    (0, Defect::DeafFor(99), (Cause::Over, 0, 0, 99)),
+    (1, Defect::DeafFor(99), (Cause::Over, 0, 0, 99)),
+    (1, Defect::DeafFor(100), (Cause::Faults, 0, 0, 100)),
     (0, Defect::Noisy(7), (Cause::Over, 0, 7, 0)),
 ];
 
@@ -95,5 +103,46 @@ fn a_send_that_fails_is_a_loss(rt: HostRuntime) -> Result<(), Fail> {
     };
     assert_eq!(rt; (cause, dropped), (Cause::Turns, 0));
     assert!(rt; losses > 0 && losses == failures, "{losses} and {failures}");
+    Ok(())
+}
+
+/// One node with eight workers: while one holds the root back, the others go on asking for work.
+const EIGHT: Plan = Plan {
+    workers: 8,
+    nodes: 1,
+    quiet: 6_000,
+    ..PLAN
+};
+
+/// Whether the node goes on where this call of its link fails, which is counted, and the answer comes. A send that fails is a loss.
+fn goes_on<R: Threads + Wait + Clock + Sync>(
+    rt: &R,
+    alloc: Global,
+    fault: Fault,
+    lost: u64,
+) -> Result<bool, Fail> {
+    let failed = Arc::new(alloc, AtomicBool::new(false))?;
+    let links = links_that_fail(alloc, EIGHT.nodes, 1, fault, &failed)?;
+    let gate = AfterFault::new(failed);
+    let Some(ran) = run_whole(rt, alloc, &COVERED, EIGHT, links, &gate) else {
+        return Err(Fail::new("memory ran out"));
+    };
+    let Some(end) = ran.sites.get(1) else {
+        return Ok(false);
+    };
+    Ok(
+        ran.came.told == Told::Right
+            && (end.cause, end.failures, end.losses) == (Cause::Over, 1, lost),
+    )
+}
+
+#[test]
+fn a_link_may_fail_once(rt: HostRuntime) -> Result<(), Fail> {
+    for call in 1..51 {
+        let sends = goes_on(&rt, rt.alloc(), Fault::Send(call), 1)?;
+        assert!(rt; sends, "send {call}");
+        let receives = goes_on(&rt, rt.alloc(), Fault::Receive(call), 0)?;
+        assert!(rt; receives, "receive {call}");
+    }
     Ok(())
 }

@@ -82,8 +82,25 @@ pub fn run_whole<L: Link + Send, G: Gate + Sync, R: Threads + Wait + Clock + Syn
     requires most { plan.nodes ≤ 16 }
     requires links { vec_len links ≡ plan.nodes + 1 }
 {
+    run_starts(rt, alloc, row, plan, 0, links, gate)
+}
+
+/// The same where node 1 restarts so many times.
+pub fn run_starts<L: Link + Send, G: Gate + Sync, R: Threads + Wait + Clock + Sync>(
+    rt: &R,
+    alloc: Global,
+    row: &Row,
+    plan: Plan,
+    restarts: u8,
+    links: Vec<L>,
+    gate: &G,
+) -> Option<Ran>
+    requires some { 1 ≤ plan.nodes }
+    requires most { plan.nodes ≤ 16 }
+    requires links { vec_len links ≡ plan.nodes + 1 }
+{
     let read = read_problem(alloc, row.0.as_bytes()).ok()?;
-    search::<Brand, L, G, R>(rt, alloc, &read.problem, row.1, plan, links, gate)
+    search::<Brand, L, G, R>(rt, alloc, &read.problem, row.1, plan, restarts, links, gate)
 }
 
 /// Runs a search of the problem, in a run with a name.
@@ -93,6 +110,7 @@ fn search<J: Run + Send + Sync, L: Link + Send, G: Gate + Sync, R: Threads + Wai
     problem: &Problem,
     cover: Option<&[u16]>,
     plan: Plan,
+    restarts: u8,
     links: Vec<L>,
     gate: &G,
 ) -> Option<Ran>
@@ -102,7 +120,7 @@ fn search<J: Run + Send + Sync, L: Link + Send, G: Gate + Sync, R: Threads + Wai
     requires most { plan.nodes ≤ 16 }
     requires links { vec_len links ≡ plan.nodes + 1 }
 {
-    let end = run_sites::<J, L, G, R>(rt, alloc, problem, plan, links, gate).ok()?;
+    let end = run_sites::<J, L, G, R>(rt, alloc, problem, plan, restarts, links, gate).ok()?;
     let came = Came {
         told: judged(end.answer.as_ref(), cover),
         books: end.books.len(),

@@ -26,7 +26,7 @@ const TWO_WAYS: &str = "a\na\na\n";
 const FOUR_WAYS: &str = "a\na\na\na\na\n";
 
 /// Seven items and six options, with one cover: options 3, 4 and 0.
-const LETTERS: &str = "a b c d e f g\nc e\na d g\nb c f\na d f\nb g\nd e g\n";
+pub const LETTERS: &str = "a b c d e f g\nc e\na d g\nb c f\na d f\nb g\nd e g\n";
 
 /// The registry, and nodes in runs of theirs.
 const REGISTRY: Site = Site {
@@ -50,7 +50,7 @@ const NODE_2_ANEW: Site = Site {
 };
 
 /// The root as a guest, at its first and its second attempt.
-const ROOT: Unit = Unit::Guest(
+pub const ROOT: Unit = Unit::Guest(
     ChildName {
         site: REGISTRY,
         serial: 0,
@@ -76,7 +76,7 @@ const STOLEN: Unit = Unit::Guest(
 );
 
 /// What is taken up of these, and of own children.
-const ROOT_JOB: Job = Job {
+pub const ROOT_JOB: Job = Job {
     unit: ROOT,
     attempt: 1,
 };
@@ -86,7 +86,7 @@ const REDONE_JOB: Job = Job {
     attempt: 2,
 };
 
-const STOLEN_JOB: Job = Job {
+pub const STOLEN_JOB: Job = Job {
     unit: STOLEN,
     attempt: 1,
 };
@@ -96,7 +96,7 @@ const FIRST_JOB: Job = Job {
     attempt: 1,
 };
 
-const SECOND_JOB: Job = Job {
+pub const SECOND_JOB: Job = Job {
     unit: Unit::Own(1),
     attempt: 1,
 };
