@@ -189,7 +189,7 @@ fn tell_run<J: Run + Send + Sync, R: Threads + Wait + Clock + Sync>(
 {
     let alloc = rt.alloc();
     let links = links(alloc, plan.nodes + 1)?;
-    let end: RunEnd<J> = run_sites(threads, alloc, problem, plan, links, &Open)?;
+    let end: RunEnd<J> = run_sites(threads, alloc, problem, plan, 0, links, &Open)?;
     let mut books = end.books;
     let trials = Trials {
         rt,

@@ -18,6 +18,7 @@ use crate::stand::Stand;
 use crate::start::Start;
 use crate::turn::{Limits, Taken, Turn};
 use crate::worker::Worker;
+use brancher::Tables;
 use cover_problem::Problem;
 use node_core::Core;
 use run_book::{Outbox, Room, Run, SiteCell};
@@ -124,7 +125,7 @@ fn work<J: Run, C: Core + Drop, N: Room, G: Gate, R: Wait + Clock>(
     shared.signals.begin_working();
     shared.signals.muster(rt);
     let node = shared.cell.site().node;
-    let Ok(mut worker) = Worker::new(shared.alloc, shared.problem, shared.plan, node, number) else {
+    let Ok(mut worker) = Worker::new(shared.alloc, shared.tables, shared.plan, node, number) else {
         return Cause::Memory;
     };
     for _turn in 0..u64::MAX {
@@ -187,11 +188,14 @@ pub fn run_node<
     ensures none { (vec_len result.stands ≡ plan.workers + 1)
         ⊎ ((vec_len result.stands ≡ 0) × (result.taken.turns ≡ 0) × (result.taken.waits ≡ 0)) }
 {
+    let Ok(tables) = Tables::build(alloc, problem) else {
+        return NodeEnd::starved(alloc);
+    };
     run_threads(
         rt,
         alloc,
         cell,
-        problem,
+        &tables,
         link,
         Start::only(plan),
         gate,
@@ -225,7 +229,7 @@ pub fn run_root<
         rt,
         alloc,
         cell,
-        problem,
+        &Tables::of_links(problem),
         link,
         Start::only(plan),
         &Open,
@@ -246,13 +250,13 @@ pub(crate) fn run_threads<
     rt: &R,
     alloc: Global,
     cell: &SiteCell<J, C, N>,
-    problem: &Problem,
+    tables: &Tables<'_>,
     link: L,
     start: Start,
     gate: &G,
     ended: &AtomicBool,
 ) -> NodeEnd<N>
-    requires { problem.now ≡ J.run.problem }
+    requires { tables.now ≡ J.run.problem }
     ensures all { (vec_len result.stands ≡ start.plan.workers + 1) ⊎ (result.cause ≡ Memory) }
     ensures none { (vec_len result.stands ≡ start.plan.workers + 1)
         ⊎ ((vec_len result.stands ≡ 0) × (result.taken.turns ≡ 0) × (result.taken.waits ≡ 0)) }
@@ -264,7 +268,7 @@ pub(crate) fn run_threads<
     let signals = Signals::new(u64::from(plan.workers) + 1, plan.workers > 0);
     let shared = Shared {
         cell,
-        problem,
+        tables,
         outbox: &outbox,
         gate,
         signals: &signals,

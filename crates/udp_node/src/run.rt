@@ -12,6 +12,7 @@ use crate::gate::Gate;
 use crate::link::Link;
 use crate::plan::Plan;
 use crate::site_run::{SiteEnd, SiteRun, Whole};
+use brancher::Tables;
 use cover_problem::{Answer, Problem};
 use run_book::{Book, Run, published};
 use std::alloc::{AllocError, Global};
@@ -41,8 +42,8 @@ pub struct RunEnd<J: Run> {
 /// is over at a start, the later ones give up at their first receive without a packet.
 ///
 /// All sites end where one has failed: with any cause but that the search is over, once a thread of each kind has begun there. A site
-/// that had no memory to start or to close has no book. The only error is want of memory for the run itself: for the list of its
-/// sites before any has started, or for the answer at the end.
+/// that had no memory to start or to close has no book. The only error is want of memory for the run itself: for its tables and the
+/// list of its sites before any has started, or for the answer at the end.
 pub fn run_sites<
     J: Run + Send + Sync,
     L: Link + Send,
@@ -66,8 +67,10 @@ pub fn run_sites<
 {
     // (for what the getter says: that the problem is lawful)
     let _items = problem.items();
+    let tables = Tables::build(alloc, problem)?;
     let whole = Whole {
         problem,
+        tables: &tables,
         gate,
         ended: &AtomicBool::new(false),
         plan,

@@ -3,7 +3,7 @@ ghost use Rattle.std.specs.Prelude.{◌≡◌};
 use crate::gate::Gate;
 use crate::plan::Plan;
 use crate::signals::Signals;
-use cover_problem::Problem;
+use brancher::Tables;
 use node_core::Core;
 use run_book::{Outbox, Room, Run, SiteCell};
 use std::alloc::Global;
@@ -14,8 +14,8 @@ use std::sync::atomic::{AtomicBool, Ordering};
 pub struct Shared<'a, J: Run, C: Core + Drop, N: Room, G: Gate> {
     /// The core and its history.
     pub cell: &'a SiteCell<J, C, N>,
-    /// What is searched.
-    pub problem: &'a Problem,
+    /// What is searched, with what the searches of it share.
+    pub tables: &'a Tables<'a>,
     /// What waits to be sent.
     pub outbox: &'a Outbox,
     /// What holds workers back.
@@ -30,7 +30,7 @@ pub struct Shared<'a, J: Run, C: Core + Drop, N: Room, G: Gate> {
     pub is_last: bool,
     /// Where memory comes from.
     pub alloc: Global,
-    pub ghost same: { problem.now ≡ J.run.problem },
+    pub ghost same: { tables.now ≡ J.run.problem },
 }
 
 impl<J: Run, C: Core + Drop, N: Room, G: Gate> Shared<'_, J, C, N, G> {

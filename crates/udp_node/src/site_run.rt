@@ -14,6 +14,7 @@ use crate::node_end::NodeEnd;
 use crate::plan::Plan;
 use crate::start::Start;
 use crate::turn::Taken;
+use brancher::Tables;
 use cover_problem::Problem;
 use node_core::{Core, NodeCore};
 use root_registry::Registry;
@@ -37,6 +38,8 @@ const NAMES: u32 = 1_000_000;
 pub struct Whole<'a, J: Run, G: Gate> {
     /// What is searched.
     pub problem: &'a Problem,
+    /// What the searches of it share.
+    pub tables: &'a Tables<'a>,
     /// What holds workers back.
     pub gate: &'a G,
     /// The flag that is raised once the run can't go on. No answer depends on it.
@@ -49,6 +52,7 @@ pub struct Whole<'a, J: Run, G: Gate> {
     pub run: PhantomData<J>,
     pub ghost is_run: { IsRun J.run },
     pub ghost same: { problem.now ≡ J.run.problem },
+    pub ghost searched: { tables.now ≡ J.run.problem },
     pub ghost nodes: { plan.nodes ≡ J.run.nodes },
 }
 
@@ -336,7 +340,7 @@ fn run_registry<
         rt,
         whole.alloc,
         &cell,
-        whole.problem,
+        whole.tables,
         link,
         Start { plan, ..start },
         &Open,
@@ -376,7 +380,7 @@ fn run_worker_node<
         rt,
         whole.alloc,
         &cell,
-        whole.problem,
+        whole.tables,
         link,
         start,
         whole.gate,

@@ -12,8 +12,8 @@ use crate::pace::Pace;
 use crate::plan::Plan;
 use crate::stand::Refused;
 use crate::turn::Turn;
-use brancher::{Finding, Outcome, Searcher};
-use cover_problem::{Numbers, Problem};
+use brancher::{Finding, Outcome, Searcher, Tables};
+use cover_problem::Numbers;
 use node_core::{ActFault, Core, Event, Reply};
 use rand_core::utils::NextWord;
 use rand_pcg::Pcg32;
@@ -46,19 +46,19 @@ impl<'a, J: Run> Worker<'a, J> {
     /// The worker of this number at a node, before its first turn. The only error is want of memory.
     pub fn new(
         alloc: Global,
-        problem: &'a Problem,
+        tables: &'a Tables<'a>,
         plan: Plan,
         node: u8,
         number: u8,
     ) -> Result<Worker<'a, J>, AllocError>
-        requires { problem.now ≡ J.run.problem }
+        requires { tables.now ≡ J.run.problem }
     {
         let stream = u64::from(node) * 16 + u64::from(number);
         let alone = plan.nodes == 1 && plan.workers == 1;
         Ok(Worker {
-            searcher: Searcher::new(alloc, problem)?,
+            searcher: Searcher::over(alloc, tables)?,
             hand: Hand::Nothing,
-            pace: Pace::new(alloc, plan.fuel, alone, problem.primary() + 1)?,
+            pace: Pace::new(alloc, plan.fuel, alone, tables.problem().primary() + 1)?,
             rng: Pcg32::new(plan.seed, stream),
             idle: 0,
             looked_at: None,
