@@ -1,8 +1,8 @@
-use Rattle.std.proofs.Common.{rules, ◌≡◌, true, suc, ◌++◌, ◌∷◌, [], length, arith, refl, subst}
+use Rattle.std.proofs.Common.{rules, ◌≡◌, true, suc, ◌++◌, ◌∷◌, [], length, arith, refl}
 use Rattle.std.proofs.lemmas.List.{length_push}
 use Rattle.std.specs.Vec.Iter.{into_iter_items}
 use Rattle.udp_node.specs.Starts.{are_starts}
-use Rattle.udp_node.proofs.Gathering.{AreGathered, NumberedFrom, before_next_node, gathered_all, numbered_from}
+use Rattle.udp_node.proofs.Gathering.{NumberedFrom, before_next_node, gathered_all, numbered_from}
 use Rattle.udp_node.proofs.run.gathered.Goals as goal
 
 pub loop-site-init : goal.loop-site-init

@@ -1,8 +1,8 @@
 use Rattle.std.proofs.Common.{◌≡◌, None}
 use Rattle.udp_node.proofs.site_run.SiteRun.run_starts.Given as goal
 
-abbrev pub invariant-loop-_start : goal.invariant-loop-_start
-invariant-loop-_start g l = record {
+abbrev pub invariant-loop-start : goal.invariant-loop-start
+invariant-loop-start g l = record {
   taken : l.self.link ≡ None;
   node : l.self.node ≡ l.fn.self.node;
   restarts : l.self.restarts ≡ l.fn.self.restarts;
