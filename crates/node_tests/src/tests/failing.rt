@@ -1,7 +1,8 @@
 //! Runs over links of which one has a defect: they end soon, and report what went wrong, or go on where they can.
 //!
-//! Of the bugs of `udp_node` that are kept outside the gate, `a_link_may_fail_once` finds `one_failed_receive_ends_a_site` and
-//! `a_failed_send_ends_the_sender`, and `numbers_of_a_site_with_a_defect` finds `ends_after_99_failed_receives`.
+//! Of the bugs of `udp_node` that are kept outside the gate, `a_receive_may_fail_once` finds `one_failed_receive_ends_a_site`,
+//! `a_send_may_fail_once` finds `a_failed_send_ends_the_sender`, and `numbers_of_a_site_with_a_defect` finds
+//! `ends_after_99_failed_receives`.
 
 use super::broken::{Defect, links_with};
 use super::fails_once::{AfterFault, Fault, links_that_fail};
@@ -106,43 +107,48 @@ fn a_send_that_fails_is_a_loss(rt: HostRuntime) -> Result<(), Fail> {
     Ok(())
 }
 
-/// One node with eight workers: while one holds the root back, the others go on asking for work.
-const EIGHT: Plan = Plan {
-    workers: 8,
-    nodes: 1,
-    quiet: 6_000,
-    ..PLAN
-};
-
 /// Whether the node goes on where this call of its link fails, which is counted, and the answer comes. A send that fails is a loss.
 fn goes_on<R: Threads + Wait + Clock + Sync>(
     rt: &R,
     alloc: Global,
+    workers: u8,
     fault: Fault,
     lost: u64,
 ) -> Result<bool, Fail> {
+    let plan = Plan {
+        workers,
+        nodes: 1,
+        quiet: 6_000,
+        ..PLAN
+    };
     let failed = Arc::new(alloc, AtomicBool::new(false))?;
-    let links = links_that_fail(alloc, EIGHT.nodes, 1, fault, &failed)?;
+    let links = links_that_fail(alloc, plan.nodes, 1, fault, &failed)?;
     let gate = AfterFault::new(failed);
-    let Some(ran) = run_whole(rt, alloc, &COVERED, EIGHT, links, &gate) else {
+    let Some(ran) = run_whole(rt, alloc, &COVERED, plan, links, &gate) else {
         return Err(Fail::new("memory ran out"));
     };
     let Some(end) = ran.sites.get(1) else {
         return Ok(false);
     };
-    Ok(
-        ran.came.told == Told::Right
-            && (end.cause, end.failures, end.losses) == (Cause::Over, 1, lost),
-    )
+    let numbers = (end.cause, end.failures, end.losses);
+    Ok(ran.came.told == Told::Right && numbers == (Cause::Over, 1, lost))
 }
 
 #[test]
-fn a_link_may_fail_once(rt: HostRuntime) -> Result<(), Fail> {
+fn a_receive_may_fail_once(rt: HostRuntime) -> Result<(), Fail> {
     for call in 1..51 {
-        let sends = goes_on(&rt, rt.alloc(), Fault::Send(call), 1)?;
-        assert!(rt; sends, "send {call}");
-        let receives = goes_on(&rt, rt.alloc(), Fault::Receive(call), 0)?;
-        assert!(rt; receives, "receive {call}");
+        let goes_on = goes_on(&rt, rt.alloc(), 1, Fault::Receive(call), 0)?;
+        assert!(rt; goes_on, "receive {call}");
+    }
+    Ok(())
+}
+
+/// While one worker holds the root back, the seven others go on asking for work.
+#[test]
+fn a_send_may_fail_once(rt: HostRuntime) -> Result<(), Fail> {
+    for call in 1..51 {
+        let goes_on = goes_on(&rt, rt.alloc(), 8, Fault::Send(call), 1)?;
+        assert!(rt; goes_on, "send {call}");
     }
     Ok(())
 }

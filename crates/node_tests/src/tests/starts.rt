@@ -92,7 +92,7 @@ fn greetings(sent: &[Packet], incarnation: u32) -> usize {
 fn a_start_that_hears_nothing_ends_after_its_turns(rt: HostRuntime) -> Result<(), Fail> {
     let alloc = rt.alloc();
     let plan = Plan {
-        turns: 2_000,
+        turns: 400,
         quiet: u64::MAX,
         ..PLAN
     };
