@@ -66,6 +66,11 @@ impl<'a> Tables<'a> {
         self.problem
     }
 
+    /// Whether searches over these tables go over sets of live options; else they go by links.
+    pub fn has_sets(&self) -> bool {
+        self.sets.is_some()
+    }
+
     /// The sets of the problem's options, for searches over them.
     pub(crate) fn sets(&self) -> Option<&OptionSets<'a>>
         ensures { IfSome result (λ sets. sets.now ≡ self.now) }
@@ -77,7 +82,7 @@ impl<'a> Tables<'a> {
 /// Whether a search by links is thought to be faster than one over sets of live options; the only error is out of memory.
 ///
 /// By links a choice takes each name in an option that it bars out of its column; over sets it counts the words of the rows of the
-/// primary items. So links suit where a choice bars few options: less than 3/2 of a name for each of those words, on average and by
+/// primary items. So links suit where a choice bars few options: less than 5/2 of a name for each of those words, on average and by
 /// a count of the options that name each item.
 fn suits_links(alloc: Global, problem: &Problem) -> Result<bool, AllocError> {
     let options = problem.options() as u64;
@@ -96,7 +101,7 @@ fn suits_links(alloc: Global, problem: &Problem) -> Result<bool, AllocError> {
     );
     let taken_out = barred.saturating_mul(names).saturating_mul(2);
     let counted = words.saturating_mul(options).saturating_mul(options);
-    Ok(taken_out < counted.saturating_mul(3))
+    Ok(taken_out < counted.saturating_mul(5))
 }
 
 /// Counts an option in the rows of the items that it names.

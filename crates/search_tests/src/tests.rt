@@ -5,4 +5,5 @@ mod fuels;
 mod links;
 mod plain;
 mod search;
+mod suited;
 mod texts;
