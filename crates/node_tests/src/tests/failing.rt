@@ -1,13 +1,14 @@
 //! Runs over links of which one has a defect: they end soon, and report what went wrong, or go on where they can.
 //!
-//! Of the bugs of `udp_node` that are kept outside the gate, `a_receive_may_fail_once` finds `one_failed_receive_ends_a_site`, and
-//! `numbers_of_a_site_with_a_defect` finds `ends_after_99_failed_receives`.
+//! Of the bugs of `udp_node` that are kept outside the gate, `a_receive_may_fail_once` finds `one_failed_receive_ends_a_site`,
+//! `a_send_may_fail_once` finds `a_failed_send_ends_the_sender`, and `numbers_of_a_site_with_a_defect` finds
+//! `ends_after_99_failed_receives`.
 
 use super::broken::{Defect, links_with};
 use super::fails_once::{AfterFault, Fault, links_that_fail};
 use super::runs::{COVERED, Told, run, run_whole};
 use std::alloc::Global;
-use std::sync::atomic::AtomicBool;
+use std::sync::atomic::{AtomicU64, Ordering};
 use std::sync::{Arc, Wait};
 use std::test::Fail;
 use std::thread::Threads;
@@ -106,7 +107,8 @@ fn a_send_that_fails_is_a_loss(rt: HostRuntime) -> Result<(), Fail> {
     Ok(())
 }
 
-/// Whether the node goes on where this call of its link fails, which is counted, and the answer comes. A send that fails is a loss.
+/// Whether the node goes on where this call of its link fails, so that the answer comes: it counts as many failures as its link does,
+/// and at least these losses. (A full outbox may lose more.)
 fn goes_on<R: Threads + Wait + Clock + Sync>(
     rt: &R,
     alloc: Global,
@@ -120,17 +122,18 @@ fn goes_on<R: Threads + Wait + Clock + Sync>(
         quiet: 6_000,
         ..PLAN
     };
-    let failed = Arc::new(alloc, AtomicBool::new(false))?;
+    let failed = Arc::new(alloc, AtomicU64::new(0))?;
     let links = links_that_fail(alloc, plan.nodes, 1, fault, &failed)?;
-    let gate = AfterFault::new(failed);
+    let gate = AfterFault::new(Arc::try_clone(&failed)?);
     let Some(ran) = run_whole(rt, alloc, &COVERED, plan, links, &gate) else {
         return Err(Fail::new("memory ran out"));
     };
     let Some(end) = ran.sites.get(1) else {
         return Ok(false);
     };
-    let numbers = (end.cause, end.failures, end.losses);
-    Ok(ran.came.told == Told::Right && numbers == (Cause::Over, 1, lost))
+    let counted = failed.load(Ordering::SeqCst);
+    let is_counted = counted > 0 && end.failures == counted && end.losses >= lost;
+    Ok(ran.came.told == Told::Right && end.cause == Cause::Over && is_counted)
 }
 
 #[test]
@@ -138,6 +141,16 @@ fn a_receive_may_fail_once(rt: HostRuntime) -> Result<(), Fail> {
     for call in 1..51 {
         let goes_on = goes_on(&rt, rt.alloc(), 1, Fault::Receive(call), 0)?;
         assert!(rt; goes_on, "receive {call}");
+    }
+    Ok(())
+}
+
+/// While one worker holds the root back, the seven others go on asking for work.
+#[test]
+fn a_send_may_fail_once(rt: HostRuntime) -> Result<(), Fail> {
+    for call in 1..51 {
+        let goes_on = goes_on(&rt, rt.alloc(), 8, Fault::Send(call), 1)?;
+        assert!(rt; goes_on, "send {call}");
     }
     Ok(())
 }

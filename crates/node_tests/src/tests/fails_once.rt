@@ -1,4 +1,4 @@
-//! A link in memory that fails once, and a gate that waits for that.
+//! A link in memory that fails once and counts its failures, and a gate that waits for one.
 
 ghost use Rattle.std.specs.Prelude.{◌≡◌, ◌+◌, ◌≤◌, ℕ, length, vec_len, IfOk, IfSome};
 ghost use Rattle.udp_node.specs.Links.{failed_once};
@@ -6,7 +6,7 @@ ghost use Rattle.udp_node.specs.Links.{failed_once};
 use super::ends::wires;
 use spawn_frame::Job;
 use std::alloc::{AllocError, Global};
-use std::sync::atomic::{AtomicBool, Ordering};
+use std::sync::atomic::{AtomicU64, Ordering};
 use std::sync::{Arc, Wait};
 use std::thread;
 use udp_node::{Gate, Link, LinkFault, MemoryLink};
@@ -22,8 +22,8 @@ pub enum Fault {
     Receive(u64),
 }
 
-/// A flag that is raised once a link has failed.
-pub type Failed = Arc<AtomicBool, Global>;
+/// How many calls of a site's link, over all its twins, have failed.
+pub type Failed = Arc<AtomicU64, Global>;
 
 /// A link in memory of which one call fails.
 #[derive(Drop)]
@@ -51,7 +51,7 @@ impl FailsOnce {
     fn fail(&mut self) -> LinkFault
         ensures { self.new.failures ≡ failed_once self.old.failures }
     {
-        self.failed.store(true, Ordering::SeqCst);
+        self.failed.fetch_add(1, Ordering::SeqCst);
         self.failures = self.failures.saturating_add(1);
         LinkFault
     }
@@ -100,7 +100,7 @@ impl Link for FailsOnce {
     }
 }
 
-/// Links for so many nodes and the registry, of which that of this site fails so and raises the flag.
+/// Links for so many nodes and the registry, of which that of this site fails so, and counts it.
 pub fn links_that_fail(
     alloc: Global,
     nodes: u8,
@@ -114,13 +114,12 @@ pub fn links_that_fail(
     let mut links = Vec::new(alloc);
     let wires = wires(alloc, nodes)?;
     for link in wires {
-        let own = if links.len() == site {
-            fault
+        let (fault, failed) = if links.len() == site {
+            (fault, Arc::try_clone(failed)?)
         } else {
-            Fault::Never
+            (Fault::Never, Arc::new(alloc, AtomicU64::new(0))?)
         };
-        let failed = Arc::try_clone(failed)?;
-        links.push(FailsOnce::new(link, own, failed))?;
+        links.push(FailsOnce::new(link, fault, failed))?;
     }
     Ok(links)
 }
@@ -132,7 +131,7 @@ pub struct AfterFault {
 }
 
 impl AfterFault {
-    /// The gate that looks at this flag.
+    /// The gate that looks at this count.
     pub fn new(failed: Failed) -> AfterFault {
         AfterFault { failed }
     }
@@ -140,8 +139,8 @@ impl AfterFault {
 
 impl Gate for AfterFault {
     fn pass(&self, _worker: u8, _job: &Job) -> bool {
-        for _turn in 0..1_000_000 {
-            if self.failed.load(Ordering::SeqCst) {
+        for _turn in 0..10_000_000 {
+            if self.failed.load(Ordering::SeqCst) > 0 {
                 return true;
             }
             thread::yield_now();
