@@ -12,6 +12,7 @@ mod plain;
 mod recorder;
 mod runs;
 mod sending;
+mod small_cells;
 mod starts;
 mod strangers;
 mod wild;
