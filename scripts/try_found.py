@@ -1,0 +1,102 @@
+#!/usr/bin/env python3
+"""Puts the bugs into the code that a test finds and no contract refuses, and says of each whether that test fails.
+
+    python3 scripts/try_found.py [--at-once N] [CRATE/BUG ..]
+
+The first lines of a test's file say "Of the bugs of `CRATE` that are kept outside the gate, `TEST` finds `BUG`". Without words all
+of these bugs are tried, each in a copy of the repository and without proofs: it takes two minutes each. Of each bug one line says
+
+    found: TEST        the test fails
+    NOT FOUND: TEST    the test passes with the bug in the code
+    not tried: TEST    the bug no longer applies, or the test did not end
+
+and a last line counts them. It wants the toolchain's command `rt` on the path. The exit status is 1 if any was not found, else 2 if
+any could not be tried, else 0.
+"""
+import concurrent.futures
+import glob
+import os
+import re
+import shutil
+import subprocess
+import sys
+import tempfile
+
+from built import parser_of, stop, TOP, want_command
+
+FOUND, MISSED, UNTRIED = "found", "NOT FOUND", "not tried"
+CLAIM = re.compile(r"Of the bugs of `(\w+)` that are kept outside the gate, (.*?\.)(?:\s|$)")
+PAIR = re.compile(r"`(\w+)`\s+finds\s+((?:`\w+`(?!\s+finds)(?:, | and )?)+)")
+
+
+def claims():
+    """Of each bug that a test is said to find: its crate, its name, the test's crate and the test."""
+    for file in sorted(glob.glob(os.path.join(TOP, "crates", "*", "src", "**", "*.rt"), recursive=True)):
+        with open(file, encoding="utf-8") as opened:
+            text = " ".join(line[3:].strip() for line in opened if line.startswith("//!"))
+        tests = os.path.relpath(file, os.path.join(TOP, "crates")).split(os.sep)[0]
+        for crate, told in CLAIM.findall(text):
+            for test, bugs in PAIR.findall(told):
+                for bug in re.findall(r"`(\w+)`", bugs):
+                    yield crate, bug, tests, test
+
+
+def put(top, crate, bug):
+    """Puts a bug into a copy of the repository; whether its text stands there once."""
+    with open(os.path.join(TOP, "bugs", crate, bug + ".edit"), encoding="utf-8") as opened:
+        pairs = [line.partition(": ")[::2] for line in opened.read().splitlines()]
+    file = old = ""
+    for word, rest in pairs:
+        if word == "file":
+            file = os.path.join(top, "crates", crate, rest)
+        elif word == "old":
+            old = rest
+        elif word == "new":
+            with open(file, encoding="utf-8") as opened:
+                text = opened.read()
+            if text.count(old) != 1:
+                return False
+            with open(file, "w", encoding="utf-8") as opened:
+                opened.write(text.replace(old, rest))
+    return True
+
+
+def tried(claim):
+    """What came of a bug, by its test."""
+    crate, bug, tests, test = claim
+    with tempfile.TemporaryDirectory(prefix="try-found-") as room:
+        top = os.path.join(room, "copy")
+        shutil.copytree(TOP, top, ignore=shutil.ignore_patterns("out", ".git"))
+        if not put(top, crate, bug):
+            return UNTRIED
+        words = ["rt", "try", "--test", "--seconds", "300", "--", test]
+        ended = subprocess.run(words, cwd=os.path.join(top, "crates", tests), capture_output=True, text=True)
+    lines = [line for line in ended.stdout.splitlines() if line.startswith("test ") and f"::{test} ..." in line]
+    if len(lines) != 1:
+        return UNTRIED
+    return MISSED if lines[0].endswith("... ok") else FOUND
+
+
+def main():
+    parser = parser_of(__doc__)
+    parser.add_argument("--at-once", type=int, default=1, metavar="N", help="how many are tried at once (default 1)")
+    parser.add_argument("bugs", nargs="*", metavar="CRATE/BUG", help="the bugs to try; all that a test finds where none is named")
+    given = parser.parse_args()
+    want_command("rt")
+    known = list(claims())
+    names = [f"{crate}/{bug}" for crate, bug, _, _ in known]
+    for bug in given.bugs:
+        if bug not in names:
+            stop(f"no test is said to find {bug}")
+    chosen = [claim for name, claim in zip(names, known) if not given.bugs or name in given.bugs]
+    kinds = []
+    with concurrent.futures.ThreadPoolExecutor(max(given.at_once, 1)) as pool:
+        for (crate, bug, tests, test), kind in zip(chosen, pool.map(tried, chosen)):
+            print(f"{crate}/{bug}: {kind}: {tests}, {test}", flush=True)
+            kinds.append(kind)
+    print(", ".join(f"{kinds.count(kind)} {kind}" for kind in (FOUND, MISSED, UNTRIED)))
+    return 1 if MISSED in kinds else 2 if UNTRIED in kinds else 0
+
+
+if __name__ == "__main__":
+    sys.exit(main())
