@@ -1,0 +1,28 @@
+-- Sums and differences of one binary digit.
+use Rattle.std.proofs.Common.{◌≡◌, ℕ, ◌+◌, ◌*◌, ◌^◌, ◌<◌, ◌↔◌, bit_and, arith, w64}
+use Rattle.std.specs.Int.{bit_at, bit_not}
+use Rattle.std.specs.Int.Bits.{bit_xor}
+use Rattle.std.proofs.lemmas.Nat.Bits.{bit_at_and, bit_at_xor, bit_at_not, bit_at-lt, bit_at-zero}
+
+pub digit_raised : (digits carry i : ℕ) → bit_at (bit_xor digits carry) i + 2 * bit_at (bit_and digits carry) i ≡ bit_at digits i + bit_at carry i
+digit_raised digits carry i = omega (arith, bit_at_xor digits carry i, bit_at_and digits carry i, bit_at-lt digits i, bit_at-lt carry i)
+
+pub digit_lowered : (digits borrow i : ℕ) → digits < 2 ^ 64 → i < 64
+    → bit_at (bit_xor digits borrow) i + bit_at borrow i ≡ bit_at digits i + 2 * bit_at (bit_and borrow (bit_not w64 digits)) i
+digit_lowered digits borrow i small inside =
+    omega (arith, bit_at_xor digits borrow i, bit_at_and borrow (bit_not w64 digits) i, bit_at_not w64 digits i small inside, bit_at-lt digits i, bit_at-lt borrow i)
+
+-- of some items those whose digit is 0
+pub zeros_of : (items digits i : ℕ) → digits < 2 ^ 64 → i < 64 → (bit_at (bit_and items (bit_not w64 digits)) i ≡ 1) ↔ ((bit_at items i ≡ 1) × (bit_at digits i ≡ 0))
+zeros_of items digits i small inside =
+    let both = bit_at_and items (bit_not w64 digits) i in
+    let other = bit_at_not w64 digits i small inside in
+    ((λ h. (omega (arith, h, both, other, bit_at-lt items i), omega (arith, h, both, other, bit_at-lt items i, bit_at-lt digits i))), (λ h. omega (arith, h.0, h.1, both, other)))
+
+-- where none has the digit 0, each has the digit 1
+pub all_ones : (items digits i : ℕ) → digits < 2 ^ 64 → i < 64 → bit_and items (bit_not w64 digits) ≡ 0 → bit_at items i ≡ 1 → bit_at digits i ≡ 1
+all_ones items digits i small inside none here =
+    let both = bit_at_and items (bit_not w64 digits) i in
+    let other = bit_at_not w64 digits i small inside in
+    let zero : bit_at (bit_and items (bit_not w64 digits)) i ≡ 0 = rw none (bit_at-zero i) in
+    omega (arith, here, both, other, zero, bit_at-lt digits i)

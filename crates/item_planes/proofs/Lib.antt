@@ -1,0 +1,2 @@
+pub mod Binary
+pub mod Least
