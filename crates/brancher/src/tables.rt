@@ -82,13 +82,16 @@ impl<'a> Tables<'a> {
 /// Whether a search by links is thought to be faster than one over sets of live options; the only error is out of memory.
 ///
 /// By links a choice takes each name in an option that it bars out of its column; over sets it counts the words of the rows of the
-/// primary items. So links suit where a choice bars few options: less than 5/2 of a name for each of those words, on average and by
-/// a count of the options that name each item.
+/// primary items, unless these are few. So links suit where a choice bars few options: less than 5/2 of a name for each of those
+/// words, on average and by a count of the options that name each item.
 fn suits_links(alloc: Global, problem: &Problem) -> Result<bool, AllocError> {
     let options = problem.options() as u64;
     let mut rows: Vec<u64> = vec![in alloc; 0; problem.items()]?;
     for option in 0..problem.options() as u16 {
         count_names(problem.option(option), &mut rows);
+    }
+    if are_few(&rows[..problem.primary()]) {
+        return Ok(false);
     }
     let names = rows.iter().fold(0u64, |sum, row| sum.saturating_add(*row));
     let barred = rows.iter().fold(
@@ -102,6 +105,11 @@ fn suits_links(alloc: Global, problem: &Problem) -> Result<bool, AllocError> {
     let taken_out = barred.saturating_mul(names).saturating_mul(2);
     let counted = words.saturating_mul(options).saturating_mul(options);
     Ok(taken_out < counted.saturating_mul(5))
+}
+
+/// Whether there are so few primary items, with so few options each, that a search over sets counts digit by digit.
+fn are_few(rows: &[u64]) -> bool {
+    rows.len() <= 64 && rows.iter().all(|row| *row < 32)
 }
 
 /// Counts an option in the rows of the items that it names.

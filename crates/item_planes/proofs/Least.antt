@@ -27,15 +27,17 @@ narrowed_next items number left least digits next digit are is = record {
     | inl same ↦ omega (arith, same, is.least i inside ((are.those i inside).1 (here, same)))
     | inr other ↦ omega (arith, other, are.bound i inside here, is.binary)
   ];
-  those = λ i inside. ((λ h.
-      let digit_is = (is.those i inside).0 h in
-      let number_is = (are.those i inside).0 digit_is.0 in
-      (number_is.0, omega (arith, number_is.1, digit_is.1))),
-      (λ h.
-      let bound = are.bound i inside h.0 in
-      let number_is : number i ≡ least = omega (arith, h.1, bound, is.binary, bit_at-lt digits i) in
-      let digit_is : bit_at digits i ≡ digit = omega (arith, h.1, number_is) in
-      (is.those i inside).1 ((are.those i inside).1 (h.0, number_is), digit_is)));
+  those = λ i inside. (
+    (λ h.
+        let digit_is = (is.those i inside).0 h in
+        let number_is = (are.those i inside).0 digit_is.0 in
+        (number_is.0, omega (arith, number_is.1, digit_is.1))),
+    (λ h.
+        let bound = are.bound i inside h.0 in
+        let number_is : number i ≡ least = omega (arith, h.1, bound, is.binary, bit_at-lt digits i) in
+        let digit_is : bit_at digits i ≡ digit = omega (arith, h.1, number_is) in
+        (is.those i inside).1 ((are.those i inside).1 (h.0, number_is), digit_is)),
+  );
 }
 
 -- five digits are a count

@@ -15,6 +15,7 @@ use Rattle.live_rows.specs.declared.mark.Mark.{Mark}
 use Rattle.cover_problem.specs.Branching.{branch_item, IsOpen}
 use Rattle.live_rows.specs.Counting.{IsLive, item_of}
 use Rattle.live_rows.proofs.Layered.{level_end, level_low}
+use Rattle.live_rows.proofs.Leveled.{counts_front}
 use Rattle.cover_problem.proofs.Prefixes.{prefix_short, branch_is_open}
 use Rattle.dancing_links.proofs.Chosen.{room_left}
 use Rattle.live_rows.specs.Levels.{AreLevels, IsLevel, level_at}
@@ -31,11 +32,11 @@ last_get ms m = slice_get-get_or (ms ++ m ∷ []) (length ms) m (omega (arith, l
 pub levels_front : (p : Problem) (os : List ℕ) (o : ℕ) (levels : Levels) → AreLevels p (os ++ o ∷ []) levels → AreLevels p os levels
 levels_front p os o levels are = record {
   words = are.words;
-  counts = are.counts;
   leasts = are.leasts;
   each = λ e le.
-      let P : List ℕ → Type 0 = λ xs. IsLevel p xs (level_at (words_of p) e levels.live.items) (level_at p.primary e levels.keys.items) (get_or levels.leasts.items e 0) in
+      let P : List ℕ → Type 0 = λ xs. IsLevel p xs (level_at (words_of p) e levels.live.items) (get_or levels.leasts.items e 0) in
       subst P (front_take os o e le) (are.each e (omega (arith, le, length-append os (o ∷ []))));
+  are_counts = counts_front p os o levels.counts are.are_counts;
 }
 
 marks_front : (p : Problem) (os : List ℕ) (o : ℕ) (ms : List Mark) (m : Mark) → length ms ≡ length os → AreMarks p (os ++ o ∷ []) (ms ++ m ∷ []) → AreMarks p os ms
@@ -182,7 +183,7 @@ words_inside p os ms levels n are long =
 -- the branch item, once all are chosen
 pub branch_here : (p : Problem) (os : List ℕ) (ms : List Mark) (levels : Levels) (n : ℕ) → AreRows p os ms levels → n ≡ length os → item_of (get_or levels.leasts.items n 0) ≡ branch_item p os
 branch_here p os ms levels n are long =
-    sym (are.are_levels.each n (omega (arith, long))).are_keys.branch ∙ ap (branch_item p) (take_all n os (omega (arith, long)))
+    sym (are.are_levels.each n (omega (arith, long))).branch ∙ ap (branch_item p) (take_all n os (omega (arith, long)))
 
 -- which is open
 pub branch_open : (p : Problem) (os : List ℕ) (r : Option ℕ) → r ≡ branch_item p os → IfSome r (IsOpen p os)

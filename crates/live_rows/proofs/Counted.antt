@@ -24,27 +24,27 @@ use Rattle.live_rows.proofs.Words.{word_met, behind_one}
 
 -- ---- counts over a range
 
-abbrev one : Bool → ℕ
+abbrev pub one : Bool → ℕ
 one b = cond b 1 0
 
-step : (f : ℕ → Bool) (a n : ℕ) → count_by f (range_with_len a (suc n)) ≡ one (f a) + count_by f (range_with_len (a + 1) n)
+pub step : (f : ℕ → Bool) (a n : ℕ) → count_by f (range_with_len a (suc n)) ≡ one (f a) + count_by f (range_with_len (a + 1) n)
 step f a n = sum_by-cons (λ x. cond (f x) 1 0) a (range_with_len (a + 1) n)
 
-count_same : (f g : ℕ → Bool) (a n : ℕ) → ((k : ℕ) → k < n → f (a + k) ≡ g (a + k)) → count_by f (range_with_len a n) ≡ count_by g (range_with_len a n)
+pub count_same : (f g : ℕ → Bool) (a n : ℕ) → ((k : ℕ) → k < n → f (a + k) ≡ g (a + k)) → count_by f (range_with_len a n) ≡ count_by g (range_with_len a n)
 count_same f g a zero each = refl
 count_same f g a (suc n) each =
     let here : f a ≡ g a = let e : a + 0 ≡ a = omega arith in ap f (sym e) ∙ each 0 (omega arith) ∙ ap g e in
     let rest = count_same f g (a + 1) n (λ k low. let e : a + suc k ≡ a + 1 + k = omega arith in ap f (sym e) ∙ each (suc k) (omega (arith, low)) ∙ ap g e) in
     step f a n ∙ ap (λ b. one b + count_by f (range_with_len (a + 1) n)) here ∙ ap (λ m. one (g a) + m) rest ∙ sym (step g a n)
 
-count_none : (f : ℕ → Bool) (a n : ℕ) → ((k : ℕ) → k < n → f (a + k) ≡ false) → count_by f (range_with_len a n) ≡ 0
+pub count_none : (f : ℕ → Bool) (a n : ℕ) → ((k : ℕ) → k < n → f (a + k) ≡ false) → count_by f (range_with_len a n) ≡ 0
 count_none f a zero each = refl
 count_none f a (suc n) each =
     let here : f a ≡ false = let e : a + 0 ≡ a = omega arith in ap f (sym e) ∙ each 0 (omega arith) in
     let rest = count_none f (a + 1) n (λ k low. let e : a + suc k ≡ a + 1 + k = omega arith in ap f (sym e) ∙ each (suc k) (omega (arith, low))) in
     step f a n ∙ ap (λ b. one b + count_by f (range_with_len (a + 1) n)) here ∙ ap (λ m. 0 + m) rest
 
-count_split : (f : ℕ → Bool) (a m n : ℕ) → count_by f (range_with_len a (m + n)) ≡ count_by f (range_with_len a m) + count_by f (range_with_len (a + m) n)
+pub count_split : (f : ℕ → Bool) (a m n : ℕ) → count_by f (range_with_len a (m + n)) ≡ count_by f (range_with_len a m) + count_by f (range_with_len (a + m) n)
 count_split f a zero n =
     let e : a + 0 ≡ a = omega arith in
     let g : 0 + n ≡ n = omega arith in

@@ -19,7 +19,7 @@ one_fewest p os i k a b = elim (cases_lt k i) [
   ]
 ]
 
-fewest_branch : (p : Problem) (os : List ℕ) (i : ℕ) → IsFirstFewest p os i → branch_item p os ≡ Some i
+pub fewest_branch : (p : Problem) (os : List ℕ) (i : ℕ) → IsFirstFewest p os i → branch_item p os ≡ Some i
 fewest_branch p os i a = go (branch_item p os) refl
   where
     go : (r : Option ℕ) → branch_item p os ≡ r → branch_item p os ≡ Some i

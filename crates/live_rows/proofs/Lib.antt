@@ -1,10 +1,13 @@
 pub mod Behind
 pub mod Choosing
 pub mod Counted
+pub mod Gone
 pub mod Keying
 pub mod Layered
 pub mod Leveled
 pub mod Lowest
 pub mod Marked
+pub mod Masked
+pub mod Planed
 pub mod Taking
 pub mod Words

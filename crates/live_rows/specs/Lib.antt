@@ -1,4 +1,5 @@
 pub mod Counting
 pub mod Levels
+pub mod Planes
 pub mod Rows
 pub mod Trying

@@ -1,86 +1,67 @@
-//! The keys of a level: for each primary item how many live options name it, or that it is covered.
+//! How many live options name each primary item, level by level.
 
-ghost use Rattle.std.specs.Prelude.{◌≡◌, ℕ, ◌<◌, ◌≤◌, List, length, true, false, nat_lt, slice_index, if◌then◌else◌};
-ghost use Rattle.std.specs.List.{All};
-ghost use Rattle.cover_problem.specs.Numbers.{is_in};
-ghost use Rattle.cover_problem.specs.Problem.{IsProblem};
-ghost use Rattle.option_sets.specs.Sets.{words_of};
-ghost use Rattle.live_rows.specs.Counting.{count_in, item_of, IsLive, AreMarked, AreKeys};
-ghost use Rattle.live_rows.specs.Trying.{AreBehind};
+ghost use Rattle.std.specs.Prelude.{◌≡◌, ◌+◌, ◌<◌, [], ◌∷◌, ◌++◌, length, IfOk};
+ghost use Rattle.cover_problem.specs.Branching.{branch_item};
+ghost use Rattle.live_rows.specs.Counting.{item_of, IsLive};
+ghost use Rattle.live_rows.specs.Levels.{AreCounts};
 
-use option_sets::{OptionSets, Word};
+use crate::level::{count_first, count_level};
+use crate::plane_counts::{PlaneCounts, is_small};
+use option_sets::OptionSets;
+use std::alloc::{AllocError, Global};
 
-/// One live option, in the key of its item; numbers of items are less.
-const ONE_OPTION: u32 = 65_536;
-
-/// The mark of a covered item; an uncovered one has a lesser key.
-const COVERED: u32 = 2_147_483_648;
-
-/// How many options of a row are live.
-#[inline(always)]
-fn count_row(row: &[Word], live: &[u64]) -> u32
-    requires words { AreBehind (length live.now) row.now }
-    requires small { length live.now ≤ 1024 }
-    ensures { result ≡ count_in row.now live.now }
-{
-    let mut count = 0;
-    for word in row {
-        count += (live[word.place as usize] & word.bits).count_ones();
-    }
-    count
+/// How many live options name each primary item, level by level.
+#[derive(Drop)]
+pub enum Counts {
+    /// As a key for each primary item.
+    Keys(Vec<u32>),
+    /// Digit by digit, for few items with few options each.
+    Planes(PlaneCounts),
 }
 
-/// Counts the live options of each uncovered item, in order, and answers the least key: at an item that has none it stops, since
-/// it is the branch item.
-pub fn count_rows(sets: &OptionSets, live: &[u64], keys: &mut [u32]) -> u32
-    requires lawful { IsProblem sets.now }
-    requires live { length live.now ≡ words_of sets.now }
-    requires keys { length keys.old ≡ sets.now.primary }
-    ensures { (prefix : List ℕ) → IsLive sets.now prefix live.now → AreMarked sets.now prefix keys.old
-        → AreKeys sets.now prefix keys.new result }
-{
-    let mut least = u32::MAX;
-    for item in 0..keys.len() {
-        if keys[item] >= COVERED {
-            continue;
+impl Counts {
+    /// Room for all levels, and the counts of the empty prefix, whose live options are given, with the least key. The only error is
+    /// out of memory.
+    pub fn build(
+        alloc: Global,
+        sets: &OptionSets,
+        live: &[u64],
+    ) -> Result<(Counts, u32), AllocError>
+        requires { IsLive sets.now [] live.now }
+        ensures counts { IfOk result (λ built. AreCounts sets.now [] built.0) }
+        ensures branch { IfOk result (λ built. branch_item sets.now [] ≡ item_of built.1) }
+    {
+        if is_small(sets, live) {
+            let (planes, least) = PlaneCounts::build(alloc, sets)?;
+            return Ok((Counts::Planes(planes), least));
         }
-        let key = count_row(sets.row(item as u16), live) * ONE_OPTION + item as u32;
-        keys[item] = key;
-        if key < ONE_OPTION {
-            return key;
+        let primary = sets.problem().primary();
+        let mut keys = vec![in alloc; 0u32; (primary + 1) * primary]?;
+        let least = count_first(sets, live, &mut keys);
+        Ok((Counts::Keys(keys), least))
+    }
+
+    /// Makes the counts of a level from those of the level before it, where one more option was chosen; answers the least key.
+    #[inline(always)]
+    pub fn push(
+        &mut self,
+        sets: &OptionSets,
+        chosen: &[u16],
+        before: &[u64],
+        live: &[u64],
+        option: u16,
+    ) -> u32
+        requires counts { AreCounts sets.now chosen.now self.old }
+        requires room { length chosen.now < sets.now.primary }
+        requires option { option < length sets.now.options }
+        requires before { IsLive sets.now chosen.now before.now }
+        requires live { IsLive sets.now (chosen.now ++ option ∷ []) live.now }
+        ensures counts { AreCounts sets.now (chosen.now ++ option ∷ []) self.new }
+        ensures branch { branch_item sets.now (chosen.now ++ option ∷ []) ≡ item_of result }
+    {
+        match self {
+            Counts::Keys(keys) => count_level(sets, live, keys, chosen.len(), option),
+            Counts::Planes(planes) => planes.push(sets, chosen, before, live, option),
         }
-        least = lesser(key, least);
-    }
-    least
-}
-
-/// The lesser of two keys.
-fn lesser(key: u32, other: u32) -> u32
-    ensures { result ≡ (if nat_lt key other then key else other) }
-{
-    if key < other { key } else { other }
-}
-
-/// Puts the mark of a covered item on the keys of some items.
-#[inline(always)]
-pub fn mark_items(keys: &mut [u32], items: &[u16])
-    requires { All (λ i. i < length keys.old) items.now }
-    ensures long { length keys.new ≡ length keys.old }
-    ensures marked { (i : ℕ) → is_in items.now i ≡ true → 2147483648 ≤ slice_index keys.new i }
-    ensures kept { (i : ℕ) → is_in items.now i ≡ false → slice_index keys.new i ≡ slice_index keys.old i }
-{
-    for item in items {
-        keys[*item as usize] |= COVERED;
-    }
-}
-
-/// The item of a key, unless it is that of a covered one.
-pub fn item_in(key: u32) -> Option<u16>
-    ensures { result ≡ item_of key }
-{
-    if key < COVERED {
-        Some((key % ONE_OPTION) as u16)
-    } else {
-        None
     }
 }

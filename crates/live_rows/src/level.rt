@@ -7,7 +7,7 @@ ghost use Rattle.option_sets.specs.Sets.{has, words_of};
 ghost use Rattle.live_rows.specs.Counting.{AreKeys, AreMarked, IsLive};
 ghost use Rattle.live_rows.specs.Levels.{level_at};
 
-use crate::counts::{count_rows, mark_items};
+use crate::keys::{count_rows, mark_items};
 use option_sets::OptionSets;
 
 /// The numbers of a level.

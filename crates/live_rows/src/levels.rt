@@ -1,11 +1,12 @@
-//! What is kept of each level: its live options, the keys of its primary items, and the least of these.
+//! What is kept of each level: its live options, how many name each primary item, and the least key of these.
 
 ghost use Rattle.std.specs.Prelude.{◌≡◌, ◌+◌, ◌*◌, ◌<◌, ◌≤◌, [], ◌∷◌, ◌++◌, length, IfOk};
 ghost use Rattle.option_sets.specs.Sets.{words_of};
 ghost use Rattle.live_rows.specs.Counting.{IsLive};
 ghost use Rattle.live_rows.specs.Levels.{AreLevels, level_at};
 
-use crate::level::{count_first, count_level, fill_first, level_at, spare_level};
+use crate::counts::Counts;
+use crate::level::{fill_first, level_at, spare_level};
 use option_sets::OptionSets;
 use std::alloc::{AllocError, Global};
 
@@ -14,10 +15,10 @@ use std::alloc::{AllocError, Global};
 pub struct Levels {
     /// The words of the live options of each level.
     pub live: Vec<u64>,
-    /// The key of each primary item at each level.
-    pub keys: Vec<u32>,
     /// The least key at each level.
     pub leasts: Vec<u32>,
+    /// How many live options name each primary item at each level.
+    pub counts: Counts,
 }
 
 impl Levels {
@@ -25,13 +26,16 @@ impl Levels {
     pub fn build(alloc: Global, sets: &OptionSets) -> Result<Levels, AllocError>
         ensures { IfOk result (λ levels. AreLevels sets.now [] levels) }
     {
-        let primary = sets.problem().primary();
-        let live = first_live(alloc, sets, primary + 1)?;
-        let mut keys = vec![in alloc; 0u32; (primary + 1) * primary]?;
-        let mut leasts = vec![in alloc; 0u32; primary + 1]?;
-        let all = level_at(&live, sets.words(), 0);
-        leasts[0] = count_first(sets, all, &mut keys);
-        Ok(Levels { live, keys, leasts })
+        let levels = sets.problem().primary() + 1;
+        let live = first_live(alloc, sets, levels)?;
+        let mut leasts = vec![in alloc; 0u32; levels]?;
+        let (counts, least) = Counts::build(alloc, sets, level_at(&live, sets.words(), 0))?;
+        leasts[0] = least;
+        Ok(Levels {
+            live,
+            leasts,
+            counts,
+        })
     }
 
     /// The words of the live options of a level.
@@ -54,8 +58,9 @@ impl Levels {
     {
         let depth = chosen.len();
         spare_level(sets, &mut self.live, depth, option);
+        let before = level_at(&self.live, sets.words(), depth);
         let live = level_at(&self.live, sets.words(), depth + 1);
-        self.leasts[depth + 1] = count_level(sets, live, &mut self.keys, depth, option);
+        self.leasts[depth + 1] = self.counts.push(sets, chosen, before, live, option);
     }
 }
 

@@ -5,9 +5,11 @@
 #![tactic(auto)]
 
 mod counts;
+mod keys;
 mod level;
 mod levels;
 mod mark;
+mod plane_counts;
 mod rows;
 mod searching;
 mod untried;

@@ -8,7 +8,7 @@ ghost use Rattle.cover_problem.specs.Problem.{IsProblem};
 ghost use Rattle.choices.specs.Choices.{Choices, with_child, with_child_if, with_choice, IsChild, IsNextChoice};
 ghost use Rattle.live_rows.specs.Rows.{IsUntried, IsTaken, IsPopped};
 
-use crate::counts::item_in;
+use crate::keys::item_in;
 use crate::levels::Levels;
 use crate::mark::Mark;
 use crate::untried::{Untried, behind};

@@ -12,5 +12,5 @@ mod tables;
 mod tints;
 mod word;
 
-pub use sets::OptionSets;
+pub use sets::{OptionSets, word_below};
 pub use word::Word;

@@ -152,7 +152,7 @@ fn fill_below(set: &mut [u64], options: usize)
 }
 
 /// A word with so many of its bits, from the lowest on, or with all of them.
-fn word_below(count: usize) -> u64
+pub fn word_below(count: usize) -> u64
     ensures { (k : ℕ) → k < 64 → (bit_at result k == 1) ≡ nat_lt k count }
 {
     if count >= 64 {

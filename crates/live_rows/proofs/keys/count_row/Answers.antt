@@ -2,7 +2,7 @@ use Rattle.std.proofs.Common.{ℕ, ◌<◌, ◌^◌, get_or, arith, rules}
 use Rattle.std.proofs.lemmas.Nat.{and_le_l}
 use Rattle.option_sets.specs.declared.word.Word.{Word}
 use Rattle.live_rows.proofs.Counted.{count_on, count_end, count_few}
-use Rattle.live_rows.proofs.counts.count_row.Goals as goal
+use Rattle.live_rows.proofs.keys.count_row.Goals as goal
 
 pub overflow_add-count : goal.overflow_add-count
 overflow_add-count c =

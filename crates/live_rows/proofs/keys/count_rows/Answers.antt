@@ -2,7 +2,7 @@ use Rattle.std.proofs.Common.{◌≡◌, ℕ, ◌+◌, ◌*◌, length, arith, s
 use Rattle.cover_problem.specs.Branching.{live_options}
 use Rattle.live_rows.proofs.Counted.{count_few, count_live}
 use Rattle.live_rows.proofs.Keying.{AreCounted, covered_counted, open_counted, branch_without_options, keys_are}
-use Rattle.live_rows.proofs.counts.count_rows.Goals as goal
+use Rattle.live_rows.proofs.keys.count_rows.Goals as goal
 
 pub loop-item-preserved-then-keys-item-ge-COVERED :
     goal.loop-item-preserved-then-keys-item-ge-COVERED

@@ -2,7 +2,7 @@ use Rattle.std.proofs.Common.{ℕ, ◌<◌, length, get_or, bit_or, arith}
 use Rattle.std.proofs.lemmas.List.{length-set}
 use Rattle.std.proofs.lemmas.List.Elements.{All-get_or}
 use Rattle.live_rows.proofs.Marked.{marked_more, kept_more}
-use Rattle.live_rows.proofs.counts.mark_items.Goals as goal
+use Rattle.live_rows.proofs.keys.mark_items.Goals as goal
 
 pub loop-item-preserved : goal.loop-item-preserved
 loop-item-preserved c =

@@ -1,6 +1,6 @@
 use Rattle.std.proofs.Common.{◌≡◌, ℕ, ◌≤◌, true, false, length, take, get_or}
 use Rattle.cover_problem.specs.Numbers.{is_in}
-use Rattle.live_rows.proofs.counts.mark_items.Given as goal
+use Rattle.live_rows.proofs.keys.mark_items.Given as goal
 
 abbrev pub invariant-loop-item : goal.invariant-loop-item
 invariant-loop-item l = record {

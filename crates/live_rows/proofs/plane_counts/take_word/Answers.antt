@@ -1,0 +1,54 @@
+use Rattle.std.proofs.Common.{◌≡◌, ap, arith, rules, w64}
+use Rattle.std.specs.Int.{trailing_zeros}
+use Rattle.std.proofs.lemmas.Nat.Bits.{bit_at-trailing_zeros}
+use Rattle.live_rows.specs.Planes.{named_in}
+use Rattle.live_rows.proofs.Masked.{named_none, named_less, cut_less, cut_part}
+use Rattle.live_rows.proofs.plane_counts.take_word.Goals as goal
+
+pub bounds-masks-place : goal.bounds-masks-place
+bounds-masks-place c =
+    let low = bit_at-trailing_zeros w64 c.loop-left.left (omega (arith, c.loop-left-test.true)) (search rules) in
+    c.requires.inside (trailing_zeros w64 c.loop-left.left) low.0 (c.loop-left.invariant.part (trailing_zeros w64 c.loop-left.left) low.0 low.1)
+
+pub overflow_mul-place : goal.overflow_mul-place
+overflow_mul-place c =
+    let low = bit_at-trailing_zeros w64 c.loop-left.left (omega (arith, c.loop-left-test.true)) (search rules) in
+    let inside = c.requires.inside (trailing_zeros w64 c.loop-left.left) low.0 (c.loop-left.invariant.part (trailing_zeros w64 c.loop-left.left) low.0 low.1) in
+    omega (arith, inside)
+
+pub overflow_add-place : goal.overflow_add-place
+overflow_add-place c =
+    let low = bit_at-trailing_zeros w64 c.loop-left.left (omega (arith, c.loop-left-test.true)) (search rules) in
+    let inside = c.requires.inside (trailing_zeros w64 c.loop-left.left) low.0 (c.loop-left.invariant.part (trailing_zeros w64 c.loop-left.left) low.0 low.1) in
+    omega (arith, inside)
+
+pub offset_bounds-masks-place : goal.offset_bounds-masks-place
+offset_bounds-masks-place c =
+    let low = bit_at-trailing_zeros w64 c.loop-left.left (omega (arith, c.loop-left-test.true)) (search rules) in
+    let inside = c.requires.inside (trailing_zeros w64 c.loop-left.left) low.0 (c.loop-left.invariant.part (trailing_zeros w64 c.loop-left.left) low.0 low.1) in
+    omega (arith, inside)
+
+pub take-requires : goal.take-requires
+take-requires c i inside =
+    let low = bit_at-trailing_zeros w64 c.loop-left.left (omega (arith, c.loop-left-test.true)) (search rules) in
+    omega (arith, c.loop-left.invariant.counts i inside, c.requires.enough i inside, named_less c.args.masks.now c.args.place c.loop-left.left (trailing_zeros w64 c.loop-left.left) i low.0 low.1)
+
+pub loop-left-smaller : goal.loop-left-smaller
+loop-left-smaller c =
+    let low = bit_at-trailing_zeros w64 c.loop-left.left (omega (arith, c.loop-left-test.true)) (search rules) in
+    cut_less c.loop-left.left (trailing_zeros w64 c.loop-left.left) low.0 low.1
+
+pub loop-left-preserved : goal.loop-left-preserved
+loop-left-preserved c =
+    let low = bit_at-trailing_zeros w64 c.loop-left.left (omega (arith, c.loop-left-test.true)) (search rules) in
+    record {
+      uncovered = omega (arith, c.take.ensures.uncovered, c.loop-left.invariant.uncovered);
+      part = λ k inside here. c.loop-left.invariant.part k inside (cut_part c.loop-left.left (trailing_zeros w64 c.loop-left.left) k low.0 inside here);
+      counts = λ i inside.
+          omega (arith, c.take.ensures.counts i inside, c.loop-left.invariant.counts i inside, named_less c.args.masks.now c.args.place c.loop-left.left (trailing_zeros w64 c.loop-left.left) i low.0 low.1);
+    }
+
+pub returns-clause-counts : goal.returns-clause-counts
+returns-clause-counts c i inside =
+    let none : c.loop-left.left ≡ 0 = omega (arith, c.loop-left-test.false) in
+    omega (arith, c.loop-left.invariant.counts i inside, ap (λ n. named_in c.args.masks.now c.args.place n i) none, named_none c.args.masks.now c.args.place i)

@@ -1,0 +1,175 @@
+//! How many live options name each primary item, digit by digit, where there are few of both.
+
+ghost use Rattle.std.specs.Prelude.{◌≡◌, ℕ, ◌+◌, ◌*◌, ◌<◌, ◌≤◌, [], ◌∷◌, ◌++◌, List, length, ◌==◌, true, false, IfOk, IsTrue};
+ghost use Rattle.std.specs.Int.{bit_at};
+ghost use Rattle.std.specs.List.{All};
+ghost use Rattle.cover_problem.specs.Branching.{branch_item, live_options};
+ghost use Rattle.cover_problem.specs.Numbers.{is_in};
+ghost use Rattle.cover_problem.specs.Problem.{Problem as ProblemValue, IsProblem};
+ghost use Rattle.option_sets.specs.Sets.{words_of};
+ghost use Rattle.item_planes.specs.Counts.{count_at};
+ghost use Rattle.live_rows.specs.Counting.{item_of, IsLive};
+ghost use Rattle.live_rows.specs.Planes.{named_in, AreMasks, ArePlanes, ArePlaneCounts, IsSmall};
+
+use crate::keys::count_row;
+use item_planes::Planes;
+use option_sets::{OptionSets, word_below};
+use std::alloc::{AllocError, Global};
+
+/// How many live options name each primary item at each level, and the primary items of each option, as bits of a word.
+#[derive(Drop)]
+pub struct PlaneCounts {
+    /// The primary items of each option.
+    pub masks: Vec<u64>,
+    /// The counts of each level.
+    pub planes: Vec<Planes>,
+}
+
+/// Whether there are at most 64 primary items, and at most 31 options for each. All options are live.
+pub fn is_small(sets: &OptionSets, live: &[u64]) -> bool
+    requires { IsLive sets.now [] live.now }
+    ensures { IsTrue result → IsSmall sets.now }
+{
+    let primary = sets.problem().primary();
+    if primary > 64 {
+        return false;
+    }
+    for item in 0..primary as u16 {
+        if count_row(sets.row(item), live) > 31 {
+            return false;
+        }
+    }
+    true
+}
+
+impl PlaneCounts {
+    /// Room for all levels, and the counts of the empty prefix, with the least key. The only error is out of memory.
+    pub fn build(alloc: Global, sets: &OptionSets) -> Result<(PlaneCounts, u32), AllocError>
+        requires { IsSmall sets.now }
+        ensures counts { IfOk result (λ built. ArePlaneCounts sets.now [] built.0) }
+        ensures branch { IfOk result (λ built. branch_item sets.now [] ≡ item_of built.1) }
+    {
+        let primary = sets.problem().primary();
+        let masks = masks_of(alloc, sets)?;
+        let first = first_planes(sets, &masks);
+        let planes = vec![in alloc; first; primary + 1]?;
+        Ok((PlaneCounts { masks, planes }, least_key(&first)))
+    }
+
+    /// Makes the counts of a level from those of the level before it, where one more option was chosen; answers the least key.
+    #[inline(always)]
+    pub fn push(
+        &mut self,
+        sets: &OptionSets,
+        chosen: &[u16],
+        before: &[u64],
+        live: &[u64],
+        option: u16,
+    ) -> u32
+        requires counts { ArePlaneCounts sets.now chosen.now self.old }
+        requires room { length chosen.now < sets.now.primary }
+        requires option { option < length sets.now.options }
+        requires before { IsLive sets.now chosen.now before.now }
+        requires live { IsLive sets.now (chosen.now ++ option ∷ []) live.now }
+        ensures counts { ArePlaneCounts sets.now (chosen.now ++ option ∷ []) self.new }
+        ensures branch { branch_item sets.now (chosen.now ++ option ∷ []) ≡ item_of result }
+    {
+        let depth = chosen.len();
+        let mut next = self.planes[depth];
+        take_gone(sets, &self.masks, chosen, before, live, option, &mut next);
+        next.cover(self.masks[option as usize]);
+        self.planes[depth + 1] = next;
+        least_key(&next)
+    }
+}
+
+/// The counts of the empty prefix.
+fn first_planes(sets: &OptionSets, masks: &[u64]) -> Planes
+    requires small { IsSmall sets.now }
+    requires masks { AreMasks sets.now masks.now }
+    ensures { ArePlanes sets.now [] result }
+{
+    let mut planes = Planes::new(word_below(sets.problem().primary()));
+    for mask in masks {
+        planes.add(*mask);
+    }
+    planes
+}
+
+/// Takes the options that are live before one more is chosen, and not then, from the counts of their items.
+#[inline(always)]
+fn take_gone(
+    sets: &OptionSets,
+    masks: &[u64],
+    chosen: &[u16],
+    before: &[u64],
+    live: &[u64],
+    option: u16,
+    planes: &mut Planes,
+)
+    requires few { sets.now.primary ≤ 64 }
+    requires masks { AreMasks sets.now masks.now }
+    requires before { IsLive sets.now chosen.now before.now }
+    requires live { IsLive sets.now (chosen.now ++ option ∷ []) live.now }
+    requires planes { ArePlanes sets.now chosen.now planes.old }
+    ensures uncovered { planes.new.uncovered ≡ planes.old.uncovered }
+    ensures counted { (i : ℕ) → i < sets.now.primary → count_at planes.new i
+        ≡ length (live_options sets.now (chosen.now ++ option ∷ []) i) }
+{
+    for place in 0..live.len() {
+        take_word(masks, place, before[place] & !live[place], planes);
+    }
+}
+
+/// Takes the options of a word from the counts of their items.
+#[inline(always)]
+fn take_word(masks: &[u64], place: usize, gone: u64, planes: &mut Planes)
+    requires inside { (k : ℕ) → k < 64 → bit_at gone k ≡ 1 → place * 64 + k < length masks.now }
+    requires enough { (i : ℕ) → i < 64 → named_in masks.now place gone i ≤ count_at planes.old i }
+    ensures uncovered { planes.new.uncovered ≡ planes.old.uncovered }
+    ensures counts { (i : ℕ) → i < 64 → count_at planes.new i + named_in masks.now place gone i
+        ≡ count_at planes.old i }
+{
+    let mut left = gone;
+    while left != 0 {
+        let bit = left.trailing_zeros();
+        planes.take(masks[place * 64 + bit as usize]);
+        left &= !(1 << bit);
+    }
+}
+
+/// The key of the uncovered item with the least count.
+#[inline(always)]
+fn least_key(planes: &Planes) -> u32
+    ensures { (problem : ProblemValue) (prefix : List ℕ) → problem.primary ≤ 64
+        → ArePlanes problem prefix planes.now → branch_item problem prefix ≡ item_of result }
+{
+    match planes.least() {
+        Some((item, count)) => count * 65_536 + item,
+        None => u32::MAX,
+    }
+}
+
+/// The primary items of each option, as bits of a word; the only error is out of memory.
+fn masks_of(alloc: Global, sets: &OptionSets) -> Result<Vec<u64>, AllocError>
+    requires { sets.now.primary ≤ 64 }
+    ensures { IfOk result (λ masks. AreMasks sets.now masks.items) }
+{
+    let mut masks = Vec::with_capacity(alloc, sets.problem().options())?;
+    for option in 0..sets.problem().options() as u16 {
+        masks.push(mask_of(sets.primary_items(option)))?;
+    }
+    Ok(masks)
+}
+
+/// Some items as bits of a word.
+fn mask_of(items: &[u16]) -> u64
+    requires { All (λ i. i < 64) items.now }
+    ensures { (i : ℕ) → i < 64 → (bit_at result i == 1) ≡ is_in items.now i }
+{
+    let mut mask = 0;
+    for item in items {
+        mask |= 1 << *item;
+    }
+    mask
+}
