@@ -1,11 +1,14 @@
 ghost use Rattle.std.specs.Prelude.{◌≡◌, ◌<◌, ◌≤◌, length, option_map, slice_get, suc, IfErr, IfOk, MatchOption, None, OnErr, Some};
+ghost use Rattle.cover_problem.specs.Problem.{IsProblem};
 ghost use Rattle.cover_world.specs.Courses.{opening_core, HoldsThroughout, Makes, MayPass, Stepped, StopsAt, TakesAll};
-ghost use Rattle.cover_world.specs.Moves.{move_refusal, world_refusal, AnswerTells};
+ghost use Rattle.cover_world.specs.Moves.{move_refusal, world_refusal, AnswerTells, IsSiteView};
 ghost use Rattle.cover_world.specs.Plays.{entry_in};
 ghost use Rattle.cover_world.specs.Safety.{published};
 ghost use Rattle.cover_world.specs.Views.{first_out, here_job, looked_up};
 ghost use Rattle.cover_world.specs.Worlds.{Acts, Restarts, WasSent};
+ghost use Rattle.node_core.specs.Formed.{AllFormed};
 ghost use Rattle.node_core.specs.Refusal.{IsFit};
+ghost use Rattle.node_core.specs.SiteView.{View};
 ghost use Rattle.spawn_frame.specs.Picks.{ripe_unit};
 ghost use Rattle.spawn_frame.specs.Tables.{IsSeen};
 ghost use Rattle.spawn_frame.specs.declared.site.TheConstants.{LAST_NODE};
@@ -176,9 +179,10 @@ impl<'a> World<'a> {
         self.sites.published()
     }
 
-    /// How many packets were ever sent.
+    /// How many packets were ever sent. Each of them has a spelling.
     pub fn sent(&self) -> usize
-        ensures { result ≡ length self.now.world.sent }
+        ensures sent { result ≡ length self.now.world.sent }
+        ensures formed { AllFormed self.now.world.sent }
     {
         self.sent.len()
     }
@@ -191,11 +195,15 @@ impl<'a> World<'a> {
         &self.sent[place]
     }
 
-    /// The incarnation in which a node, or the registry at 0, runs now.
+    /// The incarnation in which a node, or the registry at 0, runs now. The other clauses say what is true of each world.
+    #[tactic(auto, using(crate::proofs::SiteCores::site_view))]
     pub fn incarnation(&self, node: u8) -> u32
         requires { node < length self.now.world.sites }
-        ensures { option_map (λ view. view.site.incarnation) (slice_get self.now.world.sites node)
-            ≡ Some result }
+        ensures run { option_map (λ view. view.site.incarnation)
+            (slice_get self.now.world.sites node) ≡ Some result }
+        ensures lawful { IsProblem self.now.problem }
+        ensures site { (view : View) → slice_get self.now.world.sites node ≡ Some view
+            → IsSiteView node view }
     {
         match self.sites.state(node) {
             Some(state) => state.site().incarnation,
