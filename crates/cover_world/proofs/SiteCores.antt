@@ -99,7 +99,7 @@ tells_named faults.NotOut = refl
 tells_named faults.OtherSite = refl
 tells_named faults.Over = refl
 tells_named faults.NamesSpent = refl
-tells_named faults.Memory = tt
+tells_named faults.Memory = refl
 tells_named faults.BadCover = refl
 tells_named faults.BadPrefix = refl
 

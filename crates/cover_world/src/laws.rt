@@ -85,7 +85,7 @@ pub fn a_simulation_comes_to_one_world()
 {}
 
 /// An event of a world has a step exactly where nothing refuses it: none where there is a fault, and
-/// some where there is none.
+/// some where there is none. What is asked of the world is so of each `World`: `incarnation` and `sent` say it.
 pub fn the_world_acts_unless_it_refuses()
     ensures unrefused { (problem : Problem) (old new : World) (event : WorldEvent)
         (move : WorldMove) →
