@@ -10,7 +10,7 @@ use Rattle.cover_world.specs.Courses.{Makes, MayPass, Stepped}
 use Rattle.cover_world.specs.Determined.{SameStep, given_by, may_choose}
 use Rattle.cover_world.specs.Draws.{node_count}
 use Rattle.cover_world.specs.Safety.{published}
-use Rattle.cover_world.specs.Simulation.{AllGreet, AsksForWork, Closes, Draws, Ends, Greets, Searches, SearchesJob, Simulated, Simulation, Tries, Turn, Turns, begin_anew, deliver_last, drawn, if_answered, left_after}
+use Rattle.cover_world.specs.Simulation.{AllGreet, AsksForWork, Closes, Draws, Ends, Greets, Searches, SearchesJob, Simulated, Simulation, Tries, Turn, Turns, begin_anew, deliver_last, drawn, if_answered}
 use Rattle.cover_world.specs.Views.{here_job, looked_up}
 use Rattle.cover_world.specs.Worlds.{Acts, Restarts, SiteActs, SiteRestarts, SiteStep, World, WorldMove, opening_node}
 use Rattle.cover_world.specs.declared.world_event.WorldEvent.{WorldEvent}

@@ -3,7 +3,7 @@ use Rattle.std.proofs.Common.{◌≡◌, ℕ, zero, suc, ◌+◌, ◌-◌, ◌<�
 use Rattle.std.proofs.lemmas.Option.{none-some, same_Some, slice_get-map, slice_get_read, slice_get_within}
 use Rattle.std.proofs.lemmas.List.{length-map, length-set}
 use Rattle.std.specs.Prelude.{IfOk, OnErr}
-use Rattle.cover_problem.specs.Problem.{IsProblem, Problem}
+use Rattle.cover_problem.specs.Problem.{Problem}
 use Rattle.cover_world.proofs.Later.{site_grows}
 use Rattle.cover_world.specs.Cores.{ActsAt, Appends, AreNodes, AreSites, IsCoreOf, SitesCore, views_of}
 use Rattle.cover_world.specs.Moves.{AnswerTells, FaultTells, IsSiteView, acting_refusal, site_refusal, world_answer, world_fault}
