@@ -1,14 +1,14 @@
 -- Serials, and the marks of them.
-use Rattle.std.proofs.Common.{◌++◌, ◌∷◌, [], zero, suc, MatchResult, Result, Ok, Err, is_ok, ◌≡◌, nat_cmp, eqb, ◌-◌, ℕ, ◌+◌, ◌<◌, ◌≤◌, Bool, true, false, List, length, get_or, slice_get, Some, sym, ap, subst, ◌∙◌, ◌==◌, arith, ⊎_elim}
+use Rattle.std.proofs.Common.{◌++◌, ◌∷◌, [], zero, suc, ◌≡◌, nat_cmp, eqb, ◌-◌, ℕ, ◌+◌, ◌<◌, ◌≤◌, Bool, true, false, List, length, get_or, slice_get, Some, sym, ap, subst, ◌∙◌, ◌==◌, arith, ⊎_elim}
 use Rattle.std.specs.List.{Contains, dedup, list_any, range_with_len}
-use Rattle.std.specs.List.Sorted.{IsBinarySearchResult, IsPermutation, IsSorted}
+use Rattle.std.specs.List.Sorted.{IsPermutation, IsSorted}
 use Rattle.std.proofs.lemmas.Bool.{eqb-true, eq-eqb, false_from_ne_true, true≢false, cases_lt}
 use Rattle.std.proofs.lemmas.List.{get_or_default, get_or_past}
 use Rattle.std.proofs.lemmas.List.Elements.{Contains-get_or}
 use Rattle.std.proofs.lemmas.List.Folds.{Any-from_list_any, list_any_at}
 use Rattle.std.proofs.lemmas.List.FromFn.{get_or-map-range_with_len, get_or-range_with_len, length-map-range_with_len, length-range_with_len}
 use Rattle.std.proofs.lemmas.List.Kept.{AllPairs-from_increasing, Contains-dedup_nat, Contains-from_dedup}
-use Rattle.std.proofs.lemmas.List.Sorted.{Contains-permutation, IsPermutation-sym, searched}
+use Rattle.std.proofs.lemmas.List.Sorted.{Contains-permutation, IsPermutation-sym}
 use Rattle.std.proofs.lemmas.Map.Keys.{IsStrictlyIncreasing-dedup}
 use Rattle.std.proofs.lemmas.Option.{same_Some, slice_get-get_or, slice_get_within}
 use Rattle.spawn_frame.specs.Aborts.{IsBelow, child, deeper}
@@ -153,25 +153,3 @@ module _ (count : ℕ) (serials : List ℕ) (are : AreSerials count serials) whe
 
   pub is_marked : (i : ℕ) → i < length serials → slice_get (marks_of count serials) (get_or serials i 0) ≡ Some true
   is_marked i l = mark_is count serials (get_or serials i 0) (serial_within i l) ∙ ap Some (is_one serials (get_or serials i 0) (Contains-get_or serials i 0 l))
-
--- what a search by halving says of a mark
-pub searched_mark : (marks : List Bool) (serials : List ℕ) → HasMarks marks serials → (k : ℕ) → k < length marks → (r : Result ℕ ℕ) → IsBinarySearchResult (λ y. nat_cmp y k) serials r → slice_get marks k ≡ Some (is_ok r)
-searched_mark marks serials has k lt r searching =
-    ap (λ ms. slice_get ms k) (sym has.marks_are) ∙ mark_is (length marks) serials k lt ∙ ap Some (go r (searched serials k r searching up))
-  where
-    up : (i j : ℕ) → i ≤ j → j < length serials → get_or serials i 0 ≤ get_or serials j 0
-    up i j le l = ⊎_elim
-        (λ (m : i < j). omega (arith, lower (length marks) serials has.serials_are i j m l))
-        (λ (m : j ≤ i). let same : i ≡ j = omega (arith, le, m) in omega (arith, ap (λ n. get_or serials n 0) same))
-        (cases_lt i j)
-
-    go : (o : Result ℕ ℕ) → MatchResult o (λ i. (i < length serials) × (get_or serials i 0 ≡ k)) (λ i. (i ≤ length serials) × ((j : ℕ) → j < i → get_or serials j 0 < k) × ((j : ℕ) → i ≤ j → j < length serials → k < get_or serials j 0))
-        → list_any (λ s. s == k) serials ≡ is_ok o
-    go (Ok i) h = is_one serials k (subst (Contains serials) h.1 (Contains-get_or serials i 0 h.0))
-    go (Err i) h = false_from_ne_true (list_any (λ s. s == k) serials) (λ one.
-        let here = has_one serials k one in
-        let is : get_or serials here.0 0 ≡ k = get_or_default serials here.0 0 k here.1 ∙ here.2 in
-        ⊎_elim
-        (λ (m : here.0 < i). omega (arith, is, h.1 here.0 m))
-        (λ (m : i ≤ here.0). omega (arith, is, h.2 here.0 m here.1))
-        (cases_lt here.0 i))

@@ -1,6 +1,6 @@
 //! Which own children are below some units.
 
-ghost use Rattle.std.specs.Prelude.{◌≡◌, ◌+◌, ◌<◌, ◌≤◌, ◌++◌, [], length, slice_get, true, vec_capacity, vec_len, Bool, IfOk, OnOk, Some};
+ghost use Rattle.std.specs.Prelude.{◌≡◌, ◌+◌, ◌<◌, ◌≤◌, ◌++◌, [], length, slice_get, true, vec_capacity, vec_len, Bool, IfOk, OnOk};
 ghost use Rattle.std.specs.Option.{option_to_list};
 ghost use Rattle.spawn_frame.specs.Aborts.{AbortsBelow, is_open, reached};
 ghost use Rattle.spawn_frame.specs.Tables.{has_status};
@@ -49,14 +49,6 @@ impl Reach {
             issued: table.issued(),
             serials,
         })
-    }
-
-    /// Whether the own child of this serial is below one of the units. It costs a search by halving.
-    pub fn is_below(&self, serial: u32) -> bool
-        requires { serial < length self.now }
-        ensures { slice_get self.now serial ≡ Some result }
-    {
-        self.serials.binary_search(&serial).is_ok()
     }
 
     /// How many thieves the abort of them will have to tell: as many are out now. It costs a pass through those below.

@@ -8,3 +8,5 @@ mod node;
 mod refused;
 mod registry;
 mod said;
+mod until;
+mod wide;

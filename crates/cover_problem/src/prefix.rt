@@ -136,7 +136,12 @@ pub fn in_order(alloc: Global, problem: &Problem, chosen: &[u16]) -> Result<Numb
 fn chosen_in_order(alloc: Global, problem: &Problem, chosen: &[u16]) -> Result<Vec<u16>, AllocError>
     ensures { IfOk result (λ options. options.items ≡ in_order problem.now chosen.now) }
 {
-    (0..problem.options() as u16)
-        .filter(|option| chosen.contains(option))
-        .collect(alloc)
+    // (the room is taken at once, so that no growth is refused later)
+    let mut options = Vec::with_capacity(alloc, chosen.len())?;
+    for option in 0..problem.options() as u16 {
+        if chosen.contains(&option) {
+            options.push(option)?;
+        }
+    }
+    Ok(options)
 }

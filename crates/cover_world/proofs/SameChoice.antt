@@ -30,10 +30,10 @@ use Rattle.spawn_frame.specs.declared.unit.Unit.{Unit as WorkUnit}
 use Rattle.steal_return.specs.Ledger.{Ledger, ledger_own}
 use Rattle.steal_return.specs.Steals.{GivesEach}
 
-gives_serials : (old : View) (from : Site) (p : List Packet) (v : View) (h : Gives old from p v) → given_by p ≡ serials_of (gifts_in h.body)
+pub gives_serials : (old : View) (from : Site) (p : List Packet) (v : View) (h : Gives old from p v) → given_by p ≡ serials_of (gifts_in h.body)
 gives_serials old from p v h = ap given_by h.sends
 
-denies_none : (old : View) (from : Site) (p : List Packet) (v : View) → Denies old from p v → given_by p ≡ []
+pub denies_none : (old : View) (from : Site) (p : List Packet) (v : View) → Denies old from p v → given_by p ≡ []
 denies_none old from p v h = ap given_by h.sends
 
 -- who gives, gives some
@@ -146,7 +146,7 @@ is_steal Hello asks = absurd (cc)
 is_steal _ asks = absurd (cc)
 
 -- an event at which a site may choose is the arrival of a Steal
-its_packet : (event : Event) → may_choose event ≡ true → (packet : Packet) × (event ≡ Deliver packet) × (packet.body ≡ Steal)
+pub its_packet : (event : Event) → may_choose event ≡ true → (packet : Packet) × (event ≡ Deliver packet) × (packet.body ≡ Steal)
 its_packet (Deliver packet) may = (packet, refl, is_steal packet.body may)
 its_packet _ may = absurd (cc)
 

@@ -6,10 +6,11 @@ use Rattle.std.specs.Prelude.{IfOk, OnErr}
 use Rattle.cover_problem.specs.Problem.{Problem}
 use Rattle.cover_world.proofs.Later.{site_grows}
 use Rattle.cover_world.specs.Cores.{ActsAt, Appends, AreNodes, AreSites, IsCoreOf, SitesCore, views_of}
-use Rattle.cover_world.specs.Moves.{AnswerTells, FaultTells, acting_refusal, site_refusal, world_answer, world_fault}
+use Rattle.cover_world.specs.Moves.{AnswerTells, FaultTells, IsSiteView, acting_refusal, site_refusal, world_answer, world_fault}
 use Rattle.cover_world.specs.Worlds.{SiteStep}
 use Rattle.cover_world.specs.declared.world_fault.WorldFault.TheVariants as world_faults
 use Rattle.node_core.specs.Acting.{Acts, PutsOut, SiteCore, StepOf, named_fault, refusal_told}
+use Rattle.node_core.specs.Formed.{IsFormed}
 use Rattle.node_core.specs.NodeStep.{NodeStep}
 use Rattle.node_core.specs.Refusal.{node_refusal}
 use Rattle.node_core.specs.SiteView.{View}
@@ -98,7 +99,7 @@ tells_named faults.NotOut = refl
 tells_named faults.OtherSite = refl
 tells_named faults.Over = refl
 tells_named faults.NamesSpent = refl
-tells_named faults.Memory = tt
+tells_named faults.Memory = refl
 tells_named faults.BadCover = refl
 tells_named faults.BadPrefix = refl
 
@@ -232,3 +233,10 @@ sites_put problem registry nodes node after l are is = record {
       let length_is = length-set nodes (node - 1) after in
       omega (arith, length_is, are.few);
 }
+
+-- ---- what is true of the view of each site
+
+pub site_view : (problem : Problem) (node : ℕ) (view : View) → IsFormed problem view → view.site.node ≡ node → IsSiteView node view
+site_view problem zero view formed is = is
+site_view problem (suc node) view formed is =
+    record { parents = formed.units.parents; ascending = formed.units.ascending; node = omega (arith, is) }

@@ -7,11 +7,13 @@ use Rattle.std.specs.Prelude.{IfOk, OnErr}
 use Rattle.cover_problem.specs.Problem.{Problem}
 use Rattle.cover_world.specs.Cores.{ActsAt, Appends, BeginsAnew}
 use Rattle.cover_world.specs.Courses.{Makes, Stepped, WorldCore}
-use Rattle.cover_world.specs.Moves.{AnswerTells, meaning, move_refusal, world_refusal}
+use Rattle.cover_world.specs.Moves.{AnswerMayTell, AnswerTells, EventTells, FaultMayTell, FaultTells, meaning, move_refusal, world_refusal}
 use Rattle.cover_world.specs.Worlds.{Acts, Restarts, WasSent, World, WorldMove}
 use Rattle.cover_world.specs.declared.world_event.WorldEvent.{WorldEvent}
+use Rattle.cover_world.specs.declared.world_event.WorldEvent.TheVariants as calls
 use Rattle.cover_world.specs.declared.world_fault.WorldFault.{WorldFault}
 use Rattle.cover_world.specs.declared.world_fault.WorldFault.TheVariants.{NoSuchPacket}
+use Rattle.cover_world.specs.declared.world_fault.WorldFault.TheVariants as faults
 use Rattle.node_core.proofs.Each.{each_append}
 use Rattle.node_core.specs.Formed.{AllFormed}
 use Rattle.node_core.specs.declared.event.Event.{Event}
@@ -86,3 +88,27 @@ pub read_packet : (core now : WorldCore) (list : List Packet) (place : ℕ) (pac
 read_packet core now list place packet copied now_is list_is there read copied_is =
     ap (λ (s : WorldCore). slice_get s.world.sent place) (sym now_is) ∙ ap (λ ps. slice_get ps place) (sym list_is)
     ∙ slice_get_read list (length list) place packet refl (ltb-true _ _ (sym there)) read ∙ ap Some (sym copied_is)
+
+-- ---- what tells of a refusal may tell of it
+
+fault_may_tell : (fault : WorldFault) (refusal : Option WorldFault) → FaultTells fault refusal → FaultMayTell fault refusal
+fault_may_tell faults.NoSuchPacket refusal h = h
+fault_may_tell faults.NoSuchNode refusal h = h
+fault_may_tell faults.OldIncarnation refusal h = h
+fault_may_tell (faults.Core fault) refusal h = h
+fault_may_tell faults.Memory refusal h = tt
+
+pub may_tell : {A : Type 0} (result : Result A WorldFault) (refusal : Option WorldFault) → AnswerTells result refusal → AnswerMayTell result refusal
+may_tell (Ok answer) refusal h = h
+may_tell (Err fault) refusal h = fault_may_tell fault refusal h
+
+pub event_may_tell : {A : Type 0} (event : WorldEvent) (result : Result A WorldFault) (refusal : Option WorldFault) → EventTells event result refusal → AnswerMayTell result refusal
+event_may_tell (calls.Take node) result refusal h = may_tell result refusal h
+event_may_tell (calls.Post node job fuel) result refusal h = h
+event_may_tell (calls.Finish node unit) result refusal h = may_tell result refusal h
+event_may_tell (calls.Ask node victim) result refusal h = may_tell result refusal h
+event_may_tell (calls.Redo node serial) result refusal h = may_tell result refusal h
+event_may_tell (calls.Again node) result refusal h = may_tell result refusal h
+event_may_tell (calls.Greet node) result refusal h = may_tell result refusal h
+event_may_tell (calls.Deliver place) result refusal h = h
+event_may_tell (calls.Restart node incarnation) result refusal h = may_tell result refusal h

@@ -2,7 +2,7 @@
 use Rattle.std.specs.Prelude.{◌≡◌, ℕ, suc, ◌≤◌, ◌<◌, Bool, true, false, ◌&&◌, ◌==◌, List, [], ◌∷◌, ◌++◌, length, map, Option, Some, None, slice_get, slice_set, ⊤}
 use Rattle.cover_problem.specs.Prefix.{is_prefix}
 use Rattle.cover_problem.specs.Problem.{Problem}
-use Rattle.cover_world.specs.Moves.{FaultTells, acting_refusal}
+use Rattle.cover_world.specs.Moves.{FaultMayTell, acting_refusal}
 use Rattle.cover_world.specs.Plays.{entry_at}
 use Rattle.cover_world.specs.Worlds.{SiteStep, opening_node, opening_nodes, opening_registry}
 use Rattle.cover_world.specs.declared.world_fault.WorldFault.{WorldFault}
@@ -82,7 +82,7 @@ pub record IsSearchable (problem : Problem) (view : Option View) (job : Job) (pr
 
 -- whatever is found for the job, the site refuses it with this fault
 abbrev pub NoneIsTaken : Problem → Option View → ℕ → Job → WorldFault → Type 0
-NoneIsTaken problem view node job fault = (finding : Finding) → FaultTells fault (acting_refusal problem view node (Post job finding))
+NoneIsTaken problem view node job fault = (finding : Finding) → FaultMayTell fault (acting_refusal problem view node (Post job finding))
 
 -- What is true of a world's parts: it searches for its own problem, and every packet that was sent has a spelling.
 pub record IsWorld (problem searched : Problem) (sent : List Packet) : Type 0 where

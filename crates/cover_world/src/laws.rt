@@ -76,8 +76,16 @@ pub fn a_simulation_is_a_run()
         Simulated problem fuel turns old new → Run problem old.world new }
 {}
 
+/// A simulation comes to one world: its problem, the world that it begins with, its generator and its settings determine what it
+/// publishes.
+pub fn a_simulation_comes_to_one_world()
+    ensures { (problem : Problem) (fuel turns : ℕ) (old : Simulation) (new other : World) →
+        Simulated problem fuel turns old new → Simulated problem fuel turns old other →
+        new ≡ other }
+{}
+
 /// An event of a world has a step exactly where nothing refuses it: none where there is a fault, and
-/// some where there is none.
+/// some where there is none. What is asked of the world is so of each `World`: `incarnation` and `sent` say it.
 pub fn the_world_acts_unless_it_refuses()
     ensures unrefused { (problem : Problem) (old new : World) (event : WorldEvent)
         (move : WorldMove) →

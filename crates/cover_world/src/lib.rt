@@ -13,8 +13,8 @@ mod world_event;
 mod world_fault;
 
 pub use laws::{
-    a_simulation_is_a_run, below_goes_on, safe_over_every_run, step_is_determined,
-    steps_keep_the_site, the_world_acts_unless_it_refuses, thieves_are_told,
+    a_simulation_comes_to_one_world, a_simulation_is_a_run, below_goes_on, safe_over_every_run,
+    step_is_determined, steps_keep_the_site, the_world_acts_unless_it_refuses, thieves_are_told,
 };
 pub use refusals::{
     finding_without_fuel, lost_at_the_last_attempt, names_spent, no_prefix_given, no_such_victim,

@@ -1,11 +1,14 @@
 ghost use Rattle.std.specs.Prelude.{◌≡◌, ◌<◌, ◌≤◌, length, option_map, slice_get, suc, IfErr, IfOk, MatchOption, None, OnErr, Some};
+ghost use Rattle.cover_problem.specs.Problem.{IsProblem};
 ghost use Rattle.cover_world.specs.Courses.{opening_core, HoldsThroughout, Makes, MayPass, Stepped, StopsAt, TakesAll};
-ghost use Rattle.cover_world.specs.Moves.{move_refusal, world_refusal, AnswerTells};
+ghost use Rattle.cover_world.specs.Moves.{move_refusal, world_refusal, AnswerMayTell, AnswerTells, EventTells, IsSiteView};
 ghost use Rattle.cover_world.specs.Plays.{entry_in};
 ghost use Rattle.cover_world.specs.Safety.{published};
 ghost use Rattle.cover_world.specs.Views.{first_out, here_job, looked_up};
 ghost use Rattle.cover_world.specs.Worlds.{Acts, Restarts, WasSent};
+ghost use Rattle.node_core.specs.Formed.{AllFormed};
 ghost use Rattle.node_core.specs.Refusal.{IsFit};
+ghost use Rattle.node_core.specs.SiteView.{View};
 ghost use Rattle.spawn_frame.specs.Picks.{ripe_unit};
 ghost use Rattle.spawn_frame.specs.Tables.{IsSeen};
 ghost use Rattle.spawn_frame.specs.declared.site.TheConstants.{LAST_NODE};
@@ -74,13 +77,15 @@ impl<'a> World<'a> {
     /// The first of these that holds is the fault: `NoSuchPacket`, where no packet of that number was sent; `NoSuchNode`,
     /// where the node that acts or begins anew isn't there; `OldIncarnation`, where the registry would begin anew, or a
     /// node under an incarnation that isn't above its present one; `Core`, where the site refuses the event. A job that
-    /// isn't the site's is refused before anything is searched for. `Memory` comes only where memory ran out. A fault
-    /// changes nothing.
+    /// isn't the site's is refused before anything is searched for. `Memory` comes only where memory ran out, and where no
+    /// other fault is due; only for the search of a job and for the copy of a packet memory is taken before the rest is
+    /// tested. A fault changes nothing.
     pub fn step(&mut self, event: WorldEvent) -> Result<Reply, WorldFault>
         ensures problem { self.new.problem ≡ self.old.problem }
         ensures step { IfOk result (λ reply.
             Stepped self.old.problem self.old.world event reply self.new.world) }
-        ensures refusal { AnswerTells result (world_refusal self.old.problem self.old.world event) }
+        ensures refusal { EventTells event result
+            (world_refusal self.old.problem self.old.world event) }
         ensures err { OnErr result (self.new ≡ self.old) }
         ensures holds { HoldsThroughout self.old.problem self.old.world self.new.world }
     {
@@ -93,7 +98,8 @@ impl<'a> World<'a> {
         ensures problem { self.new.problem ≡ self.old.problem }
         ensures step { IfOk result (λ reply.
             Stepped self.old.problem self.old.world event reply self.new.world) }
-        ensures refusal { AnswerTells result (world_refusal self.old.problem self.old.world event) }
+        ensures refusal { EventTells event result
+            (world_refusal self.old.problem self.old.world event) }
         ensures err { OnErr result (self.new ≡ self.old) }
     {
         match event {
@@ -144,6 +150,7 @@ impl<'a> World<'a> {
     }
 
     /// Lets one event happen, or passes it over where it is refused: whether it was a step. The only error is want of memory.
+    #[tactic(auto, using(crate::proofs::WorldSteps::event_may_tell))]
     pub(crate) fn pass(&mut self, event: WorldEvent) -> Result<bool, WorldFault>
         ensures problem { self.new.problem ≡ self.old.problem }
         ensures passes { IfOk result (λ took.
@@ -176,9 +183,10 @@ impl<'a> World<'a> {
         self.sites.published()
     }
 
-    /// How many packets were ever sent.
+    /// How many packets were ever sent. Each of them has a spelling.
     pub fn sent(&self) -> usize
-        ensures { result ≡ length self.now.world.sent }
+        ensures sent { result ≡ length self.now.world.sent }
+        ensures formed { AllFormed self.now.world.sent }
     {
         self.sent.len()
     }
@@ -191,11 +199,15 @@ impl<'a> World<'a> {
         &self.sent[place]
     }
 
-    /// The incarnation in which a node, or the registry at 0, runs now.
+    /// The incarnation in which a node, or the registry at 0, runs now. The other clauses say what is true of each world.
+    #[tactic(auto, using(crate::proofs::SiteCores::site_view))]
     pub fn incarnation(&self, node: u8) -> u32
         requires { node < length self.now.world.sites }
-        ensures { option_map (λ view. view.site.incarnation) (slice_get self.now.world.sites node)
-            ≡ Some result }
+        ensures run { option_map (λ view. view.site.incarnation)
+            (slice_get self.now.world.sites node) ≡ Some result }
+        ensures lawful { IsProblem self.now.problem }
+        ensures site { (view : View) → slice_get self.now.world.sites node ≡ Some view
+            → IsSiteView node view }
     {
         match self.sites.state(node) {
             Some(state) => state.site().incarnation,
@@ -248,12 +260,13 @@ impl<'a> World<'a> {
     }
 
     /// A worker of a node has searched the prefix of a job: the world searches it.
+    #[tactic(auto, using(crate::proofs::WorldSteps::may_tell))]
     fn post(&mut self, node: u8, job: Job, fuel: u64) -> Result<Reply, WorldFault>
         ensures problem { self.new.problem ≡ self.old.problem }
         ensures step { IfOk result (λ reply.
             Stepped self.old.problem self.old.world
             (WorldEvent.Post node job fuel) reply self.new.world) }
-        ensures refusal { AnswerTells result
+        ensures refusal { AnswerMayTell result
             (world_refusal self.old.problem self.old.world (WorldEvent.Post node job fuel)) }
         ensures err { OnErr result (self.new ≡ self.old) }
     {
@@ -270,7 +283,7 @@ impl<'a> World<'a> {
         ensures step { IfOk result (λ reply.
             Stepped self.old.problem self.old.world
             (WorldEvent.Deliver place) reply self.new.world) }
-        ensures refusal { AnswerTells result
+        ensures refusal { AnswerMayTell result
             (world_refusal self.old.problem self.old.world (WorldEvent.Deliver place)) }
         ensures err { OnErr result (self.new ≡ self.old) }
     {

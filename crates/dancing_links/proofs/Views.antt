@@ -14,7 +14,7 @@ use Rattle.dancing_links.specs.Choices.{IsLinks, IsPrimary, out_of, chosen_nodes
 use Rattle.dancing_links.specs.Columns.{Columns, among, column_of, column_from, option_of, IsTable, IsLinked, IsSpelled}
 use Rattle.dancing_links.specs.Keys.{mark_of, AreMarked, IsFirstUnmarked}
 use Rattle.dancing_links.specs.Linking.{up_of, down_of}
-use Rattle.dancing_links.specs.Walking.{walk, options_left, IsNaming}
+use Rattle.dancing_links.specs.Walking.{walk, options_left}
 use Rattle.dancing_links.specs.Table.{table, heads_of, base_of, first_list}
 use Rattle.dancing_links.proofs.Keyed.{few}
 use Rattle.dancing_links.proofs.Walk.{column_skip_to, column_from_take, column_from_end}
@@ -235,58 +235,6 @@ rest_at p os seen nodes commits out i node o j cast gone h free at own =
     absurd (omega (arith, above, t.apart node y low high (omega (arith, at.begin, at.node, above)) (omega (arith, at.end, follow, below)) (same ∙ sym own)))) in
     ap (map (option_of c)) skip ∙ column_options_from p os seen nodes commits out i (o + 1) cast gone h free (omega (arith, at.option_in))
 
-next_at : (p : Problem) (os es : List ℕ) (m : List Link) (i o node : ℕ) → IsState p (table p) os es m → i < length p.names → is_covered p os i ≡ false → o < length p.options → is_live p os o ≡ true → names_item p o i ≡ true → IsNaming (table p) i (start_of p o) (start_of p o + length (items_of p o)) node → options_left (table p) m (down_of m node) ≡ live_options_from p os i (o + 1)
-next_at p os es m i o node s h free inside live named at =
-    let c : Columns = table p in
-    let out : List ℕ = out_of c es in
-    let seen : List ℕ = with_all [] (chosen_nodes c es) in
-    let nodes : List ℕ = with_all [] (covering_nodes c es) in
-    let commits : List ℕ = commits_of c es in
-    let end : ℕ = start_of p o + length (items_of p o) in
-    let there = place_of (items_of p o) i named in
-    let before : node < end = elim (cases_lt node end) [
-      | inl lt ↦ lt
-      | inr past ↦
-          let by = node_by p (start_of p o + there.0) o there.0 inside there.1 refl in
-          absurd (at.absent (omega (arith, past, at.high)) (start_of p o + there.0) (omega arith) (omega (arith, there.1)) (by.item ∙ there.2))
-    ] in
-    let own : column_of c node ≡ i = at.found before in
-    let j : ℕ = node - start_of p o in
-    let by = node_by p node o j inside (omega (arith, at.low, before)) (omega (arith, at.low)) in
-    let high : node < c.tails = omega (arith, by.high, before) in
-    let item : i + 1 < c.heads = omega (arith, h) in
-    let next = s.spelled.down node high (omega (arith, own, item)) (node_in p os seen nodes commits out node o j s.cast s.out by live) in
-    let d : ℕ = down_of m node in
-    let skip = column_skip_to c out i (d - (node + 1)) (node + 1) d (omega (arith, next.below)) (λ y above below same. next.nearest y (omega (arith, above)) below (same ∙ sym own)) in
-    walk_column c out m i (c.tails - d) d s.spelled item next.low (next.column ∙ own) next.in_down (omega arith)
-    ∙ ap (map (option_of c)) (sym skip)
-    ∙ rest_at p os seen nodes commits out i node o j s.cast s.out h free by own
-
--- the options after an option in the column of an uncovered item
-pub left_after : (p : Problem) (c : Columns) (os es : List ℕ) (m : List Link) (keys : List ℕ) (room i o node : ℕ) → IsLinks p c os es m keys room → i < length p.names → is_covered p os i ≡ false → o < length p.options → is_live p os o ≡ true → names_item p o i ≡ true → IsNaming c i (get_or c.first o 0) (get_or c.first (o + 1) 0) node → options_left c m (down_of m node) ≡ live_options_from p os i (o + 1)
-left_after p c os es m keys room i o node is h free inside live named at =
-    let P : Columns → Type 0 = λ t. IsLinks p t os es m keys room in
-    let s = state_of p (table p) os es m keys room (subst P is.layout is) in
-    let Q : Columns → Type 0 = λ t. IsNaming t i (get_or t.first o 0) (get_or t.first (o + 1) 0) node in
-    let at_table = subst Q is.layout at in
-    let begin : get_or (first_list p) o 0 ≡ start_of p o = first_at p o (omega (arith, inside)) in
-    let end : get_or (first_list p) (o + 1) 0 ≡ start_of p o + length (items_of p o) = first_at p (o + 1) (omega (arith, inside)) ∙ starts_next (base_of p) p.options o inside in
-    let R : ℕ → Type 0 = λ b. IsNaming (table p) i b (get_or (first_list p) (o + 1) 0) node in
-    let S : ℕ → Type 0 = λ e. IsNaming (table p) i (start_of p o) e node in
-    let T : Columns → Type 0 = λ t. options_left t m (down_of m node) ≡ live_options_from p os i (o + 1) in
-    subst T (sym is.layout) (next_at p os es m i o node s h free inside live named (subst S end (subst R begin at_table)))
-
--- the first of what is left below a node
-pub answer_below : (c : Columns) (m : List Link) (below option : ℕ) → IsTable c → IsLinked c m → below < c.tails → option ≡ option_of c below → Some option ≡ slice_get (options_left c m below) 0
-answer_below c m below option t l high e =
-    ap Some e ∙ ap (λ (os : List ℕ). slice_get os 0) (sym (left_take c m below t l high))
-
-pub naming_same : (c : Columns) (i b e begin end node : ℕ) → b ≡ begin → e ≡ end → IsNaming c i b e node → IsNaming c i begin end node
-naming_same c i b e begin end node f g at =
-    let R : ℕ → Type 0 = λ k. IsNaming c i k end node in
-    let S : ℕ → Type 0 = λ k. IsNaming c i b k node in
-    subst R f (subst S g at)
-
 -- ---- the first of the options that are left
 
 head_from : (p : Problem) (os : List ℕ) (i n start o : ℕ) → length p.options ≤ start + n → slice_get (live_options_from p os i start) 0 ≡ Some o → IsChild p os i o × (start ≤ o)
@@ -313,10 +261,6 @@ head_from p os i (suc n) start o enough e = elim (cases_lt start (length p.optio
 pub head_child : (p : Problem) (os : List ℕ) (i start : ℕ) (r : Option ℕ) → r ≡ slice_get (live_options_from p os i start) 0 → IfSome r (IsChild p os i)
 head_child p os i start None e = tt
 head_child p os i start (Some o) e = (head_from p os i (length p.options) start o (omega arith) (sym e)).0
-
-pub head_later : (p : Problem) (os : List ℕ) (i option : ℕ) (r : Option ℕ) → r ≡ slice_get (live_options_from p os i (option + 1)) 0 → IfSome r (λ o. option < o)
-head_later p os i option None e = tt
-head_later p os i option (Some o) e = omega (arith, (head_from p os i (length p.options) (option + 1) o (omega arith) (sym e)).1)
 
 pub open_named : (p : Problem) (os : List ℕ) (r : Option ℕ) → IsProblem p → IfSome r (IsOpen p os) → IfSome r (λ i. i < length p.names)
 open_named p os None is h = tt

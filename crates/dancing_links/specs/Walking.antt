@@ -13,13 +13,6 @@ walk c m (suc steps) node = if nat_lt node c.tails then option_of c node ∷ wal
 abbrev pub options_left : Columns → List Link → ℕ → List ℕ
 options_left c m node = walk c m (c.tails - node) node
 
--- the first node of a range that stands in the column of an item, or the end of the range where none does
-pub record IsNaming (c : Columns) (i begin end node : ℕ) : Type 0 where
-  pub low : begin ≤ node
-  pub high : node ≤ end
-  pub found : node < end → column_of c node ≡ i
-  pub absent : node ≡ end → (k : ℕ) → begin ≤ k → k < end → column_of c k ≡ i → ⊥
-
 -- the first node of a range whose item is below a bound, or the end of the range where none is
 pub record IsBelowIn (c : Columns) (bound begin end node : ℕ) : Type 0 where
   pub low : begin ≤ node

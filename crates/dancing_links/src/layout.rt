@@ -6,7 +6,7 @@ ghost use Rattle.std.specs.List.{range_with_len, concat, All};
 ghost use Rattle.dancing_links.specs.Columns.{column_of, colour_at, option_of, place_at, IsLinked, IsTable};
 ghost use Rattle.dancing_links.specs.Covering.{has_colour};
 ghost use Rattle.dancing_links.specs.Linking.{down_of, up_of, unlinked, relinked};
-ghost use Rattle.dancing_links.specs.Walking.{IsNaming, IsBelowIn};
+ghost use Rattle.dancing_links.specs.Walking.{IsBelowIn};
 ghost use Rattle.dancing_links.specs.Table.{table, column_list, colour_list, option_list, first_list, place_by, right_in, numbered};
 
 use crate::link::Link;
@@ -316,20 +316,6 @@ impl Layout {
     {
         let option = option as usize;
         (self.first[option] as usize, self.first[option + 1] as usize)
-    }
-
-    /// The first node of a range that stands for an item, or the end of the range.
-    pub fn node_of(&self, item: u16, begin: usize, end: usize) -> usize
-        requires range { (self.now.heads + self.now.heads ≤ begin + 1) × (begin ≤ end)
-            × (end ≤ self.now.tails) }
-        ensures { IsNaming self.now item begin end result }
-    {
-        for node in begin..end {
-            if self.item_at(node) == item as usize {
-                return node;
-            }
-        }
-        end
     }
 
     /// The first node of a range that stands for an item below a bound, or the end of the range.

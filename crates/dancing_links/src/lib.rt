@@ -20,6 +20,6 @@ mod options;
 mod place;
 mod searching;
 
-pub use laws::links_by_choices;
+pub use laws::{links_by_choices, links_by_options};
 pub use links::Links;
 pub use options::OptionsOf;

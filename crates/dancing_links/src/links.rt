@@ -9,7 +9,6 @@ ghost use Rattle.dancing_links.specs.Choices.{IsPrimary};
 ghost use Rattle.dancing_links.specs.Columns.{colour_at, IsLinked};
 ghost use Rattle.dancing_links.specs.Linking.{down_of};
 ghost use Rattle.dancing_links.specs.Table.{table};
-ghost use Rattle.dancing_links.specs.Walking.{options_left};
 ghost use Rattle.cover_problem.specs.Prefix.{is_covered, is_live, is_prefix};
 
 use crate::build::build_links;
@@ -309,32 +308,6 @@ impl<'a> Links<'a> {
         let node = self.links[item as usize].down as usize;
         OptionsOf::from_node(&self.layout, &self.links, node)
     }
-
-    /// The first live option that names an uncovered item.
-    pub fn first_option(&self, item: u16) -> Option<u16>
-        requires item { item < length self.now.problem.names }
-        requires uncovered { is_covered self.now.problem self.now.chosen item ≡ false }
-        ensures first { result ≡ slice_get
-            (live_options_from self.now.problem self.now.chosen item 0) 0 }
-        ensures child { IfSome result (IsChild self.now.problem self.now.chosen item) }
-    {
-        option_below(&self.layout, &self.links, item as usize)
-    }
-
-    /// The next live option that names an uncovered item, after one that does.
-    pub fn next_option(&self, item: u16, option: u16) -> Option<u16>
-        requires item { item < length self.now.problem.names }
-        requires uncovered { is_covered self.now.problem self.now.chosen item ≡ false }
-        requires child { IsChild self.now.problem self.now.chosen item option }
-        ensures next { result ≡ slice_get
-            (live_options_from self.now.problem self.now.chosen item (option + 1)) 0 }
-        ensures child { IfSome result (IsChild self.now.problem self.now.chosen item) }
-        ensures later { IfSome result (λ next. option < next) }
-    {
-        let (begin, end) = self.layout.node_range(option);
-        let node = self.layout.node_of(item, begin, end);
-        option_below(&self.layout, &self.links, node)
-    }
 }
 
 /// The node of an option's first primary item.
@@ -358,19 +331,4 @@ fn is_last(layout: &Layout, links: &[Link], node: usize) -> bool
 {
     let tails = layout.tails();
     links[node].down as usize >= tails && layout.colour_at(node) == 0
-}
-
-/// The option of the node below a node in its column; none at the tail.
-fn option_below(layout: &Layout, links: &[Link], node: usize) -> Option<u16>
-    requires node { node < length links.now }
-    requires linked { IsLinked layout.now links.now }
-    ensures { result ≡ slice_get
-        (options_left layout.now links.now (down_of links.now node)) 0 }
-{
-    let below = links[node].down as usize;
-    if below < layout.tails() {
-        Some(layout.option_at(below))
-    } else {
-        None
-    }
 }

@@ -2,7 +2,7 @@
 use Rattle.std.proofs.Common.{◌≡◌, ◌⊎◌, inl, inr, nat_lt, get_or, slice_set, slice_get, ℕ, zero, suc, ◌+◌, ◌-◌, ◌*◌, ◌/◌, ◌%◌, ◌<◌, ◌≤◌, length-append, Bool, true, false, List, [], ◌∷◌, ◌++◌, length, take, drop, min, Some, refl, sym, ap, ◌∙◌, arith}
 use Rattle.std.proofs.lemmas.List.{append-nil, append_assoc, drop_all, drop_at, drop-drop, get_or-drop, get_or-take, length-drop, length-take, take_all, take_at}
 use Rattle.std.proofs.lemmas.Bool.{ltb-true, ltb-false}
-use Rattle.spawn_frame.specs.Pages.{AreFilled, in_pages, page_of}
+use Rattle.spawn_frame.specs.Pages.{AreFilled, in_pages, page_of, pages_for}
 use Rattle.spawn_frame.specs.Works.{change_child, root_child}
 use Rattle.spawn_frame.specs.declared.child.Child.{Child}
 use Rattle.spawn_frame.specs.declared.work.Work.{Work}
@@ -51,6 +51,15 @@ first_page page pages h = go (full_or_last page pages h)
 pub filled_most : (pages : List (List Child)) → AreFilled pages → length (in_pages pages) ≤ length pages * 256
 filled_most [] h = omega arith
 filled_most (page ∷ pages) h = omega (arith, h.0, filled_most pages h.1, length-append page (in_pages pages))
+
+-- pages that hold the children hold more of them too, where those fit into the last page
+pub pages_enough : (pages : List (List Child)) (own : List Child) (count more end : ℕ) → AreFilled pages → in_pages pages ≡ own → count ≡ length (in_pages pages)
+    → pages_for (length own + more) ≡ pages_for (length own) → end ≡ pages_for (count + more) → end ≤ length pages
+pages_enough pages own count more end h is counted same end_is =
+    let all : count ≡ length own = counted ∙ ap length is in
+    let last : end ≡ length own / 256 + min 1 (length own % 256) = end_is ∙ ap (λ n. pages_for (n + more)) all ∙ same in
+    let within : length own ≤ length pages * 256 = omega (arith, filled_most pages h, ap length is) in
+    omega (arith, last, within)
 
 -- ---- a page and a child of it
 

@@ -1,5 +1,6 @@
 -- The pages of a site's own children, and which kinds of children stand in each.
 use Rattle.std.specs.Prelude.{◌≡◌, ℕ, ◌+◌, ◌*◌, ◌<◌, ◌^◌, Bool, List, [], ◌∷◌, ◌++◌, length, min, take, drop, Option}
+use Rattle.std.specs.Int.{div_ceil}
 use Rattle.std.specs.List.{list_any, position_from}
 use Rattle.spawn_frame.specs.Works.{is_wanted}
 use Rattle.spawn_frame.specs.declared.child.Child.{Child}
@@ -10,6 +11,10 @@ use Rattle.spawn_frame.specs.declared.wanted.Wanted.TheVariants as wants
 -- how many children a page has, the last one excepted
 abbrev pub page_size : ℕ
 page_size = 256
+
+-- how many pages so many children fill, the last one maybe in part
+abbrev pub pages_for : ℕ → ℕ
+pages_for count = div_ceil count page_size
 
 -- the children of a page
 abbrev pub page_of : List Child → ℕ → List Child

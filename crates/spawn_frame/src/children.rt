@@ -1,7 +1,8 @@
 //! The own children of a site.
 
-ghost use Rattle.std.specs.Prelude.{◌≡◌, ℕ, ◌+◌, ◌<◌, ◌++◌, ◌^◌, drop, [], length, map, option_map, slice_get, ◌∷◌, IfOk, MatchOption, None, OnErr, OnOk, Some};
+ghost use Rattle.std.specs.Prelude.{◌≡◌, ℕ, ◌+◌, ◌<◌, ◌++◌, ◌^◌, drop, [], length, map, option_map, slice_get, ◌∷◌, IfOk, IsOk, MatchOption, None, OnErr, OnOk, Some};
 ghost use Rattle.std.specs.List.{count_by};
+ghost use Rattle.spawn_frame.specs.Pages.{pages_for};
 ghost use Rattle.spawn_frame.specs.Tables.{longer_prefixes};
 ghost use Rattle.spawn_frame.specs.Works.{change_child, child_work, fresh_child, frame_says, is_wanted, last_wanted, redone_work, root_child, split_work, with_heard, with_work_status, HearsFrom};
 
@@ -98,6 +99,8 @@ impl Children {
         requires { length self.old + length options.now < 2 ^ 32 }
         ensures ok { OnOk result (self.new
             ≡ self.old ++ map (fresh_child unit) (longer_prefixes path.now.options options.now)) }
+        ensures within { pages_for (length self.old + length options.now)
+            ≡ pages_for (length self.old) → IsOk result }
         ensures err { OnErr result (self.new ≡ self.old) }
     {
         let end = (self.count + options.len()).div_ceil(PAGE);

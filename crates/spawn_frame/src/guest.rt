@@ -1,6 +1,5 @@
 ghost use Rattle.std.specs.Prelude.{◌≡◌};
 ghost use Rattle.spawn_frame.specs.Names.{guest_before};
-ghost use Rattle.spawn_frame.specs.Tables.{is_after};
 ghost use Rattle.spawn_frame.specs.Units.{is_guest};
 
 use crate::site::{Attempt, ChildName};
@@ -33,15 +32,5 @@ impl Guest {
         ensures { result ≡ guest_before name attempt self.now.name self.now.work.attempt }
     {
         (name, attempt) < (self.name, self.work.attempt)
-    }
-
-    /// Whether it stands behind the given guest, if there is one.
-    pub fn is_after(&self, after: Option<(ChildName, Attempt)>) -> bool
-        ensures { result ≡ is_after after (guest_entry self.now) }
-    {
-        match after {
-            Some((name, attempt)) => self.is_behind(name, attempt),
-            None => true,
-        }
     }
 }

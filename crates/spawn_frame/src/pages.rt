@@ -1,6 +1,6 @@
 //! Pages of own children, and what stands in them.
 
-ghost use Rattle.std.specs.Prelude.{◌≡◌, ◌+◌, ◌*◌, ◌<◌, ◌≤◌, ◌++◌, ◌^◌, length, map, OnErr, OnOk};
+ghost use Rattle.std.specs.Prelude.{◌≡◌, ◌+◌, ◌*◌, ◌<◌, ◌≤◌, ◌++◌, ◌^◌, length, map, IsOk, OnErr, OnOk};
 ghost use Rattle.std.specs.List.{count_by};
 ghost use Rattle.spawn_frame.specs.Pages.{in_pages, AreFilled};
 ghost use Rattle.spawn_frame.specs.Tables.{longer_prefixes};
@@ -21,6 +21,7 @@ pub fn add_pages(alloc: Global, pages: &mut Vec<Page>, end: usize) -> Result<(),
     ensures filled { AreFilled pages.new.items }
     ensures kept { in_pages pages.new.items ≡ in_pages pages.old.items }
     ensures room { OnOk result (end ≤ length pages.new.items) }
+    ensures within { end ≤ length pages.old.items → IsOk result }
 {
     for _page in pages.len()..end {
         pages.push(Page::new(alloc)?)?;

@@ -7,6 +7,7 @@ ghost use Rattle.spawn_frame.specs.Aborts.{is_open};
 ghost use Rattle.spawn_frame.specs.Frames.{frame, frame_result};
 ghost use Rattle.spawn_frame.specs.Gifts.{admit_each};
 ghost use Rattle.spawn_frame.specs.Inlets.{frame_winner, heard_by};
+ghost use Rattle.spawn_frame.specs.Pages.{pages_for};
 ghost use Rattle.spawn_frame.specs.Picks.{is_finished, is_ready, is_split, ready_unit, ripe_unit};
 ghost use Rattle.spawn_frame.specs.Splits.{split_into, with_result};
 ghost use Rattle.spawn_frame.specs.Tables.{attempt_in, empty_table, guest_key, has_status, is_after, is_at_work, is_here, is_out, longer_prefixes, may_end, new_guest, open_guests, outs_of, parent_heard, parent_in, prefix_in, root_table, seen_guest, status_in, AllLawful, AreChildren, GivesResult, HasParents, IsAscending, IsAtWork, IsMadeBefore, IsSeen};
@@ -117,6 +118,8 @@ impl Table {
             (longer_prefixes (prefix_in (unit_of self.old unit)) options.now)) }
         ensures spent { IsErrOf result SpawnFault.NamesSpent ↔
             (self.old.limit < length self.old.own + length options.now) }
+        ensures within { pages_for (length self.old.own + length options.now)
+            ≡ pages_for (length self.old.own) → ¬ IsErrOf result SpawnFault.Memory }
         ensures err { OnErr result (self.new ≡ self.old) }
     {
         let first = self.own.len();

@@ -5,6 +5,7 @@ ghost use Rattle.std.specs.Bool.{OnFalse, OnTrue};
 ghost use Rattle.std.specs.List.{list_all, AllByRecursion};
 ghost use Rattle.spawn_frame.specs.Frames.{frame, frame_result};
 ghost use Rattle.spawn_frame.specs.Gifts.{is_there, serials_of, sibling_gift};
+ghost use Rattle.spawn_frame.specs.Pages.{pages_for};
 ghost use Rattle.spawn_frame.specs.Picks.{is_ready, is_split, ready_unit};
 ghost use Rattle.spawn_frame.specs.Splits.{with_result};
 ghost use Rattle.spawn_frame.specs.Tables.{has_status, is_here, is_out, may_end, outs_of, parent_heard, parent_in, prefix_in, IsSeen};
@@ -163,6 +164,8 @@ impl Ledger {
         ensures split { OnOk result (self.new ≡ ledger_split self.old unit options.now) }
         ensures spent { IsErrOf result SpawnFault.NamesSpent ↔
             (self.old.limit < length self.old.own + length options.now) }
+        ensures within { pages_for (length self.old.own + length options.now)
+            ≡ pages_for (length self.old.own) → ¬ IsErrOf result SpawnFault.Memory }
         ensures err { OnErr result (self.new ≡ self.old) }
     {
         self.table.spawn(unit, options)

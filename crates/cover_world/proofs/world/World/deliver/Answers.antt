@@ -1,5 +1,5 @@
 use Rattle.std.proofs.Common.{◌≡◌, Some, option_map, ap}
-use Rattle.cover_world.proofs.WorldSteps.{read_packet, stepped, told}
+use Rattle.cover_world.proofs.WorldSteps.{may_tell, read_packet, stepped, told}
 use Rattle.cover_world.specs.Moves.{delivery, meaning}
 use Rattle.cover_world.specs.declared.world_event.WorldEvent.TheVariants.{Deliver}
 use Rattle.cover_world.proofs.world.World.deliver.Goals as goal
@@ -26,4 +26,4 @@ returns-clause-step c =
 
 pub returns-clause-refusal : goal.returns-clause-refusal
 returns-clause-refusal c =
-    told c.args.self.now.problem c.args.self.now.world (Deliver c.args.place) (delivery c.in_ok-packet.packet) c.act.result (means c) c.act.ensures.refusal
+    may_tell c.act.result _ (told c.args.self.now.problem c.args.self.now.world (Deliver c.args.place) (delivery c.in_ok-packet.packet) c.act.result (means c) c.act.ensures.refusal)
