@@ -10,6 +10,7 @@ all as it was before, and the same call, made again, has to come to what the tes
 - core_tests plays the scripts of node and registry, with one list of packets (`act`) and with two (`act_both`): each event is a call.
 - table_tests splits units. One whose children fit into the last page has to go well whatever is refused: it asks for no memory.
 - audit_tests audits books.
+- wire_tests reads packets.
 
 For each kind of call the table has how many growths it takes, the least and the most, and with two lists too, how many were refused,
 how many of these the call answered by want of memory, and how many runs went wrong. --list only lists the calls with their
@@ -26,14 +27,16 @@ import tempfile
 
 from built import parser_of, program_of, stop, TOP, want_command
 
-CRATES = ("core_tests", "table_tests", "audit_tests")
+CRATES = ("core_tests", "table_tests", "audit_tests", "wire_tests")
 CAREFUL = "refused_memory"
 CORES = "core_tests"
 # The kinds of calls by their numbers, with the place of each; those of cores are at a node or at the registry.
 KINDS = [(event, CORES) for event in (
     "Take", "Post", "Finish", "Ask", "Redo", "Again", "Greet", "Hello", "Members", "Steal", "Give", "NoWork", "Return", "Accept",
     "Refuse", "Abort", "Over")]
-KINDS += [("spawn", "table"), ("spawn within a page", "table"), ("GiveMany", CORES), ("audit", "books")]
+KINDS += [("spawn", "table"), ("spawn within a page", "table"), ("GiveMany", CORES), ("audit", "books"), ("read_problem", "file"),
+          ("read_answer", "file"), ("read_packet", "bytes"), ("find", "search"), ("step", "world"), ("run", "world"), ("act", "cell"),
+          ("alone_engine", "engine"), ("check_engine", "engine")]
 SHORT = 7
 
 # What is told of a call: its kind, where it was, whether packets went to two lists, the growths that it asked for, which of them
