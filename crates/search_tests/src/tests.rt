@@ -4,5 +4,6 @@ mod coloured;
 mod fuels;
 mod links;
 mod plain;
+mod refused;
 mod search;
 mod texts;
