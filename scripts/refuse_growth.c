@@ -1,35 +1,51 @@
-/* Counts the growths of memory in the events of a test, and refuses one of them. It is loaded before the C library, by
-   LD_PRELOAD; try_memory.py builds it and runs the tests.
+/* Refuses growths of memory, or threads, of a program. It is loaded before the C library, by LD_PRELOAD; try_memory.py and
+   try_shortage.py build it. Each call of malloc or realloc is a growth. In the environment stand:
 
-   A test tells where an event begins and ends by a mark: it asks for MARK bytes and a number more. A number below END is that of
-   an event that begins; END is the end of one that was answered, and the number behind it the end of one without memory.
-   Between these marks each call of malloc or realloc is a growth. REFUSE_GROWTH in the environment is the number of the growth
-   that gets no memory, counted from 1 over all events; with 0, or without it, all get theirs. At each end a line goes to the
-   file that GROWTHS_FILE names: the event's number, its growths, which of them was refused (or 0), and 1 where the event was
-   answered by want of memory, else 0. Tests have one thread, so nothing here is locked. */
+   REFUSE_GROWTH   the number of the one growth that is refused, counted from 1
+   REFUSE_FROM     the number of the first one that is refused, with all later ones
+   MOST_THREADS    how many threads are started; each later one is refused
+   BETWEEN_MARKS   with any text: only growths between marks are counted and refused
+   GROWTHS_FILE    the file that is told of the growths
+
+   A test tells where a call begins and ends by a mark: it asks for MARK bytes and a number more. A number below END is that of a
+   call that begins; END is the end of one that was answered, and the number behind it the end of one without memory. At each end a
+   line goes to the file: the call's number, its growths, which of them was refused (or 0), and 1 where the call was answered by want
+   of memory, else 0. Marks are for tests with one thread. Without them the program may have many; the file then gets the number of
+   all growths where the program ends. */
 #define _GNU_SOURCE
 #include <dlfcn.h>
+#include <errno.h>
 #include <fcntl.h>
+#include <pthread.h>
+#include <stdatomic.h>
 #include <stdio.h>
 #include <stdlib.h>
-#include <string.h>
+#include <sys/syscall.h>
 #include <unistd.h>
 
 enum { MARK = 6000000, END = 128, LAST = END + 1, NONE = -1 };
 
-static void *(*next_malloc)(size_t);
-static void *(*next_realloc)(void *, size_t);
+typedef int create(pthread_t *, const pthread_attr_t *, void *(*)(void *), void *);
 
-static long refuse;       /* the growth that is refused, or 0 */
-static long growths;      /* so many in all events yet */
-static int event = NONE;  /* the event that has begun */
-static long asked;        /* its growths yet */
-static long refused;      /* which of them was refused, or 0 */
+static atomic_long growths, threads; /* so many yet */
+static long one = NONE, from = NONE, most = NONE;
+static int has_marks;
+static int event = NONE;     /* the call that has begun */
+static long asked, refused;  /* its growths yet, and which of them was refused, or 0 */
+
+/* The number that a variable of the environment spells, or NONE. */
+static long number(const char *name)
+{
+    const char *text = getenv(name);
+    return text ? atol(text) : NONE;
+}
 
 __attribute__((constructor)) static void begin(void)
 {
-    const char *number = getenv("REFUSE_GROWTH");
-    refuse = number ? atol(number) : 0;
+    one = number("REFUSE_GROWTH");
+    from = number("REFUSE_FROM");
+    most = number("MOST_THREADS");
+    has_marks = getenv("BETWEEN_MARKS") != NULL;
 }
 
 /* What the C library has under a name. */
@@ -41,12 +57,10 @@ static void *next(const char *name)
     return found;
 }
 
-/* A line for the event that ends. */
-static void tell(int without_memory)
+/* Appends to the file. */
+static void tell(const char *line, int length)
 {
-    char line[100];
     const char *name = getenv("GROWTHS_FILE");
-    int length = snprintf(line, sizeof line, "%d %ld %ld %d\n", event, asked, refused, without_memory);
     int file = name ? open(name, O_WRONLY | O_CREAT | O_APPEND, 0666) : NONE;
     if (file == NONE || write(file, line, (size_t)length) != length)
         abort();
@@ -54,34 +68,41 @@ static void tell(int without_memory)
 }
 
 /* Takes a size that is a mark. */
-static void take_mark(int number)
+static void take_mark(int mark)
 {
-    if (number < END) {
-        event = number;
+    char line[100];
+    if (mark < END) {
+        event = mark;
         asked = refused = 0;
-    } else {
-        tell(number - END);
-        event = NONE;
+        return;
     }
+    tell(line, snprintf(line, sizeof line, "%d %ld %ld %d\n", event, asked, refused, mark - END));
+    event = NONE;
 }
 
 /* Whether this growth is refused. */
 static int is_refused(void)
 {
-    if (event == NONE)
+    long count;
+    if (has_marks && event == NONE)
         return 0;
-    asked++;
-    if (++growths != refuse)
+    count = atomic_fetch_add(&growths, 1) + 1;
+    if (has_marks)
+        asked++;
+    if (count != one && (from < 0 || count < from))
         return 0;
-    refused = asked;
+    if (has_marks)
+        refused = asked;
+    errno = ENOMEM;
     return 1;
 }
 
 void *malloc(size_t size)
 {
+    static _Atomic(void *(*)(size_t)) next_malloc;
     if (!next_malloc)
-        *(void **)&next_malloc = next("malloc");
-    if (MARK <= size && size <= MARK + LAST)
+        next_malloc = (void *(*)(size_t))next("malloc");
+    if (has_marks && MARK <= size && size <= MARK + LAST)
         take_mark((int)(size - MARK));
     else if (is_refused())
         return NULL;
@@ -90,7 +111,28 @@ void *malloc(size_t size)
 
 void *realloc(void *old, size_t size)
 {
+    static _Atomic(void *(*)(void *, size_t)) next_realloc;
     if (!next_realloc)
-        *(void **)&next_realloc = next("realloc");
+        next_realloc = (void *(*)(void *, size_t))next("realloc");
     return is_refused() ? NULL : next_realloc(old, size);
+}
+
+int pthread_create(pthread_t *thread, const pthread_attr_t *how, void *(*run)(void *), void *given)
+{
+    static _Atomic(create *) next_create;
+    if (!next_create)
+        next_create = (create *)next("pthread_create");
+    if (most >= 0 && atomic_fetch_add(&threads, 1) >= most)
+        return EAGAIN;
+    return next_create(thread, how, run, given);
+}
+
+/* The program ends here, and runs no destructor. */
+void _exit(int status)
+{
+    char line[100];
+    if (!has_marks && getenv("GROWTHS_FILE"))
+        tell(line, snprintf(line, sizeof line, "%ld\n", atomic_load(&growths)));
+    syscall(SYS_exit_group, status);
+    __builtin_unreachable();
 }

@@ -1,7 +1,7 @@
 #!/usr/bin/env python3
 """Puts the bugs of the folder bugs into the code, and tells of each whether the check refuses it.
 
-    python3 scripts/try_bugs.py [CRATE | CRATE/BUG ..]
+    python3 scripts/try_bugs.py [--short] [CRATE | CRATE/BUG ..]
 
 Without words it tries every bugs/CRATE/BUG.edit, else those of the crates or the single ones that are named. A bug is
 tried as the gate tries those of must-fail/: in a copy of the repository, with what earlier checks have kept of the
@@ -12,7 +12,7 @@ crates below, so that only the bug's own crate is proved anew, once for all of i
     PROVED              the crate is proved with the bug in it: a hole in a contract
     no longer applies   its text doesn't stand exactly once in the file that it names, or can't be read then
 
-and a last line counts them. It wants the toolchain's command `rt` on the path, and builds no program. The exit status is 1
+and a last line counts them. With --short nothing is proved: only those that no longer apply are named. Else it wants the toolchain's command `rt` on the path, and builds no program. The exit status is 1
 if any was proved, else 2 if any no longer applies or couldn't be tried, else 0.
 """
 import os
@@ -99,10 +99,45 @@ def try_crate(top, crate, names):
     return kinds
 
 
+def applies(crate, name):
+    """Whether each old text of a bug stands exactly once in its file, where the earlier ones are replaced."""
+    with open(os.path.join(BUGS, crate, name + ".edit"), encoding="utf-8") as opened:
+        pairs = [line.partition(": ")[::2] for line in opened.read().splitlines()]
+    text = old = ""
+    for word, rest in pairs:
+        if word == "file":
+            path = os.path.join(TOP, "crates", crate, rest)
+            if not os.path.isfile(path):
+                return False
+            with open(path, encoding="utf-8") as opened:
+                text = opened.read()
+        elif word == "old":
+            old = rest
+            if text.count(old) != 1:
+                return False
+        elif word == "new":
+            text = text.replace(old, rest)
+    return True
+
+
+def name_stale(chosen):
+    """Names the bugs that no longer apply, and answers the exit status."""
+    names = [(crate, name) for crate, of_crate in chosen.items() for name in of_crate]
+    stale = [f"{crate}/{name}" for crate, name in names if not applies(crate, name)]
+    for name in stale:
+        print(f"{name}: {STALE}")
+    print(f"{len(names) - len(stale)} bugs apply, {len(stale)} no longer")
+    return 2 if stale else 0
+
+
 def main():
     parser = parser_of(__doc__)
+    parser.add_argument("--short", action="store_true", help="prove nothing: only name the bugs that no longer apply")
     parser.add_argument("bugs", nargs="*", metavar="CRATE | CRATE/BUG", help="whose bugs are tried; all where none is named")
-    chosen = chosen_bugs(parser.parse_args().bugs)
+    given = parser.parse_args()
+    chosen = chosen_bugs(given.bugs)
+    if given.short:
+        return name_stale(chosen)
     want_command("rt")
     kinds = []
     with tempfile.TemporaryDirectory(prefix="try-bugs-") as room:

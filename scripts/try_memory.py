@@ -1,23 +1,25 @@
 #!/usr/bin/env python3
-"""Refuses each growth of memory that an event asks a core for, another one in each run, and tells what came of it.
+"""Refuses each growth of memory that a call asks for, another one in each run, and tells what came of it.
 
-    python3 scripts/try_memory.py [--list]
+    python3 scripts/try_memory.py [--list | --short] [CRATE ..]
 
-The tests of core_tests whose names begin with `refused_memory` play the scripts of node and registry with one list of packets and
-with two. They mark where an event begins and ends. `refuse_growth.c`, which is built here and loaded before the C library, counts the
-growths between these marks and refuses one: then the event has to be answered by want of memory, the core and the lists have to be
-as they were, and the same event, given again, has to come to what the script says. Each growth of each event is refused once.
+The tests whose names begin with `refused_memory` mark where a call begins and ends. `refuse_growth.c`, which is built here and loaded
+before the C library, counts the growths between these marks and refuses one. Then the call has to be answered by want of memory, with
+all as it was before, and the same call, made again, has to come to what the test's row says. Each growth of each call is refused once.
 
-That of table_tests splits units of a table, and each `spawn` is such an event. One whose children fit into the last page has to
-go well whatever is refused: it asks for no memory, or the run goes wrong. That of audit_tests audits books, and each audit is one:
-where memory is refused, another audit has to find what the row says.
+- core_tests plays the scripts of node and registry, with one list of packets (`act`) and with two (`act_both`): each event is a call.
+- table_tests splits units. One whose children fit into the last page has to go well whatever is refused: it asks for no memory.
+- audit_tests audits books.
+- search_tests searches prefixes, which have to come back.
+- file_tests reads problems and answers.
+- wire_tests reads packets.
 
-For each kind of event the table has how many growths it takes with one list (`act`, `spawn` and `audit`) and with two (`act_both`),
-the least and the most, how many were refused, how many of these the event answered by want of memory, and how many runs went wrong.
---list only lists the kinds of events with their growths, and refuses none.
+For each kind of call the table has how many growths it takes, the least and the most, and with two lists too, how many were refused,
+how many of these the call answered by want of memory, and how many runs went wrong. --list only lists the calls with their
+growths, and refuses none; --short refuses every seventh growth of a test.
 
-It wants cc and the built tests: rt test in crates/core_tests, crates/table_tests and crates/audit_tests builds them, and so does
-rt ci. The exit status is 0, 1 where a run went wrong, 2 for a fault of the command line or where something is missing.
+It wants cc and the built tests: rt test in the folders of these crates builds them, and so does rt ci. The exit status is 0, 1 where a
+run went wrong, 2 for a fault of the command line or where something is missing.
 """
 import collections
 import os
@@ -27,16 +29,19 @@ import tempfile
 
 from built import parser_of, program_of, stop, TOP, want_command
 
-CRATES = ("core_tests", "table_tests", "audit_tests")
+CRATES = ("core_tests", "table_tests", "audit_tests", "wire_tests", "file_tests", "search_tests")
 CAREFUL = "refused_memory"
-KINDS = (
+CORES = "core_tests"
+# The kinds of calls by their numbers, with the place of each; those of cores are at a node or at the registry.
+KINDS = [(event, CORES) for event in (
     "Take", "Post", "Finish", "Ask", "Redo", "Again", "Greet", "Hello", "Members", "Steal", "Give", "NoWork", "Return", "Accept",
-    "Refuse", "Abort", "Over", "spawn", "spawn within a page", "GiveMany",
-    "audit",
-)
-PLACES = {"spawn": "table", "spawn within a page": "table", "audit": "books"}
+    "Refuse", "Abort", "Over")]
+KINDS += [("spawn", "table"), ("spawn within a page", "table"), ("GiveMany", CORES), ("audit", "books"), ("read_problem", "file"),
+          ("read_answer", "file"), ("read_packet", "bytes"), ("find", "search"), ("step", "world"), ("run", "world"), ("act", "cell"),
+          ("alone_engine", "engine"), ("check_engine", "engine")]
+SHORT = 7
 
-# What is told of an event: its kind, where it was, whether packets went to two lists, the growths that it asked for, which of them
+# What is told of a call: its kind, where it was, whether packets went to two lists, the growths that it asked for, which of them
 # was refused, or 0, and whether it was answered by want of memory.
 Told = collections.namedtuple("Told", "kind place both growths refused memory")
 
@@ -44,9 +49,10 @@ Told = collections.namedtuple("Told", "kind place both growths refused memory")
 def told(line):
     """What a line of refuse_growth.c tells."""
     number, growths, refused, memory = map(int, line.split())
-    kind = number // 4
-    place = PLACES.get(KINDS[kind], "registry" if number // 2 % 2 == 1 else "node")
-    return Told(kind, place, number % 2 == 1, growths, refused, memory == 1)
+    name, place = KINDS[number // 4]
+    if place == CORES:
+        place = "registry" if number // 2 % 2 == 1 else "node"
+    return Told(name, place, number % 2 == 1, growths, refused, memory == 1)
 
 
 def tests_of(crate):
@@ -58,18 +64,18 @@ def build(folder):
     """Builds what is loaded before the C library."""
     library = os.path.join(folder, "refuse_growth.so")
     source = os.path.join(TOP, "scripts", "refuse_growth.c")
-    subprocess.run(["cc", "-O2", "-shared", "-fPIC", "-o", library, source, "-ldl"], check=True)
+    subprocess.run(["cc", "-O2", "-shared", "-fPIC", "-o", library, source, "-ldl", "-lpthread"], check=True)
     return library
 
 
 def play(library, test, number):
-    """Runs a test with this growth refused, none with 0: whether it passed, and what is told of its events."""
+    """Runs a test with this growth refused, none with 0: whether it passed, and what is told of its calls."""
     with tempfile.TemporaryDirectory() as folder:
         file = os.path.join(folder, "growths")
-        words = {"LD_PRELOAD": library, "REFUSE_GROWTH": str(number), "GROWTHS_FILE": file}
+        words = {"LD_PRELOAD": library, "REFUSE_GROWTH": str(number), "GROWTHS_FILE": file, "BETWEEN_MARKS": "1"}
         ran = subprocess.run(test, env=words, stdout=subprocess.DEVNULL, stderr=subprocess.DEVNULL)
         if not os.path.isfile(file):
-            stop(f"{test[-1]} told of no event")
+            stop(f"{test[-1]} told of no call")
         with open(file, encoding="ascii") as opened:
             return ran.returncode == 0, [told(line) for line in opened]
 
@@ -93,28 +99,28 @@ def span(numbers):
 
 
 class Kind:
-    """What was seen of one kind of events at a node, at the registry or at a table."""
+    """What was seen of one kind of calls."""
 
     def __init__(self):
         self.growths = {False: [], True: []}
         self.refused = self.memory = self.wrong = 0
 
     def take(self, event, passed):
-        """Counts an event one of whose growths was refused."""
+        """Counts a call one of whose growths was refused."""
         self.refused += 1
         self.memory += event.memory
         self.wrong += not passed
 
 
-def refuse_each(library, test, kinds):
-    """Refuses each growth of a test's events, one in each run; how many runs went wrong."""
+def refuse_each(library, test, kinds, step):
+    """Refuses each growth of a test's calls, or each of some step, one in each run; how many runs went wrong."""
     _, before = play(library, test, 0)
     wrong = 0
-    for number in range(1, sum(event.growths for event in before) + 1):
+    for number in range(1, sum(event.growths for event in before) + 1, step):
         passed, events = play(library, test, number)
         refused = [event for event in events if event.refused]
         if len(refused) != 1:
-            print(f"{test[-1]}, growth {number}: it was refused in {len(refused)} events")
+            print(f"{test[-1]}, growth {number}: it was refused in {len(refused)} calls")
             wrong += 1
             continue
         if not passed:
@@ -125,7 +131,7 @@ def refuse_each(library, test, kinds):
 
 
 def count(library, test, kinds):
-    """Takes down the growths of each event of a test, of which none is refused; whether it passed."""
+    """Takes down the growths of each call of a test, of which none is refused; whether it passed."""
     passed, events = play(library, test, 0)
     for event in events:
         kinds[event.kind, event.place].growths[event.both].append(event.growths)
@@ -134,27 +140,31 @@ def count(library, test, kinds):
 
 def table(kinds):
     """The rows of the table."""
-    yield "| Event | At | `act`, `spawn`, `audit` | `act_both` | Refused | Answered Memory | Wrong |\n|---|---|---|---|---|---|---|"
+    yield "| Call | At | Growths | With two lists | Refused | Answered Memory | Wrong |\n|---|---|---|---|---|---|---|"
     for (kind, place), seen in sorted(kinds.items()):
-        cells = [KINDS[kind], place, span(seen.growths[False]), span(seen.growths[True])]
+        cells = [kind, place, span(seen.growths[False]), span(seen.growths[True])]
         yield f"| {' | '.join(cells)} | {seen.refused} | {seen.memory} | {seen.wrong} |"
 
 
 def main():
     parser = parser_of(__doc__)
-    parser.add_argument("--list", action="store_true", help="list the events with their growths, and refuse none")
+    how = parser.add_mutually_exclusive_group()
+    how.add_argument("--list", action="store_true", help="list the calls with their growths, and refuse none")
+    how.add_argument("--short", action="store_true", help=f"refuse every growth of {SHORT}")
+    parser.add_argument("crates", nargs="*", metavar="CRATE", choices=[[], *CRATES], help="whose tests are run (default: all of them)")
     given = parser.parse_args()
+    crates = given.crates or CRATES
     want_command("cc")
-    for crate in CRATES:
+    for crate in crates:
         if not os.access(tests_of(crate), os.X_OK):
             stop(f"{crate} has no built tests; at the top of the repository (cd crates/{crate} && rt test) builds them")
     kinds = collections.defaultdict(Kind)
     with tempfile.TemporaryDirectory() as folder:
         library = build(folder)
-        tests = [test for crate in CRATES for test in careful_tests(crate)]
+        tests = [test for crate in crates for test in careful_tests(crate)]
         wrong = sum(not count(library, test, kinds) for test in tests)
         if not given.list:
-            wrong += sum(refuse_each(library, test, kinds) for test in tests)
+            wrong += sum(refuse_each(library, test, kinds, SHORT if given.short else 1) for test in tests)
     print("\n".join(table(kinds)))
     refused, memory = (sum(getattr(seen, what) for seen in kinds.values()) for what in ("refused", "memory"))
     print(f"{refused} growths refused, {memory} answered by want of memory, {wrong} wrong")

@@ -4,6 +4,7 @@ mod coloured;
 mod fuels;
 mod links;
 mod plain;
+mod refused;
 mod search;
 mod suited;
 mod texts;

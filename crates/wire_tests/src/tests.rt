@@ -1,3 +1,4 @@
 //! Packets of each kind, lawful and not.
 
 mod packets;
+mod refused;

@@ -10,10 +10,10 @@ use std::io::Write;
 use std::process::Abort;
 
 /// Options 4 and 6 are equal, and option 7 has the items of option 3 in another order.
-const FILE: &str = "a b c d e f g\nc e\na d g\nb c f\na d f\nb g\nd e g\nb g\nf d a\n";
+pub const FILE: &str = "a b c d e f g\nc e\na d g\nb c f\na d f\nb g\nd e g\nb g\nf d a\n";
 
 /// A text, with its cover or none, or its fault.
-static ANSWERS: [(&str, Result<Option<&[u16]>, AnswerFault>); 48] = [
+pub static ANSWERS: [(&str, Result<Option<&[u16]>, AnswerFault>); 48] = [
     ("cover 3\nc e\na d f\nb g\n", Ok(Some(&[0, 3, 4]))),
     ("cover 3\r\nc e\r\na d f\r\nb g\r\n", Ok(Some(&[0, 3, 4]))),
     (
@@ -76,10 +76,10 @@ static ANSWERS: [(&str, Result<Option<&[u16]>, AnswerFault>); 48] = [
 ];
 
 /// Options 0 and 2 are equal; options 1, 3 and 4 have their items, and other colours.
-const COLOURED_FILE: &str = "a b | x y\na x:A y\na x y:A\na x:A y\na x:AA y\na x y\nb\n";
+pub const COLOURED_FILE: &str = "a b | x y\na x:A y\na x y:A\na x:A y\na x:AA y\na x y\nb\n";
 
 /// An answer for it, as above.
-static COLOURED_ANSWERS: [(&str, Result<Option<&[u16]>, AnswerFault>); 17] = [
+pub static COLOURED_ANSWERS: [(&str, Result<Option<&[u16]>, AnswerFault>); 17] = [
     ("cover 1\na x:A y\n", Ok(Some(&[0]))),
     ("cover 1\na x y:A\n", Ok(Some(&[1]))),
     ("cover 1\na x:AA y\n", Ok(Some(&[3]))),
@@ -111,13 +111,11 @@ fn is_cover(options: &Numbers, expected: Result<Option<&[u16]>, AnswerFault>) ->
 }
 
 /// Whether a text is read as this.
-fn reads(
-    alloc: Global,
-    problem: &Problem,
-    text: &str,
+pub fn is_answer(
+    read: &Result<Answer, AnswerFault>,
     expected: Result<Option<&[u16]>, AnswerFault>,
 ) -> bool {
-    match &read_answer(alloc, text.as_bytes(), problem) {
+    match read {
         Ok(Answer::Cover(options)) => is_cover(options, expected),
         Ok(Answer::NoCover) => matches!(expected, Ok(None)),
         Err(fault) => matches!(expected, Err(told) if told == *fault),
@@ -128,7 +126,8 @@ fn reads(
 fn answers_are_read_or_refused(rt: HostRuntime) {
     let problem = problem_of(&rt, rt.alloc(), FILE);
     for (text, expected) in ANSWERS.iter() {
-        assert!(rt; reads(rt.alloc(), &problem, text, *expected), "{text:?}");
+        let read = read_answer(rt.alloc(), text.as_bytes(), &problem);
+        assert!(rt; is_answer(&read, *expected), "{text:?}");
     }
 }
 
@@ -136,7 +135,8 @@ fn answers_are_read_or_refused(rt: HostRuntime) {
 fn answers_with_colours_are_read_or_refused(rt: HostRuntime) {
     let problem = problem_of(&rt, rt.alloc(), COLOURED_FILE);
     for (text, expected) in COLOURED_ANSWERS.iter() {
-        assert!(rt; reads(rt.alloc(), &problem, text, *expected), "{text:?}");
+        let read = read_answer(rt.alloc(), text.as_bytes(), &problem);
+        assert!(rt; is_answer(&read, *expected), "{text:?}");
     }
 }
 

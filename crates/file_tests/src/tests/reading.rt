@@ -10,7 +10,8 @@ use dlx_reader::{Read, read_problem};
 /// 32 bytes, and one more.
 const LONGEST: &str = "aaaaaaaaaabbbbbbbbbbccccccccccdd";
 
-static FAULTS: [(&str, ReadFault); 97] = [
+/// A text, and its fault.
+pub static FAULTS: [(&str, ReadFault); 97] = [
     // No item line: empty, blank lines and comments alone.
     ("", NoItems),
     ("\n", NoItems),
@@ -146,7 +147,7 @@ fn faults(rt: HostRuntime) {
 }
 
 /// A text; the names, how many are primary, the options' items, and how many options are ignored.
-static PROBLEMS: [(&str, &[&str], usize, &[&[u16]], usize); 18] = [
+pub static PROBLEMS: [(&str, &[&str], usize, &[&[u16]], usize); 18] = [
     (
         "a b c d e f g\nc e\na d g\nb c f\na d f\nb g\nd e g\n",
         &["a", "b", "c", "d", "e", "f", "g"],
@@ -217,7 +218,15 @@ static PROBLEMS: [(&str, &[&str], usize, &[&[u16]], usize); 18] = [
 ];
 
 /// A text with colours; the options' items and their colours, the colours' names, and how many options are ignored.
-static COLOURED: [(&str, &[&[u16]], &[&[u16]], &[&str], usize); 7] = [
+type ColouredRow = (
+    &'static str,
+    &'static [&'static [u16]],
+    &'static [&'static [u16]],
+    &'static [&'static str],
+    usize,
+);
+
+pub static COLOURED: [ColouredRow; 7] = [
     ("a | x\na x\n", &[&[0, 1]], &[&[0, 0]], &[], 0),
     ("a | x\na x:1\n", &[&[0, 1]], &[&[0, 1]], &["1"], 0),
     // Colours are numbered as they first stand.
@@ -277,7 +286,7 @@ fn are_options(problem: &Problem, options: &[&[u16]]) -> bool {
 }
 
 /// Whether these are the names and the options, so many items are primary and so many options ignored.
-fn is_read(
+pub fn is_read(
     read: &Read,
     (names, primary): (&[&str], usize),
     (options, ignored): (&[&[u16]], usize),
@@ -321,14 +330,20 @@ fn are_colour_names(problem: &Problem, names: &[&str]) -> bool {
     problem.colour_names() == names.len()
 }
 
+/// Whether what is read is as the row says.
+pub fn is_coloured(read: &Read, row: &ColouredRow) -> bool {
+    let (_, options, colours, names, ignored) = row;
+    are_options(&read.problem, options)
+        && are_colours(&read.problem, colours)
+        && are_colour_names(&read.problem, names)
+        && read.ignored == *ignored
+}
+
 #[test]
 fn colours(rt: HostRuntime) {
-    for (text, options, colours, names, ignored) in COLOURED.iter() {
-        let read = read_problem(rt.alloc(), text.as_bytes()).expect(&rt, "a problem");
-        assert!(rt; are_options(&read.problem, options), "{text:?}");
-        assert!(rt; are_colours(&read.problem, colours), "{text:?}");
-        assert!(rt; are_colour_names(&read.problem, names), "{text:?}");
-        assert!(rt; read.ignored == *ignored, "{text:?}");
+    for row in COLOURED.iter() {
+        let read = read_problem(rt.alloc(), row.0.as_bytes()).expect(&rt, "a problem");
+        assert!(rt; is_coloured(&read, row), "{:?}", row.0);
     }
 }
 

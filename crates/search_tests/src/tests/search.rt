@@ -9,7 +9,7 @@ use std::alloc::Global;
 use std::process::Abort;
 
 /// What a search comes to that finds this first; no cover is an empty list.
-fn outcome_of(first: &[u16]) -> Outcome {
+pub fn outcome_of(first: &[u16]) -> Outcome {
     if first.is_empty() {
         Outcome::Barren
     } else {
@@ -41,7 +41,7 @@ pub fn ends_so<R: Abort>(rt: &R, alloc: Global, text: &str, visits: u64, first: 
 }
 
 /// A problem, the visits of its empty prefix, and what is found first.
-static SEARCHES: [(&str, u64, &[u16]); 30] = [
+pub static SEARCHES: [(&str, u64, &[u16]); 30] = [
     (LETTERS, 6, &[3, 4, 0]),
     ("a b c d e f g\nc e\na d g\nb c f\na d f\nd e g\n", 3, &[]),
     ("a b | x\na x\nb x\n", 2, &[]),
@@ -154,7 +154,7 @@ fn searches_agree(rt: HostRuntime) {
 }
 
 /// A prefix and the fuel; what its search comes to, and what is found.
-static PREFIXES: [(&[u16], u64, Outcome, &[u16]); 4] = [
+pub static PREFIXES: [(&[u16], u64, Outcome, &[u16]); 4] = [
     (&[], 6, Outcome::Cover, &[3, 4, 0]),
     (&[], 5, Outcome::Spent, &[]),
     (&[0, 3, 4], 1, Outcome::Cover, &[0, 3, 4]),

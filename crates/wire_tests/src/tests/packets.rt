@@ -44,7 +44,7 @@ const GIVE_BELOW_THE_LAST: &[u8] =
 const RETURN_OF_1001: &[u8] = b"CN\x01\x06\x02\0\0\0\x01\0\0\0\0\x01\0\0\0\0\0\0\0\x01\x01\x03\xe9";
 
 /// The sender's node and incarnation, the receiver's, and the packet.
-static SPELLINGS: [((u8, u32), (u8, u32), &[u8]); 12] = [
+pub static SPELLINGS: [((u8, u32), (u8, u32), &[u8]); 12] = [
     ((0, 1), (2, 1), GIVE),
     ((2, 1), (0, 1), RETURN_EMPTY),
     ((2, 1), (0, 1), RETURN_COVER),
@@ -194,22 +194,28 @@ fn read<R: Abort>(rt: &R, alloc: Global, bytes: &[u8]) -> Packet {
     read_packet(alloc, bytes).expect(rt, "a packet")
 }
 
-/// Whether the bytes are read as the packet at this place.
-fn reads<R: Abort>(
+/// Whether it is the packet at this place.
+pub fn is_at<R: Abort>(
     rt: &R,
     alloc: Global,
     place: usize,
     (from, to): ((u8, u32), (u8, u32)),
-    bytes: &[u8],
+    read: &Packet,
 ) -> bool {
-    read(rt, alloc, bytes) == packet(from, to, body_of(rt, alloc, place))
+    *read == packet(from, to, body_of(rt, alloc, place))
 }
 
 #[test]
 fn each_packet_is_read_from_its_bytes(rt: HostRuntime) {
     for (place, (from, to, bytes)) in SPELLINGS.iter().enumerate() {
         assert!(rt;
-            reads(&rt, rt.alloc(), place, (*from, *to), bytes),
+            is_at(
+                &rt,
+                rt.alloc(),
+                place,
+                (*from, *to),
+                &read(&rt, rt.alloc(), bytes)
+            ),
             "{place}"
         );
     }
@@ -257,11 +263,16 @@ fn is_short_before_its_end<R: Abort>(rt: &R, alloc: Global, bytes: &[u8]) {
     }
 }
 
-/// A further byte is one too many.
+/// Whatever byte is behind it, it is one too many.
 fn trails<R: Abort>(rt: &R, alloc: Global, bytes: &[u8]) {
     let mut longer = Vec::from_slice(alloc, bytes).expect(rt, "memory");
     longer.push(0).expect(rt, "memory");
-    assert!(rt; fault_of(alloc, &longer) == Some(Trailing), "{bytes:?}");
+    for _ in 0..=255u8 {
+        assert!(rt; fault_of(alloc, &longer) == Some(Trailing), "{bytes:?}");
+        if let Some(last) = longer.get_mut(bytes.len()) {
+            *last = last.wrapping_add(1);
+        }
+    }
 }
 
 #[test]
@@ -272,6 +283,26 @@ fn beginnings_are_short(rt: HostRuntime) {
     }
 }
 
+/// How many of some bytes are read, and how many have each fault, from `Short` to `Trailing` in the order of their numbers.
+type Counts = [usize; 7];
+
+/// What is counted of a packet's beginnings, of its bytes with one more behind them, and of its changes of one byte. A reader of
+/// `scripts/try_bytes.py` counted the same.
+static COUNTS: [(&[u8], Counts); 12] = [
+    (GIVE, [3088, 282, 510, 254, 246, 1760, 260]),
+    (RETURN_EMPTY, [3088, 24, 510, 254, 247, 1763, 258]),
+    (RETURN_COVER, [4087, 286, 510, 254, 247, 2547, 261]),
+    (STEAL, [1050, 15, 510, 254, 247, 1508, 256]),
+    (HELLO, [1036, 15, 510, 254, 247, 1522, 256]),
+    (MEMBERS, [3073, 38, 510, 254, 247, 1762, 260]),
+    (NO_WORK, [2068, 19, 510, 254, 247, 486, 256]),
+    (ACCEPT, [4216, 285, 510, 254, 247, 1395, 261]),
+    (REFUSE, [3090, 24, 510, 254, 247, 1760, 259]),
+    (ABORT, [4107, 26, 510, 254, 247, 486, 258]),
+    (OVER, [1035, 19, 510, 254, 247, 1519, 256]),
+    (GIVE_MANY, [5789, 300, 510, 254, 255, 2364, 256]),
+];
+
 /// Whether the packet is written so, behind nothing.
 fn is_spelled<R: Abort>(rt: &R, alloc: Global, packet: &Packet, bytes: &[u8]) -> bool {
     assert!(rt; is_well_formed(packet));
@@ -280,41 +311,75 @@ fn is_spelled<R: Abort>(rt: &R, alloc: Global, packet: &Packet, bytes: &[u8]) ->
     out.as_slice() == bytes
 }
 
-/// Whether the bytes aren't read, or as a packet that is spelled so.
-fn is_read_as_it_is<R: Abort>(rt: &R, alloc: Global, bytes: &[u8]) -> bool {
-    if fault_of(alloc, bytes).is_some() {
-        return true;
+/// The place of what is read of some bytes. A packet has to be spelled so.
+fn place_of<R: Abort>(rt: &R, alloc: Global, bytes: &[u8]) -> usize {
+    match read_packet(alloc, bytes) {
+        Ok(packet) => {
+            assert!(rt; is_spelled(rt, alloc, &packet, bytes), "{bytes:?}");
+            0
+        }
+        Err(Short) => 1,
+        Err(Magic) => 2,
+        Err(Version) => 3,
+        Err(Kind) => 4,
+        Err(Field) => 5,
+        Err(Trailing) => 6,
+        // (no packet of these takes so much)
+        Err(WireFault::Memory) => 7,
     }
-    is_spelled(rt, alloc, &read(rt, alloc, bytes), bytes)
 }
 
-/// The same with each other byte at a place.
-fn change_byte<R: Abort>(rt: &R, alloc: Global, bytes: &mut [u8], place: usize) {
+/// Counts what is read of some bytes.
+fn count<R: Abort>(rt: &R, alloc: Global, bytes: &[u8], counts: &mut Counts) {
+    if let Some(count) = counts.get_mut(place_of(rt, alloc, bytes)) {
+        *count = count.wrapping_add(1);
+    }
+}
+
+/// Counts the same with each other byte at a place.
+fn change_byte<R: Abort>(
+    rt: &R,
+    alloc: Global,
+    bytes: &mut [u8],
+    place: usize,
+    counts: &mut Counts,
+) {
     for _ in 1..=255u8 {
         if let Some(byte) = bytes.get_mut(place) {
             *byte = byte.wrapping_add(1);
         }
-        assert!(rt; is_read_as_it_is(rt, alloc, bytes), "{bytes:?}");
+        count(rt, alloc, bytes, counts);
     }
 }
 
-/// The same at each place in turn.
-fn change_each_byte<R: Abort>(rt: &R, alloc: Global, bytes: &[u8]) {
+/// Counts each beginning, and each change of one byte.
+fn change_each_byte<R: Abort>(rt: &R, alloc: Global, bytes: &[u8], counts: &mut Counts) {
     for place in 0..bytes.len() {
+        count(rt, alloc, &bytes[..place], counts);
         let mut changed = Vec::from_slice(alloc, bytes).expect(rt, "memory");
-        change_byte(rt, alloc, &mut changed, place);
+        change_byte(rt, alloc, &mut changed, place, counts);
     }
 }
 
-/// Bytes with another byte give a fault, or a packet that is spelled so.
+/// Counts each byte behind all.
+fn lengthen<R: Abort>(rt: &R, alloc: Global, bytes: &[u8], counts: &mut Counts) {
+    let mut longer = Vec::from_slice(alloc, bytes).expect(rt, "memory");
+    longer.push(0).expect(rt, "memory");
+    count(rt, alloc, &longer, counts);
+    change_byte(rt, alloc, &mut longer, bytes.len(), counts);
+}
+
 #[test]
-fn changed_bytes_are_read_as_they_are(rt: HostRuntime) {
-    for (_, _, bytes) in SPELLINGS.iter() {
-        change_each_byte(&rt, rt.alloc(), bytes);
+fn changed_bytes_are_read_or_refused(rt: HostRuntime) {
+    for (bytes, expected) in COUNTS.iter() {
+        let mut counts: Counts = [0; 7];
+        change_each_byte(&rt, rt.alloc(), bytes, &mut counts);
+        lengthen(&rt, rt.alloc(), bytes, &mut counts);
+        assert!(rt; counts == *expected, "{bytes:?} {counts:?}");
     }
 }
 
-static FIRST_FAULTS: [(&[u8], WireFault); 41] = [
+pub static FIRST_FAULTS: [(&[u8], WireFault); 41] = [
     (b"DN\x01\x03\x02\0\0\0\x01\0\0\0\0\x01", Magic),
     (b"D", Short),
     (b"DN", Magic),

@@ -1,0 +1,41 @@
+#!/bin/bash
+# Runs all tests: the gate, then each scripts/try_*.py in a short form, which takes less than five minutes in all.
+#
+#     scripts/test.sh
+#
+# Where all went well the last line is the gate's own, 'N passed, M failed', and the status is 0. Else the last line names what failed, and
+# the status is 1. It wants the toolchain's command rt, cc and Python; the gate builds the programs.
+set -o pipefail
+cd "$(dirname "$0")/.." || exit 2
+
+# The words of a script's short form; none where it takes seconds anyway.
+short_form() {
+    case "$1" in
+    try_audit.py) echo --changes 20 --runs 1 ;;
+    try_explain.py) echo --files 200 ;;
+    try_bugs.py | try_memory.py | try_shortage.py) echo --short ;;
+    try_search.py) echo 100 ;;
+    try_simulate.py) echo 1 ;;
+    try_solve.py | try_strangers.py) echo --times 1 ;;
+    esac
+}
+
+log=$(mktemp) || exit 2
+trap 'rm -f "$log"' EXIT
+if ! rt ci 2>&1 | tee "$log"; then
+    echo "test.sh: the gate failed"
+    exit 1
+fi
+failed=
+for path in scripts/try_*.py; do
+    script=$(basename "$path")
+    echo "== $script $(short_form "$script")"
+    # (the words are several)
+    # shellcheck disable=SC2046
+    python3 "$path" $(short_form "$script") || failed="$failed $script"
+done
+if [ -n "$failed" ]; then
+    echo "test.sh: failed:$failed"
+    exit 1
+fi
+tail -n 1 "$log"
