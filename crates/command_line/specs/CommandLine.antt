@@ -7,6 +7,7 @@ use Rattle.clap.specs.declared.error.kind.ErrorKind.TheVariants.{DisplayHelp, Di
 use Rattle.clap.specs.Words.{App, Row, Rule, Text, new_app, new_rule, with_rule, with_subcommand, first_of}
 use Rattle.run_settings.specs.declared.settings.Mode.{Mode}
 use Rattle.run_settings.specs.declared.settings.Mode.TheVariants as modes
+use Rattle.run_settings.specs.declared.request.Request.{Request}
 use Rattle.run_settings.specs.declared.settings.Settings.{Settings}
 
 -- a positional that has to be given
@@ -16,6 +17,10 @@ file_rule id = record (new_rule id) { required = true }
 -- an option with a value and its default
 abbrev pub number_rule : Text → Text → Rule
 number_rule id default = record (new_rule id) { long = Some id; defaults = default ∷ [] }
+
+-- an option with a value and no default
+abbrev pub limit_rule : Text → Rule
+limit_rule id = record (new_rule id) { long = Some id }
 
 -- an option without a value
 abbrev pub flag_rule : Text → Rule
@@ -47,10 +52,14 @@ abbrev pub simulate_app : App
 simulate_app =
     with_rule (with_rule (sites_app (codes "simulate")) (number_rule (codes "turns") (codes "10000"))) (number_rule (codes "restarts") (codes "0"))
 
--- the same with how long threads go on, how often a node is restarted, how many threads there are, and whether the books are audited
+-- the same with how long threads go on, how often a node is restarted, and how many threads there are
+abbrev pub threads_app : App
+threads_app =
+    with_rule (with_rule (with_rule (sites_app (codes "solve")) (number_rule (codes "turns") (codes "1000000"))) (number_rule (codes "restarts") (codes "0"))) (number_rule (codes "workers") (codes "2"))
+
+-- that with whether the books are audited, and when the run ends
 abbrev pub solve_app : App
-solve_app =
-    with_rule (with_rule (with_rule (with_rule (sites_app (codes "solve")) (number_rule (codes "turns") (codes "1000000"))) (number_rule (codes "restarts") (codes "0"))) (number_rule (codes "workers") (codes "2"))) (flag_rule (codes "audit"))
+solve_app = with_rule (with_rule threads_app (flag_rule (codes "audit"))) (limit_rule (codes "seconds"))
 
 -- a command that wants one of its subcommands
 abbrev pub wanting_subcommand : App → App
@@ -85,6 +94,11 @@ abbrev pub SpellsOr : ℕ → Option Text → ℕ → Type 0
 SpellsOr default None number = number ≡ default
 SpellsOr default (Some text) number = Spells text number
 
+-- the number that an option spells, if it is given
+abbrev pub SpellsIf : Option Text → Option ℕ → Type 0
+SpellsIf None number = number ≡ None
+SpellsIf (Some text) number = (n : ℕ) × (number ≡ Some n) × Spells text n
+
 -- the flag is set just where its entry is `true`, which clap enters for the option, as `false` where it is not given; a subcommand
 -- that lacks the option has no entry
 abbrev pub IsFlag : Option Text → Bool → Type 0
@@ -110,6 +124,11 @@ pub record AreSpelled (name : Text) (given : Text → Option Text) (settings : S
   pub restarts_given : SpellsOr 0 (given (codes "restarts")) settings.restarts
   pub audit_given : IsFlag (given (codes "audit")) settings.audit
 
+-- The request that they spell: the settings, and what is asked beside them.
+pub record IsSpelled (name : Text) (given : Text → Option Text) (request : Request) : Type 0 where
+  pub settings : AreSpelled name given request.settings
+  pub seconds_given : SpellsIf (given (codes "seconds")) request.seconds
+
 -- The problem and the answer are both to be read from standard input.
 pub record ReadsInputTwice (settings : Settings) : Type 0 where
   pub file : settings.file.now ≡ codes "-"
@@ -121,6 +140,13 @@ pub record AreMet (met : Option (Text × List Row)) (settings : Settings) : Type
   pub rows : List Row
   pub subcommand : met ≡ Some (name, rows)
   pub spelled : AreSpelled name (λ id. first_of id rows) settings
+
+-- The same of a request.
+pub record IsMet (met : Option (Text × List Row)) (request : Request) : Type 0 where
+  pub name : Text
+  pub rows : List Row
+  pub subcommand : met ≡ Some (name, rows)
+  pub spelled : IsSpelled name (λ id. first_of id rows) request
 
 -- The status of what clap has to say: 0 for help and the version, else 2.
 pub record IsLineStatus (kind : ErrorKind) (status : ℕ) : Type 0 where

@@ -3,7 +3,7 @@
 ghost use Rattle.std.specs.Prelude.{◌≡◌, false, IfOk, codes};
 ghost use Rattle.clap.specs.Words.{app_of, new_app, rule_of};
 ghost use Rattle.clap.specs.declared.builder.command.Command.TheViews.{out-Command};
-ghost use Rattle.command_line.specs.CommandLine.{alone_app, check_app, file_rule, flag_rule, greatest_fuel_rule, number_rule, one_thread_app, simulate_app, sites_app, solve_app, solver_app, versioned};
+ghost use Rattle.command_line.specs.CommandLine.{alone_app, check_app, file_rule, flag_rule, greatest_fuel_rule, limit_rule, number_rule, one_thread_app, simulate_app, sites_app, solve_app, solver_app, threads_app, versioned};
 
 use clap::error::ErrorKind;
 use clap::{Arg, ArgAction, Command, Error};
@@ -58,6 +58,14 @@ fn number_argument<'a>(alloc: Global, id: &'a str, default: &'a str, help: &'a s
         .long(id)
         .default_value(default)
         .help(help)
+}
+
+/// An option of what sites do, whose value is a number, and which sets no limit where it isn't given.
+fn limit_argument<'a>(alloc: Global, id: &'a str, help: &'a str) -> Arg<'a>
+    ensures rule { rule_of result ≡ limit_rule id.now }
+    ensures own { result.global ≡ false }
+{
+    Arg::new(alloc, id).long(id).help(help)
 }
 
 /// An option of what sites do that has no value.
@@ -152,8 +160,9 @@ fn simulate_command<'a>(alloc: Global) -> Result<Command<'a>, AllocError>
         .arg(restarts)
 }
 
-fn solve_command<'a>(alloc: Global) -> Result<Command<'a>, AllocError>
-    ensures app { IfOk result (λ command. app_of command ≡ solve_app) }
+/// What threads search, how long they go on, how often a node is restarted, and how many workers there are.
+fn threads_command<'a>(alloc: Global) -> Result<Command<'a>, AllocError>
+    ensures app { IfOk result (λ command. app_of command ≡ threads_app) }
     ensures local { IfOk result (λ command. (out-Command command).has_globals ≡ false) }
 {
     let about =
@@ -171,16 +180,27 @@ fn solve_command<'a>(alloc: Global) -> Result<Command<'a>, AllocError>
         "How often node 1 is restarted, up to 100",
     );
     let workers = number_argument(alloc, "workers", "2", "How many workers a node has, 1 to 8");
+    sites_command(alloc, "solve", about)?
+        .arg(turns)?
+        .arg(restarts)?
+        .arg(workers)
+}
+
+fn solve_command<'a>(alloc: Global) -> Result<Command<'a>, AllocError>
+    ensures app { IfOk result (λ command. app_of command ≡ solve_app) }
+    ensures local { IfOk result (λ command. (out-Command command).has_globals ≡ false) }
+{
     let audit = flag_argument(
         alloc,
         "audit",
         "Whether the sites' books are one run is tested and written; status 6 where they are not found to be",
     );
-    sites_command(alloc, "solve", about)?
-        .arg(turns)?
-        .arg(restarts)?
-        .arg(workers)?
-        .arg(audit)
+    let seconds = limit_argument(
+        alloc,
+        "seconds",
+        "After how many seconds the run ends without an answer, 1 to 1000000; no limit if not given",
+    );
+    threads_command(alloc)?.arg(audit)?.arg(seconds)
 }
 
 /// What one thread does.

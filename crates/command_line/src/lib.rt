@@ -7,4 +7,4 @@ mod numbers;
 mod words;
 
 pub use fault::SettingsFault;
-pub use words::settings;
+pub use words::{request, settings};

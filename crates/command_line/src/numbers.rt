@@ -1,9 +1,10 @@
 //! The numbers of a command line, each in its range.
 
-ghost use Rattle.std.specs.Prelude.{ℕ, ◌≡◌, ◌≤◌, ◌<◌, ◌^◌, IfNone, IfSome, IsSome, codes};
+ghost use Rattle.std.specs.Prelude.{ℕ, Option, ◌≡◌, ◌≤◌, ◌<◌, ◌^◌, IfNone, IfSome, IsSome, codes};
+ghost use Rattle.std.specs.Option.{ForSome};
 ghost use Rattle.std.specs.Str.Parse.{IsNumeral, digits_value};
 ghost use Rattle.clap.specs.Words.{first_value, found_of};
-ghost use Rattle.command_line.specs.CommandLine.{Spells, SpellsFuel, SpellsOr};
+ghost use Rattle.command_line.specs.CommandLine.{Spells, SpellsFuel, SpellsIf, SpellsOr};
 
 use clap::ArgMatches;
 
@@ -92,6 +93,25 @@ pub fn restarts(inner: &ArgMatches<'_>) -> Option<u32>
     Some(restarts as u32)
 }
 
+/// After how many seconds a run ends, from 1 to 1,000,000, if one is asked to.
+pub fn seconds(inner: &ArgMatches<'_>) -> Option<Option<u32>>
+    ensures given { IfSome result (SpellsIf (first_value (found_of inner.now) (codes "seconds"))) }
+    ensures some { IfSome result (λ seconds. ForSome seconds (λ seconds. 1 ≤ seconds)) }
+    ensures most { IfSome result (λ seconds. ForSome seconds (λ seconds. seconds ≤ 1000000)) }
+    ensures none { IfNone result ((seconds : Option ℕ) →
+        SpellsIf (first_value (found_of inner.now) (codes "seconds")) seconds →
+        ForSome seconds (λ n. 1 ≤ n) → ForSome seconds (λ n. n ≤ 1000000) → ⊥) }
+{
+    let Some(text) = inner.get_str("seconds") else {
+        return Some(None);
+    };
+    let seconds = number(text)?;
+    if seconds == 0 || seconds > 1_000_000 {
+        return None;
+    }
+    Some(Some(seconds as u32))
+}
+
 /// How many visits a search may take, from 1.
 pub fn fuel(inner: &ArgMatches<'_>) -> Option<u64>
     ensures given { IfSome result (SpellsFuel (first_value (found_of inner.now) (codes "fuel"))) }
@@ -122,6 +142,9 @@ pub fn out_of_range(inner: &ArgMatches<'_>) -> &'static str {
     }
     if restarts(inner).is_none() {
         return "--restarts takes 0 to 100";
+    }
+    if seconds(inner).is_none() {
+        return "--seconds takes 1 to 1000000";
     }
     "--seed takes 0 to 18446744073709551615"
 }

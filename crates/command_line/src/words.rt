@@ -2,14 +2,14 @@
 
 ghost use Rattle.std.specs.Prelude.{Option, ◌≡◌, ◌≢◌, ◌↔◌, true, IfNone, IfOk, IfSome, codes, is_some, map, option_map};
 ghost use Rattle.clap.specs.Words.{Text, first_value, found_of, subcommand_of};
-ghost use Rattle.command_line.specs.CommandLine.{AreMet, AreSpelled, IsAnswerFile, IsFlag, ReadsInputTwice, mode_word, solver_app};
+ghost use Rattle.command_line.specs.CommandLine.{AreMet, AreSpelled, IsAnswerFile, IsFlag, IsMet, IsSpelled, ReadsInputTwice, mode_word, solver_app};
 
 use crate::commands::{solver_command, value_error};
 use crate::fault::{SettingsFault, fault_of};
-use crate::numbers::{fuel, nodes, number_or, out_of_range, restarts, turns, workers};
+use crate::numbers::{fuel, nodes, number_or, out_of_range, restarts, seconds, turns, workers};
 use clap::error::ErrorKind;
 use clap::{ArgMatches, Command};
-use run_settings::{Mode, STANDARD_INPUT, Settings};
+use run_settings::{Mode, Request, STANDARD_INPUT, Settings};
 use std::alloc::Global;
 use std::path::Path;
 
@@ -83,6 +83,18 @@ fn spelled<'a>(name: &'a str, inner: &ArgMatches<'a>) -> Option<Settings<'a>>
     })
 }
 
+/// The request that a subcommand's matches spell; none where a number is out of its range.
+fn requested<'a>(name: &'a str, inner: &ArgMatches<'a>) -> Option<Request<'a>>
+    ensures some { IfSome result (IsSpelled name.now (first_value (found_of inner.now))) }
+    ensures none { IfNone result ((request : Request) →
+        IsSpelled name.now (first_value (found_of inner.now)) request → ⊥) }
+{
+    Some(Request {
+        settings: spelled(name, inner)?,
+        seconds: seconds(inner)?,
+    })
+}
+
 /// Whether problem and answer are both to be read from standard input, which can be read only once.
 fn reads_input_twice(settings: &Settings<'_>) -> bool
     ensures { (result ≡ true) ↔ ReadsInputTwice settings.now }
@@ -118,14 +130,14 @@ fn no_subcommand(command: Command<'_>) -> SettingsFault {
     }
 }
 
-/// The settings that the words of a command line spell; the first word is the program's name.
+/// What the words of a command line ask for; the first word is the program's name.
 ///
 /// `Line` is clap's fault for words that are no command line, the fault of a value that is no number of its range or of
 /// standard input that is named twice, and clap's text for help and version. `Memory` comes where memory was refused, by clap too.
-pub fn settings<'a>(alloc: Global, words: &'a [&'a str]) -> Result<Settings<'a>, SettingsFault>
+pub fn request<'a>(alloc: Global, words: &'a [&'a str]) -> Result<Request<'a>, SettingsFault>
     ensures met { IfOk result
-        (AreMet (subcommand_of solver_app (map (λ word. word.now) words.now))) }
-    ensures once { IfOk result (λ settings. ReadsInputTwice settings → ⊥) }
+        (IsMet (subcommand_of solver_app (map (λ word. word.now) words.now))) }
+    ensures once { IfOk result (λ request. ReadsInputTwice request.settings → ⊥) }
 {
     let Ok(mut command) = solver_command(alloc) else {
         return Err(SettingsFault::Memory);
@@ -140,11 +152,20 @@ pub fn settings<'a>(alloc: Global, words: &'a [&'a str]) -> Result<Settings<'a>,
     let Some(mode) = mode_of(name) else {
         return Err(no_subcommand(command));
     };
-    let Some(settings) = spelled(name, inner) else {
+    let Some(request) = requested(name, inner) else {
         return Err(value_fault(alloc, words, mode, out_of_range(inner)));
     };
-    if reads_input_twice(&settings) {
+    if reads_input_twice(&request.settings) {
         return Err(value_fault(alloc, words, mode, INPUT_TWICE));
     }
-    Ok(settings)
+    Ok(request)
+}
+
+/// The settings that the words of a command line spell, as `request` has them.
+pub fn settings<'a>(alloc: Global, words: &'a [&'a str]) -> Result<Settings<'a>, SettingsFault>
+    ensures met { IfOk result
+        (AreMet (subcommand_of solver_app (map (λ word. word.now) words.now))) }
+    ensures once { IfOk result (λ settings. ReadsInputTwice settings → ⊥) }
+{
+    Ok(request(alloc, words)?.settings)
 }

@@ -18,8 +18,8 @@ use std::alloc::Global;
 use std::marker::Brand;
 use std::sync::Wait;
 use std::thread::Threads;
-use std::time::Clock;
-use udp_node::{Cause, Gate, Link, Plan, SiteEnd, run_sites};
+use std::time::{Clock, Duration};
+use udp_node::{Cause, Gate, Link, Plan, SiteEnd, run_sites_within};
 
 /// After how many receives a site gives up that brought it no packet, or a node none of the registry.
 const QUIET: u64 = 6_000;
@@ -55,6 +55,31 @@ pub fn solve_engine<
     ensures told { IfOk result (λ end. IsRunEnd J.run end.answer end.books.items) }
     ensures memory { IfErr result (λ fault. fault ≡ EngineFault.Memory) }
 {
+    solve_within(rt, alloc, settings, None, problem, links, gate)
+}
+
+/// Lets sites search as `solve_engine` does, for so much time if it is limited: then the run ends, and there is the answer that the
+/// registry published by then, or none.
+fn solve_within<
+    J: Run + Send + Sync,
+    L: Link + Send,
+    G: Gate + Sync,
+    R: Threads + Wait + Clock + Sync,
+>(
+    rt: &R,
+    alloc: Global,
+    settings: &Settings,
+    limit: Option<Duration>,
+    problem: &Problem,
+    links: Vec<L>,
+    gate: &G,
+) -> Result<SolveEnd<J>, EngineFault>
+    requires problem { problem.now ≡ J.run.problem }
+    requires nodes { settings.now.nodes ≡ J.run.nodes }
+    requires links { vec_len links ≡ settings.now.nodes + 1 }
+    ensures told { IfOk result (λ end. IsRunEnd J.run end.answer end.books.items) }
+    ensures memory { IfErr result (λ fault. fault ≡ EngineFault.Memory) }
+{
     let plan = Plan {
         workers: settings.workers,
         nodes: settings.nodes,
@@ -64,7 +89,8 @@ pub fn solve_engine<
         quiet: QUIET,
     };
     let restarts = settings.restarts as u8;
-    let Ok(end) = run_sites(rt, alloc, problem, plan, restarts, links, gate) else {
+    let ran = run_sites_within(rt, alloc, problem, plan, restarts, limit, links, gate);
+    let Ok(end) = ran else {
         return Err(EngineFault::Memory);
     };
     if end.answer.is_none() && has_starved(&end.sites) {
@@ -92,6 +118,7 @@ fn write_run<
     rt: &R,
     alloc: Global,
     settings: &Settings,
+    limit: Option<Duration>,
     problem: &Problem,
     links: Vec<L>,
     gate: &G,
@@ -103,7 +130,7 @@ fn write_run<
     ensures output { IsOutputOf (RunSays J.run) (W.contents sink.old) (W.contents sink.new) result }
     ensures failed { result ≡ Err EngineFault.Write → W.failed sink.old < W.failed sink.new }
 {
-    let end: SolveEnd<J> = solve_engine(rt, alloc, settings, problem, links, gate)?;
+    let end: SolveEnd<J> = solve_within(rt, alloc, settings, limit, problem, links, gate)?;
     write_published(problem, end.answer.as_ref(), sink)
 }
 
@@ -119,6 +146,7 @@ fn write_audited_run<
     rt: &R,
     alloc: Global,
     settings: &Settings,
+    limit: Option<Duration>,
     problem: &Problem,
     links: Vec<L>,
     gate: &G,
@@ -132,13 +160,13 @@ fn write_audited_run<
     ensures failed { result ≡ Err EngineFault.Write → W.failed sink.old < W.failed sink.new }
 {
     a_book_tells_what_is_published();
-    let end: SolveEnd<J> = solve_engine(rt, alloc, settings, problem, links, gate)?;
+    let end: SolveEnd<J> = solve_within(rt, alloc, settings, limit, problem, links, gate)?;
     let found = audit(alloc, &end.books);
     write_audited(alloc, problem, end.answer.as_ref(), found, sink)
 }
 
 /// Lets sites search a problem, as `solve_engine` does, writes what the registry published, or `no answer` where it published
-/// nothing, and answers the status: 0 for a cover, 1 for none, 4 for no answer.
+/// nothing, and answers the status: 0 for a cover, 1 for none, 4 for no answer. A run with a limit ends once that time is over.
 ///
 /// Where the settings ask for an audit, the books of the run are audited before anything is written, and a line of what was found
 /// follows: `audit clean`, and the answer is right whatever the network delivered, or `audit unclean` with the cause, and the status
@@ -150,6 +178,7 @@ pub fn solve_problem<L: Link + Send, G: Gate + Sync, W: Sink, R: Threads + Wait 
     rt: &R,
     alloc: Global,
     settings: &Settings,
+    limit: Option<Duration>,
     problem: &Problem,
     links: Vec<L>,
     gate: &G,
@@ -167,8 +196,8 @@ pub fn solve_problem<L: Link + Send, G: Gate + Sync, W: Sink, R: Threads + Wait 
 {
     if settings.audit {
         return write_audited_run::<Brand, L, G, W, R>(
-            rt, alloc, settings, problem, links, gate, sink,
+            rt, alloc, settings, limit, problem, links, gate, sink,
         );
     }
-    write_run::<Brand, L, G, W, R>(rt, alloc, settings, problem, links, gate, sink)
+    write_run::<Brand, L, G, W, R>(rt, alloc, settings, limit, problem, links, gate, sink)
 }

@@ -5,6 +5,7 @@ mod ends;
 mod failing;
 mod fails_once;
 mod held_gate;
+mod limit;
 mod loss;
 mod order;
 mod pace;

@@ -2,6 +2,8 @@
 //! neither needs the other.
 #![tactic(auto)]
 
+mod request;
 mod settings;
 
+pub use request::Request;
 pub use settings::{Mode, STANDARD_INPUT, Settings};

@@ -3,6 +3,7 @@
 
 ghost use Rattle.std.specs.Prelude.{◌≡◌, IfOk};
 
+use command_line::request;
 pub use command_line::{SettingsFault, settings};
 pub use cover_engines::{
     AloneEnd, CheckEnd, EngineFault, SimulateEnd, SolveEnd, alone_engine, check_engine,
@@ -11,8 +12,8 @@ pub use cover_engines::{
 use cover_engines::{links, read_whole, solve_problem, tell_end, tell_unbound};
 use dlx_reader::{CountedReader, CountedWriter};
 use either::Either;
-use run_settings::STANDARD_INPUT;
 pub use run_settings::{Mode, Settings};
+use run_settings::{Request, STANDARD_INPUT};
 use std::env;
 use std::fs::File;
 use std::io::{self, ErrorKind, Stdin};
@@ -20,7 +21,7 @@ use std::net::Net;
 use std::process::ExitCode;
 use std::sync::Wait;
 use std::thread::Threads;
-use std::time::Clock;
+use std::time::{Clock, Duration};
 use udp_node::Open;
 
 /// What is read: a file, or standard input.
@@ -82,6 +83,7 @@ fn run_solve<R: Threads + Wait + Clock + Net + Sync>(
     rt: &HostRuntime,
     threads: &R,
     settings: &Settings<'_>,
+    limit: Option<Duration>,
 ) -> u8 {
     let mut errors = CountedWriter::new(rt.stderr());
     let Ok(mut source) = open(rt, settings.file) else {
@@ -103,6 +105,7 @@ fn run_solve<R: Threads + Wait + Clock + Net + Sync>(
         threads,
         rt.alloc(),
         settings,
+        limit,
         &read.problem,
         links,
         &Open,
@@ -113,18 +116,25 @@ fn run_solve<R: Threads + Wait + Clock + Net + Sync>(
     }
 }
 
-/// Runs what the settings ask for, and answers the exit status.
-fn run_settings<R: Threads + Wait + Clock + Net + Sync>(
+/// Runs what is asked for, and answers the exit status.
+fn run_request<R: Threads + Wait + Clock + Net + Sync>(
     rt: &HostRuntime,
     threads: &R,
-    settings: &Settings<'_>,
+    request: &Request<'_>,
 ) -> u8 {
+    let settings = &request.settings;
     match settings.mode {
         Mode::Alone => run_alone(rt, settings),
         Mode::Check => run_check(rt, settings),
         Mode::Simulate => run_simulate(rt, settings),
-        Mode::Solve => run_solve(rt, threads, settings),
+        Mode::Solve => run_solve(rt, threads, settings, limit_of(request)),
     }
+}
+
+/// How long a run over sockets may last, if it is limited.
+fn limit_of(request: &Request<'_>) -> Option<Duration> {
+    let seconds = request.seconds?;
+    Some(Duration::from_secs(u64::from(seconds)))
 }
 
 /// Runs what a command line asks for, and answers the exit status: 2 for a fault of the command line, 0 for help.
@@ -133,8 +143,8 @@ fn run_words<R: Threads + Wait + Clock + Net + Sync>(
     threads: &R,
     words: &[&str],
 ) -> u8 {
-    match settings(rt.alloc(), words) {
-        Ok(settings) => run_settings(rt, threads, &settings),
+    match request(rt.alloc(), words) {
+        Ok(request) => run_request(rt, threads, &request),
         Err(fault) => fault.tell(rt),
     }
 }

@@ -73,7 +73,16 @@ fn solve<R: Threads + Wait + Clock + Net + Sync>(
     let links = links(rt, alloc, settings.nodes)?;
     let mut out = Vec::new(alloc);
     let mut sink = CountedWriter::new(&mut out);
-    let status = solve_problem(rt, alloc, settings, &read.problem, links, &Open, &mut sink)?;
+    let status = solve_problem(
+        rt,
+        alloc,
+        settings,
+        None,
+        &read.problem,
+        links,
+        &Open,
+        &mut sink,
+    )?;
     Ok((out, status))
 }
 

@@ -3,6 +3,7 @@
 
 mod actor;
 mod cause;
+mod ending;
 mod gate;
 mod hand;
 mod link;
@@ -31,7 +32,7 @@ pub use node::{run_node, run_root};
 pub use node_end::NodeEnd;
 pub use pace::Pace;
 pub use plan::Plan;
-pub use run::{RunEnd, run_sites};
+pub use run::{RunEnd, run_sites, run_sites_within};
 pub use site_run::SiteEnd;
 pub use stand::Stand;
 pub use turn::Taken;

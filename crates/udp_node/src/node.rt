@@ -6,6 +6,7 @@ ghost use Rattle.udp_node.specs.declared.cause.Cause.TheVariants.{Memory};
 
 use crate::actor::Actor;
 use crate::cause::Cause;
+use crate::ending::Ending;
 use crate::gate::{Gate, Open};
 use crate::link::Link;
 use crate::node_end::NodeEnd;
@@ -24,7 +25,6 @@ use node_core::Core;
 use run_book::{Outbox, Room, Run, SiteCell};
 use std::alloc::{AllocError, Global};
 use std::sync::Wait;
-use std::sync::atomic::AtomicBool;
 use std::thread::{self, Threads};
 use std::time::{Clock, Duration};
 
@@ -119,7 +119,7 @@ fn work<J: Run, C: Core + Drop, N: Room, G: Gate, R: Wait + Clock>(
     left: &mut Limits,
 ) -> Cause {
     let shared = actor.shared;
-    if shared.is_over() {
+    if shared.is_over(rt) {
         return Cause::Turns;
     }
     shared.signals.begin_working();
@@ -148,7 +148,7 @@ fn receive<J: Run, C: Core + Drop, N: Room, L: Link, G: Gate, R: Wait + Clock>(
     left: &mut Limits,
 ) -> Cause {
     let shared = actor.shared;
-    if shared.is_over() {
+    if shared.is_over(rt) {
         return Cause::Turns;
     }
     shared.signals.begin_receiving();
@@ -199,7 +199,7 @@ pub fn run_node<
         link,
         Start::only(plan),
         gate,
-        &AtomicBool::new(false),
+        &Ending::unlimited(),
     )
 }
 
@@ -233,7 +233,7 @@ pub fn run_root<
         link,
         Start::only(plan),
         &Open,
-        &AtomicBool::new(false),
+        &Ending::unlimited(),
     )
 }
 
@@ -254,7 +254,7 @@ pub(crate) fn run_threads<
     link: L,
     start: Start,
     gate: &G,
-    ended: &AtomicBool,
+    ending: &Ending,
 ) -> NodeEnd<N>
     requires { tables.now ≡ J.run.problem }
     ensures all { (vec_len result.stands ≡ start.plan.workers + 1) ⊎ (result.cause ≡ Memory) }
@@ -272,7 +272,7 @@ pub(crate) fn run_threads<
         outbox: &outbox,
         gate,
         signals: &signals,
-        ended,
+        ending,
         plan,
         is_last,
         alloc,

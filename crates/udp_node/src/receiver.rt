@@ -87,7 +87,7 @@ impl<L: Link> Receiver<L> {
         actor: &mut Actor<'_, J, C, N, G>,
         number: u64,
     ) -> Turn {
-        if actor.shared.signals.is_over() {
+        if actor.shared.signals.is_over() || actor.shared.ending.is_late(rt) {
             return self.end();
         }
         if number % GREETING != 0 || actor.shared.cell.site().node == 0 {
@@ -167,7 +167,7 @@ impl<L: Link> Receiver<L> {
     }
 
     /// A datagram came that is no packet: that is no turn, or strangers could use them up.
-    fn dropped<J: Run, C: Core + Drop, N: Room, G: Gate, R: Wait>(
+    fn dropped<J: Run, C: Core + Drop, N: Room, G: Gate, R: Wait + Clock>(
         &mut self,
         rt: &R,
         actor: &mut Actor<'_, J, C, N, G>,
@@ -177,7 +177,7 @@ impl<L: Link> Receiver<L> {
     }
 
     /// A datagram more came: after some what may be lost is said again.
-    fn counted<J: Run, C: Core + Drop, N: Room, G: Gate, R: Wait>(
+    fn counted<J: Run, C: Core + Drop, N: Room, G: Gate, R: Wait + Clock>(
         &mut self,
         rt: &R,
         actor: &mut Actor<'_, J, C, N, G>,
@@ -190,7 +190,7 @@ impl<L: Link> Receiver<L> {
     }
 
     /// What may be lost is said again, unless the site can't go on. The registry ends once it has told the end often enough.
-    fn say_again<J: Run, C: Core + Drop, N: Room, G: Gate, R: Wait>(
+    fn say_again<J: Run, C: Core + Drop, N: Room, G: Gate, R: Wait + Clock>(
         &mut self,
         rt: &R,
         actor: &mut Actor<'_, J, C, N, G>,
@@ -200,7 +200,7 @@ impl<L: Link> Receiver<L> {
         if self.over {
             self.last = self.last.saturating_add(1);
         }
-        if self.last > LAST || self.is_lost(actor.shared) {
+        if self.last > LAST || self.is_lost(rt, actor.shared) {
             return self.end();
         }
         after(actor.act(rt, Event::Again))
@@ -217,7 +217,7 @@ impl<L: Link> Receiver<L> {
         thread::sleep(rt, Duration::from_micros(nap));
         self.listen(false);
         self.pauses = self.pauses.saturating_add(1);
-        if self.is_lost(actor.shared) {
+        if self.is_lost(rt, actor.shared) {
             return self.end();
         }
         if !self.over && self.pauses < AGAIN {
@@ -227,12 +227,13 @@ impl<L: Link> Receiver<L> {
     }
 
     /// Whether the site can't go on: it is to end, or the run is, nothing shows the run going on for long, or no worker is left.
-    fn is_lost<J: Run, C: Core + Drop, N: Room, G: Gate>(
+    fn is_lost<J: Run, C: Core + Drop, N: Room, G: Gate, R: Clock>(
         &self,
+        rt: &R,
         shared: &Shared<'_, J, C, N, G>,
     ) -> bool {
         let is_deserted = shared.cell.site().node != 0 && shared.signals.is_deserted();
-        shared.is_over() || is_deserted || self.silent >= shared.plan.quiet
+        shared.is_over(rt) || is_deserted || self.silent >= shared.plan.quiet
     }
 
     /// The thread ends, the registry's with the search where that is over.

@@ -8,6 +8,7 @@ ghost use Rattle.run_book.specs.Sites.{IsRun};
 ghost use Rattle.udp_node.specs.Numbers.{AreNumbered};
 ghost use Rattle.spawn_frame.specs.declared.site.TheConstants.{LAST_NODE};
 
+use crate::ending::Ending;
 use crate::gate::Gate;
 use crate::link::Link;
 use crate::plan::Plan;
@@ -18,9 +19,8 @@ use run_book::{Book, Run, published};
 use std::alloc::{AllocError, Global};
 use std::marker::PhantomData;
 use std::sync::Wait;
-use std::sync::atomic::AtomicBool;
 use std::thread::{self, Threads};
-use std::time::Clock;
+use std::time::{Clock, Duration};
 
 /// How a run ended.
 #[derive(Drop)]
@@ -65,6 +65,34 @@ pub fn run_sites<
     requires links { vec_len links ≡ plan.nodes + 1 }
     ensures { IfOk result (λ end. IsRunEnd J.run end.answer end.books.items) }
 {
+    run_sites_within(rt, alloc, problem, plan, restarts, None, links, gate)
+}
+
+/// Runs a search as `run_sites` does, and ends all sites once so much time is over since the call, if it is limited: soon
+/// after, since each looks at the clock before it receives. What the registry published by then is the answer.
+pub fn run_sites_within<
+    J: Run + Send + Sync,
+    L: Link + Send,
+    G: Gate + Sync,
+    R: Threads + Wait + Clock + Sync,
+>(
+    rt: &R,
+    alloc: Global,
+    problem: &Problem,
+    plan: Plan,
+    restarts: u8,
+    limit: Option<Duration>,
+    links: Vec<L>,
+    gate: &G,
+) -> Result<RunEnd<J>, AllocError>
+    requires problem { problem.now ≡ J.run.problem }
+    requires nodes { plan.nodes ≡ J.run.nodes }
+    requires some { 1 ≤ plan.nodes }
+    requires most { plan.nodes ≤ LAST_NODE }
+    requires links { vec_len links ≡ plan.nodes + 1 }
+    ensures { IfOk result (λ end. IsRunEnd J.run end.answer end.books.items) }
+{
+    let ending = Ending::within(rt, limit);
     // (for what the getter says: that the problem is lawful)
     let _items = problem.items();
     let tables = Tables::build(alloc, problem)?;
@@ -72,7 +100,7 @@ pub fn run_sites<
         problem,
         tables: &tables,
         gate,
-        ended: &AtomicBool::new(false),
+        ending: &ending,
         plan,
         alloc,
         run: PhantomData,

@@ -1,5 +1,6 @@
 ghost use Rattle.std.specs.Prelude.{◌≡◌};
 
+use crate::ending::Ending;
 use crate::gate::Gate;
 use crate::plan::Plan;
 use crate::signals::Signals;
@@ -7,7 +8,7 @@ use brancher::Tables;
 use node_core::Core;
 use run_book::{Outbox, Room, Run, SiteCell};
 use std::alloc::Global;
-use std::sync::atomic::{AtomicBool, Ordering};
+use std::time::Clock;
 
 /// What the threads of a site share.
 #[derive(Drop)]
@@ -22,8 +23,8 @@ pub struct Shared<'a, J: Run, C: Core + Drop, N: Room, G: Gate> {
     pub gate: &'a G,
     /// What they tell one another beside the lock.
     pub signals: &'a Signals,
-    /// The flag that is raised once the run can't go on: then the site ends, too.
-    pub ended: &'a AtomicBool,
+    /// What ends the run: then the site ends, too.
+    pub ending: &'a Ending,
     /// How the site works.
     pub plan: Plan,
     /// No start of the site follows.
@@ -35,7 +36,7 @@ pub struct Shared<'a, J: Run, C: Core + Drop, N: Room, G: Gate> {
 
 impl<J: Run, C: Core + Drop, N: Room, G: Gate> Shared<'_, J, C, N, G> {
     /// Whether the site is to end, by itself or with the run.
-    pub fn is_over(&self) -> bool {
-        self.signals.is_over() || self.ended.load(Ordering::SeqCst)
+    pub fn is_over<R: Clock>(&self, rt: &R) -> bool {
+        self.signals.is_over() || self.ending.is_over(rt)
     }
 }

@@ -7,6 +7,7 @@ ghost use Rattle.run_book.specs.Sites.{opening_of, IsRun, MayBeginIn};
 ghost use Rattle.udp_node.specs.Starts.{are_starts};
 
 use crate::cause::Cause;
+use crate::ending::Ending;
 use crate::gate::{Gate, Open};
 use crate::link::Link;
 use crate::node::run_threads;
@@ -23,7 +24,6 @@ use spawn_frame::Site;
 use std::alloc::{AllocError, Global};
 use std::marker::{Brand, PhantomData};
 use std::sync::Wait;
-use std::sync::atomic::{AtomicBool, Ordering};
 use std::thread::Threads;
 use std::time::Clock;
 
@@ -42,8 +42,8 @@ pub struct Whole<'a, J: Run, G: Gate> {
     pub tables: &'a Tables<'a>,
     /// What holds workers back.
     pub gate: &'a G,
-    /// The flag that is raised once the run can't go on. No answer depends on it.
-    pub ended: &'a AtomicBool,
+    /// What ends the run.
+    pub ending: &'a Ending,
     /// How the sites work, and how many there are.
     pub plan: Plan,
     /// Where memory comes from.
@@ -166,7 +166,7 @@ impl<J: Run, L: Link> SiteRun<J, L> {
             self.run_starts(rt, whole, link);
         }
         if self.end.ends_run(self.node) {
-            whole.ended.store(true, Ordering::SeqCst);
+            whole.ending.raise();
         }
     }
 
@@ -344,7 +344,7 @@ fn run_registry<
         link,
         Start { plan, ..start },
         &Open,
-        whole.ended,
+        whole.ending,
     );
     closed(whole.alloc, cell, end)
 }
@@ -384,7 +384,7 @@ fn run_worker_node<
         link,
         start,
         whole.gate,
-        whole.ended,
+        whole.ending,
     );
     closed(whole.alloc, cell, end)
 }

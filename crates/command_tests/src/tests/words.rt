@@ -1,6 +1,6 @@
 //! Command lines: what they ask for, and what is told of those that are none.
 
-use command_line::{SettingsFault, settings};
+use command_line::{SettingsFault, request, settings};
 use run_settings::Mode;
 use std::alloc::Global;
 use std::process::Abort;
@@ -138,8 +138,27 @@ fn reads_whether_to_audit(rt: HostRuntime) {
     }
 }
 
+/// Words that limit a run, or don't.
+static LIMITS: [(&[&str], Option<u32>); 4] = [
+    (&["solve_cli", "solve", "a.dlx"], None),
+    (&["solve_cli", "solve", "a.dlx", "--seconds", "1"], Some(1)),
+    (
+        &["solve_cli", "solve", "--seconds=1000000", "a.dlx"],
+        Some(1_000_000),
+    ),
+    (&["solve_cli", "alone", "--", "--seconds"], None),
+];
+
+#[test]
+fn reads_how_long_a_run_may_last(rt: HostRuntime) {
+    for (words, seconds) in LIMITS.iter() {
+        let request = request(rt.alloc(), words).expect(&rt, "lawful words");
+        assert!(rt; request.seconds == *seconds);
+    }
+}
+
 /// Each with the status.
-static WORDS: [(&[&str], u8); 46] = [
+static WORDS: [(&[&str], u8); 55] = [
     (&["solve_cli"], 2),
     (&["solve_cli", "--help"], 0),
     (&["solve_cli", "--version"], 0),
@@ -169,6 +188,15 @@ static WORDS: [(&[&str], u8); 46] = [
     (&["solve_cli", "check", "a", "b", "--audit"], 2),
     (&["solve_cli", "simulate", "a", "--audit"], 2),
     (&["solve_cli", "simulate", "a", "--workers", "2"], 2),
+    (&["solve_cli", "solve", "a", "--seconds", "0"], 2),
+    (&["solve_cli", "solve", "a", "--seconds", "1000001"], 2),
+    (&["solve_cli", "solve", "a", "--seconds", "1.5"], 2),
+    (&["solve_cli", "solve", "a", "--seconds", "+5"], 2),
+    (&["solve_cli", "solve", "a", "--seconds", ""], 2),
+    (&["solve_cli", "solve", "a", "--seconds"], 2),
+    (&["solve_cli", "alone", "a", "--seconds", "5"], 2),
+    (&["solve_cli", "check", "a", "b", "--seconds", "5"], 2),
+    (&["solve_cli", "simulate", "a", "--seconds", "5"], 2),
     (&["solve_cli", "alone", "a", "--fuel"], 2),
     (&["solve_cli", "alone", "a", "--fuel", "0"], 2),
     (&["solve_cli", "alone", "a", "--fuel", "+5"], 2),
@@ -214,7 +242,7 @@ fn line_told<R: Abort>(rt: &R, alloc: Global, words: &[&str]) -> String {
 
 /// Values that are refused, each with what is told: the option and its range, and the usage of its own subcommand by the name that
 /// the program was called by.
-static VALUES: [(&[&str], &str); 7] = [
+static VALUES: [(&[&str], &str); 8] = [
     (
         &["solve_cli", "alone", "a", "--fuel", "x"],
         "error: --fuel takes 1 to 18446744073709551615\n\nUsage: solve_cli alone [OPTIONS] <file>\n",
@@ -238,6 +266,10 @@ static VALUES: [(&[&str], &str); 7] = [
     (
         &["solve_cli", "solve", "a", "--turns", "10000001"],
         "error: --turns takes 0 to 10000000\n\nUsage: solve_cli solve [OPTIONS] <file>\n",
+    ),
+    (
+        &["solve_cli", "solve", "a", "--seconds", "0", "--seed", "x"],
+        "error: --seconds takes 1 to 1000000\n\nUsage: solve_cli solve [OPTIONS] <file>\n",
     ),
     (
         &["solve_cli", "check", "-", "-"],

@@ -1,0 +1,17 @@
+//! What a command line asks for in all.
+
+ghost use Rattle.std.specs.Prelude.{◌≤◌};
+ghost use Rattle.std.specs.Option.{ForSome};
+
+use crate::settings::Settings;
+
+/// The settings of a run, with what it is asked beside them.
+#[derive(Clone, Copy)]
+pub struct Request<'a> {
+    /// The settings of the run.
+    pub settings: Settings<'a>,
+    /// After how many seconds a run over sockets ends, from 1 to 1,000,000; without a limit none.
+    pub seconds: Option<u32>,
+    pub ghost some_seconds: { ForSome seconds (λ seconds. 1 ≤ seconds) },
+    pub ghost most_seconds: { ForSome seconds (λ seconds. seconds ≤ 1000000) },
+}
