@@ -1,5 +1,5 @@
 #!/bin/bash
-# Runs all tests: the gate, then each scripts/try_*.py in a short form, which takes less than five minutes in all.
+# Runs all tests: the gate, then each scripts/try_*.py in a short form.
 #
 #     scripts/test.sh
 #

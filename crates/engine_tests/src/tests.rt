@@ -5,6 +5,7 @@ mod audited;
 mod check;
 mod devices;
 mod long;
+mod refused;
 mod simulate;
 mod texts;
 mod told;

@@ -11,7 +11,7 @@ use std::alloc::Global;
 use std::process::Abort;
 
 /// What `alone` tells of a problem.
-fn alone(alloc: Global, text: &str, fuel: u64) -> Told
+pub fn alone(alloc: Global, text: &str, fuel: u64) -> Told
     requires { 1 ≤ fuel }
 {
     let mut out = Vec::new(alloc);
@@ -28,7 +28,7 @@ fn alone(alloc: Global, text: &str, fuel: u64) -> Told
 }
 
 /// Each with the fuel, what is written to both outputs, and the status.
-static ANSWERS: [(&str, u64, &str, &str, u8); 15] = [
+pub static ANSWERS: [(&str, u64, &str, &str, u8); 15] = [
     (LETTERS, u64::MAX, "cover 3\nc e\na d f\nb g\n", "", 0),
     (LETTERS, 6, "cover 3\nc e\na d f\nb g\n", "", 0),
     (LETTERS, 5, "no answer\n", "", 4),
@@ -72,7 +72,7 @@ fn answers(rt: HostRuntime) {
     }
 }
 
-static REFUSALS: [(&str, &str); 10] = [
+pub static REFUSALS: [(&str, &str); 10] = [
     ("", "refused: NoItems\n"),
     ("| note\n  | note", "refused: NoItems\n"),
     ("a | x | y\n", "refused: SecondBar line 1\n"),

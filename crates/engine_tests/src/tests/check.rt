@@ -10,7 +10,7 @@ use std::alloc::Global;
 use std::process::Abort;
 
 /// What `check` tells of an answer to a problem.
-fn check(alloc: Global, text: &str, answer: &str, fuel: u64) -> Told
+pub fn check(alloc: Global, text: &str, answer: &str, fuel: u64) -> Told
     requires { 1 ≤ fuel }
 {
     let mut out = Vec::new(alloc);
@@ -36,7 +36,7 @@ fn check(alloc: Global, text: &str, answer: &str, fuel: u64) -> Told
 const SECONDARY: &str = "a b | x y\na x\nb x\nb\ny\n";
 
 /// Each with the fuel, what is written to both outputs, and the status.
-static VERDICTS: [(&str, &str, u64, &str, &str, u8); 24] = [
+pub static VERDICTS: [(&str, &str, u64, &str, &str, u8); 24] = [
     (LETTERS, "cover 3\nc e\na d f\nb g\n", 1, "right\n", "", 0),
     (LETTERS, "cover 3\nb g\na d f\nc e\n", 1, "right\n", "", 0),
     (
@@ -170,7 +170,7 @@ fn verdicts(rt: HostRuntime) {
     }
 }
 
-static REFUSALS: [(&str, &str, &str); 15] = [
+pub static REFUSALS: [(&str, &str, &str); 15] = [
     (
         "a\na\na\n",
         "cover 3\na\na\na\n",

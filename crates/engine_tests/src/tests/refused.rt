@@ -1,0 +1,123 @@
+//! Engines where memory is refused: the fault is `Memory`, nothing is written, and with a new source and sink the engine writes what
+//! the row says.
+//!
+//! No memory is refused here: `scripts/try_memory.py` does it from outside, and is told by marks where an engine begins and ends.
+
+ghost use Rattle.std.specs.Prelude.{◌≤◌};
+
+use super::told::Told;
+use super::{alone, check};
+use cover_engines::{AloneEnd, EngineFault, alone_engine, check_engine, tell_end};
+use dlx_reader::{CountedReader, CountedWriter};
+use std::alloc::Global;
+use std::process::Abort;
+
+/// Nothing else in these tests asks for so many bytes, or for a few hundred more.
+const MARK: usize = 6_000_000;
+
+/// The marks of a beginning: `alone` runs, or `check`.
+const ALONE: usize = 112;
+
+const CHECK: usize = 116;
+
+/// The marks of an end: it ended in some way, or memory was refused.
+const ANSWERED: usize = 128;
+
+const REFUSED: usize = 129;
+
+/// Room for all that is written, so that the sink asks for no memory.
+const ROOM: usize = 1000;
+
+/// Tells a number to whoever counts growths, by asking for memory of a size that nothing else asks for.
+fn mark<R: Abort>(rt: &R, alloc: Global, number: usize) {
+    let room: Vec<u8> = Vec::with_capacity(alloc, MARK.wrapping_add(number)).expect(rt, "memory");
+    assert!(rt; room.capacity() >= MARK);
+}
+
+/// Marks the end of an engine, and answers whether memory was refused. Then nothing is written.
+fn is_refused<R: Abort>(
+    rt: &R,
+    alloc: Global,
+    ended: &Result<AloneEnd, EngineFault>,
+    out: &[u8],
+) -> bool {
+    let refused = matches!(ended, Err(EngineFault::Memory));
+    mark(rt, alloc, if refused { REFUSED } else { ANSWERED });
+    assert!(rt; !refused || out.is_empty(), "something is written");
+    refused
+}
+
+/// What is told of an engine that ended so.
+fn told_of(alloc: Global, out: Vec<u8>, ended: &Result<AloneEnd, EngineFault>) -> Told {
+    let mut errors = Vec::new(alloc);
+    let mut sink = CountedWriter::new(&mut errors);
+    let status = tell_end(ended, &mut sink);
+    Told {
+        out,
+        errors,
+        status,
+    }
+}
+
+/// What `alone` tells of a problem between marks, and where memory is refused, what it tells then.
+fn alone_told<R: Abort>(rt: &R, alloc: Global, text: &str, fuel: u64) -> Told
+    requires { 1 ≤ fuel }
+{
+    let mut out = Vec::with_capacity(alloc, ROOM).expect(rt, "memory");
+    let mut source = CountedReader::new(text.as_bytes());
+    mark(rt, alloc, ALONE);
+    let ended = alone_engine(alloc, fuel, &mut source, &mut CountedWriter::new(&mut out));
+    if is_refused(rt, alloc, &ended, &out) {
+        return alone::alone(alloc, text, fuel);
+    }
+    told_of(alloc, out, &ended)
+}
+
+#[test]
+fn refused_memory_in_alone(rt: HostRuntime) {
+    for (text, fuel, out, errors, status) in alone::ANSWERS.iter() {
+        let told = alone_told(&rt, rt.alloc(), text, (*fuel).max(1));
+        assert!(rt; told.is(out, errors, *status), "{text}");
+    }
+}
+
+#[test]
+fn refused_memory_where_alone_refuses(rt: HostRuntime) {
+    for (text, errors) in alone::REFUSALS.iter() {
+        let told = alone_told(&rt, rt.alloc(), text, 1);
+        assert!(rt; told.is("", errors, 3), "{text}");
+    }
+}
+
+/// What `check` tells of an answer between marks, and where memory is refused, what it tells then.
+fn check_told<R: Abort>(rt: &R, alloc: Global, texts: (&str, &str), fuel: u64) -> Told
+    requires { 1 ≤ fuel }
+{
+    let (text, answer) = texts;
+    let mut out = Vec::with_capacity(alloc, ROOM).expect(rt, "memory");
+    let mut file = CountedReader::new(text.as_bytes());
+    let mut source = CountedReader::new(answer.as_bytes());
+    let mut sink = CountedWriter::new(&mut out);
+    mark(rt, alloc, CHECK);
+    let ended = check_engine(alloc, fuel, &mut file, &mut source, &mut sink);
+    if is_refused(rt, alloc, &ended, &out) {
+        return check::check(alloc, text, answer, fuel);
+    }
+    told_of(alloc, out, &ended)
+}
+
+#[test]
+fn refused_memory_in_check(rt: HostRuntime) {
+    for (text, answer, fuel, out, errors, status) in check::VERDICTS.iter() {
+        let told = check_told(&rt, rt.alloc(), (text, answer), (*fuel).max(1));
+        assert!(rt; told.is(out, errors, *status), "{answer}");
+    }
+}
+
+#[test]
+fn refused_memory_where_check_refuses(rt: HostRuntime) {
+    for (text, answer, errors) in check::REFUSALS.iter() {
+        let told = check_told(&rt, rt.alloc(), (text, answer), 1);
+        assert!(rt; told.is("", errors, 3), "{answer}");
+    }
+}
