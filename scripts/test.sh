@@ -13,7 +13,7 @@ short_form() {
     case "$1" in
     try_audit.py) echo --changes 20 --runs 1 ;;
     try_explain.py) echo --files 200 ;;
-    try_bugs.py | try_memory.py | try_shortage.py) echo --short ;;
+    try_bugs.py | try_found.py | try_memory.py | try_shortage.py) echo --short ;;
     try_search.py) echo 100 ;;
     try_simulate.py) echo 1 ;;
     try_solve.py | try_strangers.py) echo --times 1 ;;

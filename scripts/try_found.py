@@ -1,7 +1,7 @@
 #!/usr/bin/env python3
 """Puts the bugs into the code that a test finds and no contract refuses, and says of each whether that test fails.
 
-    python3 scripts/try_found.py [--at-once N] [CRATE/BUG ..]
+    python3 scripts/try_found.py [--short] [--at-once N] [CRATE/BUG ..]
 
 The first lines of a test's file say "Of the bugs of `CRATE` that are kept outside the gate, `TEST` finds `BUG`". Without words all
 of these bugs are tried, each in a copy of the repository and without proofs: it takes two minutes each. Of each bug one line says
@@ -10,8 +10,8 @@ of these bugs are tried, each in a copy of the repository and without proofs: it
     NOT FOUND: TEST    the test passes with the bug in the code
     not tried: TEST    the bug no longer applies, or the test did not end
 
-and a last line counts them. It wants the toolchain's command `rt` on the path. The exit status is 1 if any was not found, else 2 if
-any could not be tried, else 0.
+and a last line counts them. With --short nothing is run: only those that no longer apply are named. Else it wants the toolchain's
+command `rt` on the path. The exit status is 1 if any was not found, else 2 if any could not be tried, else 0.
 """
 import concurrent.futures
 import glob
@@ -61,6 +61,24 @@ def put(top, crate, bug):
     return True
 
 
+def applies(claim):
+    """Whether a bug's text stands once in the code."""
+    crate, bug, _, _ = claim
+    with tempfile.TemporaryDirectory(prefix="try-found-") as room:
+        top = os.path.join(room, "copy")
+        shutil.copytree(os.path.join(TOP, "crates", crate), os.path.join(top, "crates", crate), ignore=shutil.ignore_patterns("out"))
+        return os.path.isfile(os.path.join(TOP, "bugs", crate, bug + ".edit")) and put(top, crate, bug)
+
+
+def name_stale(chosen):
+    """Names the bugs that no longer apply, and answers the exit status."""
+    stale = [f"{claim[0]}/{claim[1]}" for claim in chosen if not applies(claim)]
+    for name in stale:
+        print(f"{name}: no longer applies")
+    print(f"{len(chosen) - len(stale)} bugs apply, {len(stale)} no longer")
+    return 2 if stale else 0
+
+
 def tried(claim):
     """What came of a bug, by its test."""
     crate, bug, tests, test = claim
@@ -79,16 +97,19 @@ def tried(claim):
 
 def main():
     parser = parser_of(__doc__)
+    parser.add_argument("--short", action="store_true", help="run nothing: only name the bugs that no longer apply")
     parser.add_argument("--at-once", type=int, default=1, metavar="N", help="how many are tried at once (default 1)")
     parser.add_argument("bugs", nargs="*", metavar="CRATE/BUG", help="the bugs to try; all that a test finds where none is named")
     given = parser.parse_args()
-    want_command("rt")
     known = list(claims())
     names = [f"{crate}/{bug}" for crate, bug, _, _ in known]
     for bug in given.bugs:
         if bug not in names:
             stop(f"no test is said to find {bug}")
     chosen = [claim for name, claim in zip(names, known) if not given.bugs or name in given.bugs]
+    if given.short:
+        return name_stale(chosen)
+    want_command("rt")
     kinds = []
     with concurrent.futures.ThreadPoolExecutor(max(given.at_once, 1)) as pool:
         for (crate, bug, tests, test), kind in zip(chosen, pool.map(tried, chosen)):
