@@ -3,6 +3,7 @@
 mod alone;
 mod audited;
 mod check;
+mod colours;
 mod devices;
 mod long;
 mod refused;
