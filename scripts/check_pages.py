@@ -39,7 +39,7 @@ LIMITS = {
     "docs/DECISIONS.md": 1750, "docs/FORMAT.md": 1150, "docs/SIMULATE.md": 750,
     "bench/README.md": 850, "bench/TRIED.md": 350, "examples/README.md": 1500,
 }
-CRATE_LIMIT, CRATES_LIMIT = 500, 5700
+CRATE_LIMIT, CRATES_LIMIT = 500, 5850
 # the command whose options a page's table lists, and the file that has the help
 TABLES = {"docs/SOLVE.md": "solve", "docs/SIMULATE.md": "simulate"}
 COMMANDS = "crates/command_line/src/commands.rt"
