@@ -59,7 +59,7 @@ impl<'a> Kernel<'a> {
     }
 
     /// Puts a prefix in place of what is chosen, and visits it and what is below it.
-    pub(crate) fn visit<W: Watch>(&mut self, prefix: &[u16], fuel: u64, watch: &W) -> Visit
+    pub(crate) fn visit<W: Watch>(&mut self, prefix: &[u16], fuel: u64, watch: &mut W) -> Visit
         requires { is_prefix (choices_in self.old).problem prefix.now ≡ true }
         ensures problem { (choices_in self.new).problem ≡ (choices_in self.old).problem }
         ensures lawful { IsProblem (choices_in self.old).problem }

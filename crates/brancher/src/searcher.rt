@@ -1,4 +1,4 @@
-ghost use Rattle.std.specs.Prelude.{◌≡◌, ◌<◌, ◌≤◌, ℕ, List, [], length, Some, None, Ok, true, IfOk, IfErr, IfSome, OnOk, OnErr, vec_capacity};
+ghost use Rattle.std.specs.Prelude.{◌≡◌, ◌<◌, ◌≤◌, ℕ, List, [], length, Some, None, Ok, true, false, IfOk, IfErr, IfSome, OnOk, OnErr, vec_capacity};
 ghost use Rattle.cover_problem.specs.Prefix.{is_prefix, IsBarren, IsCoverOver};
 ghost use Rattle.cover_problem.specs.Problem.{IsProblem};
 ghost use Rattle.cover_problem.specs.Search.{Covers, first, outcome, visits};
@@ -65,7 +65,23 @@ impl<'a> Searcher<'a> {
         ensures short { result ≡ Outcome.Cover → length self.new.found ≤ MOST_ITEMS }
         ensures barren { result ≡ Outcome.Barren → IsBarren self.old.problem prefix.now }
     {
-        match self.visit(prefix, fuel, &Unwatched) {
+        self.search_watched(prefix, fuel, &mut Unwatched)
+    }
+
+    /// Searches as `search` does, with a watch that stops nothing.
+    pub fn search_watched<W: Watch>(&mut self, prefix: &[u16], fuel: u64, watch: &mut W) -> Outcome
+        requires prefix { is_prefix self.old.problem prefix.now ≡ true }
+        requires fuel { 1 ≤ fuel }
+        requires watch { W.may_stop ≡ false }
+        ensures problem { self.new.problem ≡ self.old.problem }
+        ensures outcome { outcome_told result self.new.found
+            ≡ outcome self.old.problem prefix.now fuel }
+        ensures cover { result ≡ Outcome.Cover →
+            IsCoverOver self.old.problem prefix.now self.new.found }
+        ensures short { result ≡ Outcome.Cover → length self.new.found ≤ MOST_ITEMS }
+        ensures barren { result ≡ Outcome.Barren → IsBarren self.old.problem prefix.now }
+    {
+        match self.visit(prefix, fuel, watch) {
             Visit::Found => Outcome::Cover,
             Visit::Barren(_) => Outcome::Barren,
             Visit::Spent => Outcome::Spent,
@@ -74,7 +90,7 @@ impl<'a> Searcher<'a> {
     }
 
     /// Visits a prefix and what is below it, until the watch stops it.
-    fn visit<W: Watch>(&mut self, prefix: &[u16], fuel: u64, watch: &W) -> Visit
+    fn visit<W: Watch>(&mut self, prefix: &[u16], fuel: u64, watch: &mut W) -> Visit
         requires prefix { is_prefix self.old.problem prefix.now ≡ true }
         requires fuel { 1 ≤ fuel }
         ensures problem { self.new.problem ≡ self.old.problem }
@@ -126,7 +142,7 @@ impl<'a> Searcher<'a> {
         &mut self,
         prefix: Vec<u16>,
         fuel: u64,
-        watch: &W,
+        watch: &mut W,
     ) -> Result<Option<(Finding, u64)>, Vec<u16>>
         requires prefix { is_prefix self.old.problem prefix.items ≡ true }
         requires fuel { 1 ≤ fuel }

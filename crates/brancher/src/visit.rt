@@ -10,7 +10,7 @@ use crate::branching::put_prefix;
 use crate::watch::Watch;
 use choices::Branching;
 
-/// A watch is looked at once in so many visits.
+/// A watch looks once in so many visits.
 const LOOK: u64 = 1_024;
 
 /// How a visit of a prefix ended.
@@ -31,7 +31,7 @@ pub fn visit_below<B: Branching, W: Watch>(
     state: &mut B,
     prefix: &[u16],
     fuel: u64,
-    watch: &W,
+    watch: &mut W,
 ) -> Visit
     requires { is_prefix (B.choices state.old).problem prefix.now ≡ true }
     ensures problem { (B.choices state.new).problem ≡ (B.choices state.old).problem }
@@ -47,7 +47,7 @@ pub fn visit_below<B: Branching, W: Watch>(
 }
 
 /// Visits the prefix that is chosen, and what is below it. The chosen options come back, or are the first cover.
-fn visit_prefix<B: Branching, W: Watch>(state: &mut B, fuel: u64, watch: &W) -> Visit
+fn visit_prefix<B: Branching, W: Watch>(state: &mut B, fuel: u64, watch: &mut W) -> Visit
     ensures problem { (B.choices state.new).problem ≡ (B.choices state.old).problem }
     ensures visit { IsVisit (first (B.choices state.old).problem (B.choices state.old).chosen)
         (visits (B.choices state.old).problem (B.choices state.old).chosen) fuel
@@ -59,7 +59,7 @@ fn visit_prefix<B: Branching, W: Watch>(state: &mut B, fuel: u64, watch: &W) -> 
     let base = state.chosen().len();
     let mut left = fuel;
     while left > 0 {
-        if left % LOOK == 0 && watch.is_stopped() {
+        if left % LOOK == 0 && watch.look(state.chosen(), left) {
             return Visit::Stopped;
         }
         let Some(item) = state.branch_item() else {

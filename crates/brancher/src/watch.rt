@@ -4,13 +4,13 @@ ghost use Rattle.std.specs.Prelude.{◌≡◌, Bool, true, IsTrue};
 
 use std::sync::atomic::{AtomicBool, Ordering};
 
-/// What a search looks at now and then, and stops where it says so.
+/// What looks at a search now and then, and may stop it.
 pub trait Watch {
-    /// Whether it ever says so.
+    /// Whether it ever stops one.
     ghost may_stop: { Bool };
 
-    /// Whether the search is to stop.
-    fn is_stopped(&self) -> bool
+    /// Looks at a search that has chosen these options and has so many visits left. Answers whether the search is to stop.
+    fn look(&mut self, chosen: &[u16], left: u64) -> bool
         ensures { IsTrue result → may_stop ≡ true };
 }
 
@@ -23,16 +23,16 @@ impl Watch for Unwatched {
 
     ghost may_stop = { false };
 
-    fn is_stopped(&self) -> bool {
+    fn look(&mut self, _chosen: &[u16], _left: u64) -> bool {
         false
     }
 }
 
 /// A flag that stops searches once it is raised.
-impl Watch for AtomicBool {
+impl Watch for &AtomicBool {
     ghost may_stop = { true };
 
-    fn is_stopped(&self) -> bool {
+    fn look(&mut self, _chosen: &[u16], _left: u64) -> bool {
         self.load(Ordering::Relaxed)
     }
 }

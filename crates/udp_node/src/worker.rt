@@ -169,7 +169,7 @@ impl<'a, J: Run> Worker<'a, J> {
         let fuel = fuel.max(1);
         match self
             .searcher
-            .find_until(prefix.into_vec(), fuel, actor.shared.signals.over())
+            .find_until(prefix.into_vec(), fuel, &mut actor.shared.signals.over())
         {
             Ok(Some((finding, visits))) => {
                 self.pace

@@ -19,7 +19,8 @@ type End = Option<(Outcome, u64)>;
 fn end(alloc: Global, searcher: &mut Searcher<'_>, fuel: u64, flag: &AtomicBool) -> Option<End>
     requires { 1 ≤ fuel }
 {
-    match searcher.find_until(Vec::new(alloc), fuel, flag) {
+    let mut watch = flag;
+    match searcher.find_until(Vec::new(alloc), fuel, &mut watch) {
         Ok(Some((finding, visits))) => Some(Some((finding.outcome(), visits))),
         Ok(None) => Some(None),
         Err(_) => None,
