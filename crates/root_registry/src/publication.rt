@@ -59,7 +59,7 @@ impl<'a> Publication<'a> {
 }
 
 /// A result as an answer, with the options of a cover in the order of the file; the only error is want of memory.
-pub(crate) fn answer_of(
+pub fn answer_of(
     alloc: Global,
     problem: &Problem,
     child_result: &ChildResult,
