@@ -34,9 +34,9 @@ greatest_fuel_rule = number_rule (codes "fuel") (codes "18446744073709551615")
 abbrev pub versioned : App → App
 versioned app = record app { top = record app.top { has_version = true } }
 
--- what one thread searches
+-- what one thread searches, and whether it writes how far it has come
 abbrev pub alone_app : App
-alone_app = with_rule (with_rule (versioned (new_app (codes "alone"))) (file_rule (codes "file"))) greatest_fuel_rule
+alone_app = with_rule (with_rule (with_rule (versioned (new_app (codes "alone"))) (file_rule (codes "file"))) greatest_fuel_rule) (flag_rule (codes "progress"))
 
 -- which answer is tested against which file
 abbrev pub check_app : App
@@ -128,6 +128,7 @@ pub record AreSpelled (name : Text) (given : Text → Option Text) (settings : S
 pub record IsSpelled (name : Text) (given : Text → Option Text) (request : Request) : Type 0 where
   pub settings : AreSpelled name given request.settings
   pub seconds_given : SpellsIf (given (codes "seconds")) request.seconds
+  pub progress_given : IsFlag (given (codes "progress")) request.progress
 
 -- The problem and the answer are both to be read from standard input.
 pub record ReadsInputTwice (settings : Settings) : Type 0 where

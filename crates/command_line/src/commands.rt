@@ -49,6 +49,17 @@ fn fuel_argument<'a>(alloc: Global) -> Arg<'a>
         .help("How many prefixes the search may visit, from 1")
 }
 
+fn progress_argument<'a>(alloc: Global) -> Arg<'a>
+    ensures rule { rule_of result ≡ flag_rule (codes "progress") }
+    ensures own { result.global ≡ false }
+{
+    flag_argument(
+        alloc,
+        "progress",
+        "Writes to standard error, each second from the second one on, how far the search has come",
+    )
+}
+
 /// An option of what sites do, whose value is a number.
 fn number_argument<'a>(alloc: Global, id: &'a str, default: &'a str, help: &'a str) -> Arg<'a>
     ensures rule { rule_of result ≡ number_rule id.now default.now }
@@ -68,7 +79,7 @@ fn limit_argument<'a>(alloc: Global, id: &'a str, help: &'a str) -> Arg<'a>
     Arg::new(alloc, id).long(id).help(help)
 }
 
-/// An option of what sites do that has no value.
+/// An option that has no value.
 fn flag_argument<'a>(alloc: Global, id: &'a str, help: &'a str) -> Arg<'a>
     ensures rule { rule_of result ≡ flag_rule id.now }
     ensures own { result.global ≡ false }
@@ -95,7 +106,8 @@ fn alone_command<'a>(alloc: Global) -> Result<Command<'a>, AllocError>
     described(alloc, "alone", about)
         .after_help(SEARCH_STATUSES)
         .arg(file_argument(alloc))?
-        .arg(fuel_argument(alloc))
+        .arg(fuel_argument(alloc))?
+        .arg(progress_argument(alloc))
 }
 
 fn check_command<'a>(alloc: Global) -> Result<Command<'a>, AllocError>

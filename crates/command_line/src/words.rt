@@ -92,6 +92,7 @@ fn requested<'a>(name: &'a str, inner: &ArgMatches<'a>) -> Option<Request<'a>>
     Some(Request {
         settings: spelled(name, inner)?,
         seconds: seconds(inner)?,
+        progress: is_set(inner, "progress"),
     })
 }
 

@@ -1,6 +1,6 @@
 //! `alone`: one thread searches a file's problem.
 
-ghost use Rattle.std.specs.Prelude.{◌≡◌, ◌≢◌, ◌-◌, ◌<◌, ◌≤◌, ◌^◌, IfSome};
+ghost use Rattle.std.specs.Prelude.{◌≡◌, ◌≢◌, ◌-◌, ◌<◌, ◌≤◌, ◌^◌, false, IfSome};
 ghost use Rattle.std.specs.Io.KnownBytes.{IsAtEnd};
 ghost use Rattle.cover_problem.specs.Search.{Covers};
 ghost use Rattle.cover_engines.specs.Alone.{AloneSays, alone_said, outcome_said};
@@ -11,10 +11,12 @@ use crate::engine::EngineEnd;
 use crate::fault::EngineFault;
 use crate::input::{problem_of, read_all};
 use crate::lines::{write_line, write_solution};
-use brancher::{Outcome, Searcher, Tables};
+use crate::progress::{Follows, ProgressLog, ProgressWatch};
+use brancher::{Outcome, Searcher, Tables, Unwatched};
 use cover_problem::{Answer, Problem, in_order};
 use dlx_reader::{Sink, Source};
 use std::alloc::Global;
+use std::time::Clock;
 
 /// How a run of `alone` ended: with status 0 for a cover, 1 for none, 4 where the fuel was spent.
 pub type AloneEnd = EngineEnd;
@@ -37,15 +39,17 @@ fn write_found<W: Sink>(
     write_solution(problem, &Answer::Cover(options), sink)
 }
 
-/// Searches the empty prefix, writes what comes of it, and answers the status.
+/// Searches the empty prefix under a watch, writes what comes of it, and answers the status.
 #[tactic(auto, unfolding(crate::specs::Alone::alone_said))]
-fn write_alone<W: Sink>(
+fn write_alone<V: Follows, W: Sink>(
     alloc: Global,
     problem: &Problem,
     fuel: u64,
+    watch: &mut V,
     sink: &mut W,
 ) -> Result<u8, EngineFault>
     requires fuel { 1 ≤ fuel }
+    requires watch { V.may_stop ≡ false }
     requires failed { W.failed sink.old < 2 ^ 64 - 1 }
     ensures output { IsOutput (alone_said problem.now fuel) (W.contents sink.old)
         (W.contents sink.new) result }
@@ -57,7 +61,9 @@ fn write_alone<W: Sink>(
     let Ok(mut searcher) = Searcher::over(alloc, &tables) else {
         return Err(EngineFault::Memory);
     };
-    match searcher.search(&[], fuel) {
+    let outcome = searcher.search_watched(&[], fuel, watch);
+    watch.end();
+    match outcome {
         Outcome::Cover => write_found(alloc, problem, searcher.found(), sink),
         Outcome::Barren => write_solution(problem, &Answer::NoCover, sink),
         Outcome::Spent => write_line(b"no answer\n", 4, sink),
@@ -89,9 +95,40 @@ pub fn alone_engine<R: Source, W: Sink>(
 {
     let text = read_all(alloc, source)?;
     let read = problem_of(alloc, &text)?;
-    let status = write_alone(alloc, &read.problem, fuel, sink)?;
+    let status = write_alone(alloc, &read.problem, fuel, &mut Unwatched, sink)?;
     Ok(EngineEnd {
         status,
         ignored: read.ignored,
     })
+}
+
+/// Does what `alone_engine` does, and meanwhile writes to the log each second how far the search has come, from the second one on. The
+/// log changes no answer: a fault of its sink is passed over. Memory is taken for what the log needs, too.
+pub fn alone_with_progress<R: Source, W: Sink, E: Sink, C: Clock>(
+    clock: &C,
+    alloc: Global,
+    fuel: u64,
+    source: &mut R,
+    sink: &mut W,
+    log: ProgressLog<'_, E>,
+) -> Result<AloneEnd, EngineFault>
+    requires fuel { 1 ≤ fuel }
+    requires source { R.failed source.old < 2 ^ 64 - 1 }
+    requires sink { W.failed sink.old < 2 ^ 64 - 1 }
+    ensures ended { IfSome (R.remaining source.old) (λ text.
+        IsEnded (AloneSays fuel) refuses_none text (W.contents sink.old)
+        (W.contents sink.new) result) }
+    ensures read { result ≢ Err EngineFault.Read → result ≢ Err EngineFault.Memory →
+        IsAtEnd (R.remaining source.new) }
+    ensures read_fault { result ≡ Err EngineFault.Read → R.failed source.old < R.failed source.new }
+    ensures write_fault { result ≡ Err EngineFault.Write → W.failed sink.old < W.failed sink.new }
+{
+    let text = read_all(alloc, source)?;
+    let read = problem_of(alloc, &text)?;
+    let Ok(mut watch) = ProgressWatch::new(clock, alloc, &read.problem, fuel, log) else {
+        return Err(EngineFault::Memory);
+    };
+    let status = write_alone(alloc, &read.problem, fuel, &mut watch, sink)?;
+    let ignored = read.ignored;
+    Ok(EngineEnd { status, ignored })
 }

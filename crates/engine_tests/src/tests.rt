@@ -6,6 +6,7 @@ mod check;
 mod colours;
 mod devices;
 mod long;
+mod progress;
 mod refused;
 mod simulate;
 mod texts;

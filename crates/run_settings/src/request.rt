@@ -12,6 +12,8 @@ pub struct Request<'a> {
     pub settings: Settings<'a>,
     /// After how many seconds a run over sockets ends, from 1 to 1,000,000; without a limit none.
     pub seconds: Option<u32>,
+    /// Whether it writes how far its search has come.
+    pub progress: bool,
     pub ghost some_seconds: { ForSome seconds (λ seconds. 1 ≤ seconds) },
     pub ghost most_seconds: { ForSome seconds (λ seconds. seconds ≤ 1000000) },
 }

@@ -9,14 +9,17 @@ pub use cover_engines::{
     AloneEnd, CheckEnd, EngineFault, SimulateEnd, SolveEnd, alone_engine, check_engine,
     simulate_engine, solve_engine, tell, tell_fault,
 };
-use cover_engines::{links, read_whole, solve_problem, tell_end, tell_unbound};
+use cover_engines::{
+    Lines, ProgressLog, alone_with_progress, links, read_whole, solve_problem, tell_end,
+    tell_unbound,
+};
 use dlx_reader::{CountedReader, CountedWriter};
 use either::Either;
 pub use run_settings::{Mode, Settings};
 use run_settings::{Request, STANDARD_INPUT};
 use std::env;
 use std::fs::File;
-use std::io::{self, ErrorKind, Stdin};
+use std::io::{self, ErrorKind, IsTerminal, Stdin};
 use std::net::Net;
 use std::process::ExitCode;
 use std::sync::Wait;
@@ -37,14 +40,28 @@ fn open(rt: &HostRuntime, name: &str) -> io::Result<Source>
     Ok(CountedReader::new(Either::Left(File::open(rt, name)?)))
 }
 
+/// How lines of progress follow one another on standard error.
+fn lines_of(rt: &HostRuntime) -> Lines {
+    if rt.stderr().is_terminal() {
+        Lines::Overwritten
+    } else {
+        Lines::Listed
+    }
+}
+
 /// Runs `alone` on a file, and answers the exit status.
-fn run_alone(rt: &HostRuntime, settings: &Settings<'_>) -> u8 {
+fn run_alone(rt: &HostRuntime, settings: &Settings<'_>, progress: bool) -> u8 {
     let mut errors = CountedWriter::new(rt.stderr());
     let Ok(mut source) = open(rt, settings.file) else {
         return tell_fault(&EngineFault::Read, &mut errors);
     };
     let mut sink = CountedWriter::new(rt.stdout());
-    let ended = alone_engine(rt.alloc(), settings.fuel, &mut source, &mut sink);
+    let ended = if progress {
+        let log = ProgressLog::new(&mut errors, lines_of(rt));
+        alone_with_progress(rt, rt.alloc(), settings.fuel, &mut source, &mut sink, log)
+    } else {
+        alone_engine(rt.alloc(), settings.fuel, &mut source, &mut sink)
+    };
     tell_end(&ended, &mut errors)
 }
 
@@ -124,7 +141,7 @@ fn run_request<R: Threads + Wait + Clock + Net + Sync>(
 ) -> u8 {
     let settings = &request.settings;
     match settings.mode {
-        Mode::Alone => run_alone(rt, settings),
+        Mode::Alone => run_alone(rt, settings, request.progress),
         Mode::Check => run_check(rt, settings),
         Mode::Simulate => run_simulate(rt, settings),
         Mode::Solve => run_solve(rt, threads, settings, limit_of(request)),

@@ -157,8 +157,24 @@ fn reads_how_long_a_run_may_last(rt: HostRuntime) {
     }
 }
 
+/// Words that ask for progress, or don't.
+static PROGRESSES: [(&[&str], bool); 4] = [
+    (&["solve_cli", "alone", "a.dlx", "--progress"], true),
+    (&["solve_cli", "alone", "--progress", "a.dlx"], true),
+    (&["solve_cli", "alone", "a.dlx"], false),
+    (&["solve_cli", "alone", "--", "--progress"], false),
+];
+
+#[test]
+fn reads_whether_to_write_progress(rt: HostRuntime) {
+    for (words, progress) in PROGRESSES.iter() {
+        let request = request(rt.alloc(), words).expect(&rt, "lawful words");
+        assert!(rt; request.progress == *progress);
+    }
+}
+
 /// Each with the status.
-static WORDS: [(&[&str], u8); 55] = [
+static WORDS: [(&[&str], u8); 58] = [
     (&["solve_cli"], 2),
     (&["solve_cli", "--help"], 0),
     (&["solve_cli", "--version"], 0),
@@ -197,6 +213,9 @@ static WORDS: [(&[&str], u8); 55] = [
     (&["solve_cli", "alone", "a", "--seconds", "5"], 2),
     (&["solve_cli", "check", "a", "b", "--seconds", "5"], 2),
     (&["solve_cli", "simulate", "a", "--seconds", "5"], 2),
+    (&["solve_cli", "check", "a", "b", "--progress"], 2),
+    (&["solve_cli", "solve", "a", "--progress"], 2),
+    (&["solve_cli", "alone", "a", "--progress", "1"], 2),
     (&["solve_cli", "alone", "a", "--fuel"], 2),
     (&["solve_cli", "alone", "a", "--fuel", "0"], 2),
     (&["solve_cli", "alone", "a", "--fuel", "+5"], 2),

@@ -44,5 +44,6 @@ returns-clause-met c =
           audit_given = subst (λ (value : Option Text). IsFlag value s.audit) (first_value-rows f (codes "audit")) given.audit_given;
         };
         seconds_given = subst (λ (value : Option Text). SpellsIf value r.seconds) (first_value-rows f (codes "seconds")) asked.seconds_given;
+        progress_given = subst (λ (value : Option Text). IsFlag value r.progress) (first_value-rows f (codes "progress")) asked.progress_given;
       };
     }

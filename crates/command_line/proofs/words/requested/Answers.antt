@@ -1,4 +1,3 @@
-use Rattle.std.proofs.Common.{Option, Some, None, IfNone, rules}
 use Rattle.clap.specs.Words.{first_value, found_of}
 use Rattle.command_line.proofs.Spelled.{none_requested}
 use Rattle.command_line.proofs.words.requested.Goals as goal

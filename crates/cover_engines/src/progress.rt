@@ -1,0 +1,161 @@
+//! How far a search has come, and the lines that say so.
+
+ghost use Rattle.std.specs.Prelude.{◌≡◌, IfOk};
+
+use crate::gauge::Gauge;
+use brancher::{Unwatched, Watch};
+use cover_problem::Problem;
+use dlx_reader::Sink;
+use std::alloc::{AllocError, Global};
+use std::fmt::{self, Display, Formatter, Write};
+use std::time::{Clock, Duration, Instant};
+
+/// How many seconds lie between two lines at least, and before the first.
+const PAUSE: u64 = 1;
+
+/// How far a search has come.
+#[derive(Clone, Copy, Debug, PartialEq, Eq)]
+pub struct Progress {
+    /// How many whole seconds it has lasted.
+    pub seconds: u64,
+    /// How many prefixes it has visited.
+    pub visits: u64,
+    /// How much of the tree lies behind it, of `Gauge::WHOLE`, as DLX1 estimates it.
+    pub share: u64,
+}
+
+impl Display for Progress {
+    fn fmt<W: Write>(&self, f: &mut Formatter<W>) -> fmt::Result {
+        let parts = self.share / (Gauge::WHOLE / 1_000_000);
+        write!(
+            f,
+            "{} s: {} visits, {:>3}.{:04} % of the tree",
+            self.seconds,
+            self.visits,
+            parts / 10_000,
+            parts % 10_000
+        )
+    }
+}
+
+/// How the lines of a search's progress follow one another.
+#[derive(Clone, Copy, Debug, PartialEq, Eq)]
+pub enum Lines {
+    /// One below the other.
+    Listed,
+    /// Each over the one before, as a terminal can show them.
+    Overwritten,
+}
+
+/// Where the progress of a search is written: the lines, and how they follow one another. A fault of the sink is passed over.
+#[derive(Drop)]
+pub struct ProgressLog<'a, E: Sink> {
+    sink: &'a mut E,
+    lines: Lines,
+    is_begun: bool,
+}
+
+impl<'a, E: Sink> ProgressLog<'a, E> {
+    /// A log without a line.
+    pub fn new(sink: &'a mut E, lines: Lines) -> ProgressLog<'a, E> {
+        ProgressLog {
+            sink,
+            lines,
+            is_begun: false,
+        }
+    }
+
+    /// Writes a line.
+    pub fn write(&mut self, progress: Progress) {
+        let _ = match self.lines {
+            Lines::Listed => writeln!(self.sink, "{progress}"),
+            Lines::Overwritten => write!(self.sink, "\r{progress} "),
+        };
+        self.is_begun = true;
+    }
+
+    /// Ends the last line, so that what follows is on one of its own.
+    pub fn end(&mut self) {
+        if self.is_begun && self.lines == Lines::Overwritten {
+            let _ = writeln!(self.sink, "");
+        }
+        self.is_begun = false;
+    }
+}
+
+/// A watch that stops nothing, and writes each second how far a search of the empty prefix has come. Where the clock can't be
+/// read it writes nothing.
+#[derive(Drop)]
+pub struct ProgressWatch<'a, E: Sink, C: Clock> {
+    clock: &'a C,
+    gauge: Gauge<'a>,
+    log: ProgressLog<'a, E>,
+    fuel: u64,
+    began: Option<Instant>,
+    /// After how much time the next line is written.
+    due: Duration,
+}
+
+impl<'a, E: Sink, C: Clock> ProgressWatch<'a, E, C> {
+    /// A watch over a search that begins now and has so much fuel. The only error is want of memory.
+    pub fn new(
+        clock: &'a C,
+        alloc: Global,
+        problem: &'a Problem,
+        fuel: u64,
+        log: ProgressLog<'a, E>,
+    ) -> Result<ProgressWatch<'a, E, C>, AllocError> {
+        Ok(ProgressWatch {
+            clock,
+            gauge: Gauge::new(alloc, problem)?,
+            log,
+            fuel,
+            began: Instant::now(clock).ok(),
+            due: Duration::from_secs(PAUSE),
+        })
+    }
+
+    /// How much time is over since the search began, where a line is due.
+    fn elapsed(&self) -> Option<Duration> {
+        let elapsed = self.began?.elapsed(self.clock).ok()?;
+        if elapsed < self.due {
+            return None;
+        }
+        Some(elapsed)
+    }
+}
+
+/// A watch that hears of the search's end.
+pub trait Follows: Watch {
+    /// The search has ended.
+    fn end(&mut self);
+}
+
+impl Follows for Unwatched {
+    fn end(&mut self) {}
+}
+
+impl<'a, E: Sink, C: Clock> Follows for ProgressWatch<'a, E, C> {
+    fn end(&mut self) {
+        self.log.end();
+    }
+}
+
+impl<'a, E: Sink, C: Clock> Watch for ProgressWatch<'a, E, C> {
+    ghost use Rattle.std.specs.Prelude.{false};
+
+    ghost may_stop = { false };
+
+    fn look(&mut self, chosen: &[u16], left: u64) -> bool {
+        let Some(elapsed) = self.elapsed() else {
+            return false;
+        };
+        self.due = elapsed.saturating_add(Duration::from_secs(PAUSE));
+        self.log.write(Progress {
+            seconds: elapsed.as_secs(),
+            visits: self.fuel.saturating_sub(left),
+            share: self.gauge.share(chosen),
+        });
+        false
+    }
+}
