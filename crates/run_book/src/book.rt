@@ -1,6 +1,6 @@
 ghost use Rattle.std.specs.Prelude.{◌≡◌, ℕ, option_map, IfOk, IfSome};
 ghost use Rattle.node_core.specs.SiteView.{View};
-ghost use Rattle.root_registry.specs.Published.{answer_of, published_by};
+ghost use Rattle.root_registry.specs.Published.{published_by};
 ghost use Rattle.run_book.specs.Answers.{book_answer, first_accepted, first_result};
 ghost use Rattle.run_book.specs.Books.{are_distinct, has_site, EndsIn};
 ghost use Rattle.run_book.specs.Runs.{CountsRight};
@@ -8,8 +8,9 @@ ghost use Rattle.run_book.specs.Runs.{CountsRight};
 use crate::entry::Entry;
 use crate::laws::{a_book_tells_what_is_published, what_is_published_counts_right};
 use crate::room::Run;
-use cover_problem::{Answer, Problem, in_order};
+use cover_problem::{Answer, Problem};
 use packet_wire::{Body, Packet};
+use root_registry::answer_of;
 use spawn_frame::{ChildResult, Site};
 use std::alloc::{AllocError, Global};
 use std::marker::{Model, PhantomData};
@@ -135,21 +136,4 @@ fn first_result(entries: &[Entry]) -> Option<&ChildResult>
         }
     }
     None
-}
-
-/// A result as an answer.
-fn answer_of(
-    alloc: Global,
-    problem: &Problem,
-    child_result: &ChildResult,
-) -> Result<Answer, AllocError>
-    ensures { IfOk result (λ answer. answer ≡ answer_of problem.now child_result.now) }
-{
-    match child_result {
-        ChildResult::Cover(options) => {
-            let options = in_order(alloc, problem, options.as_slice())?;
-            Ok(Answer::Cover(options))
-        }
-        ChildResult::Empty => Ok(Answer::NoCover),
-    }
 }

@@ -12,19 +12,23 @@ use crate::fault::{BookFault, Missing};
 use crate::opened::Opened;
 use crate::prepared::{AnswerRoom, Prepared, copied_reply};
 use crate::register::{Receipt, Register, Stub};
+use crate::repeated::Repeated;
 use crate::room::{Room, Run};
 use crate::seats::{Seat, Seats};
+use crate::step::Step;
 use node_core::{ActFault, Core, Event, Reply};
 use packet_wire::Packet;
 use spawn_frame::Site;
 use std::alloc::AllocError;
 use std::marker::{Model, PhantomData};
+use std::sync::Arc;
 
 /// A core with its history.
 #[derive(Drop)]
 pub struct Desk<J: Run, C: Core + Drop, N: Room> {
     core: C,
     entries: Vec<Entry>,
+    repeated: Repeated,
     limit: u64,
     register: Register<N>,
     seats: Seats<N>,
@@ -82,6 +86,7 @@ impl<J: Run, C: Core + Drop, N: Room> Desk<J, C, N> {
         Desk {
             core,
             entries: Vec::new(alloc),
+            repeated: Repeated::new(alloc),
             limit,
             register,
             seats,
@@ -148,7 +153,12 @@ impl<J: Run, C: Core + Drop, N: Room> Desk<J, C, N> {
             prefix,
             packets,
             copies,
+            mut step,
         } = room;
+        // (nobody else has it yet)
+        let Some(written) = Arc::get_mut(&mut step) else {
+            return Err((event, BookFault::Memory));
+        };
         let Done {
             reply,
             packets,
@@ -157,16 +167,17 @@ impl<J: Run, C: Core + Drop, N: Room> Desk<J, C, N> {
             Ok(done) => done,
             Err(fault) => return Err((told, of_core(fault))),
         };
-        let entry = Entry {
+        *written = Step {
             event: kept,
             reply: copied_reply(&reply, prefix),
             packets: copies,
         };
-        let told = Entry {
+        let told = Step {
             event: told,
             reply,
             packets,
         };
+        let entry = self.repeated.shared(Entry::new(step));
         let receipt = self.register.enter(place, &entry, told);
         self.entries.push_reserved(entry);
         self.seats.count(seat);
@@ -202,6 +213,7 @@ impl<J: Run, C: Core + Drop, N: Room> Desk<J, C, N> {
         let Desk {
             core: _,
             entries,
+            repeated: _,
             limit: _,
             register,
             seats: all,
@@ -234,6 +246,7 @@ impl<J: Run, C: Core + Drop, N: Room> Desk<J, C, N> {
         let Desk {
             core: _,
             entries,
+            repeated: _,
             limit: _,
             register,
             seats: all,

@@ -1,15 +1,17 @@
-ghost use Rattle.std.specs.Prelude.{◌≡◌};
+ghost use Rattle.std.specs.Prelude.{◌≡◌, IfOk, IsTrue};
+ghost use Rattle.std.specs.Arc.{arc_value};
 
+use crate::step::Step;
 use node_core::{Event, Reply};
 use packet_wire::Packet;
+use std::alloc::{AllocError, Global};
 use std::marker::Model;
+use std::sync::Arc;
 
-/// What happened at a site: an event, with its reply and the packets that were put out.
+/// An entry of a book: a step of its site. Equal entries may share their step, which doesn't change any more.
 #[derive(Debug, Drop)]
 pub struct Entry {
-    pub(crate) event: Event,
-    pub(crate) reply: Reply,
-    pub(crate) packets: Vec<Packet>,
+    step: Arc<Step, Global>,
 }
 
 impl Model for Entry {
@@ -17,35 +19,50 @@ impl Model for Entry {
 
     ghost Value = { EntryView };
 
-    ghost view = { λ e. record { event = e.event; reply = e.reply; packets = e.packets.items } };
+    ghost view = { λ e. e.step.value };
 }
 
 impl Entry {
+    /// The entry of a step.
+    pub(crate) fn new(step: Arc<Step, Global>) -> Entry
+        ensures { result ≡ arc_value step }
+    {
+        Entry { step }
+    }
+
+    /// The step.
+    pub fn step(&self) -> &Step
+        ensures { result.now ≡ self.now }
+    {
+        &self.step
+    }
+
     /// The event.
     pub fn event(&self) -> &Event
         ensures { result.now ≡ self.now.event }
     {
-        &self.event
+        self.step().event()
     }
 
     /// What it came to.
     pub fn reply(&self) -> &Reply
         ensures { result.now ≡ self.now.reply }
     {
-        &self.reply
+        self.step().reply()
     }
 
     /// The packets that were put out, in their order.
     pub fn packets(&self) -> &[Packet]
         ensures { result.now ≡ self.now.packets }
     {
-        self.packets.as_slice()
+        self.step().packets()
     }
 
-    /// What it came to, by itself.
-    pub fn into_reply(self) -> Reply
-        ensures { result ≡ self.reply }
+    /// An entry that shares the step. The only error is that too many do.
+    pub(crate) fn twin(&self) -> Result<Entry, AllocError>
+        ensures { IfOk result (λ twin. twin ≡ self.now) }
     {
-        self.reply
+        let step = Arc::try_clone(&self.step)?;
+        Ok(Entry { step })
     }
 }

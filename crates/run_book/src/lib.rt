@@ -12,10 +12,12 @@ mod parcel;
 mod parcel_rule;
 mod prepared;
 mod register;
+mod repeated;
 mod room;
 mod run_books;
 mod seats;
 mod site_cell;
+mod step;
 mod ticket_rule;
 
 pub use book::{Book, distinct_sites, has_site};
@@ -33,3 +35,4 @@ pub use room::{Room, Run};
 pub use run_books::{published, registry_book};
 pub use seats::Seat;
 pub use site_cell::{SiteCell, Unclosed};
+pub use step::Step;

@@ -2,7 +2,7 @@ ghost use Rattle.std.specs.Prelude.{◌≡◌, [], None, IfErr, IfOk, IfSome, On
 ghost use Rattle.run_book.specs.Outbox.{has_taken, FoundEmpty, FoundFull, HasPut};
 
 use crate::parcel::Parcel;
-use crate::parcel_rule::{InOrder, Knows, Puts, Takes};
+use crate::parcel_rule::{InOrder, Known, Puts, Takes};
 use crossbeam_queue::RuledArrayQueue;
 use std::alloc::{AllocError, Global};
 use std::marker::Model;
@@ -14,7 +14,7 @@ pub const CAPACITY: usize = 1024;
 /// A right to put parcels into one outbox. It knows a beginning of all that was put in.
 #[derive(Drop)]
 pub struct Pass {
-    inner: crossbeam_queue::Pass<Parcel, Knows>,
+    inner: crossbeam_queue::Pass<Parcel, Known>,
 }
 
 impl Model for Pass {
@@ -31,7 +31,7 @@ impl Model for Pass {
 /// The right to take parcels out of one outbox. It knows all that was taken out.
 #[derive(Drop)]
 pub struct Drain {
-    inner: crossbeam_queue::Pass<Parcel, Knows>,
+    inner: crossbeam_queue::Pass<Parcel, Known>,
 }
 
 impl Model for Drain {
@@ -48,7 +48,7 @@ impl Model for Drain {
 /// A bounded queue of parcels, which leave in the order in which they came. Contracts see it as its name.
 #[derive(Drop)]
 pub struct Outbox {
-    queue: RuledArrayQueue<Parcel, Knows, InOrder>,
+    queue: RuledArrayQueue<Parcel, Known, InOrder>,
 }
 
 impl Model for Outbox {

@@ -5,14 +5,14 @@ use crossbeam_queue::protocol::{Lesson, Outcome, Protocol};
 use std::marker::{Model, PhantomData};
 
 /// What a pass knows.
-pub struct Knows {
+pub struct Known {
     marker: PhantomData<()>,
 }
 
-impl Model for Knows {
-    ghost use Rattle.run_book.specs.Outbox.{Known, newcomer};
+impl Model for Known {
+    ghost use Rattle.run_book.specs.Outbox.{Known as SeenKnown, newcomer};
 
-    ghost Value = { Known };
+    ghost Value = { SeenKnown };
 
     ghost view = { λ _. newcomer };
 }
@@ -20,7 +20,7 @@ impl Model for Knows {
 /// Parcels leave in the order in which they came.
 pub struct InOrder;
 
-impl Protocol<Parcel, Knows> for InOrder {
+impl Protocol<Parcel, Known> for InOrder {
     ghost use Rattle.run_book.specs.Outbox.{newcomer, IsInOrder};
 
     ghost holds = { IsInOrder };
@@ -31,13 +31,13 @@ impl Protocol<Parcel, Knows> for InOrder {
 /// A parcel is put at the back, or the queue is full.
 pub struct Puts;
 
-impl Outcome<Parcel, Knows> for Puts {
+impl Outcome<Parcel, Known> for Puts {
     ghost use Rattle.run_book.specs.Outbox.{HasSeenPut};
 
     ghost then = { HasSeenPut };
 }
 
-impl Lesson<Parcel, Knows> for Puts {
+impl Lesson<Parcel, Known> for Puts {
     ghost use Rattle.run_book.specs.Outbox.{Finds};
 
     ghost fact = { Finds };
@@ -46,13 +46,13 @@ impl Lesson<Parcel, Knows> for Puts {
 /// The drain takes the parcel at the front, or the queue is empty.
 pub struct Takes;
 
-impl Outcome<Parcel, Knows> for Takes {
+impl Outcome<Parcel, Known> for Takes {
     ghost use Rattle.run_book.specs.Outbox.{HasSeenTaken};
 
     ghost then = { HasSeenTaken };
 }
 
-impl Lesson<Parcel, Knows> for Takes {
+impl Lesson<Parcel, Known> for Takes {
     ghost use Rattle.run_book.specs.Outbox.{FindsAsDrain};
 
     ghost fact = { FindsAsDrain };

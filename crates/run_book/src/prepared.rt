@@ -1,10 +1,12 @@
 ghost use Rattle.std.specs.Prelude.{◌≡◌, ◌≤◌, [], length, vec_capacity, IfErr, IfOk};
 ghost use Rattle.run_book.specs.Desks.{prefix_in, room_for};
 
+use crate::step::Step;
 use cover_problem::{MOST_ITEMS, Numbers};
 use node_core::{Event, Reply};
 use packet_wire::{Body, Packet};
 use std::alloc::{AllocError, Global};
+use std::sync::Arc;
 
 /// An event with all that is to be made before a core acts on it: two copies, and the room for what comes of it.
 #[derive(Drop)]
@@ -18,12 +20,13 @@ pub struct Prepared {
     pub ghost wide: { room_for event ≤ vec_capacity room.prefix },
 }
 
-/// The room for a copy of a reply's prefix, and two empty lists of packets.
+/// The room for a copy of a reply's prefix, two empty lists of packets, and the place of an entry's step.
 #[derive(Drop)]
 pub struct AnswerRoom {
     pub prefix: Vec<u16>,
     pub packets: Vec<Packet>,
     pub copies: Vec<Packet>,
+    pub step: Arc<Step, Global>,
     pub ghost no_prefix: { prefix.items ≡ [] },
     pub ghost no_packets: { packets.items ≡ [] },
     pub ghost no_copies: { copies.items ≡ [] },
@@ -63,6 +66,7 @@ impl AnswerRoom {
             prefix: Vec::with_capacity(alloc, numbers_for(event))?,
             packets: Vec::with_capacity(alloc, packets)?,
             copies: Vec::with_capacity(alloc, packets)?,
+            step: Arc::new(alloc, Step::blank(alloc))?,
         })
     }
 }

@@ -4,6 +4,7 @@ ghost use Rattle.run_book.specs.Tickets.{entered, keeper_of_none, receipt_of, ta
 
 use crate::entry::Entry;
 use crate::room::Room;
+use crate::step::Step;
 use crate::ticket_rule::{Carrier, Enter, Entered, Looks, TakeBack, Token};
 use node_core::{Event, Reply};
 use packet_wire::Packet;
@@ -63,7 +64,7 @@ impl<N: Room> Model for Stub<N> {
 
 impl<N: Room> Receipt<N> {
     /// Its stub, and what was entered.
-    pub fn into_parts(self) -> (Stub<N>, Entry)
+    pub fn into_parts(self) -> (Stub<N>, Step)
         ensures stub { result.0 ≡ self }
         ensures entry { result.1 ≡ self.entry }
     {
@@ -75,12 +76,12 @@ impl<N: Room> Receipt<N> {
             token,
             room,
         } = self;
-        let entry = Entry {
+        let step = Step {
             event,
             reply,
             packets,
         };
-        (Stub { token, room }, entry)
+        (Stub { token, room }, step)
     }
 }
 
@@ -121,7 +122,7 @@ impl<N: Room> Register<N> {
     }
 
     /// Enters an entry at the end of the log, and gives its receipt, which is told the same.
-    pub fn enter(&mut self, place: u64, entry: &Entry, told: Entry) -> Receipt<N>
+    pub fn enter(&mut self, place: u64, entry: &Entry, told: Step) -> Receipt<N>
         requires next { place ≡ length self.old.log }
         requires same { told ≡ entry.now }
         ensures receipt { result ≡ record { place = place; entry = entry.now } }
@@ -129,7 +130,7 @@ impl<N: Room> Register<N> {
         ensures back { self.new.back ≡ self.old.back }
     {
         let token = ticket::<Brand>(&self.carrier, &mut self.keeper, entry);
-        let Entry {
+        let Step {
             event,
             reply,
             packets,

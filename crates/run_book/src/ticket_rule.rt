@@ -6,15 +6,15 @@ use crossbeam_queue::{Pass, RuledArrayQueue};
 use std::marker::{Brand, Model, PhantomData};
 
 /// What a holder knows.
-pub struct Known {
+pub struct Knows {
     marker: PhantomData<()>,
 }
 
-impl Model for Known {
-    ghost use Rattle.run_book.specs.Tickets.{Knows};
+impl Model for Knows {
+    ghost use Rattle.run_book.specs.Tickets.{Knows as SeenKnows};
     ghost use Rattle.run_book.specs.Tickets.Knows.{Nothing};
 
-    ghost Value = { Knows };
+    ghost Value = { SeenKnows };
 
     ghost view = { λ _. Nothing };
 }
@@ -22,7 +22,7 @@ impl Model for Known {
 /// One keeper knows the log, and each receipt has a place in it.
 pub struct Tickets;
 
-impl Protocol<u8, Known> for Tickets {
+impl Protocol<u8, Knows> for Tickets {
     ghost use Rattle.run_book.specs.Tickets.{keeper_of_none, AreTickets};
 
     ghost holds = { AreTickets };
@@ -46,7 +46,7 @@ impl Entered for Brand {
 /// The keeper enters an entry, and the new holder has its receipt.
 pub struct Enter<E>(PhantomData<E>);
 
-impl<E: Entered> Split<Known> for Enter<E> {
+impl<E: Entered> Split<Knows> for Enter<E> {
     ghost use Rattle.run_book.specs.Tickets.{entered, receipt_of};
 
     ghost left = { λ known. entered known E.entry };
@@ -57,7 +57,7 @@ impl<E: Entered> Split<Known> for Enter<E> {
 /// The keeper takes a receipt back.
 pub struct TakeBack;
 
-impl Join<Known> for TakeBack {
+impl Join<Knows> for TakeBack {
     ghost use Rattle.run_book.specs.Tickets.{with_back, spent};
 
     ghost both = { with_back };
@@ -68,14 +68,14 @@ impl Join<Known> for TakeBack {
 /// The keeper looks whether the receipts that are back have different places.
 pub struct Looks;
 
-impl Lesson<u8, Known> for Looks {
+impl Lesson<u8, Knows> for Looks {
     ghost use Rattle.run_book.specs.Tickets.{KeepsApart};
 
     ghost fact = { KeepsApart };
 }
 
 /// What carries the holders.
-pub type Carrier = RuledArrayQueue<u8, Known, Tickets>;
+pub type Carrier = RuledArrayQueue<u8, Knows, Tickets>;
 
 /// A holder.
-pub type Token = Pass<u8, Known>;
+pub type Token = Pass<u8, Knows>;

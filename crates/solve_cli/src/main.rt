@@ -28,10 +28,10 @@ use std::time::{Clock, Duration};
 use udp_node::Open;
 
 /// What is read: a file, or standard input.
-type Source = CountedReader<Either<File, Stdin>>;
+type Input = CountedReader<Either<File, Stdin>>;
 
 /// Opens what a word of the command line names: a file, or standard input for `-`.
-fn open(rt: &HostRuntime, name: &str) -> io::Result<Source>
+fn open(rt: &HostRuntime, name: &str) -> io::Result<Input>
     ensures { IfOk result (λ source. source.failures ≡ 0) }
 {
     if name == STANDARD_INPUT {

@@ -1,5 +1,5 @@
 -- Starts of a node that restarts: the plan of each, and their books.
-use Rattle.std.specs.Prelude.{◌≡◌, ℕ, suc, ◌/◌, ◌==◌, ◌&&◌, nat_le, Bool, if◌then◌else◌, List, [], ◌∷◌}
+use Rattle.std.specs.Prelude.{ℕ, suc, ◌/◌, ◌==◌, ◌&&◌, nat_le, Bool, if◌then◌else◌, List, [], ◌∷◌}
 use Rattle.run_book.specs.Books.{BookView}
 use Rattle.udp_node.specs.declared.plan.Plan.{Plan}
 

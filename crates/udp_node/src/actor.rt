@@ -9,7 +9,7 @@ use crate::shared::Shared;
 use crate::stand::{Refused, Stand};
 use node_core::{Core, Event, Reply};
 use packet_wire::{Body, Packet, write_packet};
-use run_book::{Entry, Parcel, Pass, Room, Run};
+use run_book::{Parcel, Pass, Room, Run, Step};
 use std::alloc::{AllocError, Global};
 use std::sync::Wait;
 
@@ -43,16 +43,16 @@ impl<'a, J: Run, C: Core + Drop, N: Room, G: Gate> Actor<'a, J, C, N, G> {
 
     /// Hands an event to the site's cell, and once it is entered puts its packets into the outbox: the lock of the core is
     /// free then. It returns what was entered; an event that is refused comes back.
-    pub fn act<R: Wait>(&mut self, rt: &R, event: Event) -> Result<Entry, (Event, Refused)>
+    pub fn act<R: Wait>(&mut self, rt: &R, event: Event) -> Result<Step, (Event, Refused)>
         requires { IsFit J.run.problem event }
         ensures lawful { IfOk result (λ entry. IsLawful J.run.problem entry) }
         ensures back { IfErr result (λ back. back.0 ≡ event) }
     {
         let stirs = may_stir(&event);
-        let entry = self.stand.act(rt, self.shared.cell, event)?;
-        self.signal(&entry, stirs);
-        self.put_all(rt, entry.packets());
-        Ok(entry)
+        let step = self.stand.act(rt, self.shared.cell, event)?;
+        self.signal(&step, stirs);
+        self.put_all(rt, step.packets());
+        Ok(step)
     }
 
     /// Its seat and receipts.
@@ -61,13 +61,13 @@ impl<'a, J: Run, C: Core + Drop, N: Room, G: Gate> Actor<'a, J, C, N, G> {
     }
 
     /// Signals to the other threads of the site what came of an event: that there may be something to do, or that work is short.
-    fn signal(&self, entry: &Entry, stirs: bool) {
+    fn signal(&self, step: &Step, stirs: bool) {
         let signals = self.shared.signals;
-        let reply = entry.reply();
+        let reply = step.reply();
         if stirs && matches!(reply, Reply::Moved) {
             signals.stir();
         }
-        if matches!(reply, Reply::Idle) || tells_no_work(entry.packets()) {
+        if matches!(reply, Reply::Idle) || tells_no_work(step.packets()) {
             signals.starve(u64::from(self.shared.plan.workers) * 2);
         }
     }

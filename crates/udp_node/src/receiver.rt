@@ -143,14 +143,14 @@ impl<L: Link> Receiver<L> {
         let here = actor.shared.cell.site().node;
         self.listen(here == 0 || packet.from.node == 0);
         let is_end = matches!(packet.body, Body::Over);
-        let entry = match actor.act(rt, Event::Deliver(packet)) {
-            Ok(entry) => entry,
+        let step = match actor.act(rt, Event::Deliver(packet)) {
+            Ok(step) => step,
             Err(back) => return after_refusal(back.1),
         };
         if is_end {
             return Turn::Ended(Cause::Over);
         }
-        if !self.over && here == 0 && tells_end(entry.packets()) {
+        if !self.over && here == 0 && tells_end(step.packets()) {
             self.over = true;
             self.link.hasten();
         }

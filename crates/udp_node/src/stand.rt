@@ -3,7 +3,7 @@ ghost use Rattle.node_core.specs.Refusal.{IsFit};
 ghost use Rattle.run_book.specs.Desks.{IsLawful};
 
 use node_core::{Core, Event};
-use run_book::{BookFault, Entry, Room, Run, Seat, SiteCell, Stub};
+use run_book::{BookFault, Room, Run, Seat, SiteCell, Step, Stub};
 use std::alloc::{AllocError, Global};
 use std::sync::Wait;
 
@@ -44,7 +44,7 @@ impl<N: Room> Stand<N> {
         rt: &R,
         cell: &SiteCell<J, C, N>,
         event: Event,
-    ) -> Result<Entry, (Event, Refused)>
+    ) -> Result<Step, (Event, Refused)>
         requires { IsFit J.run.problem event }
         ensures entry { IfOk result (λ entry. entry.event ≡ event) }
         ensures lawful { IfOk result (λ entry. IsLawful J.run.problem entry) }
@@ -55,9 +55,9 @@ impl<N: Room> Stand<N> {
         }
         match cell.act_at(rt, &mut self.seat, event) {
             Ok(receipt) => {
-                let (stub, entry) = receipt.into_parts();
+                let (stub, step) = receipt.into_parts();
                 self.stubs.push_reserved(stub);
-                Ok(entry)
+                Ok(step)
             }
             Err((event, fault)) => Err((event, Refused::Cell(fault))),
         }

@@ -17,7 +17,7 @@ use cover_problem::Numbers;
 use node_core::{ActFault, Core, Event, Reply};
 use rand_core::utils::NextWord;
 use rand_pcg::Pcg32;
-use run_book::{BookFault, Entry, Room, Run};
+use run_book::{BookFault, Room, Run, Step};
 use spawn_frame::Job;
 use std::alloc::{AllocError, Global};
 use std::marker::PhantomData;
@@ -95,7 +95,7 @@ impl<'a, J: Run> Worker<'a, J> {
             return self.rest(rt, actor);
         }
         let taken = match actor.act(rt, Event::Take) {
-            Ok(entry) => entry.into_reply(),
+            Ok(step) => step.into_reply(),
             Err(back) => return after_refusal(back.1),
         };
         match taken {
@@ -208,7 +208,7 @@ impl<'a, J: Run> Worker<'a, J> {
         } = searched;
         let outcome = finding.outcome();
         match actor.act(rt, Event::Post(job, finding)) {
-            Ok(_entry) => {
+            Ok(_step) => {
                 if outcome == Outcome::Spent {
                     actor.shared.signals.feed();
                 }
@@ -261,11 +261,14 @@ impl<'a, J: Run> Worker<'a, J> {
     }
 }
 
-/// How long an idle turn waits, in microseconds, after so many in a row: from 20 on, and at most a thousand. After each 64, when it
-/// asked again, it waits one longer for each worker that there is in all: so many that ask at once leave those at work alone.
+/// How long an idle turn waits, in microseconds, after so many in a row: from 20 on, and at most a thousand, or 125 for each worker
+/// that there is in all where that is more: so those of a run ask at most some 125 times a second together, however many they are.
+/// After each 64, when it asked again, it waits one longer for each of these workers: so many that ask at once leave those at work
+/// alone.
 fn nap(idle: u32, workers: u64) -> u64 {
+    let longest = workers.saturating_mul(125).max(1_000);
     let more = u64::from(idle / 64).saturating_mul(workers);
-    more.saturating_add(20).min(1_000)
+    more.saturating_add(20).min(longest)
 }
 
 /// Whether a thread ends whose event was refused, and why.
@@ -280,9 +283,9 @@ pub fn after_refusal(refused: Refused) -> Turn {
 }
 
 /// The same of an event that may have been entered.
-pub fn after(acted: Result<Entry, (Event, Refused)>) -> Turn {
+pub fn after(acted: Result<Step, (Event, Refused)>) -> Turn {
     match acted {
-        Ok(_entry) => Turn::Used,
+        Ok(_step) => Turn::Used,
         Err(back) => after_refusal(back.1),
     }
 }

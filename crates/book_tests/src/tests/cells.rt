@@ -7,8 +7,7 @@ use dlx_reader::read_problem;
 use node_core::{ActFault, Core, Event, NodeCore, Reply};
 use packet_wire::Body;
 use run_book::{
-    BookFault, Entry, Missing, Opened, Receipt, Room, Run, Seat, SiteCell,
-    cores_step_as_their_sites,
+    BookFault, Missing, Opened, Receipt, Room, Run, Seat, SiteCell, Step, cores_step_as_their_sites,
 };
 use spawn_frame::Site;
 use std::alloc::{AllocError, Global};
@@ -30,7 +29,7 @@ const HERE: Site = Site {
 /// What is done at a cell.
 #[derive(Clone, Copy)]
 enum Script {
-    /// One seat: an event that is refused, and two Greets; the cell closes once nothing is missing.
+    /// One seat: events that are refused, and two Greets; the cell closes once nothing is missing.
     Two,
     /// One seat, and a Greet more than fits.
     Full,
@@ -77,26 +76,27 @@ fn greets<J: Run, C: Core + Drop, N: Room, R: Wait>(
 }
 
 /// Whether it is a Greet with its one Hello.
-fn is_greet(entry: &Entry) -> bool {
-    let [packet] = entry.packets() else {
+fn is_greet(step: &Step) -> bool {
+    let [packet] = step.packets() else {
         return false;
     };
-    *entry.event() == Event::Greet
-        && *entry.reply() == Reply::Moved
+    *step.event() == Event::Greet
+        && *step.reply() == Reply::Moved
         && packet.from == HERE
         && packet.to.node == 0
         && packet.body == Body::Hello
 }
 
-/// The seat, where the core refuses the event and it comes back.
+/// The seat, where the core refuses the event with this fault, and it comes back.
 fn is_refused<J: Run, C: Core + Drop, N: Room, R: Wait>(
     rt: &R,
     cell: &SiteCell<J, C, N>,
     seat: Seat<N>,
+    (event, same): (Event, Event),
+    fault: ActFault,
 ) -> Option<Seat<N>> {
-    let (seat, event, fault) = cell.act(rt, seat, Event::Redo(0)).err()?;
-    let told = event == Event::Redo(0) && fault == BookFault::Core(ActFault::NotOut);
-    told.then_some(seat)
+    let (seat, back, told) = cell.act(rt, seat, event).err()?;
+    (back == same && told == BookFault::Core(fault)).then_some(seat)
 }
 
 /// The script of two Greets.
@@ -105,7 +105,11 @@ fn two<J: Run, C: Core + Drop, N: Room, R: Wait>(
     alloc: Global,
     cell: SiteCell<J, C, N>,
 ) -> Option<bool> {
-    let seat = is_refused(rt, &cell, cell.seat(rt).ok()?)?;
+    let redo = (Event::Redo(0), Event::Redo(0));
+    let seat = is_refused(rt, &cell, cell.seat(rt).ok()?, redo, ActFault::NotOut)?;
+    // (a node asks other nodes only)
+    let ask = (Event::Ask(HERE.node), Event::Ask(HERE.node));
+    let seat = is_refused(rt, &cell, seat, ask, ActFault::OtherSite)?;
     let Greeted {
         seat,
         mut receipts,
@@ -128,7 +132,8 @@ fn two<J: Run, C: Core + Drop, N: Room, R: Wait>(
         return None;
     };
     let causes = no_seat == Missing::SeatsMissing(1) && no_receipt == Missing::ReceiptsMissing;
-    Some(rising && first == 0 && causes && book.site() == HERE && is_greet(one) && is_greet(other))
+    let greet = is_greet(one.step()) && is_greet(other.step());
+    Some(rising && first == 0 && causes && book.site() == HERE && greet)
 }
 
 /// The script of a Greet too many.
@@ -157,7 +162,7 @@ fn stub<J: Run, C: Core + Drop, N: Room, R: Wait>(
 ) -> Option<bool> {
     let seat = cell.seat(rt).ok()?;
     let (seat, receipt) = cell.act(rt, seat, Event::Greet).ok()?;
-    let (stub, entry) = receipt.into_parts();
+    let (stub, step) = receipt.into_parts();
     let mut seats = Vec::new(alloc);
     seats.push(seat).ok()?;
     let mut stubs = Vec::new(alloc);
@@ -166,7 +171,7 @@ fn stub<J: Run, C: Core + Drop, N: Room, R: Wait>(
     let [kept] = book.entries() else {
         return None;
     };
-    Some(is_greet(kept) && is_greet(&entry) && entry.into_reply() == Reply::Moved)
+    Some(is_greet(kept.step()) && is_greet(&step) && step.into_reply() == Reply::Moved)
 }
 
 /// The script of threads that greet at once.
