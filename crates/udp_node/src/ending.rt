@@ -1,34 +1,65 @@
 use std::sync::atomic::{AtomicBool, Ordering};
+use std::thread;
 use std::time::{Clock, Duration, Instant};
+
+/// How often a site looks whether the registry has begun, before it gives up: for some two seconds.
+const LOOKS: u32 = 10_000;
+
+/// How long it waits between two looks, in microseconds.
+const NAP: u64 = 100;
 
 /// What ends a run whose sites don't end by themselves. No answer depends on it.
 #[derive(Drop)]
 pub struct Ending {
     /// The run can't go on.
     raised: AtomicBool,
+    /// The registry's site has begun, or it isn't one of this process.
+    has_registry: AtomicBool,
     /// How long the run may last, if it is limited.
     timer: Option<Timer>,
 }
 
 impl Ending {
-    /// Of a run without a limit.
+    /// Of a run without a limit, for one of its sites alone.
     pub fn unlimited() -> Ending {
         Ending {
             raised: AtomicBool::new(false),
+            has_registry: AtomicBool::new(true),
             timer: None,
         }
     }
 
     /// Of a run that begins now and lasts so long at most, if it is limited. A limited run whose clock can't be read ends at once.
     pub fn within<R: Clock>(rt: &R, limit: Option<Duration>) -> Ending {
-        let Some(limit) = limit else {
-            return Ending::unlimited();
+        let mut ending = Ending {
+            raised: AtomicBool::new(false),
+            has_registry: AtomicBool::new(false),
+            timer: None,
         };
-        let began = Instant::now(rt).ok();
-        Ending {
-            raised: AtomicBool::new(began.is_none()),
-            timer: began.map(|began| Timer { began, limit }),
+        if let Some(limit) = limit {
+            match Instant::now(rt) {
+                Ok(began) => ending.timer = Some(Timer { began, limit }),
+                Err(_) => ending.raise(),
+            }
         }
+        ending
+    }
+
+    /// The registry's site has begun.
+    pub fn begin_registry(&self) {
+        self.has_registry.store(true, Ordering::SeqCst);
+    }
+
+    /// Waits until the registry's site has begun, or the run is over, for some two seconds. Whether it has begun: what can't be started
+    /// on a thread of its own runs after the others, which would wait for it.
+    pub fn await_registry<R: Clock>(&self, rt: &R) -> bool {
+        for _look in 0..LOOKS {
+            if self.has_registry.load(Ordering::SeqCst) || self.is_over(rt) {
+                break;
+            }
+            thread::sleep(rt, Duration::from_micros(NAP));
+        }
+        self.has_registry.load(Ordering::SeqCst)
     }
 
     /// The run can't go on: it ends.

@@ -123,7 +123,7 @@ fn work<J: Run, C: Core + Drop, N: Room, G: Gate, R: Wait + Clock>(
         return Cause::Turns;
     }
     shared.signals.begin_working();
-    shared.signals.muster(rt);
+    shared.muster(rt);
     let node = shared.cell.site().node;
     let Ok(mut worker) = Worker::new(shared.alloc, shared.tables, shared.plan, node, number) else {
         return Cause::Memory;
@@ -152,7 +152,7 @@ fn receive<J: Run, C: Core + Drop, N: Room, L: Link, G: Gate, R: Wait + Clock>(
         return Cause::Turns;
     }
     shared.signals.begin_receiving();
-    shared.signals.muster(rt);
+    shared.muster(rt);
     for number in 0..u64::MAX {
         if left.is_spent() {
             break;

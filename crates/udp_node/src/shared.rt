@@ -35,6 +35,14 @@ pub struct Shared<'a, J: Run, C: Core + Drop, N: Room, G: Gate> {
 }
 
 impl<J: Run, C: Core + Drop, N: Room, G: Gate> Shared<'_, J, C, N, G> {
+    /// Waits until a thread of each kind and the registry have begun, each for some two seconds. Without one of them the site ends.
+    pub fn muster<R: Clock>(&self, rt: &R) {
+        self.signals.muster(rt);
+        if !self.ending.await_registry(rt) {
+            self.signals.end();
+        }
+    }
+
     /// Whether the site is to end, by itself or with the run.
     pub fn is_over<R: Clock>(&self, rt: &R) -> bool {
         self.signals.is_over() || self.ending.is_over(rt)

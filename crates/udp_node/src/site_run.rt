@@ -162,6 +162,9 @@ impl<J: Run, L: Link> SiteRun<J, L> {
         L: Send,
         ensures { self.new.node ≡ self.old.node }
     {
+        if self.node == 0 {
+            whole.ending.begin_registry();
+        }
         if let Some(link) = self.link.take() {
             self.run_starts(rt, whole, link);
         }
