@@ -2,4 +2,5 @@
 
 mod cells;
 mod parcels;
+mod refused;
 mod roots;

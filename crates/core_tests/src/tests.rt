@@ -5,6 +5,7 @@ mod copies;
 mod handed;
 mod lists;
 mod node;
+mod offered;
 mod refused;
 mod registry;
 mod said;

@@ -1,0 +1,202 @@
+//! A cell at which memory is refused: seat and event come back, nothing is entered, and the event then comes to what the row says.
+//!
+//! No memory is refused here: `scripts/try_memory.py` does it from outside, and is told by marks where an event begins and ends.
+
+ghost use Rattle.std.specs.Prelude.{◌≡◌, ◌≤◌};
+ghost use Rattle.node_core.specs.Refusal.{IsFit};
+ghost use Rattle.run_book.specs.Sites.{opening_of, IsRun, MayBeginIn};
+
+use cover_problem::Numbers;
+use dlx_reader::read_problem;
+use node_core::{ActFault, Core, Event, NodeCore, Reply};
+use packet_wire::{Body, Packet, is_well_formed};
+use run_book::{BookFault, Opened, Receipt, Room, Run, Seat, SiteCell, cores_step_as_their_sites};
+use spawn_frame::Site;
+use std::alloc::Global;
+use std::marker::Brand;
+use std::process::Abort;
+use std::sync::Wait;
+use std::test::*;
+
+/// Seven items and six options.
+const LETTERS: &str = "a b c d e f g\nc e\na d g\nb c f\na d f\nb g\nd e g\n";
+
+/// Nothing else in these tests asks for so many bytes, or for a few hundred more.
+const MARK: usize = 6_000_000;
+
+/// The mark of an event's beginning.
+const ACT: usize = 108;
+
+/// The marks of its end: it was answered, or memory was refused.
+const ANSWERED: usize = 128;
+
+const REFUSED: usize = 129;
+
+/// The registry, the node whose cell it is, and another one.
+const REGISTRY: Site = Site {
+    node: 0,
+    incarnation: 1,
+};
+
+const HERE: Site = Site {
+    node: 1,
+    incarnation: 1,
+};
+
+const OTHER: Site = Site {
+    node: 2,
+    incarnation: 1,
+};
+
+/// What happens at the node.
+#[derive(Clone, Copy)]
+enum Act {
+    Greet,
+    Ask,
+    Take,
+    Again,
+    /// It is given the root.
+    Give,
+    /// Another node asks for work.
+    Steal,
+    /// The search is over.
+    Over,
+}
+
+/// What is done, how many numbers it is told, none where nothing is taken up, and how many packets it puts out.
+type Row = (Act, Option<usize>, usize);
+
+static ROWS: [Row; 9] = [
+    (Act::Greet, None, 1),
+    (Act::Ask, None, 1),
+    (Act::Give, None, 0),
+    (Act::Take, Some(0), 0),
+    (Act::Steal, None, 1),
+    (Act::Again, None, 0),
+    (Act::Give, None, 0),
+    (Act::Greet, None, 1),
+    (Act::Over, None, 0),
+];
+
+/// Tells a number to whoever counts growths, by asking for memory of a size that nothing else asks for.
+fn mark<R: Abort>(rt: &R, alloc: Global, number: usize) {
+    let room: Vec<u8> = Vec::with_capacity(alloc, MARK.wrapping_add(number)).expect(rt, "memory");
+    assert!(rt; room.capacity() >= MARK);
+}
+
+/// The packet that arrives.
+fn packet_of(alloc: Global, act: Act) -> Packet {
+    let (from, body) = match act {
+        Act::Steal => (OTHER, Body::Steal),
+        Act::Over => (REGISTRY, Body::Over),
+        _ => (
+            REGISTRY,
+            Body::Give {
+                serial: 0,
+                attempt: 1,
+                prefix: Numbers::from_vec(Vec::new(alloc)),
+            },
+        ),
+    };
+    Packet {
+        from,
+        to: HERE,
+        body,
+    }
+}
+
+/// What happens between marks. Where memory is refused, seat and event come back, and the event happens then.
+fn happens<J: Run, C: Core + Drop, N: Room, R: Abort + Wait>(
+    rt: &R,
+    alloc: Global,
+    cell: &SiteCell<J, C, N>,
+    seat: Seat<N>,
+    event: Event,
+) -> Option<(Seat<N>, Receipt<N>)>
+    requires { IsFit J.run.problem event }
+{
+    mark(rt, alloc, ACT);
+    let done = cell.act(rt, seat, event);
+    mark(rt, alloc, if done.is_err() { REFUSED } else { ANSWERED });
+    match done {
+        Ok(done) => Some(done),
+        Err((seat, event, BookFault::Memory | BookFault::Core(ActFault::Memory))) => {
+            cell.act(rt, seat, event).ok()
+        }
+        Err(_) => None,
+    }
+}
+
+/// The same of what the row does.
+fn does<J: Run, C: Core + Drop, N: Room, R: Abort + Wait>(
+    rt: &R,
+    alloc: Global,
+    cell: &SiteCell<J, C, N>,
+    seat: Seat<N>,
+    act: Act,
+) -> Option<(Seat<N>, Receipt<N>)> {
+    match act {
+        Act::Greet => happens(rt, alloc, cell, seat, Event::Greet),
+        Act::Ask => happens(rt, alloc, cell, seat, Event::Ask(0)),
+        Act::Take => happens(rt, alloc, cell, seat, Event::Take),
+        Act::Again => happens(rt, alloc, cell, seat, Event::Again),
+        Act::Give | Act::Steal | Act::Over => {
+            let packet = packet_of(alloc, act);
+            assert!(rt; is_well_formed(&packet));
+            happens(rt, alloc, cell, seat, Event::Deliver(packet))
+        }
+    }
+}
+
+/// Whether the receipt is of this place in the book, and tells what the row says.
+fn is_told<N: Room>(receipt: &Receipt<N>, place: u64, (_, taken, packets): &Row) -> bool {
+    let told = match &receipt.reply {
+        Reply::Taken(_, prefix) => Some(prefix.as_slice().len()),
+        _ => None,
+    };
+    receipt.place == place && told == *taken && receipt.packets.len() == *packets
+}
+
+/// Plays the rows at the node's cell; whether all is as they say, and its book then has so many entries.
+fn play<J: Run, N: Room, R: Abort + Wait>(
+    rt: &R,
+    alloc: Global,
+    opened: Opened,
+    core: NodeCore,
+) -> Option<bool>
+    requires here { opened ≡ record { table = N.table; name = N.name } }
+    requires parts { N.parts ≡ 18446744073709551615 }
+    requires run { IsRun J.run }
+    requires begins { MayBeginIn J.run N.site N.limit }
+    requires node { 1 ≤ N.site.node }
+    requires core { core ≡ record { problem = J.run.problem; view = opening_of J.run N.site N.limit } }
+{
+    cores_step_as_their_sites();
+    let cell: SiteCell<J, NodeCore, N> = SiteCell::new(opened, core, 100);
+    let mut seat = cell.seat(rt).ok()?;
+    let mut receipts = Vec::new(alloc);
+    let mut right = true;
+    for row in &ROWS {
+        receipts.reserve(1).ok()?;
+        let (kept, receipt) = does(rt, alloc, &cell, seat, row.0)?;
+        seat = kept;
+        right = right && is_told(&receipt, receipts.len() as u64, row);
+        receipts.push_reserved(receipt);
+    }
+    let mut seats = Vec::new(alloc);
+    seats.push(seat).ok()?;
+    let book = cell.close(seats, receipts).ok()?;
+    Some(right && book.entries().len() == ROWS.len())
+}
+
+#[test]
+fn refused_memory_at_a_cell(rt: HostRuntime) -> Result<(), Fail> {
+    let alloc = rt.alloc();
+    let read = read_problem(alloc, LETTERS.as_bytes())?;
+    // (for what the getter says: that the problem is lawful)
+    let _items = read.problem.items();
+    let core = NodeCore::start(alloc, &read.problem, HERE, 2, 1000)?;
+    let right = play::<Brand, Brand, _>(&rt, alloc, Opened::new(alloc)?, core);
+    assert_eq!(rt; right, Some(true));
+    Ok(())
+}
