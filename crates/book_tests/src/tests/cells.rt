@@ -99,17 +99,25 @@ fn is_refused<J: Run, C: Core + Drop, N: Room, R: Wait>(
     (back == same && told == BookFault::Core(fault)).then_some(seat)
 }
 
+/// The seat, where the core refuses to redo what was never out, and to ask the own node.
+fn refusals<J: Run, C: Core + Drop, N: Room, R: Wait>(
+    rt: &R,
+    cell: &SiteCell<J, C, N>,
+    seat: Seat<N>,
+) -> Option<Seat<N>> {
+    let redo = (Event::Redo(0), Event::Redo(0));
+    let seat = is_refused(rt, cell, seat, redo, ActFault::NotOut)?;
+    let ask = (Event::Ask(HERE.node), Event::Ask(HERE.node));
+    is_refused(rt, cell, seat, ask, ActFault::OtherSite)
+}
+
 /// The script of two Greets.
 fn two<J: Run, C: Core + Drop, N: Room, R: Wait>(
     rt: &R,
     alloc: Global,
     cell: SiteCell<J, C, N>,
 ) -> Option<bool> {
-    let redo = (Event::Redo(0), Event::Redo(0));
-    let seat = is_refused(rt, &cell, cell.seat(rt).ok()?, redo, ActFault::NotOut)?;
-    // (a node asks other nodes only)
-    let ask = (Event::Ask(HERE.node), Event::Ask(HERE.node));
-    let seat = is_refused(rt, &cell, seat, ask, ActFault::OtherSite)?;
+    let seat = refusals(rt, &cell, cell.seat(rt).ok()?)?;
     let Greeted {
         seat,
         mut receipts,
