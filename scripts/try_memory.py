@@ -11,6 +11,7 @@ all as it was before, and the same call, made again, has to come to what the tes
 - table_tests splits units. One whose children fit into the last page has to go well whatever is refused: it asks for no memory.
 - audit_tests audits books.
 - book_tests acts at a cell, which has to hand seat and event back.
+- world_tests steps through runs of a world, and lets them run.
 - engine_tests runs `alone` and `check`, again with a new source and sink; nothing may be written before.
 - search_tests searches prefixes, which have to come back.
 - file_tests reads problems and answers.
@@ -32,7 +33,7 @@ import tempfile
 from built import parser_of, program_of, stop, TOP, want_command
 
 CRATES = ("core_tests", "table_tests", "audit_tests", "wire_tests", "file_tests", "search_tests", "engine_tests",
-          "book_tests")
+          "book_tests", "world_tests")
 CAREFUL = "refused_memory"
 CORES = "core_tests"
 # The kinds of calls by their numbers, with the place of each; those of cores are at a node or at the registry.

@@ -1,6 +1,7 @@
 //! Worlds as scripts of events.
 
 mod chance;
+mod refused;
 mod restarts;
 mod runs;
 mod said;

@@ -17,13 +17,13 @@ use std::alloc::Global;
 use std::process::Abort;
 
 /// One item and no option.
-const ITEM: &str = "a\n";
+pub const ITEM: &str = "a\n";
 
 /// One item and two options that name it alone.
-const TWO_WAYS: &str = "a\na\na\n";
+pub const TWO_WAYS: &str = "a\na\na\n";
 
 /// One item and four options that name it alone.
-const FOUR_WAYS: &str = "a\na\na\na\na\n";
+pub const FOUR_WAYS: &str = "a\na\na\na\na\n";
 
 /// Seven items and six options, with one cover: options 3, 4 and 0.
 pub const LETTERS: &str = "a b c d e f g\nc e\na d g\nb c f\na d f\nb g\nd e g\n";
@@ -58,7 +58,7 @@ pub const ROOT: Unit = Unit::Guest(
     1,
 );
 
-const ROOT_REDONE: Unit = Unit::Guest(
+pub const ROOT_REDONE: Unit = Unit::Guest(
     ChildName {
         site: REGISTRY,
         serial: 0,
@@ -67,7 +67,7 @@ const ROOT_REDONE: Unit = Unit::Guest(
 );
 
 /// The first child of the first node as a guest.
-const STOLEN: Unit = Unit::Guest(
+pub const STOLEN: Unit = Unit::Guest(
     ChildName {
         site: NODE_1,
         serial: 0,
@@ -102,11 +102,11 @@ pub const SECOND_JOB: Job = Job {
 };
 
 /// A packet that is put out: from, to, and what it says.
-type Sent = (Site, Site, Said);
+pub type Sent = (Site, Site, Said);
 
 /// A step of a script.
 #[derive(Clone, Copy)]
-enum Step {
+pub enum Step {
     /// The event comes to this, and these packets are put out.
     Happens(WorldEvent, Comes, &'static [Sent]),
     /// The node has the unit at this attempt and so far.
@@ -118,7 +118,7 @@ enum Step {
 }
 
 /// Whether the packets sent from this one on are these.
-fn are_sent(world: &World<'_>, first: usize, packets: &[Sent]) -> bool {
+pub fn are_sent(world: &World<'_>, first: usize, packets: &[Sent]) -> bool {
     if first > world.sent() || world.sent() - first != packets.len() {
         return false;
     }
@@ -134,7 +134,7 @@ fn are_sent(world: &World<'_>, first: usize, packets: &[Sent]) -> bool {
 }
 
 /// Whether a step goes as it says.
-fn goes(world: &mut World<'_>, step: Step) -> bool {
+pub fn goes(world: &mut World<'_>, step: Step) -> bool {
     match step {
         Happens(event, comes, packets) => {
             let first = world.sent();
@@ -172,7 +172,7 @@ fn count<R: Abort>(rt: &R, alloc: Global, text: &str, events: &[WorldEvent]) -> 
 }
 
 /// There is no cover: the first node finds that out, and its result comes twice.
-static NO_COVER: &[Step] = &[
+pub static NO_COVER: &[Step] = &[
     Finds(0, None, None, None),
     Happens(Ask(1, 0), Moved, &[(NODE_1, REGISTRY, Steal)]),
     Happens(Deliver(0), Moved, &[(REGISTRY, NODE_1, Give(0, 1, &[]))]),
@@ -205,7 +205,7 @@ static NO_COVER: &[Step] = &[
 ];
 
 /// The root is given out anew, and both thieves settle on the result of the second.
-static OVERTAKEN: &[Step] = &[
+pub static OVERTAKEN: &[Step] = &[
     Happens(Ask(1, 0), Moved, &[(NODE_1, REGISTRY, Steal)]),
     Happens(Deliver(0), Moved, &[(REGISTRY, NODE_1, Give(0, 1, &[]))]),
     Happens(Redo(0, 0), Moved, &[]),
@@ -256,7 +256,7 @@ static OVERTAKEN: &[Step] = &[
 ];
 
 /// The second node steals the first child, and finds that there is no cover below it.
-static STOLEN_CHILD: &[Step] = &[
+pub static STOLEN_CHILD: &[Step] = &[
     Happens(Ask(1, 0), Moved, &[(NODE_1, REGISTRY, Steal)]),
     Happens(Deliver(0), Moved, &[(REGISTRY, NODE_1, Give(0, 1, &[]))]),
     Happens(Deliver(1), Moved, &[]),
@@ -300,7 +300,7 @@ const FIRST_TWO: &[Sibling] = &[
 ];
 
 /// The second node gets two of four children with one packet, which comes twice, and finds a cover below the first.
-static TWO_TOGETHER: &[Step] = &[
+pub static TWO_TOGETHER: &[Step] = &[
     Happens(Ask(1, 0), Moved, &[(NODE_1, REGISTRY, Steal)]),
     Happens(Deliver(0), Moved, &[(REGISTRY, NODE_1, Give(0, 1, &[]))]),
     Happens(Deliver(1), Moved, &[]),
@@ -358,7 +358,7 @@ static TWO_TOGETHER: &[Step] = &[
 ];
 
 /// The first node finishes before the result comes.
-static LATE_RESULT: &[Step] = &[
+pub static LATE_RESULT: &[Step] = &[
     Happens(Take(1), Taken(&[3]), &[]),
     Finds(1, Some(SECOND_JOB), None, Some(0)),
     Happens(Post(1, SECOND_JOB, 3), Moved, &[]),
@@ -393,7 +393,7 @@ static LATE_RESULT: &[Step] = &[
 ];
 
 /// The thief begins anew before its result comes.
-static THIEF_ANEW: &[Step] = &[
+pub static THIEF_ANEW: &[Step] = &[
     Happens(Restart(2, 2), Moved, &[]),
     Happens(Greet(2), Moved, &[(NODE_2_ANEW, REGISTRY, Hello)]),
     Happens(
