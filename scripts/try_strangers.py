@@ -1,14 +1,15 @@
 #!/usr/bin/env python3
 """Attacks a running `solve` from sockets that are none of its own, and tells whether its answers stay right.
 
-    python3 scripts/try_strangers.py [--times N] [--limit SECONDS] [--length SECONDS] [--program PATH] [--problem FILE] [--only NAME]
+    python3 scripts/try_strangers.py [--times N] [--limit SECONDS] [--length SECONDS] [--program PATH] [--problem FILE] [--only NAME] [--audit]
 
 The ports of a run stand in /proc/net/udp, which every process of the machine may read. To each of them each attack sends its packets,
 well formed and with the names that sites of a run have, for a second from the run's begin, or until its end: that a node asks for work and found the root
 without a cover (`steal and return`), that the search is over (`over`), that the root is given up (`abort`), that sites have begun
 anew with the greatest incarnation (`hello`, `members`), one byte as fast as it goes (`flood of bytes`), and packets of random bytes
 (`flood of noise`). A table tells, attack by attack, how many runs were right, without an answer, wrong, or given up, and the least, the
-middle and the greatest time in seconds; the first line is of runs that nobody attacks.
+middle and the greatest time in seconds; the first line is of runs that nobody attacks. With --audit each run
+is audited, and those whose audit is unclean are a column of their own: a program that hears strangers is tried so.
 
 It wants the program: (cd crates/solve_cli && rt run) builds it. The exit status is 0 where no run was wrong or given up, 1 where one was,
 2 for a fault of the command line or where there is no program.
@@ -120,6 +121,8 @@ def one_run(given, name, seed):
     """The seconds that a run took, and its output; none where it was given up."""
     begun = time.monotonic()
     words = [given.program, "solve", given.problem, "--nodes", str(NODES), "--workers", "2", "--seed", str(seed)]
+    if given.audit:
+        words.append("--audit")
     run = subprocess.Popen(words, stdout=subprocess.PIPE, stderr=subprocess.DEVNULL, text=True)
     if name:
         threading.Thread(target=attack, args=(run, given.length, *ATTACKS[name]), daemon=True).start()
@@ -135,6 +138,11 @@ def one_run(given, name, seed):
 def judged(given, text, answer_file):
     if text is None:
         return "given up"
+    if given.audit:
+        *lines, verdict = text.splitlines(keepends=True) or [""]
+        if verdict.startswith("audit unclean"):
+            return "unclean"
+        text = "".join(lines)
     if text in ("", "no answer\n"):
         return "no answer"
     with open(answer_file, "w") as answer:
@@ -144,9 +152,14 @@ def judged(given, text, answer_file):
     return "right" if is_right else "wrong"
 
 
+def columns(given):
+    """What a run may come to."""
+    return ["right", "no answer", "wrong", "given up"] + (["unclean"] if given.audit else [])
+
+
 def row(given, name, answer_file):
     """Runs all times under one attack, prints its row, and answers whether none was wrong or given up."""
-    counts = dict.fromkeys(["right", "no answer", "wrong", "given up"], 0)
+    counts = dict.fromkeys(columns(given), 0)
     seconds = []
     for seed in range(given.times):
         took, text = one_run(given, name, seed)
@@ -166,9 +179,10 @@ def main():
     default = os.path.join(TOP, "examples", "pentominoes-6x10.dlx")
     parser.add_argument("--problem", default=default, help="a file with a cover (default pentominoes-6x10.dlx)")
     parser.add_argument("--only", choices=ATTACKS, help="this attack alone")
+    parser.add_argument("--audit", action="store_true", help="audit each run")
     given = parser.parse_args()
     want_program(given.program)
-    print(f"{'attack':<22}", *[f"{word:>10}" for word in ("right", "no answer", "wrong", "given up")], "   least   middle greatest")
+    print(f"{'attack':<22}", *[f"{word:>10}" for word in columns(given)], "   least   middle greatest")
     names = [given.only] if given.only else [None, *ATTACKS]
     with tempfile.TemporaryDirectory() as folder:
         good = [row(given, name, os.path.join(folder, "answer")) for name in names]
