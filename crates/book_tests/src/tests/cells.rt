@@ -1,6 +1,7 @@
 //! Cells of a node, from their opening to their book.
 
 ghost use Rattle.std.specs.Prelude.{◌≡◌, ◌≤◌};
+ghost use Rattle.node_core.specs.Refusal.{IsFit};
 ghost use Rattle.run_book.specs.Sites.{opening_of, IsRun, MayBeginIn};
 
 use dlx_reader::read_problem;
@@ -87,16 +88,19 @@ fn is_greet(step: &Step) -> bool {
         && packet.body == Body::Hello
 }
 
-/// The seat, where the core refuses the event with this fault, and it comes back.
+/// The seat, where the core refuses the event with this fault, and an event like it comes back.
 fn is_refused<J: Run, C: Core + Drop, N: Room, R: Wait>(
     rt: &R,
     cell: &SiteCell<J, C, N>,
     seat: Seat<N>,
-    (event, same): (Event, Event),
+    event: Event,
+    like: &Event,
     fault: ActFault,
-) -> Option<Seat<N>> {
+) -> Option<Seat<N>>
+    requires { IsFit J.run.problem event }
+{
     let (seat, back, told) = cell.act(rt, seat, event).err()?;
-    (back == same && told == BookFault::Core(fault)).then_some(seat)
+    (back == *like && told == BookFault::Core(fault)).then_some(seat)
 }
 
 /// The seat, where the core refuses to redo what was never out, and to ask the own node.
@@ -105,10 +109,17 @@ fn refusals<J: Run, C: Core + Drop, N: Room, R: Wait>(
     cell: &SiteCell<J, C, N>,
     seat: Seat<N>,
 ) -> Option<Seat<N>> {
-    let redo = (Event::Redo(0), Event::Redo(0));
-    let seat = is_refused(rt, cell, seat, redo, ActFault::NotOut)?;
-    let ask = (Event::Ask(HERE.node), Event::Ask(HERE.node));
-    is_refused(rt, cell, seat, ask, ActFault::OtherSite)
+    let redo = Event::Redo(0);
+    let seat = is_refused(rt, cell, seat, Event::Redo(0), &redo, ActFault::NotOut)?;
+    let ask = Event::Ask(HERE.node);
+    is_refused(
+        rt,
+        cell,
+        seat,
+        Event::Ask(HERE.node),
+        &ask,
+        ActFault::OtherSite,
+    )
 }
 
 /// The script of two Greets.
