@@ -9,7 +9,7 @@ use crate::player::Player;
 use node_core::{Core, Event, NodeCore};
 use root_registry::Registry;
 use run_book::{
-    Book, BookFault, Opened, Room, Run, Seat, SiteCell, Stub, cores_step_as_their_sites,
+    Book, BookFault, CellName, CellParts, Run, Seat, SiteCell, Stub, cores_step_as_their_sites,
     sites_begin,
 };
 use spawn_frame::Site;
@@ -24,7 +24,7 @@ const ENTRIES: u64 = 1_000_000;
 const NAMES: u32 = 1_000_000;
 
 /// A player's event at a cell: the stub of its receipt; none where the core refuses it, or where it may not be handed to one.
-fn happens<J: Run, C: Core + Drop, N: Room, R: Wait>(
+fn happens<J: Run, C: Core + Drop, N: CellName, R: Wait>(
     rt: &R,
     player: &mut Player<'_, J>,
     cell: &SiteCell<J, C, N>,
@@ -45,7 +45,7 @@ fn happens<J: Run, C: Core + Drop, N: Room, R: Wait>(
 }
 
 /// The book of a cell that is handed these events, one after the other. Those that the core refuses aren't entered.
-fn played<J: Run, C: Core + Drop, N: Room, R: Wait>(
+fn played<J: Run, C: Core + Drop, N: CellName, R: Wait>(
     rt: &R,
     alloc: Global,
     player: &mut Player<'_, J>,
@@ -65,15 +65,15 @@ fn played<J: Run, C: Core + Drop, N: Room, R: Wait>(
 }
 
 /// The registry's book of these events, from its beginning.
-fn root_played<J: Run, N: Room, R: Wait>(
+fn root_played<J: Run, N: CellName, R: Wait>(
     rt: &R,
     alloc: Global,
     player: &mut Player<'_, J>,
-    opened: Opened,
+    cell_parts: CellParts,
     core: Registry,
     events: Vec<Event>,
 ) -> Result<Book<J>, TrialFault>
-    requires here { opened ≡ record { table = N.table; name = N.name } }
+    requires here { cell_parts ≡ record { table = N.table; name = N.name } }
     requires parts { N.parts ≡ 18446744073709551615 }
     requires run { IsRun J.run }
     requires begins { MayBeginIn J.run N.site N.limit }
@@ -81,20 +81,20 @@ fn root_played<J: Run, N: Room, R: Wait>(
     requires core { core ≡ record { problem = J.run.problem; view = opening_of J.run N.site N.limit } }
 {
     cores_step_as_their_sites();
-    let cell: SiteCell<J, Registry, N> = SiteCell::new(opened, core, ENTRIES);
+    let cell: SiteCell<J, Registry, N> = SiteCell::new(cell_parts, core, ENTRIES);
     played(rt, alloc, player, cell, events)
 }
 
 /// A node's book of these events, from its beginning.
-fn node_played<J: Run, N: Room, R: Wait>(
+fn node_played<J: Run, N: CellName, R: Wait>(
     rt: &R,
     alloc: Global,
     player: &mut Player<'_, J>,
-    opened: Opened,
+    cell_parts: CellParts,
     core: NodeCore,
     events: Vec<Event>,
 ) -> Result<Book<J>, TrialFault>
-    requires here { opened ≡ record { table = N.table; name = N.name } }
+    requires here { cell_parts ≡ record { table = N.table; name = N.name } }
     requires parts { N.parts ≡ 18446744073709551615 }
     requires run { IsRun J.run }
     requires begins { MayBeginIn J.run N.site N.limit }
@@ -102,7 +102,7 @@ fn node_played<J: Run, N: Room, R: Wait>(
     requires core { core ≡ record { problem = J.run.problem; view = opening_of J.run N.site N.limit } }
 {
     cores_step_as_their_sites();
-    let cell: SiteCell<J, NodeCore, N> = SiteCell::new(opened, core, ENTRIES);
+    let cell: SiteCell<J, NodeCore, N> = SiteCell::new(cell_parts, core, ENTRIES);
     played(rt, alloc, player, cell, events)
 }
 
@@ -124,14 +124,14 @@ pub fn play<J: Run, R: Wait>(
     let problem = player.problem();
     // (for what the getter says: that the problem is lawful)
     let _items = problem.items();
-    let opened = Opened::new(alloc)?;
+    let cell_parts = CellParts::new(alloc)?;
     if site.node == 0 {
         let core = Registry::start(alloc, problem, nodes)?;
-        return root_played::<J, Brand, R>(rt, alloc, player, opened, core, events);
+        return root_played::<J, Brand, R>(rt, alloc, player, cell_parts, core, events);
     }
     if site.node > nodes || site.incarnation == 0 {
         return Err(TrialFault::Unexpected);
     }
     let core = NodeCore::start(alloc, problem, site, nodes, NAMES)?;
-    node_played::<J, Brand, R>(rt, alloc, player, opened, core, events)
+    node_played::<J, Brand, R>(rt, alloc, player, cell_parts, core, events)
 }

@@ -195,14 +195,14 @@ impl SiteState {
         ensures list { OnErr result (MaySend out.old out.new) }
     {
         let site = self.site();
-        out.reserve(self.outs())?;
-        let mut outs = Vec::new(self.alloc);
+        out.reserve(self.out_count())?;
+        let mut stolen = Vec::new(self.alloc);
         let dropped = self
             .ledger
-            .receive_refuse(from, serial, attempt, &mut outs)?;
+            .receive_refuse(from, serial, attempt, &mut stolen)?;
         aborts_are_few();
         if dropped {
-            out.put_aborts(site, &outs);
+            out.put_aborts(site, &stolen);
             Ok(Reply::Moved)
         } else {
             Ok(Reply::Ignored)

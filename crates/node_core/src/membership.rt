@@ -28,14 +28,14 @@ impl SiteState {
         ensures list { OnErr result (MaySend out.old out.new) }
     {
         let site = self.site();
-        if out.reserve(self.outs()).is_err() {
+        if out.reserve(self.out_count()).is_err() {
             return Err(self.learning_fault(incarnations));
         }
-        let mut outs = Vec::new(self.alloc);
-        match self.ledger.learn_members(incarnations, &mut outs) {
+        let mut stolen = Vec::new(self.alloc);
+        match self.ledger.learn_members(incarnations, &mut stolen) {
             Ok(moved) => {
                 aborts_are_few();
-                out.put_aborts(site, &outs);
+                out.put_aborts(site, &stolen);
                 Ok(told_reply(moved))
             }
             Err(LearnFault::NamesSpent) => Err(ActFault::NamesSpent),

@@ -149,25 +149,25 @@ impl Outgoing {
 
     /// Tells the thieves of these children, in their order, that they are wanted no more. The lists are asked to have
     /// room.
-    pub fn put_aborts(&mut self, site: Site, outs: &[Out])
-        requires { length outs.now ≤ self.old.room }
-        ensures sends { Sends self.old (abort_packets site outs.now) self.new }
-        ensures room { self.new.room + length outs.now ≡ self.old.room }
+    pub fn put_aborts(&mut self, site: Site, stolen: &[Out])
+        requires { length stolen.now ≤ self.old.room }
+        ensures sends { Sends self.old (abort_packets site stolen.now) self.new }
+        ensures room { self.new.room + length stolen.now ≡ self.old.room }
     {
-        for out in outs {
-            self.put_abort(site, *out);
+        for child in stolen {
+            self.put_abort(site, *child);
         }
     }
 
     /// Tells the thief of a child that it is wanted no more.
-    fn put_abort(&mut self, site: Site, out: Out)
+    fn put_abort(&mut self, site: Site, child: Out)
         requires { 1 ≤ self.old.room }
-        ensures sends { Sends self.old (abort_packet site out ∷ []) self.new }
+        ensures sends { Sends self.old (abort_packet site child ∷ []) self.new }
         ensures room { self.new.room + 1 ≡ self.old.room }
     {
-        self.packets.push_reserved(abort_packet(site, out));
+        self.packets.push_reserved(abort_packet(site, child));
         if self.both {
-            self.copies.push_reserved(abort_packet(site, out));
+            self.copies.push_reserved(abort_packet(site, child));
         }
     }
 
@@ -197,15 +197,15 @@ impl Outgoing {
 }
 
 /// The packet to the thief of a child that is wanted no more.
-fn abort_packet(site: Site, out: Out) -> Packet
-    ensures { result ≡ abort_packet site out }
+fn abort_packet(site: Site, child: Out) -> Packet
+    ensures { result ≡ abort_packet site child }
 {
     Packet {
         from: site,
-        to: out.thief,
+        to: child.thief,
         body: Body::Abort {
-            serial: out.serial,
-            attempt: out.attempt,
+            serial: child.serial,
+            attempt: child.attempt,
         },
     }
 }

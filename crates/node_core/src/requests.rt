@@ -12,7 +12,7 @@ use crate::arrivals::gift_body;
 use crate::outgoing::Outgoing;
 use crate::reply::Reply;
 use crate::site_state::SiteState;
-use packet_wire::{Body, Packet};
+use packet_wire::Body;
 use spawn_frame::{Site, Status, Unit};
 use std::alloc::AllocError;
 use steal_return::RedoFault;
@@ -31,19 +31,14 @@ impl SiteState {
         ensures refusal { refusal_told result ≡ ask_refusal self.now victim }
         ensures list { OnErr result (MaySend out.old out.new) }
     {
-        let site = self.site();
-        if victim == site.node || self.ledger.nodes() < victim {
+        if victim == self.site().node || self.ledger.nodes() < victim {
             return Err(ActFault::OtherSite);
         }
         let to = Site {
             node: victim,
             incarnation: self.ledger.known(victim),
         };
-        out.send(Packet {
-            from: site,
-            to,
-            body: Body::Steal,
-        })?;
+        out.send(self.packet_to(to, Body::Steal))?;
         Ok(Reply::Moved)
     }
 
@@ -52,11 +47,7 @@ impl SiteState {
         ensures step { OnOk result (Sends out.old (hello_packet self.now.site ∷ []) out.new) }
         ensures list { OnErr result (MaySend out.old out.new) }
     {
-        out.send(Packet {
-            from: self.site(),
-            to: REGISTRY,
-            body: Body::Hello,
-        })
+        out.send(self.packet_to(REGISTRY, Body::Hello))
     }
 
     /// Makes an own child that is out ready again, at the next attempt.
@@ -123,11 +114,7 @@ impl SiteState {
             return Ok(());
         };
         let gift = self.ledger.gift(serial)?;
-        out.send(Packet {
-            from: self.site(),
-            to: *thief,
-            body: gift_body(gift),
-        })
+        out.send(self.packet_to(*thief, gift_body(gift)))
     }
 
     /// A Return for each finished guest, in order. It costs a pass through the open guests.
@@ -159,10 +146,6 @@ impl SiteState {
             attempt: guest.attempt,
             result: result.copy()?,
         };
-        out.send(Packet {
-            from: self.site(),
-            to: guest.name.site,
-            body,
-        })
+        out.send(self.packet_to(guest.name.site, body))
     }
 }

@@ -18,7 +18,7 @@ use crate::reply::Reply;
 use crate::site_state::SiteState;
 use brancher::{Branch, Finding, Outcome, branch, children, choose_prefix};
 use dancing_links::Links;
-use packet_wire::{Body, Packet};
+use packet_wire::Body;
 use spawn_frame::{ChildResult, Heard, Job, SpawnFault, Unit};
 use std::alloc::AllocError;
 use steal_return::aborts_are_few;
@@ -97,11 +97,7 @@ impl SiteState {
             attempt,
             result: child_result.copy()?,
         };
-        out.send(Packet {
-            from: self.site(),
-            to: name.site,
-            body,
-        })
+        out.send(self.packet_to(name.site, body))
     }
 
     /// Splits a unit into the children of its prefix.
@@ -170,11 +166,11 @@ impl SiteState {
         }
         let site = self.site();
         let load = self.return_load(unit, out)?;
-        out.reserve(self.outs() + 1)?;
-        let mut outs = Vec::new(self.alloc);
-        self.ledger.finish(unit, &mut outs)?;
+        out.reserve(self.out_count() + 1)?;
+        let mut stolen = Vec::new(self.alloc);
+        self.ledger.finish(unit, &mut stolen)?;
         aborts_are_few();
-        out.put_aborts(site, &outs);
+        out.put_aborts(site, &stolen);
         out.put_ready(load);
         Ok(Reply::Moved)
     }
@@ -195,11 +191,7 @@ impl SiteState {
             attempt,
             result: self.ledger.frame_result(unit)?,
         };
-        let load = out.load(Packet {
-            from: self.site(),
-            to: name.site,
-            body,
-        })?;
+        let load = out.load(self.packet_to(name.site, body))?;
         Ok(Some(load))
     }
 }

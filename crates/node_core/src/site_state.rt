@@ -1,6 +1,7 @@
 ghost use Rattle.std.specs.Prelude.{◌≡◌, ◌<◌, ◌^◌};
 ghost use Rattle.spawn_frame.specs.Tables.{outs_of};
 
+use packet_wire::{Body, Packet};
 use spawn_frame::Site;
 use std::alloc::Global;
 use std::marker::Model;
@@ -62,9 +63,17 @@ impl SiteState {
         self.alloc
     }
 
+    /// A packet of this site.
+    pub fn packet_to(&self, to: Site, body: Body) -> Packet
+        ensures { result ≡ record { from = self.now.site; to = to; body = body } }
+    {
+        let from = self.site();
+        Packet { from, to, body }
+    }
+
     /// How many own children are out: an abort has no more thieves to tell.
     #[tactic(auto, using(crate::proofs::Outs::outs_few))]
-    pub(crate) fn outs(&self) -> usize
+    pub(crate) fn out_count(&self) -> usize
         ensures count { result ≡ outs_of self.now.own }
         ensures few { result < 2 ^ 32 }
     {

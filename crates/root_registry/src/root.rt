@@ -70,11 +70,7 @@ pub(crate) fn receive_steal(
     if !is_done(state) {
         return state.receive_steal(from, out);
     }
-    out.send(Packet {
-        from: state.site(),
-        to: from,
-        body: Body::Over,
-    })?;
+    out.send(state.packet_to(from, Body::Over))?;
     Ok(Reply::Moved)
 }
 

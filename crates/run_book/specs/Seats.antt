@@ -8,6 +8,6 @@ pub record SeatsView : Type 0 where
   pub total : ℕ
 
 -- what names a cell: its table of receipts and its ledger of seats
-pub record RoomName : Type 0 where
+pub record CellNames : Type 0 where
   pub table : TableId
   pub name : ℕ

@@ -7,7 +7,7 @@ ghost use Rattle.run_book.specs.Runs.{CountsRight};
 
 use crate::entry::Entry;
 use crate::laws::{a_book_tells_what_is_published, what_is_published_counts_right};
-use crate::room::Run;
+use crate::names::Run;
 use cover_problem::{Answer, Problem};
 use packet_wire::{Body, Packet};
 use root_registry::answer_of;

@@ -9,11 +9,11 @@ ghost use Rattle.run_book.specs.Sites.{opening_of, IsRun, MayBeginIn, StepsAt};
 use crate::book::Book;
 use crate::entry::Entry;
 use crate::fault::{BookFault, Missing};
-use crate::opened::Opened;
+use crate::cell_parts::CellParts;
 use crate::prepared::{AnswerRoom, Prepared, copied_reply};
 use crate::register::{Receipt, Register, Stub};
 use crate::repeated::Repeated;
-use crate::room::{Room, Run};
+use crate::names::{CellName, Run};
 use crate::seats::{Seat, Seats};
 use crate::step::Step;
 use node_core::{ActFault, Core, Event, Reply};
@@ -25,7 +25,7 @@ use std::sync::Arc;
 
 /// A core with its history.
 #[derive(Drop)]
-pub struct Desk<J: Run, C: Core + Drop, N: Room> {
+pub struct Desk<J: Run, C: Core + Drop, N: CellName> {
     core: C,
     entries: Vec<Entry>,
     repeated: Repeated,
@@ -35,7 +35,7 @@ pub struct Desk<J: Run, C: Core + Drop, N: Room> {
     run: PhantomData<J>,
 }
 
-impl<J: Run, C: Core + Drop, N: Room> Model for Desk<J, C, N> {
+impl<J: Run, C: Core + Drop, N: CellName> Model for Desk<J, C, N> {
     ghost use Rattle.run_book.specs.Desks.{DeskView, IsDesk};
 
     ghost Value = { DeskView };
@@ -62,17 +62,17 @@ struct Done {
 
 /// All that was handed in to `close`, and what is missing.
 #[derive(Drop)]
-pub struct Unclosed<J: Run, C: Core + Drop, N: Room> {
+pub struct Unclosed<J: Run, C: Core + Drop, N: CellName> {
     pub desk: Desk<J, C, N>,
     pub seats: Vec<Seat<N>>,
     pub receipts: Vec<Receipt<N>>,
     pub cause: Missing,
 }
 
-impl<J: Run, C: Core + Drop, N: Room> Desk<J, C, N> {
+impl<J: Run, C: Core + Drop, N: CellName> Desk<J, C, N> {
     /// The desk of a core that begins, for so many entries at most.
-    pub fn new(opened: Opened, core: C, limit: u64) -> Desk<J, C, N>
-        requires here { opened ≡ record { table = N.table; name = N.name } }
+    pub fn new(cell_parts: CellParts, core: C, limit: u64) -> Desk<J, C, N>
+        requires here { cell_parts ≡ record { table = N.table; name = N.name } }
         requires parts { N.parts ≡ 18446744073709551615 }
         requires run { IsRun J.run }
         requires begins { MayBeginIn J.run N.site N.limit }
@@ -82,7 +82,7 @@ impl<J: Run, C: Core + Drop, N: Room> Desk<J, C, N> {
         ensures { result ≡ record { entries = []; limit = limit; given = 0 } }
     {
         let alloc = core.allocator();
-        let (register, seats) = opened.open();
+        let (register, seats) = cell_parts.open();
         Desk {
             core,
             entries: Vec::new(alloc),
@@ -297,7 +297,7 @@ fn of_core(fault: ActFault) -> BookFault
 }
 
 /// What is missing, seats before receipts.
-fn missing<N: Room>(given: u64, seats: &[Seat<N>], receipts: usize) -> Option<Missing>
+fn missing<N: CellName>(given: u64, seats: &[Seat<N>], receipts: usize) -> Option<Missing>
     ensures missing { IfSome result (λ cause. IsMissing cause seats.now receipts given) }
     ensures seats { IfNone result (given ≤ length seats.now) }
     ensures receipts { IfNone result (sum seats.now ≤ receipts) }
@@ -312,7 +312,7 @@ fn missing<N: Room>(given: u64, seats: &[Seat<N>], receipts: usize) -> Option<Mi
 }
 
 /// How many receipts the seats count together.
-fn counted<N: Room>(seats: &[Seat<N>]) -> u128
+fn counted<N: CellName>(seats: &[Seat<N>]) -> u128
     ensures { result ≡ sum seats.now }
 {
     let mut all = 0u128;

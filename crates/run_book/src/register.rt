@@ -3,7 +3,7 @@ ghost use Rattle.crossbeam_queue.specs.Passes.{view, IsPassOf, IsSamePass};
 ghost use Rattle.run_book.specs.Tickets.{entered, keeper_of_none, receipt_of, taken_back, AreApart, IsKeeper};
 
 use crate::entry::Entry;
-use crate::room::Room;
+use crate::names::CellName;
 use crate::step::Step;
 use crate::ticket_rule::{Carrier, Enter, Entered, Looks, TakeBack, Token};
 use node_core::{Event, Reply};
@@ -14,7 +14,7 @@ use std::marker::{Brand, Model, PhantomData};
 ///
 /// The packets are those to be sent.
 #[derive(Drop)]
-pub struct Receipt<N: Room> {
+pub struct Receipt<N: CellName> {
     /// The number of the entries before it.
     pub place: u64,
     /// The event that was handed in.
@@ -27,7 +27,7 @@ pub struct Receipt<N: Room> {
     room: PhantomData<N>,
 }
 
-impl<N: Room> Model for Receipt<N> {
+impl<N: CellName> Model for Receipt<N> {
     ghost use Rattle.std.specs.Prelude.{◌≡◌, []};
     ghost use Rattle.crossbeam_queue.specs.Passes.{view as known};
     ghost use Rattle.run_book.specs.Entries.{Placed, placed};
@@ -43,12 +43,12 @@ impl<N: Room> Model for Receipt<N> {
 
 /// What is left of a receipt once its packets were sent. Contracts see it as the receipt; it takes no memory.
 #[derive(Drop)]
-pub struct Stub<N: Room> {
+pub struct Stub<N: CellName> {
     token: Token,
     room: PhantomData<N>,
 }
 
-impl<N: Room> Model for Stub<N> {
+impl<N: CellName> Model for Stub<N> {
     ghost use Rattle.std.specs.Prelude.{◌≡◌, []};
     ghost use Rattle.crossbeam_queue.specs.Passes.{view as known};
     ghost use Rattle.run_book.specs.Entries.{Placed};
@@ -62,7 +62,7 @@ impl<N: Room> Model for Stub<N> {
         × HasReceipt (known s.token) (placed_in (known s.token)) };
 }
 
-impl<N: Room> Receipt<N> {
+impl<N: CellName> Receipt<N> {
     /// Its stub, and what was entered.
     pub fn into_parts(self) -> (Stub<N>, Step)
         ensures stub { result.0 ≡ self }
@@ -87,13 +87,13 @@ impl<N: Room> Receipt<N> {
 
 /// What makes the receipts of a log's entries, and takes them back.
 #[derive(Drop)]
-pub struct Register<N: Room> {
+pub struct Register<N: CellName> {
     carrier: Carrier,
     keeper: Token,
     room: PhantomData<N>,
 }
 
-impl<N: Room> Model for Register<N> {
+impl<N: CellName> Model for Register<N> {
     ghost use Rattle.std.specs.Prelude.{◌≡◌};
     ghost use Rattle.crossbeam_queue.specs.Passes.{view as known, IsPassOf};
     ghost use Rattle.run_book.specs.Tickets.{register_view, IsKeeper, RegisterView};
@@ -106,7 +106,7 @@ impl<N: Room> Model for Register<N> {
         × IsKeeper (known r.keeper) };
 }
 
-impl<N: Room> Register<N> {
+impl<N: CellName> Register<N> {
     /// The register of an empty log.
     pub fn new(carrier: Carrier, keeper: Token) -> Register<N>
         requires here { keeper.table_id ≡ N.table }
@@ -209,7 +209,7 @@ fn ticket<E: Entered>(carrier: &Carrier, keeper: &mut Token, entry: &Entry) -> T
 }
 
 /// The keeper takes a receipt back.
-fn take_in<N: Room>(carrier: &Carrier, keeper: &mut Token, stub: Stub<N>)
+fn take_in<N: CellName>(carrier: &Carrier, keeper: &mut Token, stub: Stub<N>)
     requires here { keeper.old.table_id ≡ N.table }
     requires carrier { IsPassOf carrier.now keeper.old }
     requires keeper { IsKeeper (view keeper.old) }

@@ -4,7 +4,7 @@ ghost use Rattle.std.specs.Prelude.{◌≡◌, option_map, IfOk, IfSome};
 ghost use Rattle.run_book.specs.Runs.{registry_book, CountsRight, IsPublished};
 
 use crate::book::Book;
-use crate::room::Run;
+use crate::names::Run;
 use cover_problem::{Answer, Problem};
 use std::alloc::{AllocError, Global};
 

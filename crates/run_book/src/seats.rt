@@ -1,17 +1,17 @@
 ghost use Rattle.std.specs.Prelude.{◌≡◌, ◌+◌, ◌<◌, ◌≤◌, None, IfSome, sum, vec_len};
 
-use crate::room::Room;
+use crate::names::CellName;
 use std::marker::Model;
 use std::sync::ledger::{Blank, Book, Share};
 
 /// A right to act at one cell, which counts its receipts. Contracts see it as their number.
 #[derive(Drop)]
-pub struct Seat<N: Room> {
+pub struct Seat<N: CellName> {
     share: Share<N>,
     count: u64,
 }
 
-impl<N: Room> Model for Seat<N> {
+impl<N: CellName> Model for Seat<N> {
     ghost use Rattle.std.specs.Prelude.{◌≡◌, ℕ};
 
     ghost Value = { ℕ };
@@ -21,7 +21,7 @@ impl<N: Room> Model for Seat<N> {
     ghost invariant = { λ s. (s.share.parts ≡ 1) × (s.share.amount ≡ s.count) };
 }
 
-impl<N: Room> Seat<N> {
+impl<N: CellName> Seat<N> {
     /// How many receipts it has.
     pub fn count(&self) -> u64
         ensures { result ≡ self.now }
@@ -32,13 +32,13 @@ impl<N: Room> Seat<N> {
 
 /// The seats that were given out, and how many receipts they have together.
 #[derive(Drop)]
-pub struct Seats<N: Room> {
+pub struct Seats<N: CellName> {
     book: Book<N>,
     rest: Share<N>,
     given: u64,
 }
 
-impl<N: Room> Model for Seats<N> {
+impl<N: CellName> Model for Seats<N> {
     ghost use Rattle.std.specs.Prelude.{◌≡◌, ◌+◌};
     ghost use Rattle.run_book.specs.Seats.{SeatsView};
 
@@ -50,7 +50,7 @@ impl<N: Room> Model for Seats<N> {
         ≡ 18446744073709551615) × (s.rest.amount ≡ 0) };
 }
 
-impl<N: Room> Seats<N> {
+impl<N: CellName> Seats<N> {
     /// No seats yet.
     pub fn new(blank: Blank) -> Seats<N>
         requires name { blank.name ≡ N.name }
@@ -117,7 +117,7 @@ impl<N: Room> Seats<N> {
 }
 
 /// The shares of the seats, put to the rest.
-fn merged<N: Room>(mut rest: Share<N>, seats: Vec<Seat<N>>) -> Share<N>
+fn merged<N: CellName>(mut rest: Share<N>, seats: Vec<Seat<N>>) -> Share<N>
     requires { rest.parts ≤ N.parts }
     ensures parts { result.parts ≡ rest.parts + vec_len seats }
     ensures bound { result.parts ≤ N.parts }

@@ -9,10 +9,10 @@ use crate::book::Book;
 use crate::desk;
 use crate::desk::Desk;
 use crate::fault::{BookFault, Missing};
-use crate::opened::Opened;
+use crate::cell_parts::CellParts;
 use crate::prepared::Prepared;
 use crate::register::{Receipt, Stub};
-use crate::room::{Room, Run};
+use crate::names::{CellName, Run};
 use crate::seats::Seat;
 use node_core::{Core, Event};
 use spawn_frame::Site;
@@ -24,7 +24,7 @@ use std::sync::{Mutex, Wait};
 /// Whenever the lock is free, what it holds is a book of the site, with the core in the view to which the book leads. `J` names
 /// the run, `N` this cell.
 #[derive(Drop)]
-pub struct SiteCell<J: Run, C: Core + Drop, N: Room> {
+pub struct SiteCell<J: Run, C: Core + Drop, N: CellName> {
     site: Site,
     alloc: Global,
     lock: Mutex<Desk<J, C, N>>,
@@ -33,7 +33,7 @@ pub struct SiteCell<J: Run, C: Core + Drop, N: Room> {
 
 /// All that was handed in to `close`, and what is missing.
 #[derive(Drop)]
-pub struct Unclosed<J: Run, C: Core + Drop, N: Room> {
+pub struct Unclosed<J: Run, C: Core + Drop, N: CellName> {
     /// The cell.
     pub cell: SiteCell<J, C, N>,
     /// The seats.
@@ -44,11 +44,11 @@ pub struct Unclosed<J: Run, C: Core + Drop, N: Room> {
     pub cause: Missing,
 }
 
-impl<J: Run, C: Core + Drop, N: Room> SiteCell<J, C, N> {
-    /// The cell of a core that begins, for so many entries at most. The types have the names of what was opened, of the
+impl<J: Run, C: Core + Drop, N: CellName> SiteCell<J, C, N> {
+    /// The cell of a core that begins, for so many entries at most. The types have the names of its parts, of the
     /// core's run and of its site.
-    pub fn new(opened: Opened, core: C, limit: u64) -> SiteCell<J, C, N>
-        requires here { opened ≡ record { table = N.table; name = N.name } }
+    pub fn new(cell_parts: CellParts, core: C, limit: u64) -> SiteCell<J, C, N>
+        requires here { cell_parts ≡ record { table = N.table; name = N.name } }
         requires parts { N.parts ≡ 18446744073709551615 }
         requires run { IsRun J.run }
         requires begins { MayBeginIn J.run N.site N.limit }
@@ -59,7 +59,7 @@ impl<J: Run, C: Core + Drop, N: Room> SiteCell<J, C, N> {
         SiteCell {
             site: core.site(),
             alloc: core.allocator(),
-            lock: Mutex::new(Desk::new(opened, core, limit)),
+            lock: Mutex::new(Desk::new(cell_parts, core, limit)),
         }
     }
 

@@ -9,13 +9,13 @@ use crate::shared::Shared;
 use crate::stand::{Refused, Stand};
 use node_core::{Core, Event, Reply};
 use packet_wire::{Body, Packet, write_packet};
-use run_book::{Parcel, Pass, Room, Run, Step};
+use run_book::{CellName, Parcel, Pass, Run, Step};
 use std::alloc::{AllocError, Global};
 use std::sync::Wait;
 
 /// A thread that acts at a site: its stand, and its way into the outbox.
 #[derive(Drop)]
-pub struct Actor<'a, J: Run, C: Core + Drop, N: Room, G: Gate> {
+pub struct Actor<'a, J: Run, C: Core + Drop, N: CellName, G: Gate> {
     /// What the threads of the site share.
     pub shared: &'a Shared<'a, J, C, N, G>,
     /// Its seat and receipts.
@@ -27,7 +27,7 @@ pub struct Actor<'a, J: Run, C: Core + Drop, N: Room, G: Gate> {
     ghost here: { pass.outbox ≡ shared.now.outbox.now },
 }
 
-impl<'a, J: Run, C: Core + Drop, N: Room, G: Gate> Actor<'a, J, C, N, G> {
+impl<'a, J: Run, C: Core + Drop, N: CellName, G: Gate> Actor<'a, J, C, N, G> {
     /// A thread that hasn't acted so far. The only error is that no seats are left.
     pub fn new<R: Wait>(
         rt: &R,

@@ -22,7 +22,7 @@ use crate::worker::Worker;
 use brancher::Tables;
 use cover_problem::Problem;
 use node_core::Core;
-use run_book::{Outbox, Room, Run, SiteCell};
+use run_book::{CellName, Outbox, Run, SiteCell};
 use std::alloc::{AllocError, Global};
 use std::sync::Wait;
 use std::thread::{self, Threads};
@@ -69,14 +69,14 @@ impl<L: Link> Task<L> {
 
 /// A thread of a site that acts, from its start to its end.
 #[derive(Drop)]
-struct Place<'a, J: Run, C: Core + Drop, N: Room, L: Link, G: Gate> {
+struct Place<'a, J: Run, C: Core + Drop, N: CellName, L: Link, G: Gate> {
     task: Task<L>,
     actor: Actor<'a, J, C, N, G>,
     taken: Taken,
     cause: Cause,
 }
 
-impl<'a, J: Run, C: Core + Drop, N: Room, L: Link, G: Gate> Place<'a, J, C, N, L, G> {
+impl<'a, J: Run, C: Core + Drop, N: CellName, L: Link, G: Gate> Place<'a, J, C, N, L, G> {
     /// A thread before its start.
     fn new(task: Task<L>, actor: Actor<'a, J, C, N, G>) -> Place<'a, J, C, N, L, G> {
         Place {
@@ -112,7 +112,7 @@ fn noted<R: Wait + Clock>(rt: &R, left: &mut Limits, turn: Turn) -> Option<Cause
 }
 
 /// A worker's turns.
-fn work<J: Run, C: Core + Drop, N: Room, G: Gate, R: Wait + Clock>(
+fn work<J: Run, C: Core + Drop, N: CellName, G: Gate, R: Wait + Clock>(
     rt: &R,
     actor: &mut Actor<'_, J, C, N, G>,
     number: u8,
@@ -141,7 +141,7 @@ fn work<J: Run, C: Core + Drop, N: Room, G: Gate, R: Wait + Clock>(
 }
 
 /// The turns of the thread that receives.
-fn receive<J: Run, C: Core + Drop, N: Room, L: Link, G: Gate, R: Wait + Clock>(
+fn receive<J: Run, C: Core + Drop, N: CellName, L: Link, G: Gate, R: Wait + Clock>(
     rt: &R,
     actor: &mut Actor<'_, J, C, N, G>,
     receiver: &mut Receiver<L>,
@@ -170,7 +170,7 @@ fn receive<J: Run, C: Core + Drop, N: Room, L: Link, G: Gate, R: Wait + Clock>(
 pub fn run_node<
     J: Run + Send + Sync,
     C: Core + Drop + Send,
-    N: Room + Send + Sync,
+    N: CellName + Send + Sync,
     L: Link + Send,
     G: Gate + Sync,
     R: Threads + Wait + Clock + Sync,
@@ -208,7 +208,7 @@ pub fn run_node<
 pub fn run_root<
     J: Run + Send + Sync,
     C: Core + Drop + Send,
-    N: Room + Send + Sync,
+    N: CellName + Send + Sync,
     L: Link + Send,
     R: Threads + Wait + Clock + Sync,
 >(
@@ -242,7 +242,7 @@ pub fn run_root<
 pub(crate) fn run_threads<
     J: Run + Send + Sync,
     C: Core + Drop + Send,
-    N: Room + Send + Sync,
+    N: CellName + Send + Sync,
     L: Link + Send,
     G: Gate + Sync,
     R: Threads + Wait + Clock + Sync,
@@ -293,7 +293,7 @@ pub(crate) fn run_threads<
 
 /// The threads of a site that act, with the room for what comes of them.
 #[derive(Drop)]
-struct Crew<'a, J: Run, C: Core + Drop, N: Room, L: Link, G: Gate> {
+struct Crew<'a, J: Run, C: Core + Drop, N: CellName, L: Link, G: Gate> {
     places: Vec<Place<'a, J, C, N, L, G>>,
     stands: Vec<Stand<N>>,
     workers: u8,
@@ -302,7 +302,7 @@ struct Crew<'a, J: Run, C: Core + Drop, N: Room, L: Link, G: Gate> {
     ghost room: { vec_len places ≤ vec_capacity stands },
 }
 
-impl<'a, J: Run, C: Core + Drop, N: Room, L: Link, G: Gate> Crew<'a, J, C, N, L, G> {
+impl<'a, J: Run, C: Core + Drop, N: CellName, L: Link, G: Gate> Crew<'a, J, C, N, L, G> {
     /// The threads before their start: the one that receives, and so many workers. The only error is want of memory, or that no
     /// seats are left.
     fn new<R: Wait>(
@@ -350,7 +350,7 @@ impl<'a, J: Run, C: Core + Drop, N: Room, L: Link, G: Gate> Crew<'a, J, C, N, L,
 fn run_places<
     J: Run + Send + Sync,
     C: Core + Drop + Send,
-    N: Room + Send + Sync,
+    N: CellName + Send + Sync,
     L: Link + Send,
     G: Gate + Sync,
     R: Threads + Wait + Clock + Sync,
@@ -371,7 +371,7 @@ fn run_places<
 
 /// The threads before their start: the one that receives, and so many workers. The only error is want of memory, or that no seats
 /// are left.
-fn places_for<'a, J: Run, C: Core + Drop, N: Room, L: Link, G: Gate, R: Wait>(
+fn places_for<'a, J: Run, C: Core + Drop, N: CellName, L: Link, G: Gate, R: Wait>(
     rt: &R,
     shared: &'a Shared<'a, J, C, N, G>,
     twin: L,
@@ -389,7 +389,7 @@ fn places_for<'a, J: Run, C: Core + Drop, N: Room, L: Link, G: Gate, R: Wait>(
 }
 
 /// What came of all threads; whether there was one of each kind.
-fn end_of<J: Run, C: Core + Drop, N: Room, L: Link, G: Gate>(
+fn end_of<J: Run, C: Core + Drop, N: CellName, L: Link, G: Gate>(
     crew: Crew<'_, J, C, N, L, G>,
     sent: Sent,
     is_manned: bool,
@@ -417,7 +417,7 @@ fn end_of<J: Run, C: Core + Drop, N: Room, L: Link, G: Gate>(
 }
 
 /// The end of a site with that of one thread more.
-fn with_place<J: Run, C: Core + Drop, N: Room, L: Link, G: Gate>(
+fn with_place<J: Run, C: Core + Drop, N: CellName, L: Link, G: Gate>(
     end: NodeEnd<N>,
     place: Place<'_, J, C, N, L, G>,
 ) -> NodeEnd<N>

@@ -5,12 +5,12 @@ ghost use Rattle.udp_node.specs.declared.cause.Cause.TheVariants.{Memory};
 use crate::cause::Cause;
 use crate::stand::Stand;
 use crate::turn::Taken;
-use run_book::{Room, Seat, Stub};
+use run_book::{CellName, Seat, Stub};
 use std::alloc::Global;
 
 /// How the threads of a site ended. The greatest numbers stay.
 #[derive(Drop)]
-pub struct NodeEnd<N: Room> {
+pub struct NodeEnd<N: CellName> {
     /// All their seats, each with the stubs of as many receipts as it counts.
     pub stands: Vec<Stand<N>>,
     /// How many parcels were lost: the outbox was full, or the link didn't send them.
@@ -28,7 +28,7 @@ pub struct NodeEnd<N: Room> {
     pub cause: Cause,
 }
 
-impl<N: Room> NodeEnd<N> {
+impl<N: CellName> NodeEnd<N> {
     /// There was no memory to start a thread.
     pub(crate) fn starved(alloc: Global) -> NodeEnd<N>
         ensures cause { result.cause ≡ Memory }
@@ -67,7 +67,7 @@ impl<N: Room> NodeEnd<N> {
 }
 
 /// How many receipts there are; none where that is no length.
-fn receipts_of<N: Room>(stands: &[Stand<N>]) -> Option<usize>
+fn receipts_of<N: CellName>(stands: &[Stand<N>]) -> Option<usize>
     ensures { IfSome result (λ many. many ≡ sum_by (λ stand. stand.seat) stands.now) }
 {
     let mut many = 0usize;
@@ -78,7 +78,7 @@ fn receipts_of<N: Room>(stands: &[Stand<N>]) -> Option<usize>
 }
 
 /// Puts the seats and stubs of all stands into these lists, which have room for them.
-fn parted<N: Room>(
+fn parted<N: CellName>(
     stands: Vec<Stand<N>>,
     mut seats: Vec<Seat<N>>,
     mut stubs: Vec<Stub<N>>,
@@ -98,7 +98,7 @@ fn parted<N: Room>(
 }
 
 /// The stubs with these after them, for which there is room.
-fn with_all<N: Room>(mut stubs: Vec<Stub<N>>, own: Vec<Stub<N>>) -> Vec<Stub<N>>
+fn with_all<N: CellName>(mut stubs: Vec<Stub<N>>, own: Vec<Stub<N>>) -> Vec<Stub<N>>
     requires { vec_len stubs + vec_len own ≤ vec_capacity stubs }
     ensures many { vec_len result ≡ vec_len stubs + vec_len own }
     ensures capacity { vec_capacity result ≡ vec_capacity stubs }

@@ -9,7 +9,7 @@ use crate::turn::Turn;
 use crate::worker::{after, after_refusal};
 use node_core::{Core, Event};
 use packet_wire::{Body, Packet, WireFault, read_packet};
-use run_book::{Room, Run};
+use run_book::{CellName, Run};
 use std::sync::Wait;
 use std::thread;
 use std::time::{Clock, Duration};
@@ -81,7 +81,7 @@ impl<L: Link> Receiver<L> {
     }
 
     /// The turn of this number: greets the registry now and then, and receives.
-    pub fn turn<J: Run, C: Core + Drop, N: Room, G: Gate, R: Wait + Clock>(
+    pub fn turn<J: Run, C: Core + Drop, N: CellName, G: Gate, R: Wait + Clock>(
         &mut self,
         rt: &R,
         actor: &mut Actor<'_, J, C, N, G>,
@@ -100,7 +100,7 @@ impl<L: Link> Receiver<L> {
     }
 
     /// Receives once.
-    fn receive<J: Run, C: Core + Drop, N: Room, G: Gate, R: Wait + Clock>(
+    fn receive<J: Run, C: Core + Drop, N: CellName, G: Gate, R: Wait + Clock>(
         &mut self,
         rt: &R,
         actor: &mut Actor<'_, J, C, N, G>,
@@ -126,7 +126,7 @@ impl<L: Link> Receiver<L> {
     }
 
     /// A datagram came: if it is a packet, it is delivered.
-    fn hear<J: Run, C: Core + Drop, N: Room, G: Gate, R: Wait + Clock>(
+    fn hear<J: Run, C: Core + Drop, N: CellName, G: Gate, R: Wait + Clock>(
         &mut self,
         rt: &R,
         actor: &mut Actor<'_, J, C, N, G>,
@@ -167,7 +167,7 @@ impl<L: Link> Receiver<L> {
     }
 
     /// A datagram came that is no packet: that is no turn, or strangers could use them up.
-    fn dropped<J: Run, C: Core + Drop, N: Room, G: Gate, R: Wait + Clock>(
+    fn dropped<J: Run, C: Core + Drop, N: CellName, G: Gate, R: Wait + Clock>(
         &mut self,
         rt: &R,
         actor: &mut Actor<'_, J, C, N, G>,
@@ -177,7 +177,7 @@ impl<L: Link> Receiver<L> {
     }
 
     /// A datagram more came: after some what may be lost is said again.
-    fn counted<J: Run, C: Core + Drop, N: Room, G: Gate, R: Wait + Clock>(
+    fn counted<J: Run, C: Core + Drop, N: CellName, G: Gate, R: Wait + Clock>(
         &mut self,
         rt: &R,
         actor: &mut Actor<'_, J, C, N, G>,
@@ -190,7 +190,7 @@ impl<L: Link> Receiver<L> {
     }
 
     /// What may be lost is said again, unless the site can't go on. The registry ends once it has told the end often enough.
-    fn say_again<J: Run, C: Core + Drop, N: Room, G: Gate, R: Wait + Clock>(
+    fn say_again<J: Run, C: Core + Drop, N: CellName, G: Gate, R: Wait + Clock>(
         &mut self,
         rt: &R,
         actor: &mut Actor<'_, J, C, N, G>,
@@ -208,7 +208,7 @@ impl<L: Link> Receiver<L> {
 
     /// Nothing came: what may be lost is said again now and then, and always once the search is over. The thread ends where the
     /// site can't go on.
-    fn wait<J: Run, C: Core + Drop, N: Room, G: Gate, R: Wait + Clock>(
+    fn wait<J: Run, C: Core + Drop, N: CellName, G: Gate, R: Wait + Clock>(
         &mut self,
         rt: &R,
         actor: &mut Actor<'_, J, C, N, G>,
@@ -227,7 +227,7 @@ impl<L: Link> Receiver<L> {
     }
 
     /// Whether the site can't go on: it is to end, or the run is, nothing shows the run going on for long, or no worker is left.
-    fn is_lost<J: Run, C: Core + Drop, N: Room, G: Gate, R: Clock>(
+    fn is_lost<J: Run, C: Core + Drop, N: CellName, G: Gate, R: Clock>(
         &self,
         rt: &R,
         shared: &Shared<'_, J, C, N, G>,

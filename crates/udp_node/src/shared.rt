@@ -6,13 +6,13 @@ use crate::plan::Plan;
 use crate::signals::Signals;
 use brancher::Tables;
 use node_core::Core;
-use run_book::{Outbox, Room, Run, SiteCell};
+use run_book::{CellName, Outbox, Run, SiteCell};
 use std::alloc::Global;
 use std::time::Clock;
 
 /// What the threads of a site share.
 #[derive(Drop)]
-pub struct Shared<'a, J: Run, C: Core + Drop, N: Room, G: Gate> {
+pub struct Shared<'a, J: Run, C: Core + Drop, N: CellName, G: Gate> {
     /// The core and its history.
     pub cell: &'a SiteCell<J, C, N>,
     /// What is searched, with what the searches of it share.
@@ -34,7 +34,7 @@ pub struct Shared<'a, J: Run, C: Core + Drop, N: Room, G: Gate> {
     pub ghost same: { tables.now ≡ J.run.problem },
 }
 
-impl<J: Run, C: Core + Drop, N: Room, G: Gate> Shared<'_, J, C, N, G> {
+impl<J: Run, C: Core + Drop, N: CellName, G: Gate> Shared<'_, J, C, N, G> {
     /// Waits until a thread of each kind and the registry have begun, each for some two seconds. Without one of them the site ends.
     pub fn muster<R: Clock>(&self, rt: &R) {
         self.signals.muster(rt);

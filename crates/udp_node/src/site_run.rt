@@ -19,7 +19,7 @@ use brancher::Tables;
 use cover_problem::Problem;
 use node_core::{Core, NodeCore};
 use root_registry::Registry;
-use run_book::{Book, Opened, Room, Run, SiteCell, cores_step_as_their_sites, sites_begin};
+use run_book::{Book, CellName, CellParts, Run, SiteCell, cores_step_as_their_sites, sites_begin};
 use spawn_frame::Site;
 use std::alloc::{AllocError, Global};
 use std::marker::{Brand, PhantomData};
@@ -278,9 +278,9 @@ fn start_registry<J: Run + Send + Sync, L: Link + Send, G: Gate, R: Threads + Wa
 {
     sites_begin();
     let link = link?;
-    let opened = Opened::new(whole.alloc)?;
+    let cell_parts = CellParts::new(whole.alloc)?;
     let core = Registry::start(whole.alloc, whole.problem, whole.plan.nodes)?;
-    Ok(run_registry::<J, Brand, L, G, R>(rt, whole, start, opened, core, link))
+    Ok(run_registry::<J, Brand, L, G, R>(rt, whole, start, cell_parts, core, link))
 }
 
 /// Starts the site of a node, and runs it to its end. The only error is want of memory at the start.
@@ -303,15 +303,15 @@ fn start_node<
 {
     sites_begin();
     let link = link?;
-    let opened = Opened::new(whole.alloc)?;
+    let cell_parts = CellParts::new(whole.alloc)?;
     let core = NodeCore::start(whole.alloc, whole.problem, site, whole.plan.nodes, NAMES)?;
-    Ok(run_worker_node::<J, Brand, L, G, R>(rt, whole, start, opened, core, link))
+    Ok(run_worker_node::<J, Brand, L, G, R>(rt, whole, start, cell_parts, core, link))
 }
 
 /// Runs the registry, which begins, to its end.
 fn run_registry<
     J: Run + Send + Sync,
-    N: Room + Send + Sync,
+    N: CellName + Send + Sync,
     L: Link + Send,
     G: Gate,
     R: Threads + Wait + Clock + Sync,
@@ -319,11 +319,11 @@ fn run_registry<
     rt: &R,
     whole: &Whole<'_, J, G>,
     start: Start,
-    opened: Opened,
+    cell_parts: CellParts,
     core: Registry,
     link: L,
 ) -> (Option<Book<J>>, SiteEnd)
-    requires here { opened ≡ record { table = N.table; name = N.name } }
+    requires here { cell_parts ≡ record { table = N.table; name = N.name } }
     requires parts { N.parts ≡ 18446744073709551615 }
     requires begins { MayBeginIn J.run N.site N.limit }
     requires registry { N.site.node ≡ 0 }
@@ -334,7 +334,7 @@ fn run_registry<
     ensures { IfSome result.0 (λ book. book.site ≡ N.site) }
 {
     cores_step_as_their_sites();
-    let cell: SiteCell<J, Registry, N> = SiteCell::new(opened, core, ENTRIES);
+    let cell: SiteCell<J, Registry, N> = SiteCell::new(cell_parts, core, ENTRIES);
     let plan = Plan {
         workers: 0,
         ..start.plan
@@ -355,7 +355,7 @@ fn run_registry<
 /// Runs a node, which begins, to its end.
 fn run_worker_node<
     J: Run + Send + Sync,
-    N: Room + Send + Sync,
+    N: CellName + Send + Sync,
     L: Link + Send,
     G: Gate + Sync,
     R: Threads + Wait + Clock + Sync,
@@ -363,11 +363,11 @@ fn run_worker_node<
     rt: &R,
     whole: &Whole<'_, J, G>,
     start: Start,
-    opened: Opened,
+    cell_parts: CellParts,
     core: NodeCore,
     link: L,
 ) -> (Option<Book<J>>, SiteEnd)
-    requires here { opened ≡ record { table = N.table; name = N.name } }
+    requires here { cell_parts ≡ record { table = N.table; name = N.name } }
     requires parts { N.parts ≡ 18446744073709551615 }
     requires begins { MayBeginIn J.run N.site N.limit }
     requires node { 1 ≤ N.site.node }
@@ -378,7 +378,7 @@ fn run_worker_node<
     ensures { IfSome result.0 (λ book. book.site ≡ N.site) }
 {
     cores_step_as_their_sites();
-    let cell: SiteCell<J, NodeCore, N> = SiteCell::new(opened, core, ENTRIES);
+    let cell: SiteCell<J, NodeCore, N> = SiteCell::new(cell_parts, core, ENTRIES);
     let end = run_threads(
         rt,
         whole.alloc,
@@ -394,7 +394,7 @@ fn run_worker_node<
 
 /// Closes the cell of a site whose threads ended. There is no book where there was no memory to hand in all that it asks
 /// for, or some thread's seat is missing because the site had no memory to start its threads.
-fn closed<J: Run, C: Core + Drop, N: Room>(
+fn closed<J: Run, C: Core + Drop, N: CellName>(
     alloc: Global,
     cell: SiteCell<J, C, N>,
     end: NodeEnd<N>,

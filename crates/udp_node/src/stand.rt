@@ -3,13 +3,13 @@ ghost use Rattle.node_core.specs.Refusal.{IsFit};
 ghost use Rattle.run_book.specs.Desks.{IsLawful};
 
 use node_core::{Core, Event};
-use run_book::{BookFault, Room, Run, Seat, SiteCell, Step, Stub};
+use run_book::{BookFault, CellName, Run, Seat, SiteCell, Step, Stub};
 use std::alloc::{AllocError, Global};
 use std::sync::Wait;
 
 /// A seat with the stubs of its receipts: as many as it counts.
 #[derive(Drop)]
-pub struct Stand<N: Room> {
+pub struct Stand<N: CellName> {
     seat: Seat<N>,
     stubs: Vec<Stub<N>>,
     ghost whole: { seat ≡ vec_len stubs },
@@ -24,7 +24,7 @@ pub enum Refused {
     Cell(BookFault),
 }
 
-impl<N: Room> Stand<N> {
+impl<N: CellName> Stand<N> {
     /// A new seat at the cell, without receipts. The only error is that no seats are left.
     pub fn new<J: Run, C: Core + Drop, R: Wait>(
         rt: &R,

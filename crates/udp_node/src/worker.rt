@@ -17,7 +17,7 @@ use cover_problem::Numbers;
 use node_core::{ActFault, Core, Event, Reply};
 use rand_core::utils::NextWord;
 use rand_pcg::Pcg32;
-use run_book::{BookFault, Room, Run, Step};
+use run_book::{BookFault, CellName, Run, Step};
 use spawn_frame::Job;
 use std::alloc::{AllocError, Global};
 use std::marker::PhantomData;
@@ -69,7 +69,7 @@ impl<'a, J: Run> Worker<'a, J> {
     }
 
     /// One turn: goes on with what is in hand, or takes up work, unless the site is to end.
-    pub fn turn<C: Core + Drop, N: Room, G: Gate, R: Wait + Clock>(
+    pub fn turn<C: Core + Drop, N: CellName, G: Gate, R: Wait + Clock>(
         &mut self,
         rt: &R,
         actor: &mut Actor<'_, J, C, N, G>,
@@ -85,7 +85,7 @@ impl<'a, J: Run> Worker<'a, J> {
     }
 
     /// Takes up work: a unit is searched, a settled frame finished; where there is none it asks another site.
-    fn take<C: Core + Drop, N: Room, G: Gate, R: Wait + Clock>(
+    fn take<C: Core + Drop, N: CellName, G: Gate, R: Wait + Clock>(
         &mut self,
         rt: &R,
         actor: &mut Actor<'_, J, C, N, G>,
@@ -128,7 +128,7 @@ impl<'a, J: Run> Worker<'a, J> {
     }
 
     /// There is nothing to do: at the first such turn in a row, and each 64th, another site is asked for work.
-    fn rest<C: Core + Drop, N: Room, G: Gate, R: Wait + Clock>(
+    fn rest<C: Core + Drop, N: CellName, G: Gate, R: Wait + Clock>(
         &mut self,
         rt: &R,
         actor: &mut Actor<'_, J, C, N, G>,
@@ -154,7 +154,7 @@ impl<'a, J: Run> Worker<'a, J> {
     }
 
     /// Searches a job's prefix, and posts what comes of it; it is given up once the site receives no more.
-    fn search<C: Core + Drop, N: Room, G: Gate, R: Wait + Clock>(
+    fn search<C: Core + Drop, N: CellName, G: Gate, R: Wait + Clock>(
         &mut self,
         rt: &R,
         actor: &mut Actor<'_, J, C, N, G>,
@@ -191,7 +191,7 @@ impl<'a, J: Run> Worker<'a, J> {
     }
 
     /// Posts what a search came to, once the gate lets it pass.
-    fn post<C: Core + Drop, N: Room, G: Gate, R: Wait + Clock>(
+    fn post<C: Core + Drop, N: CellName, G: Gate, R: Wait + Clock>(
         &mut self,
         rt: &R,
         actor: &mut Actor<'_, J, C, N, G>,

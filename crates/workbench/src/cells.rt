@@ -7,7 +7,7 @@ use crate::cycle::NODE;
 use crate::fault::BenchFault;
 use cover_problem::Problem;
 use node_core::{Core, Event, NodeCore};
-use run_book::{BookFault, Opened, Room, Run, Seat, SiteCell, cores_step_as_their_sites};
+use run_book::{BookFault, CellName, CellParts, Run, Seat, SiteCell, cores_step_as_their_sites};
 use std::alloc::Global;
 use std::marker::Brand;
 use std::sync::Wait;
@@ -35,20 +35,20 @@ pub fn greet_cell<R: Threads + Wait + Sync>(
     // (for what the getter says: that the problem is lawful)
     let _items = problem.items();
     let core = NodeCore::start(alloc, problem, NODE, 1, 1)?;
-    let opened = Opened::new(alloc)?;
-    greet_at_once::<Brand, Brand, R>(rt, alloc, opened, core, threads, times)
+    let cell_parts = CellParts::new(alloc)?;
+    greet_at_once::<Brand, Brand, R>(rt, alloc, cell_parts, core, threads, times)
 }
 
 /// The same with the names of the run and of the cell.
-fn greet_at_once<J: Run + Send + Sync, N: Room + Send + Sync, R: Threads + Wait + Sync>(
+fn greet_at_once<J: Run + Send + Sync, N: CellName + Send + Sync, R: Threads + Wait + Sync>(
     rt: &R,
     alloc: Global,
-    opened: Opened,
+    cell_parts: CellParts,
     core: NodeCore,
     threads: u8,
     times: u64,
 ) -> Result<(), BenchFault>
-    requires here { opened ≡ record { table = N.table; name = N.name } }
+    requires here { cell_parts ≡ record { table = N.table; name = N.name } }
     requires parts { N.parts ≡ 18446744073709551615 }
     requires run { IsRun J.run }
     requires begins { MayBeginIn J.run N.site N.limit }
@@ -60,7 +60,7 @@ fn greet_at_once<J: Run + Send + Sync, N: Room + Send + Sync, R: Threads + Wait 
 {
     cores_step_as_their_sites();
     let limit = times.saturating_mul(u64::from(threads));
-    let cell: SiteCell<J, NodeCore, N> = SiteCell::new(opened, core, limit);
+    let cell: SiteCell<J, NodeCore, N> = SiteCell::new(cell_parts, core, limit);
     let mut seats = Vec::new(alloc);
     for _ in 0..threads {
         if seats.push(cell.seat(rt)?).is_err() {
@@ -77,7 +77,7 @@ fn greet_at_once<J: Run + Send + Sync, N: Room + Send + Sync, R: Threads + Wait 
 }
 
 /// Greets at the cell so many times; the receipts are let go.
-fn greet<J: Run, C: Core + Drop, N: Room, R: Wait>(
+fn greet<J: Run, C: Core + Drop, N: CellName, R: Wait>(
     rt: &R,
     cell: &SiteCell<J, C, N>,
     seat: Seat<N>,

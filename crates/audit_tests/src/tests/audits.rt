@@ -12,8 +12,8 @@ use node_core::{Core, Event, NodeCore};
 use packet_wire::{Body, Packet, is_well_formed};
 use root_registry::Registry;
 use run_book::{
-    Book, Opened, Receipt, Room, Run, Seat, SiteCell, cores_step_as_their_sites, distinct_sites,
-    sites_begin,
+    Book, CellName, CellParts, Receipt, Run, Seat, SiteCell, cores_step_as_their_sites,
+    distinct_sites, sites_begin,
 };
 use spawn_frame::Site;
 use std::alloc::Global;
@@ -155,7 +155,7 @@ fn node(incarnation: u32) -> Site
 }
 
 /// The packet is delivered at the cell.
-fn hears<J: Run, C: Core + Drop, N: Room, R: Wait>(
+fn hears<J: Run, C: Core + Drop, N: CellName, R: Wait>(
     rt: &R,
     cell: &SiteCell<J, C, N>,
     seat: Seat<N>,
@@ -177,7 +177,7 @@ fn root(alloc: Global) -> Body {
 }
 
 /// The act is done at the cell.
-fn does<J: Run, C: Core + Drop, N: Room, R: Wait>(
+fn does<J: Run, C: Core + Drop, N: CellName, R: Wait>(
     rt: &R,
     alloc: Global,
     cell: &SiteCell<J, C, N>,
@@ -196,7 +196,7 @@ fn does<J: Run, C: Core + Drop, N: Room, R: Wait>(
 }
 
 /// The book of a cell at which all this is done.
-fn book_of<J: Run, C: Core + Drop, N: Room, R: Wait>(
+fn book_of<J: Run, C: Core + Drop, N: CellName, R: Wait>(
     rt: &R,
     alloc: Global,
     cell: SiteCell<J, C, N>,
@@ -216,14 +216,14 @@ fn book_of<J: Run, C: Core + Drop, N: Room, R: Wait>(
 }
 
 /// The registry's book.
-fn root_book<J: Run, N: Room, R: Wait>(
+fn root_book<J: Run, N: CellName, R: Wait>(
     rt: &R,
     alloc: Global,
-    opened: Opened,
+    cell_parts: CellParts,
     core: Registry,
     acts: &[Act],
 ) -> Option<Book<J>>
-    requires here { opened ≡ record { table = N.table; name = N.name } }
+    requires here { cell_parts ≡ record { table = N.table; name = N.name } }
     requires parts { N.parts ≡ 18446744073709551615 }
     requires run { IsRun J.run }
     requires begins { MayBeginIn J.run N.site N.limit }
@@ -231,19 +231,19 @@ fn root_book<J: Run, N: Room, R: Wait>(
     requires core { core ≡ record { problem = J.run.problem; view = opening_of J.run N.site N.limit } }
 {
     cores_step_as_their_sites();
-    let cell: SiteCell<J, Registry, N> = SiteCell::new(opened, core, 10);
+    let cell: SiteCell<J, Registry, N> = SiteCell::new(cell_parts, core, 10);
     book_of(rt, alloc, cell, acts)
 }
 
 /// A node's book.
-fn node_book<J: Run, N: Room, R: Wait>(
+fn node_book<J: Run, N: CellName, R: Wait>(
     rt: &R,
     alloc: Global,
-    opened: Opened,
+    cell_parts: CellParts,
     core: NodeCore,
     acts: &[Act],
 ) -> Option<Book<J>>
-    requires here { opened ≡ record { table = N.table; name = N.name } }
+    requires here { cell_parts ≡ record { table = N.table; name = N.name } }
     requires parts { N.parts ≡ 18446744073709551615 }
     requires run { IsRun J.run }
     requires begins { MayBeginIn J.run N.site N.limit }
@@ -251,7 +251,7 @@ fn node_book<J: Run, N: Room, R: Wait>(
     requires core { core ≡ record { problem = J.run.problem; view = opening_of J.run N.site N.limit } }
 {
     cores_step_as_their_sites();
-    let cell: SiteCell<J, NodeCore, N> = SiteCell::new(opened, core, 10);
+    let cell: SiteCell<J, NodeCore, N> = SiteCell::new(cell_parts, core, 10);
     book_of(rt, alloc, cell, acts)
 }
 
@@ -268,9 +268,9 @@ fn registry<J: Run, R: Wait>(
     sites_begin();
     // (for what the getter says: that the problem is lawful)
     let _items = problem.items();
-    let opened = Opened::new(alloc).ok()?;
+    let cell_parts = CellParts::new(alloc).ok()?;
     let core = Registry::start(alloc, problem, NODES).ok()?;
-    root_book::<J, Brand, R>(rt, alloc, opened, core, acts)
+    root_book::<J, Brand, R>(rt, alloc, cell_parts, core, acts)
 }
 
 /// Node 1 begins in this run, and all this is done there.
@@ -290,9 +290,9 @@ fn node_in<J: Run, R: Wait>(
     sites_begin();
     // (for what the getter says: that the problem is lawful)
     let _items = problem.items();
-    let opened = Opened::new(alloc).ok()?;
+    let cell_parts = CellParts::new(alloc).ok()?;
     let core = NodeCore::start(alloc, problem, node(incarnation), NODES, 1000).ok()?;
-    node_book::<J, Brand, R>(rt, alloc, opened, core, acts)
+    node_book::<J, Brand, R>(rt, alloc, cell_parts, core, acts)
 }
 
 /// Nothing else in these tests asks for so many bytes, or for a few hundred more.

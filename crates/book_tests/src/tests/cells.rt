@@ -8,7 +8,8 @@ use dlx_reader::read_problem;
 use node_core::{ActFault, Core, Event, NodeCore, Reply};
 use packet_wire::Body;
 use run_book::{
-    BookFault, Missing, Opened, Receipt, Room, Run, Seat, SiteCell, Step, cores_step_as_their_sites,
+    BookFault, CellName, CellParts, Missing, Receipt, Run, Seat, SiteCell, Step,
+    cores_step_as_their_sites,
 };
 use spawn_frame::Site;
 use std::alloc::{AllocError, Global};
@@ -42,14 +43,14 @@ enum Script {
 
 /// A seat that has greeted, with its receipts.
 #[derive(Drop)]
-struct Greeted<N: Room> {
+struct Greeted<N: CellName> {
     seat: Seat<N>,
     receipts: Vec<Receipt<N>>,
     rising: bool,
 }
 
 /// Greets so often: each place is above the one before.
-fn greets<J: Run, C: Core + Drop, N: Room, R: Wait>(
+fn greets<J: Run, C: Core + Drop, N: CellName, R: Wait>(
     rt: &R,
     alloc: Global,
     cell: &SiteCell<J, C, N>,
@@ -89,7 +90,7 @@ fn is_greet(step: &Step) -> bool {
 }
 
 /// The seat, where the core refuses the event with this fault, and an event like it comes back.
-fn is_refused<J: Run, C: Core + Drop, N: Room, R: Wait>(
+fn is_refused<J: Run, C: Core + Drop, N: CellName, R: Wait>(
     rt: &R,
     cell: &SiteCell<J, C, N>,
     seat: Seat<N>,
@@ -104,7 +105,7 @@ fn is_refused<J: Run, C: Core + Drop, N: Room, R: Wait>(
 }
 
 /// The seat, where the core refuses to redo what was never out, and to ask the own node.
-fn refusals<J: Run, C: Core + Drop, N: Room, R: Wait>(
+fn refusals<J: Run, C: Core + Drop, N: CellName, R: Wait>(
     rt: &R,
     cell: &SiteCell<J, C, N>,
     seat: Seat<N>,
@@ -123,7 +124,7 @@ fn refusals<J: Run, C: Core + Drop, N: Room, R: Wait>(
 }
 
 /// The script of two Greets.
-fn two<J: Run, C: Core + Drop, N: Room, R: Wait>(
+fn two<J: Run, C: Core + Drop, N: CellName, R: Wait>(
     rt: &R,
     alloc: Global,
     cell: SiteCell<J, C, N>,
@@ -156,7 +157,7 @@ fn two<J: Run, C: Core + Drop, N: Room, R: Wait>(
 }
 
 /// The script of a Greet too many.
-fn full<J: Run, C: Core + Drop, N: Room, R: Wait>(
+fn full<J: Run, C: Core + Drop, N: CellName, R: Wait>(
     rt: &R,
     alloc: Global,
     cell: SiteCell<J, C, N>,
@@ -174,7 +175,7 @@ fn full<J: Run, C: Core + Drop, N: Room, R: Wait>(
 }
 
 /// The script of a Greet of which the stub is kept.
-fn stub<J: Run, C: Core + Drop, N: Room, R: Wait>(
+fn stub<J: Run, C: Core + Drop, N: CellName, R: Wait>(
     rt: &R,
     alloc: Global,
     cell: SiteCell<J, C, N>,
@@ -197,7 +198,7 @@ fn stub<J: Run, C: Core + Drop, N: Room, R: Wait>(
 fn threads<
     J: Run + Send + Sync,
     C: Core + Drop + Send,
-    N: Room + Send + Sync,
+    N: CellName + Send + Sync,
     R: Threads + Wait + Sync,
 >(rt: &R, alloc: Global, cell: SiteCell<J, C, N>, count: u8) -> Option<bool> {
     let mut fresh = Vec::new(alloc);
@@ -223,15 +224,15 @@ fn threads<
 }
 
 /// Plays a script at a cell of the node for so many entries; whether all is as it says.
-fn play<J: Run + Send + Sync, N: Room + Send + Sync, R: Threads + Wait + Sync>(
+fn play<J: Run + Send + Sync, N: CellName + Send + Sync, R: Threads + Wait + Sync>(
     rt: &R,
     alloc: Global,
-    opened: Opened,
+    cell_parts: CellParts,
     core: NodeCore,
     limit: u64,
     script: Script,
 ) -> Option<bool>
-    requires here { opened ≡ record { table = N.table; name = N.name } }
+    requires here { cell_parts ≡ record { table = N.table; name = N.name } }
     requires parts { N.parts ≡ 18446744073709551615 }
     requires run { IsRun J.run }
     requires begins { MayBeginIn J.run N.site N.limit }
@@ -239,7 +240,7 @@ fn play<J: Run + Send + Sync, N: Room + Send + Sync, R: Threads + Wait + Sync>(
     requires core { core ≡ record { problem = J.run.problem; view = opening_of J.run N.site N.limit } }
 {
     cores_step_as_their_sites();
-    let cell: SiteCell<J, NodeCore, N> = SiteCell::new(opened, core, limit);
+    let cell: SiteCell<J, NodeCore, N> = SiteCell::new(cell_parts, core, limit);
     match script {
         Script::Two => two(rt, alloc, cell),
         Script::Full => full(rt, alloc, cell),
@@ -265,7 +266,7 @@ fn seat_places_rise(rt: HostRuntime) -> Result<(), Fail> {
     let _items = read.problem.items();
     for (script, limit) in &SCRIPTS {
         let core = NodeCore::start(alloc, &read.problem, HERE, 1, 1000)?;
-        let right = play::<Brand, Brand, _>(&rt, alloc, Opened::new(alloc)?, core, *limit, *script);
+        let right = play::<Brand, Brand, _>(&rt, alloc, CellParts::new(alloc)?, core, *limit, *script);
         assert_eq!(rt; right, Some(true));
     }
     Ok(())

@@ -10,7 +10,9 @@ use cover_problem::Numbers;
 use dlx_reader::read_problem;
 use node_core::{ActFault, Core, Event, NodeCore, Reply};
 use packet_wire::{Body, Packet, is_well_formed};
-use run_book::{BookFault, Opened, Receipt, Room, Run, Seat, SiteCell, cores_step_as_their_sites};
+use run_book::{
+    BookFault, CellName, CellParts, Receipt, Run, Seat, SiteCell, cores_step_as_their_sites,
+};
 use spawn_frame::Site;
 use std::alloc::Global;
 use std::marker::Brand;
@@ -106,7 +108,7 @@ fn packet_of(alloc: Global, act: Act) -> Packet {
 }
 
 /// What happens between marks. Where memory is refused, seat and event come back, and the event happens then.
-fn happens<J: Run, C: Core + Drop, N: Room, R: Abort + Wait>(
+fn happens<J: Run, C: Core + Drop, N: CellName, R: Abort + Wait>(
     rt: &R,
     alloc: Global,
     cell: &SiteCell<J, C, N>,
@@ -128,7 +130,7 @@ fn happens<J: Run, C: Core + Drop, N: Room, R: Abort + Wait>(
 }
 
 /// The same of what the row does.
-fn does<J: Run, C: Core + Drop, N: Room, R: Abort + Wait>(
+fn does<J: Run, C: Core + Drop, N: CellName, R: Abort + Wait>(
     rt: &R,
     alloc: Global,
     cell: &SiteCell<J, C, N>,
@@ -149,7 +151,7 @@ fn does<J: Run, C: Core + Drop, N: Room, R: Abort + Wait>(
 }
 
 /// Whether the receipt is of this place in the book, and tells what the row says.
-fn is_told<N: Room>(receipt: &Receipt<N>, place: u64, (_, taken, packets): &Row) -> bool {
+fn is_told<N: CellName>(receipt: &Receipt<N>, place: u64, (_, taken, packets): &Row) -> bool {
     let told = match &receipt.reply {
         Reply::Taken(_, prefix) => Some(prefix.as_slice().len()),
         _ => None,
@@ -158,13 +160,13 @@ fn is_told<N: Room>(receipt: &Receipt<N>, place: u64, (_, taken, packets): &Row)
 }
 
 /// Plays the rows at the node's cell; whether all is as they say, and its book then has so many entries.
-fn play<J: Run, N: Room, R: Abort + Wait>(
+fn play<J: Run, N: CellName, R: Abort + Wait>(
     rt: &R,
     alloc: Global,
-    opened: Opened,
+    cell_parts: CellParts,
     core: NodeCore,
 ) -> Option<bool>
-    requires here { opened ≡ record { table = N.table; name = N.name } }
+    requires here { cell_parts ≡ record { table = N.table; name = N.name } }
     requires parts { N.parts ≡ 18446744073709551615 }
     requires run { IsRun J.run }
     requires begins { MayBeginIn J.run N.site N.limit }
@@ -172,7 +174,7 @@ fn play<J: Run, N: Room, R: Abort + Wait>(
     requires core { core ≡ record { problem = J.run.problem; view = opening_of J.run N.site N.limit } }
 {
     cores_step_as_their_sites();
-    let cell: SiteCell<J, NodeCore, N> = SiteCell::new(opened, core, 100);
+    let cell: SiteCell<J, NodeCore, N> = SiteCell::new(cell_parts, core, 100);
     let mut seat = cell.seat(rt).ok()?;
     let mut receipts = Vec::new(alloc);
     let mut right = true;
@@ -196,7 +198,7 @@ fn refused_memory_at_a_cell(rt: HostRuntime) -> Result<(), Fail> {
     // (for what the getter says: that the problem is lawful)
     let _items = read.problem.items();
     let core = NodeCore::start(alloc, &read.problem, HERE, 2, 1000)?;
-    let right = play::<Brand, Brand, _>(&rt, alloc, Opened::new(alloc)?, core);
+    let right = play::<Brand, Brand, _>(&rt, alloc, CellParts::new(alloc)?, core);
     assert_eq!(rt; right, Some(true));
     Ok(())
 }

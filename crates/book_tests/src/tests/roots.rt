@@ -9,7 +9,7 @@ use node_core::{Core, Event};
 use packet_wire::{Body, Packet, is_well_formed};
 use root_registry::Registry;
 use run_book::{
-    Opened, Receipt, Room, Run, Seat, SiteCell, cores_step_as_their_sites, distinct_sites,
+    CellName, CellParts, Receipt, Run, Seat, SiteCell, cores_step_as_their_sites, distinct_sites,
 };
 use spawn_frame::{ChildResult, Site};
 use std::alloc::{AllocError, Global};
@@ -33,7 +33,7 @@ const NODE: Site = Site {
 };
 
 /// Delivers what the node says.
-fn hears<J: Run, C: Core + Drop, N: Room, R: Wait>(
+fn hears<J: Run, C: Core + Drop, N: CellName, R: Wait>(
     rt: &R,
     cell: &SiteCell<J, C, N>,
     seat: Seat<N>,
@@ -60,14 +60,14 @@ fn cover(alloc: Global, options: &[u16]) -> Result<Numbers, AllocError> {
 }
 
 /// Plays a search of one node at a cell of the registry; whether its book tells the cover.
-fn play<J: Run, N: Room, R: Wait>(
+fn play<J: Run, N: CellName, R: Wait>(
     rt: &R,
     alloc: Global,
-    opened: Opened,
+    cell_parts: CellParts,
     core: Registry,
     problem: &Problem,
 ) -> Option<bool>
-    requires here { opened ≡ record { table = N.table; name = N.name } }
+    requires here { cell_parts ≡ record { table = N.table; name = N.name } }
     requires parts { N.parts ≡ 18446744073709551615 }
     requires run { IsRun J.run }
     requires begins { MayBeginIn J.run N.site N.limit }
@@ -76,7 +76,7 @@ fn play<J: Run, N: Room, R: Wait>(
     requires problem { problem.now ≡ J.run.problem }
 {
     cores_step_as_their_sites();
-    let cell: SiteCell<J, Registry, N> = SiteCell::new(opened, core, 2);
+    let cell: SiteCell<J, Registry, N> = SiteCell::new(cell_parts, core, 2);
     let mut receipts = Vec::new(alloc);
     let found = Body::Return {
         serial: 0,
@@ -100,7 +100,7 @@ fn book_of_the_registry(rt: HostRuntime) -> Result<(), Fail> {
     // (for what the getter says: that the problem is lawful)
     let _items = read.problem.items();
     let core = Registry::start(alloc, &read.problem, 1)?;
-    let right = play::<Brand, Brand, _>(&rt, alloc, Opened::new(alloc)?, core, &read.problem);
+    let right = play::<Brand, Brand, _>(&rt, alloc, CellParts::new(alloc)?, core, &read.problem);
     assert_eq!(rt; right, Some(true));
     Ok(())
 }

@@ -8,7 +8,7 @@ ghost use Rattle.run_book.specs.Sites.{opening_of, IsRun, MayBeginIn};
 use cover_problem::Problem;
 use dlx_reader::read_problem;
 use node_core::{Core, Event, NodeCore};
-use run_book::{Opened, Room, Run, SiteCell, cores_step_as_their_sites};
+use run_book::{CellName, CellParts, Run, SiteCell, cores_step_as_their_sites};
 use spawn_frame::Site;
 use std::alloc::{AllocError, Global};
 use std::marker::Brand;
@@ -126,7 +126,7 @@ impl Link for SlowLink {
 }
 
 /// Acts at the cell whenever a send asks for it, until the node has ended.
-fn act_when_asked<J: Run, C: Core + Drop, N: Room, R: Wait>(
+fn act_when_asked<J: Run, C: Core + Drop, N: CellName, R: Wait>(
     rt: &R,
     cell: &SiteCell<J, C, N>,
     stand: Stand<N>,
@@ -150,7 +150,7 @@ fn act_when_asked<J: Run, C: Core + Drop, N: Room, R: Wait>(
 fn run_beside<
     J: Run + Send + Sync,
     C: Core + Drop + Send,
-    N: Room + Send + Sync,
+    N: CellName + Send + Sync,
     R: Threads + Wait + Clock + Sync,
 >(
     rt: &R,
@@ -175,16 +175,16 @@ fn run_beside<
 }
 
 /// Opens the cell, and runs a node there; how many of its threads have come back.
-fn play<J: Run + Send + Sync, N: Room + Send + Sync, R: Threads + Wait + Clock + Sync>(
+fn play<J: Run + Send + Sync, N: CellName + Send + Sync, R: Threads + Wait + Clock + Sync>(
     rt: &R,
     alloc: Global,
-    opened: Opened,
+    cell_parts: CellParts,
     core: NodeCore,
     problem: &Problem,
     link: SlowLink,
     meeting: &Meeting,
 ) -> Option<usize>
-    requires here { opened ≡ record { table = N.table; name = N.name } }
+    requires here { cell_parts ≡ record { table = N.table; name = N.name } }
     requires parts { N.parts ≡ 18446744073709551615 }
     requires run { IsRun J.run }
     requires begins { MayBeginIn J.run N.site N.limit }
@@ -193,7 +193,7 @@ fn play<J: Run + Send + Sync, N: Room + Send + Sync, R: Threads + Wait + Clock +
     requires problem { problem.now ≡ J.run.problem }
 {
     cores_step_as_their_sites();
-    let cell: SiteCell<J, NodeCore, N> = SiteCell::new(opened, core, 10_000);
+    let cell: SiteCell<J, NodeCore, N> = SiteCell::new(cell_parts, core, 10_000);
     run_beside(rt, alloc, &cell, problem, link, meeting)
 }
 
@@ -213,8 +213,8 @@ fn send_holds_no_lock(rt: HostRuntime) -> Result<(), Fail> {
         inner: MemoryLink::new(Arc::new(alloc, Wires::new(alloc, 2)?)?, 1),
         meeting: Arc::try_clone(&meeting)?,
     };
-    let opened = Opened::new(alloc)?;
-    let came = play::<Brand, Brand, _>(&rt, alloc, opened, core, &read.problem, link, &meeting);
+    let cell_parts = CellParts::new(alloc)?;
+    let came = play::<Brand, Brand, _>(&rt, alloc, cell_parts, core, &read.problem, link, &meeting);
     assert_eq!(rt; (came, meeting.is_kept()), (Some(2), true));
     Ok(())
 }

@@ -11,7 +11,7 @@ use cover_problem::{Numbers, Problem};
 use dlx_reader::read_problem;
 use node_core::{Event, NodeCore};
 use packet_wire::{Body, Packet, write_packet};
-use run_book::{Entry, Opened, Room, Run, SiteCell, cores_step_as_their_sites};
+use run_book::{CellName, CellParts, Entry, Run, SiteCell, cores_step_as_their_sites};
 use spawn_frame::Site;
 use std::alloc::Global;
 use std::marker::Brand;
@@ -61,16 +61,16 @@ fn posted(entries: &[Entry]) -> Option<u64> {
 }
 
 /// Runs a node at a cell whose book has room for so many entries.
-fn play<J: Run + Send + Sync, N: Room + Send + Sync, R: Threads + Wait + Clock + Sync>(
+fn play<J: Run + Send + Sync, N: CellName + Send + Sync, R: Threads + Wait + Clock + Sync>(
     rt: &R,
     alloc: Global,
-    opened: Opened,
+    cell_parts: CellParts,
     core: NodeCore,
     problem: &Problem,
     link: MemoryLink,
     entries: u64,
 ) -> Option<Ended>
-    requires here { opened ≡ record { table = N.table; name = N.name } }
+    requires here { cell_parts ≡ record { table = N.table; name = N.name } }
     requires parts { N.parts ≡ 18446744073709551615 }
     requires run { IsRun J.run }
     requires begins { MayBeginIn J.run N.site N.limit }
@@ -79,7 +79,7 @@ fn play<J: Run + Send + Sync, N: Room + Send + Sync, R: Threads + Wait + Clock +
     requires problem { problem.now ≡ J.run.problem }
 {
     cores_step_as_their_sites();
-    let cell: SiteCell<J, NodeCore, N> = SiteCell::new(opened, core, entries);
+    let cell: SiteCell<J, NodeCore, N> = SiteCell::new(cell_parts, core, entries);
     let end = run_node(rt, alloc, &cell, problem, link, PLAN, &Open);
     let cause = end.cause;
     let (seats, stubs) = end.into_lists(alloc).ok()?;
@@ -128,9 +128,9 @@ fn run_small<R: Threads + Wait + Clock + Sync>(
     let wires = Arc::new(alloc, Wires::new(alloc, 2)?)?;
     give_root(rt, alloc, &mut MemoryLink::new(Arc::try_clone(&wires)?, 0))?;
     let link = MemoryLink::new(wires, 1);
-    let opened = Opened::new(alloc)?;
+    let cell_parts = CellParts::new(alloc)?;
     let problem = &read.problem;
-    let ended = play::<Brand, Brand, _>(rt, alloc, opened, core, problem, link, entries);
+    let ended = play::<Brand, Brand, _>(rt, alloc, cell_parts, core, problem, link, entries);
     Ok(ended)
 }
 

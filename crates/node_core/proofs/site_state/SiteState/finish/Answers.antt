@@ -10,7 +10,7 @@ use Rattle.steal_return.specs.Finishing.{FinishesFrame}
 pub returns-clause-step : goal.returns-clause-step
 returns-clause-step c =
     let Finished : List Reached → Type 0 = λ outs. FinishesFrame c.self.inside.ledger c.args.unit outs c.finish.new.self in
-    let whole = appended_whole Finished c.new-outs.result.items c.finish.new.list.items c.new-outs.ensures.items c.in_ok-finish.ensures.ok in
+    let whole = appended_whole Finished c.new-stolen.result.items c.finish.new.list.items c.new-stolen.ensures.items c.in_ok-finish.ensures.ok in
     let told : FinishesFrame c.self.inside.ledger c.args.unit c.deref.result.now c.finish.new.self = subst Finished (sym c.deref.ensures.value) whole in
     let aborts = abort_packets c.site-site.result c.deref.result.now in (
       aborts ++ loaded c.in_ok-load.load,

@@ -2,7 +2,7 @@ use Rattle.std.proofs.Common.{◌≡◌, Bool, List, Err, Result, sym, ap, ◌�
 use Rattle.node_core.proofs.Learning.{members_able, members_learnt, members_refused, members_tell}
 use Rattle.node_core.proofs.Aborts.{appended_whole, members_step, sends_after}
 use Rattle.node_core.proofs.site_state.SiteState.receive_members.Goals as goal
-use Rattle.node_core.proofs.site_state.SiteState.receive_members.Goals.{After-drop-outs}
+use Rattle.node_core.proofs.site_state.SiteState.receive_members.Goals.{After-drop-stolen}
 use Rattle.node_core.specs.NodeStep.{Tells}
 use Rattle.node_core.specs.Refusal.{members_refusal}
 use Rattle.node_core.specs.SiteView.{View, abort_packets, with_ledger}
@@ -21,11 +21,11 @@ not_both : (fault : LearnFault) → fault ≡ Memory → result_err fault ≡ re
 not_both fault is other = cc
 
 -- what is learnt, with the thieves that are told
-told : (c : After-drop-outs) → LearnsMembers c.self.inside.ledger c.args.incarnations.now c.deref.result.now c.learn_members.new.self
+told : (c : After-drop-stolen) → LearnsMembers c.self.inside.ledger c.args.incarnations.now c.deref.result.now c.learn_members.new.self
 told c =
     let Learns : List Reached → Type 0 = λ outs. LearnsMembers c.self.inside.ledger c.args.incarnations.now outs c.learn_members.new.self in
     subst Learns (sym c.deref.ensures.value)
-    (appended_whole Learns c.new-outs.result.items c.learn_members.new.list.items c.new-outs.ensures.items c.in-Ok.ensures.learns)
+    (appended_whole Learns c.new-stolen.result.items c.learn_members.new.list.items c.new-stolen.ensures.items c.in-Ok.ensures.learns)
 
 pub returns-in-Ok-clause-step : goal.returns-in-Ok-clause-step
 returns-in-Ok-clause-step c =

@@ -11,8 +11,8 @@ pub returns-then-dropped-clause-step : goal.returns-then-dropped-clause-step
 returns-then-dropped-clause-step c =
     let name : ChildName = record { site = c.args.from; serial = c.args.serial } in
     let Dropped : List Reached → Type 0 = λ outs. DropsGuest c.self.inside.ledger name c.args.attempt outs c.receive_refuse.new.self in
-    let appended = on_true c.in_ok-dropped.dropped (Appends c.new-outs.result.items c.receive_refuse.new.list.items Dropped) c.if-dropped.true c.in_ok-dropped.ensures.dropped in
-    let whole = appended_whole Dropped c.new-outs.result.items c.receive_refuse.new.list.items c.new-outs.ensures.items appended in
+    let appended = on_true c.in_ok-dropped.dropped (Appends c.new-stolen.result.items c.receive_refuse.new.list.items Dropped) c.if-dropped.true c.in_ok-dropped.ensures.dropped in
+    let whole = appended_whole Dropped c.new-stolen.result.items c.receive_refuse.new.list.items c.new-stolen.ensures.items appended in
     let told : DropsGuest c.self.inside.ledger name c.args.attempt c.deref.result.now c.receive_refuse.new.self = subst Dropped (sym c.deref.ensures.value) whole in (
       abort_packets c.site-site.result c.deref.result.now,
       sends_after c.args.out.now c.reserve.new.self c.put_aborts.new.self (abort_packets c.site-site.result c.deref.result.now) c.reserve.ensures.same c.put_aborts.ensures.sends,

@@ -6,12 +6,12 @@ use Rattle.run_book.proofs.desk.Desk.new.Goals as goal
 
 pub invariant_of-result : goal.invariant_of-result
 invariant_of-result g c =
-    let opened = c.open-register.ensures in
-    let view : View = opening_of g.J.Run.run g.N.Room.site g.N.Room.limit in
-    rw (c.new.ensures.items, opened.register, opened.seats, c.requires.view) (record {
+    let made = c.open-register.ensures in
+    let view : View = opening_of g.J.Run.run g.N.CellName.site g.N.CellName.limit in
+    rw (c.new.ensures.items, made.register, made.seats, c.requires.view) (record {
       same = c.requires.problem;
       steps = c.requires.steps;
-      formed = formed_at_first g.N.Room.site.node g.J.Run.run g.N.Room.site g.N.Room.limit c.requires.run c.requires.begins;
+      formed = formed_at_first g.N.CellName.site.node g.J.Run.run g.N.CellName.site g.N.CellName.limit c.requires.run c.requires.begins;
       book = record { lawful = c.requires.run; begins = c.requires.begins; leads = refl };
       log = refl;
       none_back = refl;

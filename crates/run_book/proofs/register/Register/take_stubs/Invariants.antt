@@ -6,6 +6,6 @@ use Rattle.run_book.proofs.register.Register.take_stubs.Given as goal
 
 abbrev pub invariant-loop-stub : goal.invariant-loop-stub
 invariant-loop-stub g l =
-    (l.keeper.table_id ≡ g.N.Room.table) × IsPassOf l.carrier l.keeper × IsKeeper (view l.keeper)
+    (l.keeper.table_id ≡ g.N.CellName.table) × IsPassOf l.carrier l.keeper × IsKeeper (view l.keeper)
     × (log_of (view l.keeper) ≡ l.fn.self.log)
     × (back_of (view l.keeper) ++ into_iter_items l.stub-iterator ≡ l.fn.self.back ++ l.fn.stubs.items)

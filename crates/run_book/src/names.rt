@@ -18,7 +18,7 @@ impl Run for Brand {
 
 /// Names one cell: its ledger of seats, its table of receipts, its site, and the limit on its names. What carries the type is
 /// of this cell.
-pub trait Room: Ledger {
+pub trait CellName: Ledger {
     ghost use Rattle.std.specs.Prelude.{ℕ};
     ghost use Rattle.atomic_table.specs.Seated.{TableId};
     ghost use Rattle.spawn_frame.specs.declared.site.Site.{Site};
@@ -30,7 +30,7 @@ pub trait Room: Ledger {
     ghost limit: { ℕ };
 }
 
-impl Room for Brand {
+impl CellName for Brand {
     ghost use Rattle.node_core.specs.Requests.{registry};
     ghost use Rattle.run_book.specs.Tickets.{no_table};
 

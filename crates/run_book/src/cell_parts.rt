@@ -1,7 +1,7 @@
 ghost use Rattle.std.specs.Prelude.{◌≡◌, []};
 
 use crate::register::Register;
-use crate::room::Room;
+use crate::names::CellName;
 use crate::seats::Seats;
 use crate::ticket_rule::{Carrier, Token};
 use std::alloc::{AllocError, Global};
@@ -10,19 +10,19 @@ use std::sync::ledger::Blank;
 
 /// What a cell is made of before a type stands for it. Contracts see it as its names, which the caller puts into the type.
 #[derive(Drop)]
-pub struct Opened {
+pub struct CellParts {
     carrier: Carrier,
     keeper: Token,
     blank: Blank,
 }
 
-impl Model for Opened {
+impl Model for CellParts {
     ghost use Rattle.std.specs.Prelude.{◌≡◌};
     ghost use Rattle.crossbeam_queue.specs.Passes.{view as known, IsPassOf};
     ghost use Rattle.run_book.specs.Tickets.{keeper_of_none};
-    ghost use Rattle.run_book.specs.Seats.{RoomName};
+    ghost use Rattle.run_book.specs.Seats.{CellNames};
 
-    ghost Value = { RoomName };
+    ghost Value = { CellNames };
 
     ghost view = { λ o. record { table = o.keeper.table_id; name = o.blank.name } };
 
@@ -30,11 +30,11 @@ impl Model for Opened {
         × (o.blank.parts ≡ 18446744073709551615) };
 }
 
-impl Opened {
+impl CellParts {
     /// A new table of receipts, and a new ledger of seats. The only error is want of memory.
-    pub fn new(alloc: Global) -> Result<Opened, AllocError> {
+    pub fn new(alloc: Global) -> Result<CellParts, AllocError> {
         let (carrier, keeper) = Carrier::ruled(alloc, 1)?;
-        Ok(Opened {
+        Ok(CellParts {
             carrier,
             keeper,
             blank: Blank::new(u64::MAX),
@@ -42,13 +42,13 @@ impl Opened {
     }
 
     /// The register and the seats of the cell that the type now names.
-    pub fn open<N: Room>(self) -> (Register<N>, Seats<N>)
+    pub fn open<N: CellName>(self) -> (Register<N>, Seats<N>)
         requires here { self ≡ record { table = N.table; name = N.name } }
         requires parts { N.parts ≡ 18446744073709551615 }
         ensures register { result.0 ≡ record { log = []; back = [] } }
         ensures seats { result.1 ≡ record { given = 0; total = 0 } }
     {
-        let Opened {
+        let CellParts {
             carrier,
             keeper,
             blank,
