@@ -7,7 +7,8 @@ The small problem with one cover is solved. First, with the usual four nodes of 
 says, from none to all. Then one growth of memory is refused: with one node of one worker each growth of a run in turn, and with eight
 workers N (100) of them, spread over a run. Then, with eight workers, all growths are refused from one of them on, in a quarter as many
 runs. `refuse_growth.c`, which is built here and loaded before the C library, refuses them. Each answer has to be the right one. A run has to
-end within the limit (60 seconds). Where memory ran out and there is no answer, the status has to be 5 and standard error has to say so.
+end within the limit (60 seconds). Where memory ran out and there is no answer, the status has to be 5 and standard error has to say so; but
+a thread whose growth is refused at its start is one that can't be started, and then status 4 is right, too.
 
 --short refuses 25 growths where else it would be each or a hundred, and three numbers of threads. It wants cc and the program:
 (cd crates/solve_cli && rt run) builds it. The exit status is 0, 1 where a run went wrong, 2 for a fault of the command line or where
@@ -28,6 +29,7 @@ THREADS = (0, 1, 2, 4, 8, 12, 16)
 ALONE = ("--nodes", "1", "--workers", "1")
 USUAL = ()
 FEW = 25
+ONE, ALL = "refuse_growth", "refuse_from"
 
 # How a run ended: its status, the text on standard output and on standard error, and its seconds.
 Ended = collections.namedtuple("Ended", "status text why seconds")
@@ -60,12 +62,13 @@ class Trial:
         return Ended(ran.returncode, ran.stdout, ran.stderr, time.monotonic() - start)
 
     def growths(self):
-        """How many growths the last run asked for."""
+        """How many growths the last run asked for, the place that asked for the refused one, and the places that ask for a thread's."""
         with open(self.count, encoding="ascii") as file:
-            return int(file.read())
+            count, refused, *starts = map(int, file.read().split())
+        return count, refused, starts
 
     def judge(self, ended, memory):
-        """Counts a run that went wrong, and prints how."""
+        """Counts a run that went wrong, and prints how. Without `memory` there may be no answer since threads can't be started."""
         right = (ended.status == 0 and ended.text == ANSWER) or (ended.status == 4 and ended.text == "no answer\n" and not memory) or (
             memory and ended.status == 5 and "out of memory" in ended.why and not ended.text)
         if not right or ended.seconds > self.limit:
@@ -85,13 +88,16 @@ def threads(trial, numbers):
 def growths(trial, name, words, what, count):
     """Runs with a refusal at so many growths of a run with these words, or at each of them, as one row of a table."""
     trial.judge(trial.run(words), False)
-    all_of = trial.growths()
+    all_of, _, starts = trial.growths()
     places = sorted({1 + all_of * place // count for place in range(count)}) if count else range(1, all_of + 1)
-    ended = [trial.run(words, **{what: place}) for place in places]
-    for one in ended:
-        trial.judge(one, True)
+    ended, unstarted = [], 0
+    for place in places:
+        ended.append(trial.run(words, **{what: place}))
+        is_start = what == ONE and ended[-1].status is not None and trial.growths()[1] in starts
+        unstarted += is_start
+        trial.judge(ended[-1], not is_start)
     counts = collections.Counter(one.status for one in ended)
-    cells = [name, all_of, len(ended), counts[0], counts[4], counts[5], f"{max(one.seconds for one in ended):.2f}"]
+    cells = [name, all_of, len(ended), unstarted, counts[0], counts[4], counts[5], f"{max(one.seconds for one in ended):.2f}"]
     print(f"| {' | '.join(map(str, cells))} |", flush=True)
 
 
@@ -107,10 +113,10 @@ def main():
     with tempfile.TemporaryDirectory(prefix="try-shortage-") as folder:
         trial = Trial(folder, given.limit)
         threads(trial, THREADS[::3] if given.short else THREADS)
-        print("\n| Refused | Growths | Runs | Answers | No answer | Out of memory | Longest, s |\n|---|---|---|---|---|---|---|")
-        growths(trial, "one of a run with one worker", ALONE, "refuse_growth", FEW if given.short else 0)
-        growths(trial, "one of a run with eight workers", USUAL, "refuse_growth", some)
-        growths(trial, "all from one on", USUAL, "refuse_from", max(some // 4, 1))
+        print("\n| Refused | Growths | Runs | At a thread's start | Answers | No answer | Out of memory | Longest, s |\n|---|---|---|---|---|---|---|---|")
+        growths(trial, "one of a run with one worker", ALONE, ONE, FEW if given.short else 0)
+        growths(trial, "one of a run with eight workers", USUAL, ONE, some)
+        growths(trial, "all from one on", USUAL, ALL, max(some // 4, 1))
     print(f"{trial.wrong} runs went wrong")
     return 1 if trial.wrong else 0
 

@@ -57,9 +57,9 @@ abbrev pub threads_app : App
 threads_app =
     with_rule (with_rule (with_rule (sites_app (codes "solve")) (number_rule (codes "turns") (codes "1000000"))) (number_rule (codes "restarts") (codes "0"))) (number_rule (codes "workers") (codes "2"))
 
--- that with whether the books are audited, and when the run ends
+-- that with whether the books are audited, when the run ends, and whether it writes how far it has come
 abbrev pub solve_app : App
-solve_app = with_rule (with_rule threads_app (flag_rule (codes "audit"))) (limit_rule (codes "seconds"))
+solve_app = with_rule (with_rule (with_rule threads_app (flag_rule (codes "audit"))) (limit_rule (codes "seconds"))) (flag_rule (codes "progress"))
 
 -- a command that wants one of its subcommands
 abbrev pub wanting_subcommand : App → App

@@ -212,7 +212,10 @@ fn solve_command<'a>(alloc: Global) -> Result<Command<'a>, AllocError>
         "seconds",
         "After how many seconds the run ends without an answer, 1 to 1000000; no limit if not given",
     );
-    threads_command(alloc)?.arg(audit)?.arg(seconds)
+    threads_command(alloc)?
+        .arg(audit)?
+        .arg(seconds)?
+        .arg(progress_argument(alloc))
 }
 
 /// What one thread does.

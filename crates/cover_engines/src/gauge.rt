@@ -24,6 +24,13 @@ struct Place {
     children: u64,
 }
 
+/// How much the chosen options count for, and all that comes before them.
+#[derive(Clone, Copy)]
+struct Way {
+    before: u64,
+    part: u64,
+}
+
 impl<'a> Gauge<'a> {
     /// What the whole tree counts for.
     pub const WHOLE: u64 = 1_000_000_000_000_000_000;
@@ -38,17 +45,39 @@ impl<'a> Gauge<'a> {
     /// How much lies behind a search that has chosen these options, of `WHOLE`; each part is rounded down. The options are read up
     /// to the first that is no child of those before it. It takes no memory.
     pub fn share(&mut self, chosen: &[u16]) -> u64 {
+        self.share_below(0, chosen)
+    }
+
+    /// How much of what counts for a prefix of this length lies behind a search of it that has chosen these options, of `WHOLE`.
+    pub fn share_below(&mut self, length: usize, chosen: &[u16]) -> u64 {
+        let way = self.walk(length, chosen);
+        way.before.saturating_add(way.part / 2)
+    }
+
+    /// How much a prefix counts for, of `WHOLE`, with all that is below it. It takes no memory.
+    pub fn part(&mut self, prefix: &[u16]) -> u64 {
+        self.walk(prefix.len(), prefix).part
+    }
+
+    /// Chooses these options, up to the first that is no child of those before it. What comes before the first of them, as many as the
+    /// length says, doesn't count.
+    fn walk(&mut self, length: usize, chosen: &[u16]) -> Way {
         choose_prefix(&mut self.links, &[]);
-        let mut part = Gauge::WHOLE;
-        let mut done = 0u64;
-        for option in chosen {
+        let mut way = Way {
+            before: 0,
+            part: Gauge::WHOLE,
+        };
+        for (depth, option) in chosen.iter().enumerate() {
             let Some(place) = self.step(*option) else {
                 break;
             };
-            part /= place.children;
-            done = done.saturating_add(part.saturating_mul(place.before));
+            way.part /= place.children;
+            if depth >= length {
+                let before = way.part.saturating_mul(place.before);
+                way.before = way.before.saturating_add(before);
+            }
         }
-        done.saturating_add(part / 2)
+        way
     }
 
     /// Chooses an option, if it is a child of those that are chosen, and returns its place among the children.

@@ -22,6 +22,8 @@ pub struct Progress {
     pub visits: u64,
     /// How much of the tree lies behind it, of `Gauge::WHOLE`, as DLX1 estimates it.
     pub share: u64,
+    /// How many jobs workers search, if the search has workers.
+    pub jobs: Option<u64>,
 }
 
 impl Display for Progress {
@@ -34,7 +36,11 @@ impl Display for Progress {
             self.visits,
             parts / 10_000,
             parts % 10_000
-        )
+        )?;
+        match self.jobs {
+            Some(jobs) => write!(f, ", {jobs} jobs out"),
+            None => Ok(()),
+        }
     }
 }
 
@@ -74,12 +80,51 @@ impl<'a, E: Sink> ProgressLog<'a, E> {
         self.is_begun = true;
     }
 
+    /// Writes why the search ended without an answer, on a line of its own.
+    pub fn write_reason(&mut self, reason: &str) {
+        self.end();
+        let _ = writeln!(self.sink, "ended: {reason}");
+    }
+
     /// Ends the last line, so that what follows is on one of its own.
     pub fn end(&mut self) {
         if self.is_begun && self.lines == Lines::Overwritten {
             let _ = writeln!(self.sink, "");
         }
         self.is_begun = false;
+    }
+}
+
+/// When the next line is due. Where the clock can't be read none is.
+#[derive(Clone, Copy)]
+pub struct Seconds {
+    began: Option<Instant>,
+    /// After how much time the next line is written.
+    due: Duration,
+}
+
+impl Seconds {
+    /// From now on.
+    pub fn new<C: Clock>(clock: &C) -> Seconds {
+        Seconds {
+            began: Instant::now(clock).ok(),
+            due: Duration::from_secs(PAUSE),
+        }
+    }
+
+    /// How much time is over.
+    pub fn elapsed<C: Clock>(&self, clock: &C) -> Option<Duration> {
+        self.began?.elapsed(clock).ok()
+    }
+
+    /// How many whole seconds are over, where a line is due; then the next is due a pause later.
+    pub fn due<C: Clock>(&mut self, clock: &C) -> Option<u64> {
+        let elapsed = self.elapsed(clock)?;
+        if elapsed < self.due {
+            return None;
+        }
+        self.due = elapsed.saturating_add(Duration::from_secs(PAUSE));
+        Some(elapsed.as_secs())
     }
 }
 
@@ -91,9 +136,7 @@ pub struct ProgressWatch<'a, E: Sink, C: Clock> {
     gauge: Gauge<'a>,
     log: ProgressLog<'a, E>,
     fuel: u64,
-    began: Option<Instant>,
-    /// After how much time the next line is written.
-    due: Duration,
+    seconds: Seconds,
 }
 
 impl<'a, E: Sink, C: Clock> ProgressWatch<'a, E, C> {
@@ -110,18 +153,8 @@ impl<'a, E: Sink, C: Clock> ProgressWatch<'a, E, C> {
             gauge: Gauge::new(alloc, problem)?,
             log,
             fuel,
-            began: Instant::now(clock).ok(),
-            due: Duration::from_secs(PAUSE),
+            seconds: Seconds::new(clock),
         })
-    }
-
-    /// How much time is over since the search began, where a line is due.
-    fn elapsed(&self) -> Option<Duration> {
-        let elapsed = self.began?.elapsed(self.clock).ok()?;
-        if elapsed < self.due {
-            return None;
-        }
-        Some(elapsed)
     }
 }
 
@@ -147,14 +180,14 @@ impl<'a, E: Sink, C: Clock> Watch for ProgressWatch<'a, E, C> {
     ghost may_stop = { false };
 
     fn look(&mut self, chosen: &[u16], left: u64) -> bool {
-        let Some(elapsed) = self.elapsed() else {
+        let Some(seconds) = self.seconds.due(self.clock) else {
             return false;
         };
-        self.due = elapsed.saturating_add(Duration::from_secs(PAUSE));
         self.log.write(Progress {
-            seconds: elapsed.as_secs(),
+            seconds,
             visits: self.fuel.saturating_sub(left),
             share: self.gauge.share(chosen),
+            jobs: None,
         });
         false
     }

@@ -5,6 +5,7 @@ mod audited;
 mod check;
 mod colours;
 mod devices;
+mod followed;
 mod long;
 mod progress;
 mod refused;

@@ -1,7 +1,7 @@
 //! `solve_cli`: finds an exact cover of a problem in the format of Knuth's DLX1, or shows that there is none.
 #![tactic(auto)]
 
-ghost use Rattle.std.specs.Prelude.{◌≡◌, IfOk};
+ghost use Rattle.std.specs.Prelude.{◌≡◌, ◌+◌, IfOk, vec_len};
 
 use command_line::request;
 pub use command_line::{SettingsFault, settings};
@@ -10,9 +10,10 @@ pub use cover_engines::{
     simulate_engine, solve_engine, tell, tell_fault,
 };
 use cover_engines::{
-    Lines, ProgressLog, alone_with_progress, links, read_whole, solve_problem, tell_end,
-    tell_unbound,
+    FollowedRun, Lines, ProgressLog, alone_with_progress, links, read_whole, solve_problem,
+    tell_end, tell_unbound,
 };
+use cover_problem::Problem;
 use dlx_reader::{CountedReader, CountedWriter};
 use either::Either;
 pub use run_settings::{Mode, Settings};
@@ -25,7 +26,7 @@ use std::process::ExitCode;
 use std::sync::Wait;
 use std::thread::Threads;
 use std::time::{Clock, Duration};
-use udp_node::Open;
+use udp_node::{Gate, Open, UdpLink};
 
 /// What is read: a file, or standard input.
 type Input = CountedReader<Either<File, Stdin>>;
@@ -99,9 +100,9 @@ fn run_simulate(rt: &HostRuntime, settings: &Settings<'_>) -> u8 {
 fn run_solve<R: Threads + Wait + Clock + Net + Sync>(
     rt: &HostRuntime,
     threads: &R,
-    settings: &Settings<'_>,
-    limit: Option<Duration>,
+    request: &Request<'_>,
 ) -> u8 {
+    let settings = &request.settings;
     let mut errors = CountedWriter::new(rt.stderr());
     let Ok(mut source) = open(rt, settings.file) else {
         return tell_fault(&EngineFault::Read, &mut errors);
@@ -117,20 +118,61 @@ fn run_solve<R: Threads + Wait + Clock + Net + Sync>(
         }
         Err(_) => return tell_unbound(&mut errors),
     };
+    let ended = if request.progress {
+        run_followed(rt, threads, request, &read.problem, links)
+    } else {
+        run_sites(rt, threads, request, &read.problem, links, &Open)
+    };
+    match ended {
+        Ok(status) => tell(status, read.ignored, &mut errors),
+        Err(fault) => tell_fault(&fault, &mut errors),
+    }
+}
+
+/// Lets sites search a problem over these links, and answers the exit status.
+fn run_sites<G: Gate + Sync, R: Threads + Wait + Clock + Net + Sync>(
+    rt: &HostRuntime,
+    threads: &R,
+    request: &Request<'_>,
+    problem: &Problem,
+    links: Vec<UdpLink>,
+    gate: &G,
+) -> Result<u8, EngineFault>
+    requires { vec_len links ≡ request.now.settings.nodes + 1 }
+{
     let mut sink = CountedWriter::new(rt.stdout());
-    match solve_problem(
+    let limit = limit_of(request);
+    let settings = &request.settings;
+    solve_problem(
         threads,
         rt.alloc(),
         settings,
         limit,
-        &read.problem,
+        problem,
         links,
-        &Open,
+        gate,
         &mut sink,
-    ) {
-        Ok(status) => tell(status, read.ignored, &mut errors),
-        Err(fault) => tell_fault(&fault, &mut errors),
-    }
+    )
+}
+
+/// Does the same, and meanwhile writes how far the run has come, and why it ended where there is no answer.
+fn run_followed<R: Threads + Wait + Clock + Net + Sync>(
+    rt: &HostRuntime,
+    threads: &R,
+    request: &Request<'_>,
+    problem: &Problem,
+    links: Vec<UdpLink>,
+) -> Result<u8, EngineFault>
+    requires { vec_len links ≡ request.now.settings.nodes + 1 }
+{
+    let mut errors = CountedWriter::new(rt.stderr());
+    let log = ProgressLog::new(&mut errors, lines_of(rt));
+    let Ok(followed) = FollowedRun::new(threads, rt.alloc(), &request.settings, problem, log) else {
+        return Err(EngineFault::Memory);
+    };
+    let ended = run_sites(rt, threads, request, problem, links, &followed);
+    followed.end(!matches!(ended, Ok(4)), limit_of(request));
+    ended
 }
 
 /// Runs what is asked for, and answers the exit status.
@@ -144,7 +186,7 @@ fn run_request<R: Threads + Wait + Clock + Net + Sync>(
         Mode::Alone => run_alone(rt, settings, request.progress),
         Mode::Check => run_check(rt, settings),
         Mode::Simulate => run_simulate(rt, settings),
-        Mode::Solve => run_solve(rt, threads, settings, limit_of(request)),
+        Mode::Solve => run_solve(rt, threads, request),
     }
 }
 

@@ -1,20 +1,22 @@
-use std::sync::atomic::{AtomicBool, Ordering};
+use std::sync::atomic::{AtomicBool, AtomicU64, Ordering};
 use std::thread;
 use std::time::{Clock, Duration, Instant};
 
-/// How often a site looks whether the registry has begun, before it gives up: for some two seconds.
-const LOOKS: u32 = 10_000;
+/// How often a node looks whether the registry's threads have begun, before it gives up: for some two seconds.
+const LOOKS: u32 = 25_000;
 
-/// How long it waits between two looks, in microseconds.
-const NAP: u64 = 100;
+/// How long it waits between two looks, in microseconds. The system adds some fifty.
+const NAP: u64 = 20;
 
 /// What ends a run whose sites don't end by themselves. No answer depends on it.
 #[derive(Drop)]
 pub struct Ending {
     /// The run can't go on.
     raised: AtomicBool,
-    /// The registry's site has begun, or it isn't one of this process.
+    /// The registry's threads have begun, or they aren't of this process.
     has_registry: AtomicBool,
+    /// How many nodes have not left yet.
+    nodes: AtomicU64,
     /// How long the run may last, if it is limited.
     timer: Option<Timer>,
 }
@@ -25,15 +27,18 @@ impl Ending {
         Ending {
             raised: AtomicBool::new(false),
             has_registry: AtomicBool::new(true),
+            nodes: AtomicU64::new(1),
             timer: None,
         }
     }
 
-    /// Of a run that begins now and lasts so long at most, if it is limited. A limited run whose clock can't be read ends at once.
-    pub fn within<R: Clock>(rt: &R, limit: Option<Duration>) -> Ending {
+    /// Of a run of so many nodes that begins now and lasts so long at most, if it is limited. A limited run whose clock can't be read
+    /// ends at once.
+    pub fn within<R: Clock>(rt: &R, limit: Option<Duration>, nodes: u8) -> Ending {
         let mut ending = Ending {
             raised: AtomicBool::new(false),
             has_registry: AtomicBool::new(false),
+            nodes: AtomicU64::new(u64::from(nodes)),
             timer: None,
         };
         if let Some(limit) = limit {
@@ -45,13 +50,13 @@ impl Ending {
         ending
     }
 
-    /// The registry's site has begun.
+    /// A thread of each kind has begun at the registry's site.
     pub fn begin_registry(&self) {
         self.has_registry.store(true, Ordering::SeqCst);
     }
 
-    /// Waits until the registry's site has begun, or the run is over, for some two seconds. Whether it has begun: what can't be started
-    /// on a thread of its own runs after the others, which would wait for it.
+    /// Waits until the registry's threads have begun, or the run is over, for some two seconds. Whether they have begun: what can't be
+    /// started on a thread of its own runs after the others, which would wait for it.
     pub fn await_registry<R: Clock>(&self, rt: &R) -> bool {
         for _look in 0..LOOKS {
             if self.has_registry.load(Ordering::SeqCst) || self.is_over(rt) {
@@ -60,6 +65,11 @@ impl Ending {
             thread::sleep(rt, Duration::from_micros(NAP));
         }
         self.has_registry.load(Ordering::SeqCst)
+    }
+
+    /// A node leaves the run for good. Whether it is the last one.
+    pub fn leave(&self) -> bool {
+        self.nodes.fetch_sub(1, Ordering::SeqCst) <= 1
     }
 
     /// The run can't go on: it ends.

@@ -92,7 +92,7 @@ pub fn run_sites_within<
     requires links { vec_len links ≡ plan.nodes + 1 }
     ensures { IfOk result (λ end. IsRunEnd J.run end.answer end.books.items) }
 {
-    let ending = Ending::within(rt, limit);
+    let ending = Ending::within(rt, limit, plan.nodes);
     // (for what the getter says: that the problem is lawful)
     let _items = problem.items();
     let tables = Tables::build(alloc, problem)?;

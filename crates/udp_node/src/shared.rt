@@ -35,11 +35,12 @@ pub struct Shared<'a, J: Run, C: Core + Drop, N: CellName, G: Gate> {
 }
 
 impl<J: Run, C: Core + Drop, N: CellName, G: Gate> Shared<'_, J, C, N, G> {
-    /// Waits until a thread of each kind and the registry have begun, each for some two seconds. Without one of them the site ends.
+    /// Waits until a thread of each kind has begun, for some two seconds: then the nodes may begin, if the site is the registry's. Else
+    /// the site ends.
     pub fn muster<R: Clock>(&self, rt: &R) {
         self.signals.muster(rt);
-        if !self.ending.await_registry(rt) {
-            self.signals.end();
+        if self.cell.site().node == 0 && self.signals.is_manned() {
+            self.ending.begin_registry();
         }
     }
 

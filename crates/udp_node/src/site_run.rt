@@ -56,6 +56,14 @@ pub struct Whole<'a, J: Run, G: Gate> {
     pub ghost nodes: { plan.nodes ≡ J.run.nodes },
 }
 
+impl<J: Run, G: Gate> Whole<'_, J, G> {
+    /// The run ends with the site of this node, which ended so.
+    fn end(&self, node: u8, end: &SiteEnd) {
+        self.gate.ended(node, end);
+        self.ending.raise();
+    }
+}
+
 /// How a site of a run ended, over all its starts. The greatest numbers stay.
 #[derive(Clone, Copy, Debug, PartialEq, Eq)]
 pub struct SiteEnd {
@@ -150,8 +158,8 @@ impl<J: Run, L: Link> SiteRun<J, L> {
         })
     }
 
-    /// Runs all starts of the site to their ends, once, one after the other. Where the others can't go on without the site then, the
-    /// run ends.
+    /// Runs all starts of the site to their ends, once, one after the other; a node's once the registry's threads have begun, so that
+    /// it gets its own where few can be started. The run ends where the others can't go on without the site then, or no node is left.
     pub fn run<G: Gate + Sync, R: Threads + Wait + Clock + Sync>(
         &mut self,
         rt: &R,
@@ -162,14 +170,16 @@ impl<J: Run, L: Link> SiteRun<J, L> {
         L: Send,
         ensures { self.new.node ≡ self.old.node }
     {
-        if self.node == 0 {
-            whole.ending.begin_registry();
+        if self.node != 0 && !whole.ending.await_registry(rt) {
+            whole.end(self.node, &self.end);
+            return;
         }
         if let Some(link) = self.link.take() {
             self.run_starts(rt, whole, link);
         }
-        if self.end.ends_run(self.node) {
-            whole.ending.raise();
+        let is_last = self.node != 0 && whole.ending.leave();
+        if is_last || self.end.ends_run(self.node) {
+            whole.end(self.node, &self.end);
         }
     }
 

@@ -6,7 +6,7 @@ ghost use Rattle.udp_node.specs.Hands.{IsPosted};
 
 use crate::actor::Actor;
 use crate::cause::Cause;
-use crate::gate::Gate;
+use crate::gate::{Gate, SearchWatch};
 use crate::hand::{Hand, Searched, Wanted};
 use crate::pace::Pace;
 use crate::plan::Plan;
@@ -167,11 +167,20 @@ impl<'a, J: Run> Worker<'a, J> {
             run,
         } = wanted;
         let fuel = fuel.max(1);
+        let (gate, signals) = (actor.shared.gate, actor.shared.signals);
+        gate.begun();
+        let mut watch = SearchWatch {
+            over: signals.over(),
+            gate,
+            length: prefix.as_slice().len(),
+            fuel,
+        };
         match self
             .searcher
-            .find_until(prefix.into_vec(), fuel, &mut actor.shared.signals.over())
+            .find_until(prefix.into_vec(), fuel, &mut watch)
         {
             Ok(Some((finding, visits))) => {
+                gate.searched(&finding, visits);
                 self.pace
                     .note(finding.prefix().len(), finding.outcome(), visits);
                 self.post(rt, actor, Searched { job, finding, run })

@@ -158,11 +158,13 @@ fn reads_how_long_a_run_may_last(rt: HostRuntime) {
 }
 
 /// Words that ask for progress, or don't.
-static PROGRESSES: [(&[&str], bool); 4] = [
+static PROGRESSES: [(&[&str], bool); 6] = [
     (&["solve_cli", "alone", "a.dlx", "--progress"], true),
     (&["solve_cli", "alone", "--progress", "a.dlx"], true),
     (&["solve_cli", "alone", "a.dlx"], false),
     (&["solve_cli", "alone", "--", "--progress"], false),
+    (&["solve_cli", "solve", "a.dlx", "--progress"], true),
+    (&["solve_cli", "solve", "a.dlx"], false),
 ];
 
 #[test]
@@ -214,7 +216,7 @@ static WORDS: [(&[&str], u8); 58] = [
     (&["solve_cli", "check", "a", "b", "--seconds", "5"], 2),
     (&["solve_cli", "simulate", "a", "--seconds", "5"], 2),
     (&["solve_cli", "check", "a", "b", "--progress"], 2),
-    (&["solve_cli", "solve", "a", "--progress"], 2),
+    (&["solve_cli", "simulate", "a", "--progress"], 2),
     (&["solve_cli", "alone", "a", "--progress", "1"], 2),
     (&["solve_cli", "alone", "a", "--fuel"], 2),
     (&["solve_cli", "alone", "a", "--fuel", "0"], 2),

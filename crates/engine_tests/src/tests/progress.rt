@@ -38,6 +38,25 @@ fn shares_are_those_of_the_children_behind(rt: HostRuntime) -> Result<(), Fail> 
     Ok(())
 }
 
+/// How long a prefix is, the chosen options of a search of it, and how much of what counts for it lies behind that.
+static SHARES_BELOW: [(usize, &[u16], u64); 5] = [
+    (0, &[2, 5], 944_444_444_444_444_443),
+    (1, &[2, 5], 277_777_777_777_777_777),
+    (2, &[2, 5], 55_555_555_555_555_555),
+    (1, &[2, 3], 55_555_555_555_555_555),
+    (3, &[2, 3], 55_555_555_555_555_555),
+];
+
+#[test]
+fn what_comes_before_a_prefix_is_not_behind_its_search(rt: HostRuntime) -> Result<(), Fail> {
+    let read = read_problem(rt.alloc(), SIX.as_bytes())?;
+    let mut gauge = Gauge::new(rt.alloc(), &read.problem)?;
+    for (length, chosen, share) in SHARES_BELOW.iter() {
+        assert_eq!(rt; gauge.share_below(*length, chosen), *share);
+    }
+    Ok(())
+}
+
 /// How far a search has come, with its line.
 static PROGRESSES: [(Progress, &str); 3] = [
     (
@@ -45,6 +64,7 @@ static PROGRESSES: [(Progress, &str); 3] = [
             seconds: 1,
             visits: 1023,
             share: 0,
+            jobs: None,
         },
         "1 s: 1023 visits,   0.0000 % of the tree",
     ),
@@ -53,14 +73,16 @@ static PROGRESSES: [(Progress, &str); 3] = [
             seconds: 12,
             visits: 34_567_890,
             share: 944_444_444_444_444_443,
+            jobs: Some(8),
         },
-        "12 s: 34567890 visits,  94.4444 % of the tree",
+        "12 s: 34567890 visits,  94.4444 % of the tree, 8 jobs out",
     ),
     (
         Progress {
             seconds: 300,
             visits: u64::MAX,
             share: Gauge::WHOLE,
+            jobs: None,
         },
         "300 s: 18446744073709551615 visits, 100.0000 % of the tree",
     ),

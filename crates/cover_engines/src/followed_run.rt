@@ -1,0 +1,158 @@
+//! How far a run of sites has come, and why it ended.
+
+use crate::gauge::Gauge;
+use crate::progress::{Progress, ProgressLog, Seconds};
+use brancher::{Finding, Outcome};
+use cover_problem::Problem;
+use dlx_reader::Sink;
+use run_settings::Settings;
+use spawn_frame::Job;
+use std::alloc::{AllocError, Global};
+use std::sync::{Mutex, Wait};
+use std::time::{Clock, Duration};
+use udp_node::{Cause, Gate, SiteEnd};
+
+/// A gate that lets all pass, and meanwhile writes each second how far the run has come: of the tree, what is below prefixes that were
+/// searched without a cover, and what lies behind the search that is looked at. Where the clock can't be read it writes nothing.
+#[derive(Drop)]
+pub struct FollowedRun<'a, E: Sink, R: Wait + Clock> {
+    rt: &'a R,
+    /// How many turns a thread takes at most.
+    turns: u64,
+    /// How many one of node 1 takes at most in each of its starts.
+    turns_of_start: u64,
+    state: Mutex<State<'a, E>>,
+}
+
+/// What has been heard of a run.
+#[derive(Drop)]
+struct State<'a, E: Sink> {
+    gauge: Gauge<'a>,
+    log: ProgressLog<'a, E>,
+    seconds: Seconds,
+    visits: u64,
+    share: u64,
+    jobs: u64,
+    /// Why the site ended with which the run ended, if the search was not over.
+    reason: Option<&'static str>,
+}
+
+impl<'a, E: Sink, R: Wait + Clock> FollowedRun<'a, E, R> {
+    /// A gate of a run that has these settings and begins now. The only error is want of memory.
+    pub fn new(
+        rt: &'a R,
+        alloc: Global,
+        settings: &Settings,
+        problem: &'a Problem,
+        log: ProgressLog<'a, E>,
+    ) -> Result<FollowedRun<'a, E, R>, AllocError> {
+        let gauge = Gauge::new(alloc, problem)?;
+        let state = State {
+            gauge,
+            log,
+            seconds: Seconds::new(rt),
+            visits: 0,
+            share: 0,
+            jobs: 0,
+            reason: None,
+        };
+        let turns = u64::from(settings.turns);
+        Ok(FollowedRun {
+            rt,
+            turns,
+            turns_of_start: turns / (u64::from(settings.restarts) + 1),
+            state: Mutex::new(state),
+        })
+    }
+
+    /// The run has ended. Where there is no answer, the reason is written: the limit of its time, or how a site ended.
+    pub fn end(&self, is_answered: bool, limit: Option<Duration>) {
+        let mut state = self.state.lock(self.rt);
+        if is_answered {
+            state.log.end();
+            return;
+        }
+        let is_late = match (limit, state.seconds.elapsed(self.rt)) {
+            (Some(limit), Some(elapsed)) => elapsed >= limit,
+            _ => false,
+        };
+        let reason = match state.reason {
+            _ if is_late => "the time is over",
+            Some(reason) => reason,
+            None => "nothing was published",
+        };
+        state.log.write_reason(reason);
+    }
+
+    /// Why the site of a node ended so.
+    fn reason(&self, node: u8, end: &SiteEnd) -> &'static str {
+        let turns = if node == 1 { self.turns_of_start } else { self.turns };
+        match end.cause {
+            Cause::Over => "the search is over",
+            Cause::BookFull => "a book is full",
+            Cause::Faults => "a socket failed",
+            Cause::Memory => "out of memory",
+            Cause::Turns if !end.is_manned => "a thread could not be started",
+            Cause::Turns if end.taken.turns >= turns => "the turns of a site are over",
+            Cause::Turns => "a site heard nothing for long",
+        }
+    }
+}
+
+impl<'a, E: Sink> State<'a, E> {
+    /// A worker has searched a prefix.
+    fn note(&mut self, finding: &Finding, visits: u64) {
+        self.jobs = self.jobs.saturating_sub(1);
+        self.visits = self.visits.saturating_add(visits);
+        if finding.outcome() == Outcome::Barren {
+            let part = self.gauge.part(finding.prefix());
+            self.share = self.share.saturating_add(part).min(Gauge::WHOLE);
+        }
+    }
+
+    /// Writes how far the run has come after so many seconds: so many visits and so much of the tree more than was noted.
+    fn write(&mut self, seconds: u64, visits: u64, share: u64) {
+        self.log.write(Progress {
+            seconds,
+            visits: self.visits.saturating_add(visits),
+            share: self.share.saturating_add(share).min(Gauge::WHOLE),
+            jobs: Some(self.jobs),
+        });
+    }
+}
+
+impl<'a, E: Sink, R: Wait + Clock> Gate for FollowedRun<'a, E, R> {
+    fn pass(&self, _worker: u8, _job: &Job) -> bool {
+        true
+    }
+
+    fn posted(&self, _worker: u8, _job: &Job) {}
+
+    fn begun(&self) {
+        let mut state = self.state.lock(self.rt);
+        state.jobs = state.jobs.saturating_add(1);
+    }
+
+    fn seen(&self, length: usize, chosen: &[u16], visits: u64) {
+        let mut state = self.state.lock(self.rt);
+        if let Some(seconds) = state.seconds.due(self.rt) {
+            let share = state.gauge.share_below(length, chosen);
+            state.write(seconds, visits, share);
+        }
+    }
+
+    fn searched(&self, finding: &Finding, visits: u64) {
+        let mut state = self.state.lock(self.rt);
+        state.note(finding, visits);
+        if let Some(seconds) = state.seconds.due(self.rt) {
+            state.write(seconds, 0, 0);
+        }
+    }
+
+    fn ended(&self, node: u8, end: &SiteEnd) {
+        let mut state = self.state.lock(self.rt);
+        if end.cause != Cause::Over && state.reason.is_none() {
+            state.reason = Some(self.reason(node, end));
+        }
+    }
+}
