@@ -12,7 +12,7 @@ def program_of(crate):
     return os.path.join(TOP, "crates", crate, "out", crate)
 
 
-SOLVE_CLI, WORKBENCH, WORLD_STORY = map(program_of, ("solve_cli", "workbench", "world_story"))
+SOLVE_CLI, WORKBENCH, RUN_TALLY, WORLD_STORY = map(program_of, ("solve_cli", "workbench", "run_tally", "world_story"))
 
 
 def parser_of(text):

@@ -9,13 +9,7 @@
 //!
 //! `workbench table UNITS` times the calls of a ledger with so many own children, `workbench guests UNITS` of one with so many
 //! guests: a line for each call, how often it was called, and the nanoseconds of all. `bench/table.py` reads them.
-//!
-//! `workbench sites FILE NODES WORKERS SEED FUEL TURNS` lets sites with threads search a file's problem over links in memory, and tells how each
-//! ended and what its book holds. `bench/books.py` reads it.
 #![tactic(auto)]
-
-ghost use Rattle.std.specs.Prelude.{◌≤◌, IfSome};
-ghost use Rattle.spawn_frame.specs.declared.site.TheConstants.{LAST_NODE};
 
 mod cells;
 mod cycle;
@@ -23,7 +17,6 @@ mod deliveries;
 mod fault;
 mod many_units;
 mod shares;
-mod sites;
 mod table;
 
 use crate::cells::{greet_cell, greet_core};
@@ -31,13 +24,11 @@ use crate::cycle::{act_cycles, copy_packets, packets};
 use crate::deliveries::{act_deliveries, packet_of};
 use crate::fault::BenchFault;
 use crate::shares::{act_shares, share_in, share_packets};
-use crate::sites::run_over_memory;
 use crate::table::{measure_children, measure_guests};
 use dlx_reader::read_problem;
 use std::alloc::Global;
 use std::env;
-use std::fs::File;
-use std::io::{self, Read};
+use std::io;
 use std::process::ExitCode;
 use std::sync::Wait;
 use std::thread::Threads;
@@ -123,61 +114,6 @@ fn time_calls(rt: &HostRuntime, what: &str, units: &str) -> io::Result<Result<()
     }
 }
 
-/// The plan of a run that the numbers spell: nodes, workers, seed, fuel, turns.
-fn sites_plan(
-    nodes: &str,
-    workers: &str,
-    seed: &str,
-    fuel: &str,
-    turns: &str,
-) -> Option<udp_node::Plan>
-    ensures { IfSome result (λ plan. (1 ≤ plan.nodes) × (plan.nodes ≤ LAST_NODE)) }
-{
-    let nodes = nodes.parse::<u8>().ok()?;
-    if nodes == 0 || nodes > 16 {
-        return None;
-    }
-    Some(udp_node::Plan {
-        workers: workers.parse::<u8>().ok()?,
-        nodes,
-        fuel: fuel.parse::<u64>().ok()?,
-        seed: seed.parse::<u64>().ok()?,
-        turns: turns.parse::<u64>().ok()?,
-        quiet: QUIET,
-    })
-}
-
-/// Lets sites search the problem of a file, and tells how each ended.
-fn tell_sites<R: Threads + Wait + Clock + Sync>(
-    rt: &HostRuntime,
-    threads: &R,
-    file: &str,
-    plan: udp_node::Plan,
-) -> io::Result<()>
-    requires some { 1 ≤ plan.nodes }
-    requires most { plan.nodes ≤ LAST_NODE }
-{
-    let mut text = Vec::new(rt.alloc());
-    File::open(rt, file)?.read_to_end(&mut text)?;
-    let Ok(read) = read_problem(rt.alloc(), &text) else {
-        return println!(rt; "the file is refused");
-    };
-    let end = run_over_memory(threads, rt.alloc(), &read.problem, plan)?;
-    println!(rt; "{}", end.is_published)?;
-    for site in &end.sites {
-        let taken = site.taken;
-        println!(rt;
-            "{:?} {} {} {}",
-            site.cause, site.losses, taken.turns, taken.waits
-        )?;
-    }
-    for tally in &end.tallies {
-        let (entries, searches) = (tally.entries, tally.searches);
-        println!(rt; "{entries} {searches} {} {}", tally.spent, tally.names)?;
-    }
-    Ok(())
-}
-
 /// The words of the command line behind the program's name.
 fn given_words(rt: &HostRuntime) -> io::Result<Vec<String>> {
     let mut given = Vec::new(rt.alloc());
@@ -187,14 +123,10 @@ fn given_words(rt: &HostRuntime) -> io::Result<Vec<String>> {
     Ok(given)
 }
 
-/// After how many receives in a row without a datagram a site gives up: a receive in memory takes a fraction of a millisecond.
-const QUIET: u64 = 1_000_000;
-
 /// How it is called.
 const USAGE: &str = "workbench act|copy KIND TIMES
 workbench greet THREADS TIMES
-workbench table|guests UNITS
-workbench sites FILE NODES WORKERS SEED FUEL TURNS";
+workbench table|guests UNITS";
 
 fn main(rt: HostRuntime) -> io::Result<ExitCode> {
     let words = given_words(&rt)?;
@@ -207,15 +139,6 @@ fn main(rt: HostRuntime) -> io::Result<ExitCode> {
         ),
         [what, units] => time_calls(&rt, what, units)?,
         [what, kind, times] => count(rt.alloc(), what, kind, times),
-        [what, file, nodes, workers, seed, fuel, turns] if what.as_str() == "sites" => {
-            match sites_plan(nodes, workers, seed, fuel, turns) {
-                Some(plan) => {
-                    tell_sites(&rt, &rt, file, plan)?;
-                    Ok(())
-                }
-                None => Err(BenchFault::Unexpected),
-            }
-        }
         _ => Err(BenchFault::Unexpected),
     };
     match counted {
