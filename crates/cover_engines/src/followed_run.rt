@@ -86,7 +86,11 @@ impl<'a, E: Sink, R: Wait + Clock> FollowedRun<'a, E, R> {
 
     /// Why the site of a node ended so.
     fn reason(&self, node: u8, end: &SiteEnd) -> &'static str {
-        let turns = if node == 1 { self.turns_of_start } else { self.turns };
+        let turns = if node == 1 {
+            self.turns_of_start
+        } else {
+            self.turns
+        };
         match end.cause {
             Cause::Over => "the search is over",
             Cause::BookFull => "a book is full",

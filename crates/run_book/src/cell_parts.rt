@@ -1,7 +1,7 @@
 ghost use Rattle.std.specs.Prelude.{◌≡◌, []};
 
-use crate::register::Register;
 use crate::names::CellName;
+use crate::register::Register;
 use crate::seats::Seats;
 use crate::ticket_rule::{Carrier, Token};
 use std::alloc::{AllocError, Global};

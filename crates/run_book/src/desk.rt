@@ -7,13 +7,13 @@ ghost use Rattle.run_book.specs.Places.{AllStand, AreBelow, places};
 ghost use Rattle.run_book.specs.Sites.{opening_of, IsRun, MayBeginIn, StepsAt};
 
 use crate::book::Book;
+use crate::cell_parts::CellParts;
 use crate::entry::Entry;
 use crate::fault::{BookFault, Missing};
-use crate::cell_parts::CellParts;
+use crate::names::{CellName, Run};
 use crate::prepared::{AnswerRoom, Prepared, copied_reply};
 use crate::register::{Receipt, Register, Stub};
 use crate::repeated::Repeated;
-use crate::names::{CellName, Run};
 use crate::seats::{Seat, Seats};
 use crate::step::Step;
 use node_core::{ActFault, Core, Event, Reply};

@@ -6,13 +6,13 @@ ghost use Rattle.run_book.specs.Places.{AllStand, AreBelow, places};
 ghost use Rattle.run_book.specs.Sites.{opening_of, IsRun, MayBeginIn, StepsAt};
 
 use crate::book::Book;
+use crate::cell_parts::CellParts;
 use crate::desk;
 use crate::desk::Desk;
 use crate::fault::{BookFault, Missing};
-use crate::cell_parts::CellParts;
+use crate::names::{CellName, Run};
 use crate::prepared::Prepared;
 use crate::register::{Receipt, Stub};
-use crate::names::{CellName, Run};
 use crate::seats::Seat;
 use node_core::{Core, Event};
 use spawn_frame::Site;

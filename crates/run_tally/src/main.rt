@@ -22,13 +22,7 @@ use udp_node::Plan;
 const QUIET: u64 = 1_000_000;
 
 /// The plan of a run that the numbers spell: nodes, workers, seed, fuel, turns.
-fn plan_of(
-    nodes: &str,
-    workers: &str,
-    seed: &str,
-    fuel: &str,
-    turns: &str,
-) -> Option<Plan>
+fn plan_of(nodes: &str, workers: &str, seed: &str, fuel: &str, turns: &str) -> Option<Plan>
     ensures { IfSome result (λ plan. (1 ≤ plan.nodes) × (plan.nodes ≤ LAST_NODE)) }
 {
     let nodes = nodes.parse::<u8>().ok()?;

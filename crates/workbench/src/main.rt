@@ -27,12 +27,11 @@ use crate::shares::{act_shares, share_in, share_packets};
 use crate::table::{measure_children, measure_guests};
 use dlx_reader::read_problem;
 use std::alloc::Global;
-use std::env;
-use std::io;
 use std::process::ExitCode;
 use std::sync::Wait;
 use std::thread::Threads;
 use std::time::Clock;
+use std::{env, io};
 
 /// One item and no option: the search of the root is short, and there is no cover.
 const ONE_ITEM: &str = "a\n";

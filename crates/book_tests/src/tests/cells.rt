@@ -266,7 +266,14 @@ fn seat_places_rise(rt: HostRuntime) -> Result<(), Fail> {
     let _items = read.problem.items();
     for (script, limit) in &SCRIPTS {
         let core = NodeCore::start(alloc, &read.problem, HERE, 1, 1000)?;
-        let right = play::<Brand, Brand, _>(&rt, alloc, CellParts::new(alloc)?, core, *limit, *script);
+        let right = play::<Brand, Brand, _>(
+            &rt,
+            alloc,
+            CellParts::new(alloc)?,
+            core,
+            *limit,
+            *script,
+        );
         assert_eq!(rt; right, Some(true));
     }
     Ok(())

@@ -28,20 +28,35 @@ type Ended = (u8, Cause, u64, bool);
 /// Sites in the order in which they ended, and the line.
 static REASONS: [(&[Ended], &str); 11] = [
     (&[], "ended: nothing was published\n"),
-    (&[(0, Cause::Over, 9, true)], "ended: nothing was published\n"),
+    (
+        &[(0, Cause::Over, 9, true)],
+        "ended: nothing was published\n",
+    ),
     (&[(1, Cause::BookFull, 9, true)], "ended: a book is full\n"),
     (&[(2, Cause::Faults, 9, true)], "ended: a socket failed\n"),
     (&[(0, Cause::Memory, 0, false)], "ended: out of memory\n"),
-    (&[(4, Cause::Turns, 0, false)], "ended: a thread could not be started\n"),
-    (&[(2, Cause::Turns, 4000, true)], "ended: the turns of a site are over\n"),
-    (&[(2, Cause::Turns, 3999, true)], "ended: a site heard nothing for long\n"),
-    (&[(1, Cause::Turns, 1000, true)], "ended: the turns of a site are over\n"),
-    (&[(1, Cause::Turns, 999, true)], "ended: a site heard nothing for long\n"),
     (
-        &[
-            (3, Cause::Faults, 9, true),
-            (0, Cause::BookFull, 9, true),
-        ],
+        &[(4, Cause::Turns, 0, false)],
+        "ended: a thread could not be started\n",
+    ),
+    (
+        &[(2, Cause::Turns, 4000, true)],
+        "ended: the turns of a site are over\n",
+    ),
+    (
+        &[(2, Cause::Turns, 3999, true)],
+        "ended: a site heard nothing for long\n",
+    ),
+    (
+        &[(1, Cause::Turns, 1000, true)],
+        "ended: the turns of a site are over\n",
+    ),
+    (
+        &[(1, Cause::Turns, 999, true)],
+        "ended: a site heard nothing for long\n",
+    ),
+    (
+        &[(3, Cause::Faults, 9, true), (0, Cause::BookFull, 9, true)],
         "ended: a socket failed\n",
     ),
 ];
