@@ -8,6 +8,7 @@ ghost use Rattle.run_book.specs.Sites.{opening_of, IsRun, MayBeginIn};
 use audit::{Clean, Unclean, audit};
 use cover_problem::{Numbers, Problem};
 use dlx_reader::read_problem;
+use growth_marks::{begin, end};
 use node_core::{Core, Event, NodeCore};
 use packet_wire::{Body, Packet, is_well_formed};
 use root_registry::Registry;
@@ -295,31 +296,17 @@ fn node_in<J: Run, R: Wait>(
     node_book::<J, Brand, R>(rt, alloc, cell_parts, core, acts)
 }
 
-/// Nothing else in these tests asks for so many bytes, or for a few hundred more.
-const MARK: usize = 6_000_000;
-
-/// The mark of an audit's beginning.
+/// The number of an audit.
 const AUDIT: usize = 80;
-
-/// The marks of its end: it found something, or memory was refused.
-const ANSWERED: usize = 128;
-
-const REFUSED: usize = 129;
-
-/// Tells a number to whoever counts growths, by asking for memory of a size that nothing else asks for.
-fn mark<R: Abort>(rt: &R, alloc: Global, number: usize) {
-    let room: Vec<u8> = Vec::with_capacity(alloc, MARK.wrapping_add(number)).expect(rt, "memory");
-    assert!(rt; room.capacity() >= MARK);
-}
 
 /// What an audit between marks finds, and where memory was refused, what another one finds.
 fn audited<J: Run, R: Abort>(rt: &R, alloc: Global, books: &[Book<J>]) -> Result<Clean, Unclean>
     requires { are_distinct books.now ≡ true }
 {
-    mark(rt, alloc, AUDIT);
+    begin(alloc, AUDIT).expect(rt, "memory");
     let found = audit(alloc, books);
     let refused = found == Err(Unclean::Memory);
-    mark(rt, alloc, if refused { REFUSED } else { ANSWERED });
+    end(alloc, refused).expect(rt, "memory");
     if refused { audit(alloc, books) } else { found }
 }
 

@@ -8,6 +8,7 @@ ghost use Rattle.run_book.specs.Sites.{opening_of, IsRun, MayBeginIn};
 
 use cover_problem::Numbers;
 use dlx_reader::read_problem;
+use growth_marks::{begin, end};
 use node_core::{ActFault, Core, Event, NodeCore, Reply};
 use packet_wire::{Body, Packet, is_well_formed};
 use run_book::{
@@ -23,16 +24,8 @@ use std::test::*;
 /// Seven items and six options.
 const LETTERS: &str = "a b c d e f g\nc e\na d g\nb c f\na d f\nb g\nd e g\n";
 
-/// Nothing else in these tests asks for so many bytes, or for a few hundred more.
-const MARK: usize = 6_000_000;
-
-/// The mark of an event's beginning.
+/// The number of an event.
 const ACT: usize = 108;
-
-/// The marks of its end: it was answered, or memory was refused.
-const ANSWERED: usize = 128;
-
-const REFUSED: usize = 129;
 
 /// The registry, the node whose cell it is, and another one.
 const REGISTRY: Site = Site {
@@ -80,12 +73,6 @@ static ROWS: [Row; 9] = [
     (Act::Over, None, 0),
 ];
 
-/// Tells a number to whoever counts growths, by asking for memory of a size that nothing else asks for.
-fn mark<R: Abort>(rt: &R, alloc: Global, number: usize) {
-    let room: Vec<u8> = Vec::with_capacity(alloc, MARK.wrapping_add(number)).expect(rt, "memory");
-    assert!(rt; room.capacity() >= MARK);
-}
-
 /// The packet that arrives.
 fn packet_of(alloc: Global, act: Act) -> Packet {
     let (from, body) = match act {
@@ -117,9 +104,9 @@ fn happens<J: Run, C: Core + Drop, N: CellName, R: Abort + Wait>(
 ) -> Option<(Seat<N>, Receipt<N>)>
     requires { IsFit J.run.problem event }
 {
-    mark(rt, alloc, ACT);
+    begin(alloc, ACT).expect(rt, "memory");
     let done = cell.act(rt, seat, event);
-    mark(rt, alloc, if done.is_err() { REFUSED } else { ANSWERED });
+    end(alloc, done.is_err()).expect(rt, "memory");
     match done {
         Ok(done) => Some(done),
         Err((seat, event, BookFault::Memory | BookFault::Core(ActFault::Memory))) => {

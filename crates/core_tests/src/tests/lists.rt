@@ -1,23 +1,16 @@
 //! The lists that a core puts its packets into, and the marks by which it is told from outside in which event memory is
 //! asked for.
 
-ghost use Rattle.std.specs.Prelude.{◌≡◌};
+ghost use Rattle.std.specs.Prelude.{◌≡◌, ◌<◌};
 ghost use Rattle.node_core.specs.Refusal.{IsFit};
 
 use super::said::{Said, are_sent};
+use growth_marks::{begin, end};
 use node_core::{ActFault, Core, Event, Reply};
 use packet_wire::{Body, Packet};
 use spawn_frame::Site;
 use std::alloc::Global;
 use std::process::Abort;
-
-/// Nothing else in these tests asks for so many bytes, or for a few hundred more.
-const MARK: usize = 6_000_000;
-
-/// The marks of an event's end: it was answered, or memory was refused.
-const ANSWERED: usize = 128;
-
-const REFUSED: usize = 129;
 
 /// A site of no run.
 const NOWHERE: Site = Site {
@@ -91,7 +84,9 @@ impl Lists {
 }
 
 /// The number of what a packet says.
-fn body_number(body: &Body) -> usize {
+fn body_number(body: &Body) -> usize
+    ensures { result < 20 }
+{
     match body {
         Body::Hello => 7,
         Body::Members(_) => 8,
@@ -108,7 +103,9 @@ fn body_number(body: &Body) -> usize {
 }
 
 /// The number of an event, or of what its packet says.
-fn event_number(event: &Event) -> usize {
+fn event_number(event: &Event) -> usize
+    ensures { result < 20 }
+{
     match event {
         Event::Take => 0,
         Event::Post(..) => 1,
@@ -121,18 +118,13 @@ fn event_number(event: &Event) -> usize {
     }
 }
 
-/// Tells a number to whoever counts growths, by asking for memory of a size that nothing else asks for.
-fn mark<R: Abort>(rt: &R, alloc: Global, number: usize) {
-    let room: Vec<u8> = Vec::with_capacity(alloc, MARK.wrapping_add(number)).expect(rt, "memory");
-    assert!(rt; room.capacity() >= MARK);
-}
-
-/// The mark of an event's beginning: what happens, where, and whether it puts packets into two lists.
-fn beginning(event: &Event, site: Site, both: bool) -> usize {
-    let number = event_number(event).wrapping_mul(4);
+/// The number of a call: what happens, where, and whether it puts packets into two lists.
+fn call_number(event: &Event, site: Site, both: bool) -> usize
+    ensures { result < 128 }
+{
     let place = if site.node == 0 { 2 } else { 0 };
     let lists = if both { 1 } else { 0 };
-    number.wrapping_add(place + lists)
+    event_number(event) * 4 + place + lists
 }
 
 /// Hands an event to a core, whose packets go into the lists.
@@ -147,7 +139,8 @@ pub fn act_into<C: Core, R: Abort>(
 {
     let alloc = core.allocator();
     if lists.marked {
-        mark(rt, alloc, beginning(&event, core.site(), lists.both));
+        let number = call_number(&event, core.site(), lists.both);
+        begin(alloc, number).expect(rt, "memory");
     }
     let answer = if lists.both {
         core.act_both(event, &mut lists.out, &mut lists.copies)
@@ -156,7 +149,7 @@ pub fn act_into<C: Core, R: Abort>(
     };
     if lists.marked {
         let refused = answer == Err(ActFault::Memory);
-        mark(rt, alloc, if refused { REFUSED } else { ANSWERED });
+        end(alloc, refused).expect(rt, "memory");
     }
     answer
 }

@@ -3,8 +3,10 @@
 use cover_engines::{FollowedRun, Lines, ProgressLog};
 use dlx_reader::{CountedWriter, read_problem};
 use run_settings::{Mode, Settings};
+use std::alloc::Global;
+use std::sync::Wait;
 use std::test::Fail;
-use std::time::Duration;
+use std::time::{Clock, Duration};
 use udp_node::{Cause, Gate, SiteEnd, Taken};
 
 /// How many turns a thread of the run takes at most; node 1 restarts three times.
@@ -78,17 +80,18 @@ fn settings() -> Settings<'static> {
 }
 
 /// What is written where these sites ended and there is an answer or not, within a limit of time.
-fn told(
-    rt: &HostRuntime,
+fn told<R: Wait + Clock>(
+    rt: &R,
+    alloc: Global,
     sites: &[Ended],
     is_answered: bool,
     limit: Option<Duration>,
 ) -> Result<Vec<u8>, Fail> {
-    let read = read_problem(rt.alloc(), b"a\na\n")?;
-    let mut told = Vec::new(rt.alloc());
+    let read = read_problem(alloc, b"a\na\n")?;
+    let mut told = Vec::new(alloc);
     let mut errors = CountedWriter::new(&mut told);
     let log = ProgressLog::new(&mut errors, Lines::Listed);
-    let run = FollowedRun::new(rt, rt.alloc(), &settings(), &read.problem, log)?;
+    let run = FollowedRun::new(rt, alloc, &settings(), &read.problem, log)?;
     for (node, cause, turns, is_manned) in sites {
         run.ended(*node, &ended(*cause, *turns, *is_manned));
     }
@@ -100,7 +103,7 @@ fn told(
 #[test]
 fn a_run_without_an_answer_tells_the_first_reason(rt: HostRuntime) -> Result<(), Fail> {
     for (sites, line) in REASONS.iter() {
-        let told = told(&rt, sites, false, None)?;
+        let told = told(&rt, rt.alloc(), sites, false, None)?;
         assert!(rt; told.as_slice() == line.as_bytes(), "{line}");
     }
     Ok(())
@@ -109,16 +112,22 @@ fn a_run_without_an_answer_tells_the_first_reason(rt: HostRuntime) -> Result<(),
 #[test]
 fn the_limit_comes_before_all_others(rt: HostRuntime) -> Result<(), Fail> {
     let sites = [(1, Cause::Turns, 9, true)];
-    let late = told(&rt, &sites, false, Some(Duration::from_secs(0)))?;
+    let late = told(&rt, rt.alloc(), &sites, false, Some(Duration::from_secs(0)))?;
     assert!(rt; late.as_slice() == b"ended: the time is over\n".as_slice());
-    let early = told(&rt, &sites, false, Some(Duration::from_secs(1_000_000)))?;
+    let early = told(
+        &rt,
+        rt.alloc(),
+        &sites,
+        false,
+        Some(Duration::from_secs(1_000_000)),
+    )?;
     assert!(rt; early.as_slice() == b"ended: a site heard nothing for long\n".as_slice());
     Ok(())
 }
 
 #[test]
 fn a_run_with_an_answer_tells_none(rt: HostRuntime) -> Result<(), Fail> {
-    let told = told(&rt, &[(1, Cause::Faults, 9, true)], true, None)?;
+    let told = told(&rt, rt.alloc(), &[(1, Cause::Faults, 9, true)], true, None)?;
     assert!(rt; told.is_empty());
     Ok(())
 }

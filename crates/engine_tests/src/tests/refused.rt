@@ -9,30 +9,17 @@ use super::told::Told;
 use super::{alone, check};
 use cover_engines::{AloneEnd, EngineFault, alone_engine, check_engine, tell_end};
 use dlx_reader::{CountedReader, CountedWriter};
+use growth_marks::{begin, end};
 use std::alloc::Global;
 use std::process::Abort;
 
-/// Nothing else in these tests asks for so many bytes, or for a few hundred more.
-const MARK: usize = 6_000_000;
-
-/// The marks of a beginning: `alone` runs, or `check`.
+/// The numbers of the calls: `alone` runs, or `check`.
 const ALONE: usize = 112;
 
 const CHECK: usize = 116;
 
-/// The marks of an end: it ended in some way, or memory was refused.
-const ANSWERED: usize = 128;
-
-const REFUSED: usize = 129;
-
 /// Room for all that is written, so that the sink asks for no memory.
 const ROOM: usize = 1000;
-
-/// Tells a number to whoever counts growths, by asking for memory of a size that nothing else asks for.
-fn mark<R: Abort>(rt: &R, alloc: Global, number: usize) {
-    let room: Vec<u8> = Vec::with_capacity(alloc, MARK.wrapping_add(number)).expect(rt, "memory");
-    assert!(rt; room.capacity() >= MARK);
-}
 
 /// Marks the end of an engine, and answers whether memory was refused. Then nothing is written.
 fn is_refused<R: Abort>(
@@ -42,7 +29,7 @@ fn is_refused<R: Abort>(
     out: &[u8],
 ) -> bool {
     let refused = matches!(ended, Err(EngineFault::Memory));
-    mark(rt, alloc, if refused { REFUSED } else { ANSWERED });
+    end(alloc, refused).expect(rt, "memory");
     assert!(rt; !refused || out.is_empty(), "something is written");
     refused
 }
@@ -65,7 +52,7 @@ fn alone_told<R: Abort>(rt: &R, alloc: Global, text: &str, fuel: u64) -> Told
 {
     let mut out = Vec::with_capacity(alloc, ROOM).expect(rt, "memory");
     let mut source = CountedReader::new(text.as_bytes());
-    mark(rt, alloc, ALONE);
+    begin(alloc, ALONE).expect(rt, "memory");
     let ended = alone_engine(alloc, fuel, &mut source, &mut CountedWriter::new(&mut out));
     if is_refused(rt, alloc, &ended, &out) {
         return alone::alone(alloc, text, fuel);
@@ -98,7 +85,7 @@ fn check_told<R: Abort>(rt: &R, alloc: Global, texts: (&str, &str), fuel: u64) -
     let mut file = CountedReader::new(text.as_bytes());
     let mut source = CountedReader::new(answer.as_bytes());
     let mut sink = CountedWriter::new(&mut out);
-    mark(rt, alloc, CHECK);
+    begin(alloc, CHECK).expect(rt, "memory");
     let ended = check_engine(alloc, fuel, &mut file, &mut source, &mut sink);
     if is_refused(rt, alloc, &ended, &out) {
         return check::check(alloc, text, answer, fuel);

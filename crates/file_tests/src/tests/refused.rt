@@ -7,34 +7,21 @@ use super::reading::{COLOURED, FAULTS, PROBLEMS, is_coloured, is_read};
 use super::texts::problem_of;
 use cover_problem::{Answer, Problem};
 use dlx_reader::{AnswerFault, Read, ReadFault, read_answer, read_problem};
+use growth_marks::{begin, end};
 use std::alloc::Global;
 use std::process::Abort;
 
-/// Nothing else in these tests asks for so many bytes, or for a few hundred more.
-const MARK: usize = 6_000_000;
-
-/// The marks of a beginning: a problem is read, or an answer.
+/// The numbers of the calls: a problem is read, or an answer.
 const PROBLEM: usize = 84;
 
 const ANSWER: usize = 88;
 
-/// The marks of an end: something was read or refused, or memory was refused.
-const ANSWERED: usize = 128;
-
-const REFUSED: usize = 129;
-
-/// Tells a number to whoever counts growths, by asking for memory of a size that nothing else asks for.
-fn mark<R: Abort>(rt: &R, alloc: Global, number: usize) {
-    let room: Vec<u8> = Vec::with_capacity(alloc, MARK.wrapping_add(number)).expect(rt, "memory");
-    assert!(rt; room.capacity() >= MARK);
-}
-
 /// What is read between marks, and where memory is refused, what is read then.
 fn problem_read<R: Abort>(rt: &R, alloc: Global, text: &str) -> Result<Read, ReadFault> {
-    mark(rt, alloc, PROBLEM);
+    begin(alloc, PROBLEM).expect(rt, "memory");
     let read = read_problem(alloc, text.as_bytes());
     let refused = matches!(&read, Err(ReadFault::Memory));
-    mark(rt, alloc, if refused { REFUSED } else { ANSWERED });
+    end(alloc, refused).expect(rt, "memory");
     if refused {
         return read_problem(alloc, text.as_bytes());
     }
@@ -75,10 +62,10 @@ fn answer_read<R: Abort>(
     problem: &Problem,
     text: &str,
 ) -> Result<Answer, AnswerFault> {
-    mark(rt, alloc, ANSWER);
+    begin(alloc, ANSWER).expect(rt, "memory");
     let read = read_answer(alloc, text.as_bytes(), problem);
     let refused = matches!(&read, Err(AnswerFault::Memory));
-    mark(rt, alloc, if refused { REFUSED } else { ANSWERED });
+    end(alloc, refused).expect(rt, "memory");
     if refused {
         return read_answer(alloc, text.as_bytes(), problem);
     }

@@ -6,25 +6,12 @@ use super::search::{PREFIXES, SEARCHES, outcome_of};
 use super::texts::{LETTERS, problem_of};
 use brancher::{Finding, Outcome, Searcher};
 use cover_problem::{Problem, is_prefix};
+use growth_marks::{begin, end};
 use std::alloc::Global;
 use std::process::Abort;
 
-/// Nothing else in these tests asks for so many bytes, or for a few hundred more.
-const MARK: usize = 6_000_000;
-
-/// The mark of a search's beginning.
+/// The number of a search.
 const FIND: usize = 96;
-
-/// The marks of its end: it found something or nothing, or memory was refused.
-const ANSWERED: usize = 128;
-
-const REFUSED: usize = 129;
-
-/// Tells a number to whoever counts growths, by asking for memory of a size that nothing else asks for.
-fn mark<R: Abort>(rt: &R, alloc: Global, number: usize) {
-    let room: Vec<u8> = Vec::with_capacity(alloc, MARK.wrapping_add(number)).expect(rt, "memory");
-    assert!(rt; room.capacity() >= MARK);
-}
 
 /// The finding of a prefix whose search is marked. Where memory is refused the prefix comes back, and is searched again.
 fn found<R: Abort>(
@@ -36,9 +23,9 @@ fn found<R: Abort>(
     let mut searcher = Searcher::new(alloc, problem).expect(rt, "memory");
     let list = Vec::from_slice(alloc, prefix).expect(rt, "memory");
     assert!(rt; is_prefix(problem, &list));
-    mark(rt, alloc, FIND);
+    begin(alloc, FIND).expect(rt, "memory");
     let found = searcher.find(list, fuel.max(1));
-    mark(rt, alloc, if found.is_err() { REFUSED } else { ANSWERED });
+    end(alloc, found.is_err()).expect(rt, "memory");
     match found {
         Ok(finding) => finding,
         Err(back) => {

@@ -4,25 +4,20 @@
 //! No memory is refused here: `scripts/try_memory.py` does it from outside, and is told by marks where a `spawn` begins and
 //! ends.
 
+ghost use Rattle.std.specs.Prelude.{◌<◌};
+
 use super::tables::split;
 use super::units::{HERE, ROOT, is_here, is_ready, list};
+use growth_marks::{begin, end};
 use spawn_frame::Unit::{Guest, Own};
 use spawn_frame::*;
 use std::alloc::{AllocError, Global};
 use std::process::Abort;
 
-/// Nothing else in these tests asks for so many bytes, or for a few hundred more.
-const MARK: usize = 6_000_000;
-
-/// The marks of a beginning: a `spawn` that may take memory, and one whose children fit into the last page.
+/// The numbers of the calls: a `spawn` that may take memory, and one whose children fit into the last page.
 const BEYOND: usize = 68;
 
 const WITHIN: usize = 72;
-
-/// The marks of an end: the call was answered, or memory was refused.
-const ANSWERED: usize = 128;
-
-const REFUSED: usize = 129;
 
 /// A ready unit is taken up and split into so many children, of which the first has this serial.
 enum Step {
@@ -55,24 +50,21 @@ static SPLITS: &[Step] = &[
     Beyond(Own(1535), 300, 1536),
 ];
 
-/// Tells a number to whoever counts growths, by asking for memory of a size that nothing else asks for.
-fn mark<R: Abort>(rt: &R, alloc: Global, number: usize) {
-    let room: Vec<u8> = Vec::with_capacity(alloc, MARK.wrapping_add(number)).expect(rt, "memory");
-    assert!(rt; room.capacity() >= MARK);
-}
-
 /// What is answered where a unit, which is here, is split between marks.
 fn marked<R: Abort>(
     rt: &R,
     alloc: Global,
     table: &mut Table,
-    (unit, options): (Unit, &[u16]),
-    beginning: usize,
-) -> Result<u32, SpawnFault> {
-    mark(rt, alloc, beginning);
+    split_up: (Unit, &[u16]),
+    number: usize,
+) -> Result<u32, SpawnFault>
+    requires { number < 128 }
+{
+    let (unit, options) = split_up;
+    begin(alloc, number).expect(rt, "memory");
     let first = split(rt, table, unit, options);
     let refused = first == Err(SpawnFault::Memory);
-    mark(rt, alloc, if refused { REFUSED } else { ANSWERED });
+    end(alloc, refused).expect(rt, "memory");
     first
 }
 

@@ -11,23 +11,16 @@ use super::said::has_come;
 use cover_problem::Problem;
 use cover_world::{Starved, World, WorldEvent, WorldFault};
 use dlx_reader::read_problem;
+use growth_marks::{begin, end};
 use node_core::{ActFault, Reply};
 use spawn_frame::Unit;
 use std::alloc::Global;
 use std::process::Abort;
 
-/// Nothing else in these tests asks for so many bytes, or for a few hundred more.
-const MARK: usize = 6_000_000;
-
-/// The marks of a beginning: a step, or a run.
+/// The numbers of the calls: a step, or a run.
 const STEP: usize = 100;
 
 const RUN: usize = 104;
-
-/// The marks of an end: it was taken or refused, or memory was refused.
-const ANSWERED: usize = 128;
-
-const REFUSED: usize = 129;
 
 /// All units that a site has in these runs.
 static UNITS: [Unit; 7] = [
@@ -39,12 +32,6 @@ static UNITS: [Unit; 7] = [
     ROOT_REDONE,
     STOLEN,
 ];
-
-/// Tells a number to whoever counts growths, by asking for memory of a size that nothing else asks for.
-fn mark<R: Abort>(rt: &R, alloc: Global, number: usize) {
-    let room: Vec<u8> = Vec::with_capacity(alloc, MARK.wrapping_add(number)).expect(rt, "memory");
-    assert!(rt; room.capacity() >= MARK);
-}
 
 /// Whether a node of both worlds has these units at one attempt and so far, or not at all.
 fn are_units_alike(world: &World<'_>, twin: &World<'_>, node: u8) -> bool {
@@ -99,10 +86,10 @@ fn step<R: Abort>(
     (world, twin): (&mut World<'_>, &World<'_>),
     event: WorldEvent,
 ) -> Result<Reply, WorldFault> {
-    mark(rt, alloc, STEP);
+    begin(alloc, STEP).expect(rt, "memory");
     let answer = world.step(event);
     let refused = is_starved(&answer);
-    mark(rt, alloc, if refused { REFUSED } else { ANSWERED });
+    end(alloc, refused).expect(rt, "memory");
     if refused {
         assert!(rt; is_alike(world, twin), "the world changed");
         return world.step(event);
@@ -183,9 +170,9 @@ fn ends_so<R: Abort>(rt: &R, alloc: Global, problem: &Problem, events: &[WorldEv
     let mut twin = World::start(alloc, problem, 2).expect(rt, "memory");
     let expected = twin.run(events).expect(rt, "memory");
     let mut world = World::start(alloc, problem, 2).expect(rt, "memory");
-    mark(rt, alloc, RUN);
+    begin(alloc, RUN).expect(rt, "memory");
     let ran = world.run(events);
-    mark(rt, alloc, if ran.is_err() { REFUSED } else { ANSWERED });
+    end(alloc, ran.is_err()).expect(rt, "memory");
     let done = match ran {
         Ok(done) => done,
         Err(starved) => go_on(rt, alloc, (&mut world, problem), events, starved),
