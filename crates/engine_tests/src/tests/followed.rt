@@ -1,4 +1,7 @@
 //! What is written of a run that has come to no answer, by how its sites ended.
+//!
+//! Of the bugs of `cover_engines` that are kept outside the gate, `a_run_without_an_answer_tells_the_first_reason` finds
+//! `last_reason_stays`.
 
 use cover_engines::{FollowedRun, Lines, ProgressLog};
 use dlx_reader::{CountedWriter, read_problem};
