@@ -8,6 +8,7 @@ Each cover of an example is given back to `check`, and counted here once more. T
 status is 0 where all passed, 1 where something failed, 2 for a fault of the command line or where there is no program.
 """
 import os
+import re
 import subprocess
 import sys
 import tempfile
@@ -15,6 +16,7 @@ import tempfile
 from built import parser_of, SOLVE_CLI, TOP, want_program
 
 PROGRAM = SOLVE_CLI
+LINE = re.compile(r"\d+ s: \d+ visits, +\d+\.\d{4} % of the tree, \d+ jobs out")
 NONE = {"langford-5.dlx", "tetrominoes-4x5.dlx", "mutilated-chessboard.dlx"}
 passed = failed = 0
 
@@ -98,6 +100,21 @@ def bad_input(folder):
     expect("a closed pipe", (errors == b"cannot write\n" and status == 3) or status == -13)
 
 
+def progress():
+    """Standard output is the same with `--progress`; a run that can't go on says why on standard error."""
+    letters = os.path.join(TOP, "examples", "letters.dlx")
+    cover = b"cover 3\nc e\na d f\nb g\n"
+    expect("alone with progress", run("alone", letters, "--progress") == (cover, b"", 0))
+    expect("solve with progress", run("solve", letters, "--progress") == (cover, b"", 0))
+    turns = run("solve", letters, "--turns", "0", "--progress")
+    expect("no turns", turns == (b"no answer\n", b"ended: the turns of a site are over\n", 4))
+    long = os.path.join(TOP, "examples", "mutilated-chessboard.dlx")
+    out, errors, status = run("solve", long, "--fuel", "1", "--seconds", "2", "--progress")
+    lines = errors.decode().splitlines()
+    expect("a limit", (out, status) == (b"no answer\n", 4) and lines[-1] == "ended: the time is over")
+    expect("a line each second", lines[:-1] and all(LINE.fullmatch(line) for line in lines[:-1]))
+
+
 def command_line():
     for words, status in [((), 2), (("--help",), 0), (("--version",), 0), (("alone", "--help"), 0), (("alone",), 2),
                           (("alone", "x", "--fuel", "0"), 2), (("alone", "x", "--fuel", "+1"), 2),
@@ -115,6 +132,7 @@ def main():
     with tempfile.TemporaryDirectory() as folder:
         examples(folder)
         bad_input(folder)
+    progress()
     command_line()
     print(f"{passed} passed, {failed} failed")
     return 1 if failed else 0
