@@ -33,6 +33,8 @@ struct State<'a, E: Sink> {
     visits: u64,
     share: u64,
     jobs: u64,
+    /// A site has ended with which the run ends: no line follows.
+    is_over: bool,
     /// Why the site ended with which the run ended, if the search was not over.
     reason: Option<&'static str>,
 }
@@ -54,6 +56,7 @@ impl<'a, E: Sink, R: Wait + Clock> FollowedRun<'a, E, R> {
             visits: 0,
             share: 0,
             jobs: 0,
+            is_over: false,
             reason: None,
         };
         let turns = u64::from(settings.turns);
@@ -68,8 +71,8 @@ impl<'a, E: Sink, R: Wait + Clock> FollowedRun<'a, E, R> {
     /// The run has ended. Where there is no answer, the reason is written: the limit of its time, or how a site ended.
     pub fn end(&self, is_answered: bool, limit: Option<Duration>) {
         let mut state = self.state.lock(self.rt);
+        state.end();
         if is_answered {
-            state.log.end();
             return;
         }
         let is_late = match (limit, state.seconds.elapsed(self.rt)) {
@@ -114,6 +117,20 @@ impl<'a, E: Sink> State<'a, E> {
         }
     }
 
+    /// How many seconds are over, where a line is due.
+    fn due<C: Clock>(&mut self, clock: &C) -> Option<u64> {
+        if self.is_over {
+            return None;
+        }
+        self.seconds.due(clock)
+    }
+
+    /// No line follows; the last one ends, so that the answer is on one of its own.
+    fn end(&mut self) {
+        self.is_over = true;
+        self.log.end();
+    }
+
     /// Writes how far the run has come after so many seconds: so many visits and so much of the tree more than was noted.
     fn write(&mut self, seconds: u64, visits: u64, share: u64) {
         self.log.write(Progress {
@@ -139,7 +156,7 @@ impl<'a, E: Sink, R: Wait + Clock> Gate for FollowedRun<'a, E, R> {
 
     fn seen(&self, length: usize, chosen: &[u16], visits: u64) {
         let mut state = self.state.lock(self.rt);
-        if let Some(seconds) = state.seconds.due(self.rt) {
+        if let Some(seconds) = state.due(self.rt) {
             let share = state.gauge.share_below(length, chosen);
             state.write(seconds, visits, share);
         }
@@ -148,13 +165,14 @@ impl<'a, E: Sink, R: Wait + Clock> Gate for FollowedRun<'a, E, R> {
     fn searched(&self, finding: &Finding, visits: u64) {
         let mut state = self.state.lock(self.rt);
         state.note(finding, visits);
-        if let Some(seconds) = state.seconds.due(self.rt) {
+        if let Some(seconds) = state.due(self.rt) {
             state.write(seconds, 0, 0);
         }
     }
 
     fn ended(&self, node: u8, end: &SiteEnd) {
         let mut state = self.state.lock(self.rt);
+        state.end();
         if end.cause != Cause::Over && state.reason.is_none() {
             state.reason = Some(self.reason(node, end));
         }
