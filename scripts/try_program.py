@@ -8,6 +8,7 @@ Each cover of an example is given back to `check`, and counted here once more. T
 status is 0 where all passed, 1 where something failed, 2 for a fault of the command line or where there is no program.
 """
 import os
+import pty
 import re
 import subprocess
 import sys
@@ -31,6 +32,21 @@ def expect(what, is_so):
 def run(*words, stdin=None, stdout=subprocess.PIPE):
     ended = subprocess.run([PROGRAM, *words], input=stdin, stdout=stdout, stderr=subprocess.PIPE, timeout=120)
     return ended.stdout, ended.stderr, ended.returncode
+
+
+def on_terminal(*words):
+    """All that is written where both outputs are one terminal, and the status."""
+    ours, its = pty.openpty()
+    with subprocess.Popen([PROGRAM, *words], stdin=subprocess.DEVNULL, stdout=its, stderr=its) as process:
+        os.close(its)
+        text = b""
+        try:
+            while part := os.read(ours, 4096):
+                text += part
+        except OSError:
+            pass  # (the terminal's other end is closed)
+        os.close(ours)
+    return text, process.returncode
 
 
 def is_exact(file, answer):
@@ -113,6 +129,8 @@ def progress():
     lines = errors.decode().splitlines()
     expect("a limit", (out, status) == (b"no answer\n", 4) and lines[-1] == "ended: the time is over")
     expect("a line each second", lines[:-1] and all(LINE.fullmatch(line) for line in lines[:-1]))
+    text, status = on_terminal("solve", long, "--fuel", "1", "--seconds", "2", "--progress")
+    expect("one line on a terminal", status == 4 and re.fullmatch(rb"(\r\d+ s: [^\r\n]*)+\r\nno answer\r\nended: the time is over\r\n", text))
 
 
 def command_line():
