@@ -167,16 +167,8 @@ impl<J: Run, C: Core + Drop, N: CellName> Desk<J, C, N> {
             Ok(done) => done,
             Err(fault) => return Err((told, of_core(fault))),
         };
-        *written = Step {
-            event: kept,
-            reply: copied_reply(&reply, prefix),
-            packets: copies,
-        };
-        let told = Step {
-            event: told,
-            reply,
-            packets,
-        };
+        *written = Step::of(kept, copied_reply(&reply, prefix), copies);
+        let told = Step::of(told, reply, packets);
         let entry = self.repeated.shared(Entry::new(step));
         let receipt = self.register.enter(place, &entry, told);
         self.entries.push_reserved(entry);

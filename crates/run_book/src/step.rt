@@ -22,13 +22,20 @@ impl Model for Step {
 }
 
 impl Step {
+    /// An event with what it came to.
+    pub(crate) fn of(event: Event, reply: Reply, packets: Vec<Packet>) -> Step
+        ensures { result ≡ record { event = event; reply = reply; packets = packets.items } }
+    {
+        Step {
+            event,
+            reply,
+            packets,
+        }
+    }
+
     /// One that says nothing yet, in the place of one to come. It takes no memory.
     pub(crate) fn blank(alloc: Global) -> Step {
-        Step {
-            event: Event::Again,
-            reply: Reply::Ignored,
-            packets: Vec::new(alloc),
-        }
+        Step::of(Event::Again, Reply::Ignored, Vec::new(alloc))
     }
 
     /// The event.

@@ -15,12 +15,12 @@ invariant_of-self-2 g c =
     let i = c.self.invariant in
     let kept : Entry = c.shared-entry.result in
     let entry_is : kept ≡ record { event = c.args.prepared.event; reply = c.in-Ok.done.reply; packets = c.in-Ok.done.packets.items } =
-    c.shared-entry.ensures ∙ c.new.ensures ∙ (λ k. record { event = c.args.prepared.kept_same k; reply = c.copied_reply.ensures k; packets = c.in-Ok.done.same k }) in
+    c.shared-entry.ensures ∙ c.new.ensures ∙ c.of.ensures ∙ (λ k. record { event = c.args.prepared.kept_same k; reply = c.copied_reply.ensures k; packets = c.in-Ok.done.same k }) in
     desk_next _ _ _ _ _ _ _ _ _ i kept _ _ _ _ _ _ _ _ _ c.requires.fit c.in-Ok.ensures.acts entry_is c.in-Ok.ensures.problem (search rules) (c.push_reserved.ensures.items ∙ ap (λ l. l ++ kept ∷ []) c.reserve.ensures.items) c.enter-receipt.ensures.log c.enter-receipt.ensures.back c.count.ensures.total
 
 pub returns-clause-lawful : goal.returns-clause-lawful
 returns-clause-lawful g c =
     let kept : Entry = c.shared-entry.result in
     let entry_is : kept ≡ record { event = c.args.prepared.event; reply = c.in-Ok.done.reply; packets = c.in-Ok.done.packets.items } =
-    c.shared-entry.ensures ∙ c.new.ensures ∙ (λ k. record { event = c.args.prepared.kept_same k; reply = c.copied_reply.ensures k; packets = c.in-Ok.done.same k }) in
+    c.shared-entry.ensures ∙ c.new.ensures ∙ c.of.ensures ∙ (λ k. record { event = c.args.prepared.kept_same k; reply = c.copied_reply.ensures k; packets = c.in-Ok.done.same k }) in
     desk_lawful _ _ _ _ _ _ _ _ _ c.self.invariant _ _ _ _ _ c.requires.fit c.in-Ok.ensures.acts (ap (λ p. p.entry) c.enter-receipt.ensures.receipt ∙ entry_is)
