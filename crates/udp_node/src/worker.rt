@@ -25,6 +25,9 @@ use std::sync::Wait;
 use std::time::{Clock, Duration};
 use std::{mem, thread};
 
+/// In so many idle turns in a row only every fourth waits: work is not far as long as others have some, and who asks sooner gets it sooner.
+const EAGER: u32 = 256;
+
 /// A worker of a node, between its turns.
 #[derive(Drop)]
 pub struct Worker<'a, J: Run> {
@@ -139,8 +142,10 @@ impl<'a, J: Run> Worker<'a, J> {
             let victim = self.victim(actor.shared.plan.nodes);
             return after(actor.act(rt, Event::Ask(victim)));
         }
-        let workers = u64::from(actor.shared.plan.nodes) * u64::from(actor.shared.plan.workers);
-        thread::sleep(rt, Duration::from_micros(nap(idle, workers)));
+        if idle >= EAGER || idle % 4 == 0 {
+            let workers = u64::from(actor.shared.plan.nodes) * u64::from(actor.shared.plan.workers);
+            thread::sleep(rt, Duration::from_micros(nap(idle, workers)));
+        }
         Turn::Waited
     }
 
