@@ -4,7 +4,7 @@ use Rattle.std.proofs.lemmas.Option.{same_Some, none-some}
 use Rattle.node_core.specs.Requests.{registry}
 use Rattle.audit.proofs.SiteOrder.{not_before_lesser, not_itself}
 use Rattle.audit.specs.Audits.{AllHaveBooks, IsMissing, IsSender, LacksBook, sender_in, site_before}
-use Rattle.run_book.specs.Books.{BookView, has_site}
+use Rattle.run_book.specs.Books.{Book, has_site}
 use Rattle.run_book.specs.Entries.{Entry}
 use Rattle.audit.specs.Lacking.{least_lacking, lesser, missed, missed_at, missed_by, missed_in}
 use Rattle.spawn_frame.specs.declared.site.Site.{Site}
@@ -18,7 +18,7 @@ least_by : (P Q : Site → Type 0) (o : Option Site) → ((s : Site) → P s →
 least_by P Q None to from h = λ s q. h s (from s q)
 least_by P Q (Some t) to from h = (to t h.0, λ s q. h.1 s (from s q))
 
-module _ (books : List BookView) where
+module _ (books : List Book) where
   Lacks : Site → Type 0
   Lacks s = has_site s books ≡ false
 
@@ -103,10 +103,10 @@ module _ (books : List BookView) where
 
   -- ---- the senders of books
 
-  abbrev LacksOf : List BookView → Site → Type 0
+  abbrev LacksOf : List Book → Site → Type 0
   LacksOf rest s = IsSender rest s × (has_site s books ≡ false)
 
-  missed_in_more : (P : Site → Type 0) (rest : List BookView) (o : Option Site) → IsLeast P o → IsLeast (Or P (LacksOf rest)) (missed_in books rest o)
+  missed_in_more : (P : Site → Type 0) (rest : List Book) (o : Option Site) → IsLeast P o → IsLeast (Or P (LacksOf rest)) (missed_in books rest o)
   missed_in_more P [] o h =
       least_by P (Or P (LacksOf [])) o (λ s p. inl p) (λ s q. ⊎_elim (λ (p : P s). p) (λ (l : LacksOf [] s). absurd (none-some l.0.book l.0.is)) q) h
   missed_in_more P (x ∷ xs) o h =
@@ -121,7 +121,7 @@ module _ (books : List BookView) where
       (λ s q. ⊎_elim (λ (p : P s). inl (inl p)) (λ (l : LacksOf (x ∷ xs) s). back P s l.0.at l.0.book l.0.place l.0.entry l.0.is l.0.entry_is l.0.sends l.1) q)
       (missed_in_more (Or P (LacksIn x.entries)) xs (missed_by books x.entries o) (missed_by_more P x.entries o h))
     where
-      back : (P : Site → Type 0) (s : Site) (at : ℕ) (book : BookView) (place : ℕ) (entry : Entry) → slice_get (x ∷ xs) at ≡ Some book → slice_get book.entries place ≡ Some entry
+      back : (P : Site → Type 0) (s : Site) (at : ℕ) (book : Book) (place : ℕ) (entry : Entry) → slice_get (x ∷ xs) at ≡ Some book → slice_get book.entries place ≡ Some entry
           → sender_in entry.event ≡ Some s → has_site s books ≡ false → Or (Or P (LacksIn x.entries)) (LacksOf xs) s
       back P s zero book place entry e f g n = inl (inr ((place, entry, ap (λ y. slice_get y.entries place) (same_Some x book e) ∙ f, g), n))
       back P s (suc at) book place entry e f g n = inr (record { at = at; book = book; place = place; entry = entry; is = e; entry_is = f; sends = g }, n)
@@ -142,11 +142,11 @@ module _ (books : List BookView) where
       l.0)
       (missed_in_more (Or Nobody (LacksAs registry)) books (missed books registry None) (missed_more Nobody registry None (λ s n. n)))
 
-pub none_lacks : (books : List BookView) (o : Option Site) → o ≡ least_lacking books → IfNone o (AllHaveBooks books)
+pub none_lacks : (books : List Book) (o : Option Site) → o ≡ least_lacking books → IfNone o (AllHaveBooks books)
 none_lacks books None e = subst (IsLeast (LacksBook books)) (sym e) (least_is books)
 none_lacks books (Some site) e = tt
 
-pub some_lacks : (books : List BookView) (o : Option Site) → o ≡ least_lacking books → IfSome o (λ site. IsMissing books site)
+pub some_lacks : (books : List Book) (o : Option Site) → o ≡ least_lacking books → IfSome o (λ site. IsMissing books site)
 some_lacks books None e = tt
 some_lacks books (Some site) e =
     let h : IsLeast (LacksBook books) (Some site) = subst (IsLeast (LacksBook books)) (sym e) (least_is books) in

@@ -8,7 +8,7 @@ use Rattle.node_core.specs.declared.event.Event.{Event}
 use Rattle.node_core.specs.declared.event.Event.TheVariants.{Deliver, Take}
 use Rattle.packet_wire.specs.declared.packet.Packet.{Packet}
 use Rattle.audit.proofs.Setting.{In, in_left, in_right, in_split, set_get}
-use Rattle.run_book.specs.Books.{are_distinct, has_site, BookView}
+use Rattle.run_book.specs.Books.{are_distinct, has_site, Book}
 use Rattle.run_book.specs.Entries.{Entry}
 use Rattle.run_book.specs.Merges.{DeliversPutOut, SiteEntry, WasPutOut}
 use Rattle.spawn_frame.proofs.Sames.{same_site_self}
@@ -64,10 +64,10 @@ all_from P (y ∷ ys) f = (f 0 y refl, all_from P ys (λ k x e. f (suc k) x e))
 
 -- ---- books of different sites
 
-abbrev pub AreApart : List BookView → Type 0
-AreApart books = (i j : ℕ) (a b : BookView) → slice_get books i ≡ Some a → slice_get books j ≡ Some b → a.site ≡ b.site → i ≡ j
+abbrev pub AreApart : List Book → Type 0
+AreApart books = (i j : ℕ) (a b : Book) → slice_get books i ≡ Some a → slice_get books j ≡ Some b → a.site ≡ b.site → i ≡ j
 
-pub has_at : (site : Site) (books : List BookView) (k : ℕ) (book : BookView) → slice_get books k ≡ Some book → book.site ≡ site → has_site site books ≡ true
+pub has_at : (site : Site) (books : List Book) (k : ℕ) (book : Book) → slice_get books k ≡ Some book → book.site ≡ site → has_site site books ≡ true
 has_at site [] k book e s = absurd (none-some book e)
 has_at site (b ∷ bs) zero book e s =
     or_left (same_site b.site site) (has_site site bs)
@@ -75,7 +75,7 @@ has_at site (b ∷ bs) zero book e s =
 has_at site (b ∷ bs) (suc k) book e s =
     or_right (same_site b.site site) (has_site site bs) (has_at site bs k book e s)
 
-pub are_apart : (books : List BookView) → are_distinct books ≡ true → AreApart books
+pub are_apart : (books : List Book) → are_distinct books ≡ true → AreApart books
 are_apart [] d i j a b e f s = absurd (none-some a e)
 are_apart (x ∷ xs) d zero zero a b e f s = refl
 are_apart (x ∷ xs) d zero (suc j) a b e f s =
@@ -88,12 +88,12 @@ are_apart (x ∷ xs) d (suc i) (suc j) a b e f s =
     ap suc (are_apart xs (and_parts (not (has_site x.site xs)) (are_distinct xs) d).1 i j a b e f s)
 
 -- one book gets other entries
-pub apart_set : (left : List BookView) → AreApart left → (k : ℕ) (site : Site) (entries rest : List Entry)
+pub apart_set : (left : List Book) → AreApart left → (k : ℕ) (site : Site) (entries rest : List Entry)
     → slice_get left k ≡ Some (record { site = site; entries = entries })
     → AreApart (slice_set left k (record { site = site; entries = rest }))
 apart_set left d k site entries rest is i j a b at bt e =
-    let new : BookView = record { site = site; entries = rest } in
-    let old : BookView = record { site = site; entries = entries } in
+    let new : Book = record { site = site; entries = rest } in
+    let old : Book = record { site = site; entries = entries } in
     ⊎_elim
     (λ (p : (i ≡ k) × (new ≡ a)).
     ⊎_elim

@@ -8,7 +8,7 @@ use Rattle.cover_world.specs.Worlds.{opening_node, opening_nodes, opening_regist
 use Rattle.node_core.specs.SiteView.{View}
 use Rattle.audit.proofs.Merging.{AreApart}
 use Rattle.audit.proofs.Running.{current, future, Keeps, Seated}
-use Rattle.run_book.specs.Books.{BookView, EndsIn, IsBook, LeadsTo}
+use Rattle.run_book.specs.Books.{Book, EndsIn, IsBook, LeadsTo}
 use Rattle.run_book.specs.Entries.{Entry}
 use Rattle.run_book.specs.Sites.{MayBeginAt, RunName, opening_at}
 use Rattle.spawn_frame.proofs.Sames.{same_site_self, site_path}
@@ -17,17 +17,17 @@ use Rattle.spawn_frame.specs.declared.site.Site.{Site}
 
 -- ---- the limits and last views of books
 
-pub limit_of : (run : RunName) (books : List BookView) → AllByRecursion (IsBook run) books → ℕ → ℕ
+pub limit_of : (run : RunName) (books : List Book) → AllByRecursion (IsBook run) books → ℕ → ℕ
 limit_of run [] all k = 0
 limit_of run (b ∷ bs) all zero = all.0.0
 limit_of run (b ∷ bs) all (suc k) = limit_of run bs all.1 k
 
-pub last_of : (run : RunName) (books : List BookView) → AllByRecursion (IsBook run) books → ℕ → View
+pub last_of : (run : RunName) (books : List Book) → AllByRecursion (IsBook run) books → ℕ → View
 last_of run [] all k = opening_registry 0
 last_of run (b ∷ bs) all zero = all.0.1
 last_of run (b ∷ bs) all (suc k) = last_of run bs all.1 k
 
-pub ends_of : (run : RunName) (books : List BookView) (all : AllByRecursion (IsBook run) books) (k : ℕ) (book : BookView) → slice_get books k ≡ Some book
+pub ends_of : (run : RunName) (books : List Book) (all : AllByRecursion (IsBook run) books) (k : ℕ) (book : Book) → slice_get books k ≡ Some book
     → EndsIn run book (limit_of run books all k) (last_of run books all k)
 unfolding limit_of last_of
 ends_of run [] all k book e = absurd (none-some book e)
@@ -36,15 +36,15 @@ ends_of run (b ∷ bs) all (suc k) book e = ends_of run bs all.1 k book e
 
 -- ---- the limit on names of each node
 
-abbrev pub limit_for : List BookView → (ℕ → ℕ) → ℕ → ℕ
+abbrev pub limit_for : List Book → (ℕ → ℕ) → ℕ → ℕ
 limit_for [] limits node = 0
 limit_for (b ∷ bs) limits node =
     if same_site b.site (record { node = node; incarnation = 1 }) then limits 0 else limit_for bs (λ k. limits (suc k)) node
 
-apart_tail : (b : BookView) (bs : List BookView) → AreApart (b ∷ bs) → AreApart bs
+apart_tail : (b : Book) (bs : List Book) → AreApart (b ∷ bs) → AreApart bs
 apart_tail b bs d i j x y e f s = omega (arith, d (suc i) (suc j) x y e f s)
 
-limit_is : (books : List BookView) (limits : ℕ → ℕ) (node : ℕ) → AreApart books → (k : ℕ) (book : BookView) → slice_get books k ≡ Some book
+limit_is : (books : List Book) (limits : ℕ → ℕ) (node : ℕ) → AreApart books → (k : ℕ) (book : Book) → slice_get books k ≡ Some book
     → book.site ≡ record { node = node; incarnation = 1 } → limit_for books limits node ≡ limits k
 limit_is [] limits node d k book e s = absurd (none-some book e)
 limit_is (b ∷ bs) limits node d zero book e s =
@@ -121,7 +121,7 @@ site_opens problem nodes f (suc m) site entries limit last at may g leads =
           (cases_eq site.incarnation 1);
     }
 
-pub books_open : (run : RunName) (books : List BookView) (all : AllByRecursion (IsBook run) books) → AreApart books
+pub books_open : (run : RunName) (books : List Book) (all : AllByRecursion (IsBook run) books) → AreApart books
     → Keeps run.problem run.nodes (limit_of run books all) (last_of run books all)
     (opening_world run.nodes (limits_from (limit_for books (limit_of run books all)) run.nodes 1)) books []
 books_open run books all apart = record {

@@ -10,7 +10,7 @@ use Rattle.node_core.specs.declared.reply.Reply.{Reply}
 use Rattle.packet_wire.specs.declared.packet.Packet.{Packet}
 use Rattle.audit.proofs.Merging.{all_at, apart_set, AreApart, put_out, put_out_more, was_sent}
 use Rattle.audit.proofs.Setting.{get_set, set_get, set_here}
-use Rattle.run_book.specs.Books.{BookView, LeadsTo}
+use Rattle.run_book.specs.Books.{Book, LeadsTo}
 use Rattle.audit.specs.Checked.{Plays, acts, begins, entry_of, nothing}
 use Rattle.run_book.specs.Entries.{Entry}
 use Rattle.run_book.specs.Merges.{follows, IsUsedUp, MergesTo, none_yet, SiteEntry}
@@ -30,20 +30,20 @@ pub record Seated (problem : Problem) (nodes : ℕ) (limit : ℕ) (last : View) 
   pub is : slice_get world.sites site.node ≡ Some view
   pub stands : Stands problem nodes view site entries limit last
 
-pub record Keeps (problem : Problem) (nodes : ℕ) (limits : ℕ → ℕ) (lasts : ℕ → View) (world : World) (left : List BookView) (merged : List SiteEntry) : Type 0 where
+pub record Keeps (problem : Problem) (nodes : ℕ) (limits : ℕ → ℕ) (lasts : ℕ → View) (world : World) (left : List Book) (merged : List SiteEntry) : Type 0 where
   pub sent : world.sent ≡ put_out merged
   pub seats : (n : ℕ) (view : View) → slice_get world.sites n ≡ Some view → (view.site.node ≡ n) × (view.nodes ≡ nodes)
   pub apart : AreApart left
-  pub each : (k : ℕ) (book : BookView) → slice_get left k ≡ Some book → Seated problem nodes (limits k) (lasts k) world book.site book.entries
+  pub each : (k : ℕ) (book : Book) → slice_get left k ≡ Some book → Seated problem nodes (limits k) (lasts k) world book.site book.entries
 
-pub record Reaches (problem : Problem) (nodes : ℕ) (limits : ℕ → ℕ) (lasts : ℕ → View) (start : World) (left : List BookView) (merged : List SiteEntry) : Type 0 where
+pub record Reaches (problem : Problem) (nodes : ℕ) (limits : ℕ → ℕ) (lasts : ℕ → View) (start : World) (left : List Book) (merged : List SiteEntry) : Type 0 where
   pub world : World
   pub run : Run problem start world
   pub plays : Plays problem start world run merged
   pub keeps : Keeps problem nodes limits lasts world left merged
 
 -- the site's node holds its view, from which the rest of its book leads on, once it has begun anew if it must
-pub record Ready (problem : Problem) (nodes : ℕ) (limits : ℕ → ℕ) (lasts : ℕ → View) (start : World) (left : List BookView) (merged : List SiteEntry) (k : ℕ) (site : Site) (entries : List Entry) : Type 0 where
+pub record Ready (problem : Problem) (nodes : ℕ) (limits : ℕ → ℕ) (lasts : ℕ → View) (start : World) (left : List Book) (merged : List SiteEntry) (k : ℕ) (site : Site) (entries : List Entry) : Type 0 where
   pub world : World
   pub run : Run problem start world
   pub plays : (event : Event) (new : World) (step : SiteActs problem world site.node event new)
@@ -89,9 +89,9 @@ module _ (stay_so : SitesStay) (problem : Problem) (nodes : ℕ) (limits : ℕ �
       h)
       (cases_order other.incarnation site.incarnation)
 
-  begins_anew : (left : List BookView) (merged : List SiteEntry) → (r : Reaches problem nodes limits lasts start left merged)
+  begins_anew : (left : List Book) (merged : List SiteEntry) → (r : Reaches problem nodes limits lasts start left merged)
       → (k : ℕ) (site : Site) (entries : List Entry) → slice_get left k ≡ Some (record { site = site; entries = entries })
-      → ((j : ℕ) (b : BookView) → slice_get left j ≡ Some b → IsUsedUp site b)
+      → ((j : ℕ) (b : Book) → slice_get left j ≡ Some b → IsUsedUp site b)
       → (view : View) → slice_get r.world.sites site.node ≡ Some view → 0 < site.node → view.site.incarnation < site.incarnation
       → LeadsTo site.node problem (opening_view (opening_ledger site nodes (limits k))) entries (lasts k)
       → Ready problem nodes limits lasts start left merged k site entries
@@ -148,9 +148,9 @@ module _ (stay_so : SitesStay) (problem : Problem) (nodes : ℕ) (limits : ℕ �
         leads = leads;
       }
 
-  ready_by : (left : List BookView) (merged : List SiteEntry) → (r : Reaches problem nodes limits lasts start left merged)
+  ready_by : (left : List Book) (merged : List SiteEntry) → (r : Reaches problem nodes limits lasts start left merged)
       → (k : ℕ) (site : Site) (entry : Entry) (later : List Entry) → slice_get left k ≡ Some (record { site = site; entries = entry ∷ later })
-      → ((j : ℕ) (b : BookView) → slice_get left j ≡ Some b → IsUsedUp site b)
+      → ((j : ℕ) (b : Book) → slice_get left j ≡ Some b → IsUsedUp site b)
       → (view : View) → slice_get r.world.sites site.node ≡ Some view → Stands problem nodes view site (entry ∷ later) (limits k) (lasts k)
       → Ready problem nodes limits lasts start left merged k site (entry ∷ later)
   ready_by left merged r k site entry later at turn view is (current e leads) =
@@ -175,7 +175,7 @@ module _ (stay_so : SitesStay) (problem : Problem) (nodes : ℕ) (limits : ℕ �
   goes_on view next other entries limit last s o (past q e) = past q e
   goes_on view next other entries limit last s o (future q m r) = future q (subst (λ t. t.incarnation < other.incarnation) (sym s) m) r
 
-  acts_on : (left : List BookView) (merged : List SiteEntry) (k : ℕ) (site : Site) (entry : Entry) (later : List Entry)
+  acts_on : (left : List Book) (merged : List SiteEntry) (k : ℕ) (site : Site) (entry : Entry) (later : List Entry)
       → slice_get left k ≡ Some (record { site = site; entries = entry ∷ later })
       → WasSent (put_out merged) entry.event → Ready problem nodes limits lasts start left merged k site (entry ∷ later)
       → Reaches problem nodes limits lasts start (slice_set left k (record { site = site; entries = later })) (merged ++ record { site = site; entry = entry } ∷ [])
@@ -185,8 +185,8 @@ module _ (stay_so : SitesStay) (problem : Problem) (nodes : ℕ) (limits : ℕ �
       let step = world_step site.node problem r.view entry.event entry.reply entry.packets next r.leads.1.acts.steps in
       let same_site = stay_so.site site.node problem r.view next entry.event entry.reply entry.packets step in
       let same_nodes = stay_so.nodes site.node problem r.view next entry.event entry.reply entry.packets step in
-      let before : BookView = record { site = site; entries = entry ∷ later } in
-      let after : BookView = record { site = site; entries = later } in
+      let before : Book = record { site = site; entries = entry ∷ later } in
+      let after : Book = record { site = site; entries = later } in
       let moves : SiteActs problem r.world site.node entry.event new = record {
         before = r.view;
         reply = entry.reply;
@@ -240,7 +240,7 @@ module _ (stay_so : SitesStay) (problem : Problem) (nodes : ℕ) (limits : ℕ �
         };
       }
 
-  pub merge_runs : (books : List BookView) (merged : List SiteEntry) (left : List BookView) → Keeps problem nodes limits lasts start books [] → MergesTo books merged left
+  pub merge_runs : (books : List Book) (merged : List SiteEntry) (left : List Book) → Keeps problem nodes limits lasts start books [] → MergesTo books merged left
       → Reaches problem nodes limits lasts start left merged
   merge_runs books merged left keeps none_yet = record { world = start; run = stay; plays = nothing; keeps = keeps }
   merge_runs books merged left keeps (follows {merged = front} {left = old} m k next later f) =

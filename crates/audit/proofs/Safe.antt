@@ -16,7 +16,7 @@ use Rattle.audit.proofs.Running.{current, future, merge_runs, past, SitesStay, S
 use Rattle.run_book.specs.Answers.{book_answer}
 use Rattle.audit.proofs.Setting.{get_set}
 use Rattle.root_registry.specs.Published.{published_by}
-use Rattle.run_book.specs.Books.{are_distinct, BookView, EndsIn, IsBook, LeadsTo}
+use Rattle.run_book.specs.Books.{are_distinct, Book, EndsIn, IsBook, LeadsTo}
 use Rattle.audit.specs.Checked.{AreSafe, IsRight}
 use Rattle.run_book.specs.Entries.{Entry}
 use Rattle.run_book.specs.Merges.{IsMerge, MergesTo, none_yet, follows, SiteEntry}
@@ -24,13 +24,13 @@ use Rattle.run_book.specs.Sites.{RunName}
 use Rattle.spawn_frame.specs.declared.site.Site.{Site}
 
 -- what is left of a book has its site
-pub left_keeps : (books : List BookView) (merged : List SiteEntry) (left : List BookView) → MergesTo books merged left → (k : ℕ) (book : BookView) → slice_get books k ≡ Some book
+pub left_keeps : (books : List Book) (merged : List SiteEntry) (left : List Book) → MergesTo books merged left → (k : ℕ) (book : Book) → slice_get books k ≡ Some book
     → (rest : List Entry) × (slice_get left k ≡ Some (record { site = book.site; entries = rest }))
 left_keeps books merged left none_yet k book e = (book.entries, e)
 left_keeps books merged left (follows {merged = front} {left = old} m j next later f) k book e =
     let h = left_keeps books front old m k book e in
-    let after : BookView = record { site = next.site; entries = later } in
-    let was : BookView = record { site = book.site; entries = h.0 } in
+    let after : Book = record { site = next.site; entries = later } in
+    let was : Book = record { site = book.site; entries = h.0 } in
     ⊎_elim
     (λ (g : (k ≡ j) × (slice_get (slice_set old j after) k ≡ Some after)).
     let same : was ≡ record { site = next.site; entries = next.entry ∷ later } = same_Some was _ (sym h.1 ∙ ap (slice_get old) g.0 ∙ f.is) in
@@ -58,20 +58,20 @@ AllSafe = (problem : Problem) (nodes : ℕ) (limits : List ℕ) (now end : World
 
 -- what the registry's book answers is what its last view publishes
 abbrev pub BooksTell : Type 0
-BooksTell = (run : RunName) (book : BookView) (limit : ℕ) (last : View) → book.site.node ≡ 0 → EndsIn run book limit last
+BooksTell = (run : RunName) (book : Book) (limit : ℕ) (last : View) → book.site.node ≡ 0 → EndsIn run book limit last
     → book_answer run.problem book.entries ≡ published_by run.problem last
 
-pub merged_are_safe : AllSafe → SitesStay → BooksTell → (run : RunName) (books : List BookView) (merged : List SiteEntry)
+pub merged_are_safe : AllSafe → SitesStay → BooksTell → (run : RunName) (books : List Book) (merged : List SiteEntry)
     → AllByRecursion (IsBook run) books → are_distinct books ≡ true → IsMerge books merged → AreSafe run books
 merged_are_safe always stay_so tell run books merged all distinct w =
     let limits = limit_of run books all in
     let lasts = last_of run books all in
     let list = limits_from (limit_for books limits) run.nodes 1 in
     let r = merge_runs stay_so run.problem run.nodes limits lasts (opening_world run.nodes list) books merged w.left (books_open run books all (are_apart books distinct)) w.merges in
-    let publishes : (k : ℕ) (book : BookView) → slice_get books k ≡ Some book → book.site.node ≡ 0 → book_answer run.problem book.entries ≡ published run.problem r.world = λ k book is at.
+    let publishes : (k : ℕ) (book : Book) → slice_get books k ≡ Some book → book.site.node ≡ 0 → book_answer run.problem book.entries ≡ published run.problem r.world = λ k book is at.
     let left = left_keeps books merged w.left w.merges k book is in
-    let rest : BookView = record { site = book.site; entries = left.0 } in
-    let none : left.0 ≡ [] = all_at (λ (b : BookView). b.entries ≡ []) w.left w.whole k rest left.1 in
+    let rest : Book = record { site = book.site; entries = left.0 } in
+    let none : left.0 ≡ [] = all_at (λ (b : Book). b.entries ≡ []) w.left w.whole k rest left.1 in
     let seat = r.keeps.each k rest left.1 in
     let view : seat.view ≡ lasts k = stands_last run.problem run.nodes seat.view book.site left.0 (limits k) (lasts k) at none seat.stands in
     tell run book (limits k) (lasts k) at (ends_of run books all k book is)

@@ -9,7 +9,7 @@ use Rattle.audit.proofs.Merging.{all_at, all_from, from_put_out, in_put_out, put
 use Rattle.audit.proofs.Setting.{get_set, In, in_left, in_right, in_split, set_get, set_here, within}
 use Rattle.audit.proofs.SiteOrder.{earlier_run}
 use Rattle.audit.specs.Audits.{site_before, WasNeverSent}
-use Rattle.run_book.specs.Books.{BookView}
+use Rattle.run_book.specs.Books.{Book}
 use Rattle.audit.specs.Cursors.{AreOfMerge, AreUsedUp, HasNext, IsSent, IsTurn, left_at, LeastLeft, PutOut, IsStuck, Takes}
 use Rattle.run_book.specs.Entries.{Entry}
 use Rattle.run_book.specs.Merges.{DeliversPutOut, follows, IsMerge, IsUsedUp, MayFollow, MergesTo, none_yet, SiteEntry, WasPutOut}
@@ -18,23 +18,23 @@ use Rattle.spawn_frame.specs.declared.site.Site.{Site}
 -- ---- what the cursors leave
 
 -- the cursors of a merge that has taken nothing
-abbrev zeros : List BookView → List ℕ
+abbrev zeros : List Book → List ℕ
 zeros [] = []
 zeros (book ∷ books) = 0 ∷ zeros books
 
-left_zeros : (books : List BookView) → left_at (zeros books) books ≡ books
+left_zeros : (books : List Book) → left_at (zeros books) books ≡ books
 left_zeros [] = refl
 left_zeros (b ∷ bs) = ap (λ xs. b ∷ xs) (left_zeros bs)
 
-pub record LeftFrom (cs : List ℕ) (books : List BookView) (k : ℕ) (b : BookView) : Type 0 where
-  pub book : BookView
+pub record LeftFrom (cs : List ℕ) (books : List Book) (k : ℕ) (b : Book) : Type 0 where
+  pub book : Book
   pub cursor : ℕ
   pub is : slice_get books k ≡ Some book
   pub at : slice_get cs k ≡ Some cursor
   pub site : book.site ≡ b.site
   pub entries : drop cursor book.entries ≡ b.entries
 
-left_from : (cs : List ℕ) (books : List BookView) (k : ℕ) (b : BookView) → slice_get (left_at cs books) k ≡ Some b → LeftFrom cs books k b
+left_from : (cs : List ℕ) (books : List Book) (k : ℕ) (b : Book) → slice_get (left_at cs books) k ≡ Some b → LeftFrom cs books k b
 left_from [] books k b e = absurd (none-some b e)
 left_from (c ∷ cs) [] k b e = absurd (none-some b e)
 left_from (c ∷ cs) (x ∷ xs) zero b e =
@@ -44,14 +44,14 @@ left_from (c ∷ cs) (x ∷ xs) (suc k) b e =
     let h = left_from cs xs k b e in
     record { book = h.book; cursor = h.cursor; is = h.is; at = h.at; site = h.site; entries = h.entries }
 
-left_to : (cs : List ℕ) (books : List BookView) (k : ℕ) (book : BookView) (c : ℕ) → slice_get books k ≡ Some book → slice_get cs k ≡ Some c
+left_to : (cs : List ℕ) (books : List Book) (k : ℕ) (book : Book) (c : ℕ) → slice_get books k ≡ Some book → slice_get cs k ≡ Some c
     → slice_get (left_at cs books) k ≡ Some (record { site = book.site; entries = drop c book.entries })
 left_to [] books k book c e f = absurd (none-some c f)
 left_to (d ∷ ds) [] k book c e f = absurd (none-some book e)
 left_to (d ∷ ds) (x ∷ xs) zero book c e f = λ i. Some (record { site = (same_Some x book e i).site; entries = drop (same_Some d c f i) (same_Some x book e i).entries })
 left_to (d ∷ ds) (x ∷ xs) (suc k) book c e f = left_to ds xs k book c e f
 
-left_set : (cs : List ℕ) (books : List BookView) (k : ℕ) (book : BookView) (c : ℕ) → slice_get books k ≡ Some book
+left_set : (cs : List ℕ) (books : List Book) (k : ℕ) (book : Book) (c : ℕ) → slice_get books k ≡ Some book
     → slice_set (left_at cs books) k (record { site = book.site; entries = drop c book.entries }) ≡ left_at (slice_set cs k c) books
 left_set [] books k book c e = refl
 left_set (d ∷ ds) [] k book c e = absurd (none-some book e)
@@ -82,12 +82,12 @@ all_dropped (x ∷ xs) (suc c) e = omega (arith, all_dropped xs c e)
 
 -- ---- the cursors of a merge
 
-zero_at : (books : List BookView) (k c : ℕ) → slice_get (zeros books) k ≡ Some c → c ≡ 0
+zero_at : (books : List Book) (k c : ℕ) → slice_get (zeros books) k ≡ Some c → c ≡ 0
 zero_at [] k c e = absurd (none-some c e)
 zero_at (b ∷ bs) zero c e = sym (same_Some 0 c e)
 zero_at (b ∷ bs) (suc k) c e = zero_at bs k c e
 
-begins : (books : List BookView) → AreOfMerge books (zeros books)
+begins : (books : List Book) → AreOfMerge books (zeros books)
 begins books = record {
   merged = [];
   merges = subst (λ left. MergesTo books [] left) (sym (left_zeros books)) none_yet;
@@ -96,41 +96,41 @@ begins books = record {
   begun = λ k book c e f l. absurd (omega (arith, l, zero_at books k c f));
 }
 
-zeros_are : (books : List BookView) → zeros books ≡ replicate (length books) 0
+zeros_are : (books : List Book) → zeros books ≡ replicate (length books) 0
 zeros_are [] = refl
 zeros_are (b ∷ bs) = ap (λ cs. 0 ∷ cs) (zeros_are bs)
 
-zeros_each : (books : List BookView) → length (zeros books) ≡ length books
+zeros_each : (books : List Book) → length (zeros books) ≡ length books
 zeros_each [] = refl
 zeros_each (b ∷ bs) = ap suc (zeros_each bs)
 
 -- what a merge keeps true
-abbrev pub Kept : List BookView → List ℕ → Type 0
+abbrev pub Kept : List Book → List ℕ → Type 0
 Kept books cs = AreOfMerge books cs × (length cs ≡ length books)
 
-pub kept_first : (books : List BookView) (cs : List ℕ) → cs ≡ replicate (length books) 0 → Kept books cs
+pub kept_first : (books : List Book) (cs : List ℕ) → cs ≡ replicate (length books) 0 → Kept books cs
 kept_first books cs e = subst (Kept books) (zeros_are books ∙ sym e) (begins books, zeros_each books)
 
-delivers : (books : List BookView) (cs : List ℕ) (merged : List SiteEntry) → ((packet : Packet) → PutOut books cs packet → WasPutOut merged packet)
+delivers : (books : List Book) (cs : List ℕ) (merged : List SiteEntry) → ((packet : Packet) → PutOut books cs packet → WasPutOut merged packet)
     → (e : Event) → IsSent books cs e → DeliversPutOut merged e
 delivers books cs merged f (Deliver packet) h = f packet h
 delivers books cs merged f Take h = tt
 delivers books cs merged f _ h = tt
 
-is_sent : (books : List BookView) (cs : List ℕ) (merged : List SiteEntry) → ((packet : Packet) → WasPutOut merged packet → PutOut books cs packet)
+is_sent : (books : List Book) (cs : List ℕ) (merged : List SiteEntry) → ((packet : Packet) → WasPutOut merged packet → PutOut books cs packet)
     → (e : Event) → DeliversPutOut merged e → IsSent books cs e
 is_sent books cs merged f (Deliver packet) h = f packet h
 is_sent books cs merged f Take h = tt
 is_sent books cs merged f _ h = tt
 
-turn_stays : (books : List BookView) (cs : List ℕ) (k c : ℕ) → slice_get cs k ≡ Some c → (site : Site) → IsTurn books cs site → IsTurn books (slice_set cs k (suc c)) site
+turn_stays : (books : List Book) (cs : List ℕ) (k c : ℕ) → slice_get cs k ≡ Some c → (site : Site) → IsTurn books cs site → IsTurn books (slice_set cs k (suc c)) site
 turn_stays books cs k c at site turn i b d e f h =
     ⊎_elim
     (λ (g : (i ≡ k) × (suc c ≡ d)). turn i b c e (ap (slice_get cs) g.0 ∙ at) (h.0, h.1, omega (arith, h.2, g.1)))
     (λ (g : (i ≢ k) × (slice_get cs i ≡ Some d)). turn i b d e g.1 h)
     (set_get cs k (suc c) i d f)
 
-takes : (books : List BookView) (cs : List ℕ) → AreOfMerge books cs → (k : ℕ) (t : Takes books cs k) → AreOfMerge books (slice_set cs k (suc t.cursor))
+takes : (books : List Book) (cs : List ℕ) → AreOfMerge books cs → (k : ℕ) (t : Takes books cs k) → AreOfMerge books (slice_set cs k (suc t.cursor))
 takes books cs s k t =
     let next : SiteEntry = record { site = t.book.site; entry = t.entry } in
     let new = slice_set cs k (suc t.cursor) in
@@ -193,12 +193,12 @@ takes books cs s k t =
           (set_get cs k (suc t.cursor) j d f));
     }
 
-takes_within : (books : List BookView) (cs : List ℕ) (k : ℕ) (n : HasNext books cs k) → n.cursor < length n.book.entries
+takes_within : (books : List Book) (cs : List ℕ) (k : ℕ) (n : HasNext books cs k) → n.cursor < length n.book.entries
 takes_within books cs k n = within n.book.entries n.cursor n.entry n.entry_is
 
 -- ---- the merge stands still
 
-stuck : (books : List BookView) (cs : List ℕ) (s : AreOfMerge books cs) → IsStuck books cs
+stuck : (books : List Book) (cs : List ℕ) (s : AreOfMerge books cs) → IsStuck books cs
     → (k : ℕ) (next : SiteEntry) (later : List Entry) → MayFollow s.merged (left_at cs books) k next later → ⊥
 stuck books cs s still k next later m =
     let f = left_from cs books k (record { site = next.site; entries = next.entry ∷ later }) m.is in
@@ -220,24 +220,24 @@ stuck books cs s still k next later m =
       );
     })
 
-whole : (books : List BookView) (cs : List ℕ) (s : AreOfMerge books cs) → AreUsedUp books cs → IsMerge books s.merged
+whole : (books : List Book) (cs : List ℕ) (s : AreOfMerge books cs) → AreUsedUp books cs → IsMerge books s.merged
 whole books cs s up = record {
   left = left_at cs books;
   merges = s.merges;
-  whole = all_from (λ (b : BookView). b.entries ≡ []) (left_at cs books) (λ k b e.
+  whole = all_from (λ (b : Book). b.entries ≡ []) (left_at cs books) (λ k b e.
       let f = left_from cs books k b e in
       sym f.entries ∙ drop_all f.book.entries f.cursor (up k f.book f.cursor f.is f.at));
 }
 
 -- ---- the least site that is not used up waits on a packet
 
-waits_by : (books : List BookView) (cs : List ℕ) (entry : Entry) (e : Event) → entry.event ≡ e → (IsSent books cs e → ⊥)
+waits_by : (books : List Book) (cs : List ℕ) (entry : Entry) (e : Event) → entry.event ≡ e → (IsSent books cs e → ⊥)
     → (packet : Packet) × (entry.event ≡ Deliver packet) × (PutOut books cs packet → ⊥)
 waits_by books cs entry (Deliver packet) e n = (packet, e, n)
 waits_by books cs entry Take e n = absurd (n tt)
 waits_by books cs entry _ e n = absurd (n tt)
 
-never_sent : (books : List BookView) (cs : List ℕ) (s : AreOfMerge books cs) → IsStuck books cs → (k : ℕ) (l : LeastLeft books cs k) → WasNeverSent books l.book.site l.cursor
+never_sent : (books : List Book) (cs : List ℕ) (s : AreOfMerge books cs) → IsStuck books cs → (k : ℕ) (l : LeastLeft books cs k) → WasNeverSent books l.book.site l.cursor
 never_sent books cs s still k l =
     let turn : IsTurn books cs l.book.site = λ j b c e f h.
     true≢false (sym (earlier_run b.site l.book.site h.0 h.1) ∙ l.least j b c e f h.2) in
@@ -270,21 +270,21 @@ never_sent books cs s still k l =
 
 -- ---- how many entries are left
 
-abbrev pub entries_left : List ℕ → List BookView → ℕ
+abbrev pub entries_left : List ℕ → List Book → ℕ
 entries_left [] books = 0
 entries_left (c ∷ cs) [] = 0
 entries_left (c ∷ cs) (b ∷ bs) = (length b.entries - c) + entries_left cs bs
 
-left_falls : (cs : List ℕ) (books : List BookView) (k c : ℕ) (book : BookView) → slice_get books k ≡ Some book → slice_get cs k ≡ Some c → c < length book.entries
+left_falls : (cs : List ℕ) (books : List Book) (k c : ℕ) (book : Book) → slice_get books k ≡ Some book → slice_get cs k ≡ Some c → c < length book.entries
     → entries_left (slice_set cs k (suc c)) books < entries_left cs books
 left_falls [] books k c book e f l = absurd (none-some c f)
 left_falls (d ∷ ds) [] k c book e f l = absurd (none-some book e)
 left_falls (d ∷ ds) (x ∷ xs) zero c book e f l =
-    let less : c < length x.entries = subst (λ (b : BookView). c < length b.entries) (sym (same_Some x book e)) l in
+    let less : c < length x.entries = subst (λ (b : Book). c < length b.entries) (sym (same_Some x book e)) l in
     omega (arith, same_Some d c f, less)
 left_falls (d ∷ ds) (x ∷ xs) (suc k) c book e f l = omega (arith, left_falls ds xs k c book e f l)
 
-takes_falls : (books : List BookView) (cs : List ℕ) (k : ℕ) (n : HasNext books cs k) → entries_left (slice_set cs k (suc n.cursor)) books < entries_left cs books
+takes_falls : (books : List Book) (cs : List ℕ) (k : ℕ) (n : HasNext books cs k) → entries_left (slice_set cs k (suc n.cursor)) books < entries_left cs books
 takes_falls books cs k n = left_falls cs books k n.cursor n.book n.is n.cursor_is (takes_within books cs k n)
 
 -- ---- the loop of a merge
@@ -300,15 +300,15 @@ set_each [] k v = refl
 set_each (x ∷ xs) zero v = refl
 set_each (x ∷ xs) (suc k) v = ap suc (set_each xs k v)
 
-pub kept_next : (books : List BookView) (cs : List ℕ) (k v : ℕ) → Kept books cs → Takes books cs k → v ≡ get_or cs k v → Kept books (slice_set cs k (v + 1))
+pub kept_next : (books : List Book) (cs : List ℕ) (k v : ℕ) → Kept books cs → Takes books cs k → v ≡ get_or cs k v → Kept books (slice_set cs k (v + 1))
 kept_next books cs k v h t e =
     (subst (AreOfMerge books) (next_is cs k v t.cursor t.cursor_is e) (takes books cs h.0 k t), set_each cs k (v + 1) ∙ h.1)
 
-pub falls : (books : List BookView) (cs : List ℕ) (k v : ℕ) → Takes books cs k → v ≡ get_or cs k v → entries_left (slice_set cs k (v + 1)) books < entries_left cs books
+pub falls : (books : List Book) (cs : List ℕ) (k v : ℕ) → Takes books cs k → v ≡ get_or cs k v → entries_left (slice_set cs k (v + 1)) books < entries_left cs books
 falls books cs k v t e =
     subst (λ (xs : List ℕ). entries_left xs books < entries_left cs books) (next_is cs k v t.cursor t.cursor_is e) (takes_falls books cs k t.next)
 
-pub next_fits : (books : List BookView) (cs : List ℕ) (k v : ℕ) (b : BookView) → Takes books cs k → v ≡ get_or cs k v → slice_get books k ≡ Some b
+pub next_fits : (books : List Book) (cs : List ℕ) (k v : ℕ) (b : Book) → Takes books cs k → v ≡ get_or cs k v → slice_get books k ≡ Some b
     → length b.entries < 18446744073709551616 → v + 1 < 18446744073709551616
 next_fits books cs k v b t e is less =
     let many : length t.book.entries ≡ length b.entries = ap (λ x. length x.entries) (same_Some t.book b (sym t.is ∙ is)) in
@@ -316,7 +316,7 @@ next_fits books cs k v b t e is less =
 
 -- ---- the end of an audit, whose cursors are also seen as a slice
 
-pub never_waits : (books : List BookView) (cs ds : List ℕ) (k : ℕ) (b : BookView) (site : Site) (v : ℕ) → ds ≡ cs → AreOfMerge books cs → IsStuck books cs
+pub never_waits : (books : List Book) (cs ds : List ℕ) (k : ℕ) (b : Book) (site : Site) (v : ℕ) → ds ≡ cs → AreOfMerge books cs → IsStuck books cs
     → LeastLeft books ds k → slice_get books k ≡ Some b → site ≡ b.site → v ≡ get_or cs k v → WasNeverSent books site v
 never_waits books cs ds k b site v same s still least is site_is at =
     let l = subst (λ xs. LeastLeft books xs k) same least in
@@ -324,5 +324,5 @@ never_waits books cs ds k b site v same s still least is site_is at =
     subst (λ t. WasNeverSent books t v) of_site
     (subst (λ c. WasNeverSent books l.book.site c) (cursor_is cs k v l.cursor l.cursor_is at) (never_sent books cs s still k l))
 
-pub all_merged : (books : List BookView) (cs ds : List ℕ) → ds ≡ cs → (s : AreOfMerge books cs) → AreUsedUp books ds → IsMerge books s.merged
+pub all_merged : (books : List Book) (cs ds : List ℕ) → ds ≡ cs → (s : AreOfMerge books cs) → AreUsedUp books ds → IsMerge books s.merged
 all_merged books cs ds same s up = whole books cs s (subst (AreUsedUp books) same up)

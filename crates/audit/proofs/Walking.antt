@@ -5,20 +5,20 @@ use Rattle.std.proofs.lemmas.Option.{none-some, same_Some, slice_get-get_or, sli
 use Rattle.packet_wire.specs.declared.packet.Packet.{Packet}
 use Rattle.audit.proofs.SiteOrder.{not_before_lesser, not_itself}
 use Rattle.audit.specs.Audits.{site_before}
-use Rattle.run_book.specs.Books.{BookView}
+use Rattle.run_book.specs.Books.{Book}
 use Rattle.audit.specs.Cursors.{AreUsedUp, IsLeastBelow, IsNext, IsPutOutBefore, LeastLeft, PutOut, Takes}
 use Rattle.run_book.specs.Entries.{Entry}
 
 -- ---- what is so of no book below a number
 
-abbrev pub NoneBelow : (BookView → ℕ → Type 0) → List BookView → List ℕ → ℕ → Type 0
+abbrev pub NoneBelow : (Book → ℕ → Type 0) → List Book → List ℕ → ℕ → Type 0
 NoneBelow P books cs end =
-    (k : ℕ) (book : BookView) (c : ℕ) → k < end → slice_get books k ≡ Some book → slice_get cs k ≡ Some c → P book c → ⊥
+    (k : ℕ) (book : Book) (c : ℕ) → k < end → slice_get books k ≡ Some book → slice_get cs k ≡ Some c → P book c → ⊥
 
-pub none_first : (P : BookView → ℕ → Type 0) (books : List BookView) (cs : List ℕ) → NoneBelow P books cs 0
+pub none_first : (P : Book → ℕ → Type 0) (books : List Book) (cs : List ℕ) → NoneBelow P books cs 0
 none_first P books cs k book c l e f p = omega (arith, l)
 
-pub none_more : (P : BookView → ℕ → Type 0) (books : List BookView) (cs : List ℕ) (k : ℕ) (b : BookView) (c : ℕ)
+pub none_more : (P : Book → ℕ → Type 0) (books : List Book) (cs : List ℕ) (k : ℕ) (b : Book) (c : ℕ)
     → slice_get books k ≡ Some b → slice_get cs k ≡ Some c → NoneBelow P books cs k → (P b c → ⊥) → NoneBelow P books cs (k + 1)
 none_more P books cs k b c here at below not i book d l e f p =
     ⊎_elim
@@ -29,17 +29,17 @@ none_more P books cs k b c here at below not i book d l e f p =
     (λ (other : i ≡ k → ⊥). below i book d (omega (arith, l, other)) e f p)
     (cases_eq i k)
 
-pub none_at : (P : BookView → ℕ → Type 0) (books : List BookView) (cs : List ℕ) (end : ℕ) → length books ≤ end → NoneBelow P books cs end
-    → (k : ℕ) (book : BookView) (c : ℕ) → slice_get books k ≡ Some book → slice_get cs k ≡ Some c → P book c → ⊥
+pub none_at : (P : Book → ℕ → Type 0) (books : List Book) (cs : List ℕ) (end : ℕ) → length books ≤ end → NoneBelow P books cs end
+    → (k : ℕ) (book : Book) (c : ℕ) → slice_get books k ≡ Some book → slice_get cs k ≡ Some c → P book c → ⊥
 none_at P books cs end l below k book c e f p = below k book c (omega (arith, l, slice_get_within books k book e)) e f p
 
-pub cursor_at : (books : List BookView) (cs : List ℕ) (k : ℕ) → length cs ≡ length books → k < length books → slice_get cs k ≡ Some (get_or cs k 0)
+pub cursor_at : (books : List Book) (cs : List ℕ) (k : ℕ) → length cs ≡ length books → k < length books → slice_get cs k ≡ Some (get_or cs k 0)
 cursor_at books cs k same l = slice_get-get_or cs k 0 (omega (arith, same, l))
 
 -- ---- the least book that is not used up
 
-module _ (books : List BookView) (cs : List ℕ) (k : ℕ) (b : BookView) (c : ℕ) (here : slice_get books k ≡ Some b) (at : slice_get cs k ≡ Some c) where
-  book_there : (i : ℕ) (x : BookView) → i ≡ k → slice_get books i ≡ Some x → x ≡ b
+module _ (books : List Book) (cs : List ℕ) (k : ℕ) (b : Book) (c : ℕ) (here : slice_get books k ≡ Some b) (at : slice_get cs k ≡ Some c) where
+  book_there : (i : ℕ) (x : Book) → i ≡ k → slice_get books i ≡ Some x → x ≡ b
   book_there i x same e = same_Some x b (sym e ∙ ap (slice_get books) same ∙ here)
 
   cursor_there : (i n : ℕ) → i ≡ k → slice_get cs i ≡ Some n → n ≡ c
@@ -115,7 +115,7 @@ entry_at [] c l = absurd (omega (arith, l))
 entry_at (x ∷ xs) zero l = (x, refl)
 entry_at (x ∷ xs) (suc c) l = entry_at xs c (omega (arith, l))
 
-pub least_some : (books : List BookView) (cs : List ℕ) (end : ℕ) → length books ≤ end → (o : Option ℕ) → IsLeastBelow books cs end o → IfSome o (λ k. (k < length books) × LeastLeft books cs k)
+pub least_some : (books : List Book) (cs : List ℕ) (end : ℕ) → length books ≤ end → (o : Option ℕ) → IsLeastBelow books cs end o → IfSome o (λ k. (k < length books) × LeastLeft books cs k)
 least_some books cs end l None h = tt
 least_some books cs end l (Some k) h =
     let a = entry_at h.1.entries h.2 h.5 in (
@@ -126,26 +126,26 @@ least_some books cs end l (Some k) h =
       },
     )
 
-pub least_none : (books : List BookView) (cs : List ℕ) (end : ℕ) → length books ≤ end → (o : Option ℕ) → IsLeastBelow books cs end o → IfNone o (AreUsedUp books cs)
+pub least_none : (books : List Book) (cs : List ℕ) (end : ℕ) → length books ≤ end → (o : Option ℕ) → IsLeastBelow books cs end o → IfNone o (AreUsedUp books cs)
 least_none books cs end l None h = λ k b c e f. h k b c (omega (arith, l, slice_get_within books k b e)) e f
 least_none books cs end l (Some k) h = tt
 
 -- ---- the entry at a book's cursor
 
-pub record At (books : List BookView) (cs : List ℕ) (k : ℕ) (b : BookView) (c : ℕ) : Type 0 where
+pub record At (books : List Book) (cs : List ℕ) (k : ℕ) (b : Book) (c : ℕ) : Type 0 where
   pub is : slice_get books k ≡ Some b
   pub at : slice_get cs k ≡ Some c
 
-pub at_by : (books : List BookView) (cs : List ℕ) (k : ℕ) (b : BookView) → length cs ≡ length books → k < length books → b ≡ get_or books k b
+pub at_by : (books : List Book) (cs : List ℕ) (k : ℕ) (b : Book) → length cs ≡ length books → k < length books → b ≡ get_or books k b
     → At books cs k b (get_or cs k 0)
 at_by books cs k b same l e = record { is = slice_get_read books (length books) k b refl l e; at = cursor_at books cs k same l }
 
-pub takes_by : (books : List BookView) (cs : List ℕ) (k : ℕ) (b : BookView) (c : ℕ) (entry : Entry) → At books cs k b c → Some entry ≡ slice_get b.entries c
+pub takes_by : (books : List Book) (cs : List ℕ) (k : ℕ) (b : Book) (c : ℕ) (entry : Entry) → At books cs k b c → Some entry ≡ slice_get b.entries c
     → IsNext books cs b.site entry.event → Takes books cs k
 takes_by books cs k b c entry h e next =
     record { next = record { book = b; cursor = c; entry = entry; is = h.is; cursor_is = h.at; entry_is = sym e }; is_next = next }
 
-pub takes_next : (books : List BookView) (cs : List ℕ) (k : ℕ) (b : BookView) (c : ℕ) (entry : Entry) → At books cs k b c → Some entry ≡ slice_get b.entries c
+pub takes_next : (books : List Book) (cs : List ℕ) (k : ℕ) (b : Book) (c : ℕ) (entry : Entry) → At books cs k b c → Some entry ≡ slice_get b.entries c
     → Takes books cs k → IsNext books cs b.site entry.event
 takes_next books cs k b c entry h e t =
     let book : t.book ≡ b = same_Some t.book b (sym t.is ∙ h.is) in
@@ -153,7 +153,7 @@ takes_next books cs k b c entry h e t =
     let same : t.entry ≡ entry = same_Some t.entry entry (sym t.entry_is ∙ (λ i. slice_get (book i).entries (cursor i)) ∙ sym e) in
     subst (λ x. IsNext books cs x.site entry.event) book (subst (λ x. IsNext books cs t.book.site x.event) same t.is_next)
 
-pub takes_none : (books : List BookView) (cs : List ℕ) (k : ℕ) (b : BookView) (c : ℕ) → At books cs k b c → None ≡ slice_get b.entries c → Takes books cs k → ⊥
+pub takes_none : (books : List Book) (cs : List ℕ) (k : ℕ) (b : Book) (c : ℕ) → At books cs k b c → None ≡ slice_get b.entries c → Takes books cs k → ⊥
 takes_none books cs k b c h e t =
     let book : t.book ≡ b = same_Some t.book b (sym t.is ∙ h.is) in
     let cursor : t.cursor ≡ c = same_Some t.cursor c (sym t.cursor_is ∙ h.at) in
@@ -161,11 +161,11 @@ takes_none books cs k b c h e t =
 
 -- ---- what the books put out
 
-pub put_out_at : (books : List BookView) (cs : List ℕ) (packet : Packet) (k : ℕ) (b : BookView) (c : ℕ) → At books cs k b c → IsPutOutBefore b.entries c packet → PutOut books cs packet
+pub put_out_at : (books : List Book) (cs : List ℕ) (packet : Packet) (k : ℕ) (b : Book) (c : ℕ) → At books cs k b c → IsPutOutBefore b.entries c packet → PutOut books cs packet
 put_out_at books cs packet k b c h p =
     record { at = k; book = b; cursor = c; place = p.0; entry = p.1; among = p.4.0; is = h.is; cursor_is = h.at; before = p.2; entry_is = p.3; packet_is = p.4.1 }
 
-pub none_put_out : (books : List BookView) (cs : List ℕ) (packet : Packet) (end : ℕ) → length books ≤ end
+pub none_put_out : (books : List Book) (cs : List ℕ) (packet : Packet) (end : ℕ) → length books ≤ end
     → NoneBelow (λ book cursor. IsPutOutBefore book.entries cursor packet) books cs end → PutOut books cs packet → ⊥
 none_put_out books cs packet end l below p =
     none_at (λ book cursor. IsPutOutBefore book.entries cursor packet) books cs end l below p.at p.book p.cursor p.is p.cursor_is

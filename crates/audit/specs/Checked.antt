@@ -9,7 +9,7 @@ use Rattle.cover_world.specs.Safety.{published, Safe}
 use Rattle.cover_world.specs.Worlds.{Acts, Restarts, Run, SiteActs, SiteRestarts, World, after, go, opening_world, stay}
 use Rattle.node_core.specs.declared.event.Event.{Event}
 use Rattle.run_book.specs.Answers.{book_answer}
-use Rattle.run_book.specs.Books.{BookView}
+use Rattle.run_book.specs.Books.{Book}
 use Rattle.run_book.specs.Merges.{IsMerge, SiteEntry}
 use Rattle.run_book.specs.Sites.{RunName}
 
@@ -29,7 +29,7 @@ pub data Plays (problem : Problem) (start : World) : (end : World) → Run probl
       → Plays problem start new (go (go run (Restarts node incarnation limit) restart) (Acts node event) step) (merged ++ entry_of node event step ∷ [])
 
 -- A merge of the books is a run of the world: one from its opening, with restarts put in.
-pub record AreRun (run : RunName) (books : List BookView) : Type 0 where
+pub record AreRun (run : RunName) (books : List Book) : Type 0 where
   pub merged : List SiteEntry
   pub merges : IsMerge books merged
   pub limits : List ℕ
@@ -45,12 +45,12 @@ IsRight problem (Some (Cover options)) = IsExactCover problem (is_in options)
 IsRight problem (Some NoCover) = (chosen : ℕ → Bool) → IsExactCover problem chosen → ⊥
 
 -- The books are a run, each cut of it is safe, and the registry's book answers what the run publishes, which is right.
-pub record AreSafe (run : RunName) (books : List BookView) : Type 0 where
+pub record AreSafe (run : RunName) (books : List Book) : Type 0 where
   pub are_run : AreRun run books
   pub open are_run use {limits, end, course}
   pub safe : (now : World) (e : Run run.problem (opening_world run.nodes limits) now) (f : Run run.problem now end)
       → after e f ≡ course → Safe e f
-  pub publishes : (k : ℕ) (book : BookView) → slice_get books k ≡ Some book → book.site.node ≡ 0
+  pub publishes : (k : ℕ) (book : Book) → slice_get books k ≡ Some book → book.site.node ≡ 0
       → book_answer run.problem book.entries ≡ published run.problem end
-  pub right : (k : ℕ) (book : BookView) → slice_get books k ≡ Some book → book.site.node ≡ 0
+  pub right : (k : ℕ) (book : Book) → slice_get books k ≡ Some book → book.site.node ≡ 0
       → IsRight run.problem (book_answer run.problem book.entries)

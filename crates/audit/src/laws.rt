@@ -3,7 +3,7 @@
 ghost use Rattle.std.specs.Prelude.{◌≡◌, true, List};
 ghost use Rattle.std.specs.List.{AllByRecursion};
 ghost use Rattle.audit.specs.Checked.{AreSafe};
-ghost use Rattle.run_book.specs.Books.{are_distinct, BookView, IsBook};
+ghost use Rattle.run_book.specs.Books.{are_distinct, Book as BookValue, IsBook};
 ghost use Rattle.run_book.specs.Merges.{IsMerge, SiteEntry};
 ghost use Rattle.run_book.specs.Sites.{RunName};
 
@@ -14,7 +14,7 @@ use run_book::a_book_tells_what_is_published;
 /// later incarnation, and nodes without a book idle. So each cut of it is safe; what the registry's book answers is what that
 /// run publishes, and it is right.
 pub fn merged_books_are_a_run()
-    ensures { (run : RunName) (books : List BookView) (merged : List SiteEntry) →
+    ensures { (run : RunName) (books : List BookValue) (merged : List SiteEntry) →
         AllByRecursion (IsBook run) books → are_distinct books ≡ true → IsMerge books merged →
         AreSafe run books }
 {

@@ -2,6 +2,6 @@ use Rattle.std.specs.Prelude.{ℕ, List}
 use Rattle.cover_problem.specs.Problem.{Problem}
 
 -- what a searcher is over, and what it found last
-pub record Searching : Type 0 where
+pub record Searcher : Type 0 where
   pub problem : Problem
   pub found : List ℕ

@@ -23,9 +23,9 @@ pub struct Searcher<'a> {
 
 impl<'a> Model for Searcher<'a> {
     ghost use Rattle.brancher.specs.Kernels.{choices_in};
-    ghost use Rattle.brancher.specs.Searching.{Searching};
+    ghost use Rattle.brancher.specs.Searching.{Searcher as SearcherValue};
 
-    ghost Value = { Searching };
+    ghost Value = { SearcherValue };
 
     ghost view = { λ s. record {
       problem = (choices_in s.kernel).problem;

@@ -8,7 +8,7 @@ use Rattle.node_core.specs.Requests.{registry}
 use Rattle.node_core.specs.SiteView.{View}
 use Rattle.root_registry.specs.Published.{published_by}
 use Rattle.run_book.specs.Answers.{book_answer}
-use Rattle.run_book.specs.Books.{BookView, EndsIn, has_site, IsBook}
+use Rattle.run_book.specs.Books.{Book, EndsIn, has_site, IsBook}
 use Rattle.run_book.specs.Runs.{IsPublished, IsRunEnd, registry_book}
 use Rattle.run_book.specs.Sites.{RunName}
 use Rattle.spawn_frame.specs.Names.{same_site}
@@ -20,17 +20,17 @@ use Rattle.audit.specs.declared.auditing.Unclean.TheVariants.{Memory}
 use Rattle.cover_engines.specs.Audit.{IsChecked, IsFound}
 
 -- the registry's book, and where it stands
-pub record HasRegistry (books : List BookView) : Type 0 where
+pub record HasRegistry (books : List Book) : Type 0 where
   pub place : ℕ
-  pub book : BookView
+  pub book : Book
   pub at : slice_get books place ≡ Some book
   pub of_registry : book.site.node ≡ 0
   pub is : registry_book books ≡ Some book
 
-has_registry : (books : List BookView) → has_site registry books ≡ true → HasRegistry books
+has_registry : (books : List Book) → has_site registry books ≡ true → HasRegistry books
 has_registry [] here = absurd (both_ways false refl here)
 has_registry (book ∷ books) here =
-    let choose : Bool → Option BookView = λ c. if c then Some book else registry_book books in
+    let choose : Bool → Option Book = λ c. if c then Some book else registry_book books in
     elim (cases_Bool (book.site.node == 0)) [
       | inl zero ↦ record { place = 0; book = book; at = refl; of_registry = eqb-true book.site.node 0 zero; is = ap choose zero }
       | inr other ↦ elim (or_cases (same_site book.site registry) (has_site registry books) here) [
@@ -39,7 +39,7 @@ has_registry (book ∷ books) here =
       ]
     ]
 
-registered : (books : List BookView) → AllHaveBooks books → has_site registry books ≡ true
+registered : (books : List Book) → AllHaveBooks books → has_site registry books ≡ true
 registered books all =
     elim (cases_Bool (has_site registry books)) [
       | inl here ↦ here
@@ -48,10 +48,10 @@ registered books all =
 
 -- what the registry's book answers is what its last view publishes
 abbrev pub BooksTell : Type 0
-BooksTell = (run : RunName) (book : BookView) (limit : ℕ) (last : View) → book.site.node ≡ 0 → EndsIn run book limit last
+BooksTell = (run : RunName) (book : Book) (limit : ℕ) (last : View) → book.site.node ≡ 0 → EndsIn run book limit last
     → book_answer run.problem book.entries ≡ published_by run.problem last
 
-checked : BooksTell → (run : RunName) (answer : Option Answer) (books : List BookView) → IsRunEnd run answer books → AreSafe run books → AllHaveBooks books → IsChecked run answer books
+checked : BooksTell → (run : RunName) (answer : Option Answer) (books : List Book) → IsRunEnd run answer books → AreSafe run books → AllHaveBooks books → IsChecked run answer books
 checked tell run answer books end safe all =
     let found = has_registry books (registered books all) in
     let book = found.book in
@@ -66,7 +66,7 @@ checked tell run answer books end safe all =
       right = subst (IsRight run.problem) (sym same) (safe.right found.place book found.at found.of_registry);
     }
 
-pub found_of : BooksTell → (run : RunName) (answer : Option Answer) (books : List BookView) (found : Result Clean Unclean) → IsRunEnd run answer books
+pub found_of : BooksTell → (run : RunName) (answer : Option Answer) (books : List Book) (found : Result Clean Unclean) → IsRunEnd run answer books
     → OnOk found (AreSafe run books) → OnOk found (AllHaveBooks books) → IfErr found (λ cause. IsCause books cause) → found ≢ Err Memory → IsFound run answer books found
 found_of tell run answer books (Ok clean) end safe all cause ended = checked tell run answer books end safe all
 found_of tell run answer books (Err why) end safe all cause ended = (λ memory. ended (ap Err memory), cause)

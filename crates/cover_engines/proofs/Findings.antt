@@ -1,7 +1,7 @@
 -- An audited answer is written as one of those that may be said.
 use Rattle.std.proofs.Common.{◌≡◌, ◌≢◌, ℕ, List, Option, Result, Ok, Err, refl}
 use Rattle.cover_problem.specs.declared.answer.Answer.{Answer}
-use Rattle.run_book.specs.Books.{BookView}
+use Rattle.run_book.specs.Books.{Book}
 use Rattle.run_book.specs.Runs.{IsRunEnd}
 use Rattle.run_book.specs.Sites.{RunName}
 use Rattle.audit.specs.declared.auditing.Clean.{Clean}
@@ -12,7 +12,7 @@ use Rattle.cover_engines.specs.Output.{IsOutput, IsOutputOf}
 use Rattle.cover_engines.specs.declared.fault.EngineFault.{EngineFault}
 use Rattle.cover_engines.specs.declared.fault.EngineFault.TheVariants as faults
 
-module _ (run : RunName) (answer : Option Answer) (books : List BookView) (found : Result Clean Unclean) (old new : Option (List ℕ)) where
+module _ (run : RunName) (answer : Option Answer) (books : List Book) (found : Result Clean Unclean) (old new : Option (List ℕ)) where
   -- where memory lasted, it may be said
   may_be : IsRunEnd run answer books → (found ≢ Err unclean.Memory → IsFound run answer books found) → found ≢ Err unclean.Memory
       → AuditSays run (audited_said run.problem answer found)

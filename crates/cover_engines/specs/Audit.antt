@@ -4,7 +4,7 @@ use Rattle.std.specs.Fmt.{decimal}
 use Rattle.cover_problem.specs.Problem.{Problem}
 use Rattle.cover_problem.specs.declared.answer.Answer.{Answer}
 use Rattle.cover_world.specs.Safety.{published}
-use Rattle.run_book.specs.Books.{BookView}
+use Rattle.run_book.specs.Books.{Book}
 use Rattle.run_book.specs.Runs.{IsRunEnd}
 use Rattle.run_book.specs.Sites.{RunName}
 use Rattle.audit.specs.Audits.{AllHaveBooks, IsCause}
@@ -17,14 +17,14 @@ use Rattle.cover_engines.specs.Output.{Said, published_said, said}
 -- ---- what is found
 
 -- The books are one run of the world, which publishes this answer; and it is right, whatever the network delivered.
-pub record IsChecked (run : RunName) (answer : Option Answer) (books : List BookView) : Type 0 where
+pub record IsChecked (run : RunName) (answer : Option Answer) (books : List Book) : Type 0 where
   pub complete : AllHaveBooks books
   pub safe : AreSafe run books
   pub publishes : answer ≡ published run.problem safe.are_run.end
   pub right : IsRight run.problem answer
 
 -- an audit that came to its end found this of the books and the answer
-abbrev pub IsFound : RunName → Option Answer → List BookView → Result Clean Unclean → Type 0
+abbrev pub IsFound : RunName → Option Answer → List Book → Result Clean Unclean → Type 0
 IsFound run answer books (Ok clean) = IsChecked run answer books
 IsFound run answer books (Err cause) = (cause ≢ Memory) × IsCause books cause
 
@@ -53,7 +53,7 @@ audited_said problem answer found =
 -- It says what the registry published, as books of the run tell it, and what an audit found of these.
 pub record AuditSays (run : RunName) (what : Said) : Type 0 where
   pub answer : Option Answer
-  pub books : List BookView
+  pub books : List Book
   pub is_end : IsRunEnd run answer books
   pub found : Result Clean Unclean
   pub is_found : IsFound run answer books found

@@ -15,7 +15,7 @@ use Rattle.dlx_reader.specs.Writing.{occurrences_of, option_words}
 use Rattle.dlx_reader.specs.Answers.{AreOptionsOf}
 use Rattle.dlx_reader.proofs.AnswerOptions.{AreOptionsOf-none, AreOptionsOf-more}
 use Rattle.dlx_reader.proofs.AnswerFree.{lowest_of}
-use Rattle.dlx_reader.proofs.MeantNames.{same_occurrences}
+use Rattle.dlx_reader.proofs.KeyNames.{same_occurrences}
 
 -- ---- the options of the lines
 

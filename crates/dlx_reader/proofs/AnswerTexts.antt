@@ -1,8 +1,8 @@
 -- The texts of lists of items and options, from a place on.
 use Rattle.std.proofs.Common.{◌≡◌, ℕ, ◌+◌, ◌<◌, List, ◌∷◌, ◌++◌, length, get_or, drop, add-one, drop-cons, refl, take, ◌-◌, ◌≤◌, [], arith, suc, ap, sym, ◌∙◌, append-nil, Option}
 use Rattle.dlx_reader.specs.Devices.{AppendsFront}
-use Rattle.dlx_reader.specs.Passing.{Passes}
-use Rattle.dlx_reader.proofs.Passed.{Passing, passing_on, passing_fault}
+use Rattle.dlx_reader.specs.Buffering.{Buffers}
+use Rattle.dlx_reader.proofs.Buffered.{Passing, buffering_on, buffering_fault}
 use Rattle.std.proofs.Math.Seq.{take-length}
 use Rattle.std.specs.List.{flat_map, zip}
 use Rattle.std.proofs.lemmas.List.Elements.{All-drop, All-take}
@@ -23,12 +23,12 @@ pub others_are : (p : Problem) (os : List ℕ) → AreOptions p os → AreOption
 others_are p os all = All-take (λ o. o < length p.options) (length os - 1) (drop 1 os) (All-drop (λ o. o < length p.options) 1 os all)
 
 -- the first option's line was passed on, and those of the others are left
-pub option_on : (p : Problem) (w x y : List ℕ) (a b c : Option (List ℕ)) (os whole : List ℕ) → Passing w x a b (flat_map (option_text p) os) whole → 1 ≤ length os → Passes x y b c (option_text p (get_or os 0 0)) → Passing w y a c (flat_map (option_text p) (take (length os - 1) (drop 1 os))) whole
-option_on p w x y a b c os whole passing some piece = passing_on w x y a b c (option_text p (get_or os 0 0)) (flat_map (option_text p) (take (length os - 1) (drop 1 os))) whole (rw (options_split p os some) at passing) piece
+pub option_on : (p : Problem) (w x y : List ℕ) (a b c : Option (List ℕ)) (os whole : List ℕ) → Passing w x a b (flat_map (option_text p) os) whole → 1 ≤ length os → Buffers x y b c (option_text p (get_or os 0 0)) → Passing w y a c (flat_map (option_text p) (take (length os - 1) (drop 1 os))) whole
+option_on p w x y a b c os whole passing some piece = buffering_on w x y a b c (option_text p (get_or os 0 0)) (flat_map (option_text p) (take (length os - 1) (drop 1 os))) whole (rw (options_split p os some) at passing) piece
 
 -- a fault came in the first option's line
 pub option_fault : (p : Problem) (w x : List ℕ) (a b c : Option (List ℕ)) (os whole : List ℕ) → Passing w x a b (flat_map (option_text p) os) whole → 1 ≤ length os → AppendsFront b c (x ++ option_text p (get_or os 0 0)) → AppendsFront a c (w ++ whole)
-option_fault p w x a b c os whole passing some piece = passing_fault w x a b c (option_text p (get_or os 0 0)) (flat_map (option_text p) (take (length os - 1) (drop 1 os))) whole (rw (options_split p os some) at passing) piece
+option_fault p w x a b c os whole passing some piece = buffering_fault w x a b c (option_text p (get_or os 0 0)) (flat_map (option_text p) (take (length os - 1) (drop 1 os))) whole (rw (options_split p os some) at passing) piece
 
 -- the first word, and each other after a space
 words_cons : (p : Problem) (first : ℕ × ℕ) (others : List (ℕ × ℕ)) → words_text p (first ∷ others) ≡ word_text p first ++ words_after p others

@@ -11,7 +11,7 @@ use Rattle.cover_problem.specs.Problem.{names_differ}
 use Rattle.dlx_reader.specs.Content.{begins_with_bar, content_of}
 use Rattle.dlx_reader.specs.Faults.{first_of, placed, part_tests, item_tests, option_tests, item_line_tests, limit_tests, tests_of, first_fault}
 use Rattle.dlx_reader.specs.Items.{name_part, names_in, primary_in, primary_names}
-use Rattle.dlx_reader.specs.Kept.{KeptOptions}
+use Rattle.dlx_reader.specs.Options.{KeptOptions}
 use Rattle.dlx_reader.specs.Names.{is_among, item_named}
 use Rattle.dlx_reader.specs.Occurrences.{has_colon, item_part, colour_part}
 use Rattle.dlx_reader.specs.OptionLines.{names_of, names_primary, kept_lines, colours_in}

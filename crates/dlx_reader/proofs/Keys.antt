@@ -1,7 +1,7 @@
 -- Keys of options, and their two halves.
 use Rattle.std.proofs.Common.{◌≡◌, ℕ, zero, suc, ◌<◌, List, [], ◌∷◌, ◌++◌, length, get_or, ap, refl, ◌∙◌, arith, length-append}
 use Rattle.cover_problem.specs.Problem.{Problem}
-use Rattle.dlx_reader.specs.Meant.{AreKeys, key_of}
+use Rattle.dlx_reader.specs.OptionIndex.{AreKeys, key_of}
 
 -- lists that are as long as what follows them, and make one list with it
 pub record SameHalves (first second own other : List ℕ) : Type 0 where

@@ -10,7 +10,7 @@ use Rattle.std.proofs.lemmas.List.Sums.{sum_by-cons, sum_by-append}
 use Rattle.cover_problem.specs.Numbers.{is_distinct, are_below, some_below}
 use Rattle.cover_problem.specs.Problem.{is_name, names_differ}
 use Rattle.dlx_reader.specs.Content.{is_word}
-use Rattle.dlx_reader.specs.Kept.{KeptOptions}
+use Rattle.dlx_reader.specs.Options.{KeptOptions}
 use Rattle.dlx_reader.specs.Names.{is_among}
 use Rattle.dlx_reader.specs.Occurrences.{has_colon, item_part, colour_part}
 use Rattle.dlx_reader.specs.OptionLines.{names_of, names_primary, is_occurrence, is_option_line, kept_lines, colours_in, names_of_colours}

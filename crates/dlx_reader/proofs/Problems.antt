@@ -8,7 +8,7 @@ use Rattle.cover_problem.specs.Problem.{IsProblem, problem_by, is_name, names_di
 use Rattle.dlx_reader.specs.Content.{begins_with_bar, is_content}
 use Rattle.dlx_reader.specs.Items.{names_in, primary_in}
 use Rattle.dlx_reader.specs.Content.{is_word}
-use Rattle.dlx_reader.specs.Kept.{KeptOptions}
+use Rattle.dlx_reader.specs.Options.{KeptOptions}
 use Rattle.dlx_reader.specs.Names.{is_among}
 use Rattle.dlx_reader.specs.Occurrences.{has_colon, item_part, colour_part}
 use Rattle.dlx_reader.specs.OptionLines.{names_of, names_primary, is_occurrence, is_option_line, kept_lines, names_of_colours}

@@ -6,7 +6,7 @@ use Rattle.cover_problem.specs.Problem.{Problem, problem_by}
 use Rattle.dlx_reader.specs.Content.{is_content, content_of}
 use Rattle.dlx_reader.specs.Items.{names_in, primary_in, primary_names}
 use Rattle.dlx_reader.specs.Content.{is_word}
-use Rattle.dlx_reader.specs.Kept.{KeptOptions}
+use Rattle.dlx_reader.specs.Options.{KeptOptions}
 use Rattle.dlx_reader.specs.Occurrences.{item_part, colour_part}
 use Rattle.dlx_reader.specs.ProblemOf.{IsProblemIn, IsProblemOf}
 use Rattle.dlx_reader.specs.OptionLines.{names_primary, is_option_line, kept_lines, colours_in}
@@ -14,7 +14,7 @@ use Rattle.dlx_reader.specs.Reading.{◌>>=◌, Reading, items_from, options_fro
 use Rattle.dlx_reader.proofs.ItemLines.{items_read}
 use Rattle.dlx_reader.proofs.OptionLines.{words_in, none_stands, options_stand}
 use Rattle.dlx_reader.proofs.Problems.{lines_words, read_is_problem}
-use Rattle.dlx_reader.proofs.Words.{content_words, each_words}
+use Rattle.dlx_reader.proofs.WordTexts.{content_words, each_words}
 
 -- the problem of parts that are read
 abbrev pub problem_read : List (List ℕ) → ℕ → KeptOptions → Problem

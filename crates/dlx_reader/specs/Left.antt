@@ -4,10 +4,10 @@ use Rattle.std.specs.Borrow.{Bor}
 use Rattle.dlx_reader.specs.Answers.{worded_lines}
 use Rattle.dlx_reader.specs.Content.{content_from}
 use Rattle.dlx_reader.specs.Lines.{lines_of, words_of}
-use Rattle.dlx_reader.specs.declared.left.Line.{Line}
+use Rattle.dlx_reader.specs.declared.lines.Line.{Line}
 
 -- the lines that are left, behind so many that were taken
-pub record Left : Type 0 where
+pub record Lines : Type 0 where
   pub before : ℕ
   pub lines : List (List ℕ)
 
@@ -22,11 +22,11 @@ most_in None = 0
 most_in (Some text) = length text.now + 1
 
 -- those of the lines left that say something
-abbrev pub content_left : Left → List (ℕ × List (List ℕ))
+abbrev pub content_left : Lines → List (ℕ × List (List ℕ))
 content_left left = content_from (left.before + 1) left.lines
 
 -- those of the lines left that aren't blank
-abbrev pub worded_left : Left → List (ℕ × List (List ℕ))
+abbrev pub worded_left : Lines → List (ℕ × List (List ℕ))
 worded_left left = worded_lines (left.before + 1) left.lines
 
 -- a line's number and its words
@@ -34,13 +34,13 @@ abbrev pub line_of : Line → ℕ × List (List ℕ)
 line_of line = (line.number, words_of line.text.now)
 
 -- the first of the lines left, and what is left behind it
-pub record IsFirstOf (old new : Left) (line : Line) : Type 0 where
+pub record IsFirstOf (old new : Lines) (line : Line) : Type 0 where
   pub lines : old.lines ≡ line.text.now ∷ new.lines
   pub number : line.number ≡ old.before + 1
   pub before : new.before ≡ line.number
 
 -- the first of the lines of a kind, and what is left behind it
-pub record IsFirstIn (kind : Left → List (ℕ × List (List ℕ))) (old new : Left) (line : Line) : Type 0 where
+pub record IsFirstIn (kind : Lines → List (ℕ × List (List ℕ))) (old new : Lines) (line : Line) : Type 0 where
   pub lines : kind old ≡ line_of line ∷ kind new
   pub behind : old.before < line.number
   pub before : new.before ≡ line.number

@@ -6,7 +6,7 @@ use Rattle.cover_problem.specs.Problem.{Problem}
 use Rattle.cover_problem.specs.declared.limits.TheConstants.{MOST_COLOURS, MOST_NODES, MOST_OPTIONS}
 use Rattle.dlx_reader.specs.Content.{begins_with_bar}
 use Rattle.dlx_reader.specs.Items.{name_part, primary_in}
-use Rattle.dlx_reader.specs.Kept.{KeptOptions}
+use Rattle.dlx_reader.specs.Options.{KeptOptions}
 use Rattle.dlx_reader.specs.Names.{item_named}
 use Rattle.dlx_reader.specs.Faults.{part_tests, item_tests}
 use Rattle.dlx_reader.specs.Occurrences.{has_colon, item_part, colour_part}

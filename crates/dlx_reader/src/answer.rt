@@ -9,9 +9,9 @@ ghost use Rattle.dlx_reader.specs.AnswerSteps.{IsOptionFault};
 
 use crate::answer_fault::AnswerFault;
 use crate::answer_head::{Head, head_before};
-use crate::left::Lines;
-use crate::meant::{Meant, keys_of, name_key};
+use crate::lines::Lines;
 use crate::names::Names;
+use crate::option_index::{OptionIndex, keys_of, name_key};
 use cover_problem::{Answer, Numbers, Problem};
 use std::alloc::Global;
 
@@ -23,16 +23,16 @@ fn options_of(alloc: Global, mut lines: Lines, problem: &Problem) -> Result<Numb
     let names = Names::of_problem(alloc, problem)?;
     let colour_names = Names::of_colours(alloc, problem)?;
     let keys = keys_of(alloc, problem)?;
-    let mut meant = Meant::new(alloc, problem, &keys)?;
+    let mut index = OptionIndex::new(alloc, problem, &keys)?;
     let mut key = Vec::new(alloc);
     let mut colours = Vec::new(alloc);
     while let Some(line) = lines.take_worded() {
         name_key(&names, &colour_names, line.text, &mut key, &mut colours)?;
-        let Some(_option) = meant.take(&key)? else {
+        let Some(_option) = index.take(&key)? else {
             return Err(AnswerFault::UnknownOption(line.number));
         };
     }
-    Ok(Numbers::from_vec(meant.into_options()))
+    Ok(Numbers::from_vec(index.into_options()))
 }
 
 /// The answer of the text, or its fault.

@@ -7,7 +7,7 @@ ghost use Rattle.dlx_reader.specs.Answers.{IsCount, IsHead};
 ghost use Rattle.dlx_reader.specs.AnswerSteps.{IsHeadOf, IsHeadBefore, IsHeadFault};
 
 use crate::answer_fault::AnswerFault;
-use crate::lines::{has_words, split_word};
+use crate::words::{has_words, split_word};
 
 /// What the first line of an answer says.
 #[derive(Clone, Copy)]

@@ -1,100 +1,11 @@
-//! The lines of a text and the words of a line, cut off one by one: no list of them is made.
+//! The lines of a text, cut off one by one: no list of them is made.
 
-ghost use Rattle.std.specs.Prelude.{◌≡◌, ◌<◌, ◌==◌, [], ◌∷◌, length, not, position, is_some, IfNone, IfSome};
-ghost use Rattle.dlx_reader.specs.Content.{begins_with_bar, is_content};
-ghost use Rattle.dlx_reader.specs.Lines.{is_white, lines_of, words_of};
+ghost use Rattle.std.specs.Prelude.{◌≡◌, ◌<◌, ◌≤◌, ◌+◌, [], ◌∷◌, ◌==◌, length, position, IfNone, IfSome};
 ghost use Rattle.dlx_reader.specs.Left.{lines_in};
-ghost use Rattle.dlx_reader.specs.Occurrences.{bytes_in, colour_part, has_colon, item_part};
+ghost use Rattle.dlx_reader.specs.Lines.{lines_of};
 
-/// Whether a byte is white space within a line.
-fn is_white(byte: u8) -> bool
-    ensures { result ≡ is_white byte }
-{
-    matches!(byte, 9 | 11 | 12 | 13 | 32)
-}
-
-/// Where the first word of a line begins, if it has one.
-fn word_start(line: &[u8]) -> Option<usize>
-    ensures place { result ≡ position (λ byte. not (is_white byte)) line.now }
-    ensures within { IfSome result (λ start. start < length line.now) }
-{
-    line.iter().position(|byte| !is_white(*byte))
-}
-
-/// Where the first white space stands, if there is some.
-fn word_end(word: &[u8]) -> Option<usize>
-    ensures place { result ≡ position is_white word.now }
-    ensures within { IfSome result (λ end. end < length word.now) }
-{
-    word.iter().position(|byte| is_white(*byte))
-}
-
-/// The first word of a line, and what stands behind it; nothing where the line has no word.
-pub fn split_word(line: &[u8]) -> Option<(&[u8], &[u8])>
-    ensures none { IfNone result (words_of line.now ≡ []) }
-    ensures some { IfSome result (λ parts. words_of line.now ≡ parts.0.now ∷ words_of parts.1.now) }
-    ensures shorter { IfSome result (λ parts. length parts.1.now < length line.now) }
-{
-    let word = &line[word_start(line)?..];
-    match word_end(word) {
-        None => Some((word, &[])),
-        Some(end) => Some(word.split_at(end)),
-    }
-}
-
-/// Where the first colon of a word stands, if it has one.
-fn colon_place(word: &[u8]) -> Option<usize>
-    ensures place { result ≡ position (λ byte. byte == 58) word.now }
-    ensures within { IfSome result (λ place. place < length word.now) }
-{
-    word.iter().position(|byte| *byte == b':')
-}
-
-/// What stands before the first colon of an option's word, and what stands behind it, if there is one.
-pub fn split_colour(word: &[u8]) -> (&[u8], Option<&[u8]>)
-    ensures item { result.0.now ≡ item_part word.now }
-    ensures colour { bytes_in result.1 ≡ colour_part word.now }
-    ensures colon { is_some result.1 ≡ has_colon word.now }
-{
-    match colon_place(word) {
-        None => (word, None),
-        Some(place) => (&word[..place], Some(&word[place + 1..])),
-    }
-}
-
-/// The name of the colour that an option's word has; nothing where it has none.
-pub fn colour_part(word: &[u8]) -> &[u8]
-    ensures { result.now ≡ colour_part word.now }
-{
-    match split_colour(word) {
-        (_, None) => &[],
-        (_, Some(colour)) => colour,
-    }
-}
-
-/// Whether a word begins with the bar.
-pub fn begins_with_bar(word: &[u8]) -> bool
-    ensures { result ≡ begins_with_bar word.now }
-{
-    matches!(word, [b'|', ..])
-}
-
-/// Whether a line says something: it is neither blank nor a comment. No more than its first word is looked at.
-pub fn is_content(line: &[u8]) -> bool
-    ensures { result ≡ is_content (words_of line.now) }
-{
-    match split_word(line) {
-        None => false,
-        Some((word, _)) => !begins_with_bar(word),
-    }
-}
-
-/// Whether a line has a word. No more than the first is looked at.
-pub fn has_words(line: &[u8]) -> bool
-    ensures { result ≡ not (length (words_of line.now) == 0) }
-{
-    split_word(line).is_some()
-}
+use crate::words::{has_words, is_content};
+use std::marker::Model;
 
 /// Where the first line of a text ends, if something ends it.
 fn line_end(text: &[u8]) -> Option<usize>
@@ -112,5 +23,108 @@ pub fn split_line(text: &[u8]) -> (&[u8], Option<&[u8]>)
     match line_end(text) {
         None => (text, None),
         Some(end) => (&text[..end], Some(&text[end + 1..])),
+    }
+}
+
+/// A line: its number, counted from 1, and its bytes.
+#[derive(Clone, Copy)]
+pub struct Line<'a> {
+    pub number: usize,
+    pub text: &'a [u8],
+}
+
+/// The lines of a text that are left, behind so many that were taken.
+#[derive(Drop)]
+pub struct Lines<'a> {
+    before: usize,
+    left: Option<&'a [u8]>,
+}
+
+impl<'a> Model for Lines<'a> {
+    ghost use Rattle.std.specs.Prelude.{◌+◌, ◌<◌, ◌^◌};
+    ghost use Rattle.dlx_reader.specs.Left.{Lines as LinesValue, lines_in, most_in};
+
+    ghost Value = { LinesValue };
+
+    ghost view = { λ l. record { before = l.before; lines = lines_in l.left } };
+
+    ghost invariant = { λ l. l.before + most_in l.left < 2 ^ 64 };
+}
+
+impl<'a> Lines<'a> {
+    ghost use Rattle.dlx_reader.specs.Left.{IsFirstOf, IsFirstIn, content_left, worded_left};
+
+    /// All lines of a text.
+    pub fn of(text: &'a [u8]) -> Lines<'a>
+        ensures { result ≡ record { before = 0; lines = lines_of text.now } }
+    {
+        Lines {
+            before: 0,
+            left: Some(text),
+        }
+    }
+
+    /// Takes the first line.
+    fn take_line(&mut self) -> Option<Line<'a>>
+        ensures none { IfNone result (self.old.lines ≡ []) }
+        ensures some { IfSome result (IsFirstOf self.old self.new) }
+    {
+        let (text, left) = split_line(self.left?);
+        self.left = left;
+        self.before += 1;
+        Some(Line {
+            number: self.before,
+            text,
+        })
+    }
+
+    /// Takes the first line that says something, and those before it.
+    #[tactic(auto, unfolding(crate::specs::Content::content_from))]
+    pub fn take_content(&mut self) -> Option<Line<'a>>
+        ensures none { IfNone result (content_left self.old ≡ []) }
+        ensures some { IfSome result (IsFirstIn content_left self.old self.new) }
+    {
+        while let Some(line) = self.take_line() {
+            if is_content(line.text) {
+                return Some(line);
+            }
+        }
+        None
+    }
+
+    /// Takes the first line that isn't blank, and those before it.
+    #[tactic(auto, unfolding(crate::specs::Answers::worded_lines))]
+    pub fn take_worded(&mut self) -> Option<Line<'a>>
+        ensures none { IfNone result (worded_left self.old ≡ []) }
+        ensures some { IfSome result (IsFirstIn worded_left self.old self.new) }
+    {
+        while let Some(line) = self.take_line() {
+            if has_words(line.text) {
+                return Some(line);
+            }
+        }
+        None
+    }
+
+    /// The same lines once more.
+    fn copy(&self) -> Lines<'a>
+        ensures { result ≡ self.now }
+    {
+        Lines {
+            before: self.before,
+            left: self.left,
+        }
+    }
+
+    /// How many of the lines aren't blank.
+    pub fn count_worded(&self) -> usize
+        ensures { result ≡ length (worded_left self.now) }
+    {
+        let mut left = self.copy();
+        let mut count = 0;
+        while let Some(_line) = left.take_worded() {
+            count += 1;
+        }
+        count
     }
 }

@@ -5,7 +5,7 @@ ghost use Rattle.std.specs.List.{list_any, list_all};
 ghost use Rattle.dlx_reader.specs.Content.{is_content, is_word, content_from, content_of};
 ghost use Rattle.dlx_reader.specs.Faults.{first_fault, is_bad_colour, is_illegal, name_tests, part_tests};
 ghost use Rattle.dlx_reader.specs.Items.{name_part, primary_in};
-ghost use Rattle.dlx_reader.specs.Kept.{AreItemsOf};
+ghost use Rattle.dlx_reader.specs.Options.{AreItemsOf};
 ghost use Rattle.dlx_reader.specs.Left.{content_left, line_of};
 ghost use Rattle.dlx_reader.specs.Lines.{words_of};
 ghost use Rattle.dlx_reader.specs.Occurrences.{bytes_in, colour_part, has_colon, item_part};
@@ -14,10 +14,10 @@ ghost use Rattle.dlx_reader.specs.Reading.{Gives, after, item_at, items_from, no
 ghost use Rattle.dlx_reader.specs.declared.fault.ReadFault.TheVariants.{Memory};
 
 use crate::fault::ReadFault;
-use crate::kept::{Kept, KeptParts, LineItems};
-use crate::left::{Line, Lines};
-use crate::lines::{begins_with_bar, split_colour, split_word};
+use crate::lines::{Line, Lines};
 use crate::names::Names;
+use crate::options::{KeptOptions, KeptParts, LineItems};
+use crate::words::{begins_with_bar, split_colour, split_word};
 use cover_problem::{MOST_BYTES, MOST_ITEMS, Problem};
 use std::alloc::Global;
 
@@ -225,7 +225,7 @@ fn read_option_line<'a>(
     alloc: Global,
     names: &Names,
     primary: usize,
-    kept: &mut Kept<'a>,
+    kept: &mut KeptOptions<'a>,
     line: Line<'a>,
 ) -> Result<(), ReadFault>
     requires ignored { kept.old.ignored < line.number }
@@ -244,11 +244,11 @@ fn read_options<'a>(
     names: &Names,
     primary: usize,
     mut lines: Lines<'a>,
-) -> Result<Kept<'a>, ReadFault>
+) -> Result<KeptOptions<'a>, ReadFault>
     ensures { Gives (λ kept. kept) result
         (options_from names.now primary none_kept (content_left lines.entry)) }
 {
-    let mut kept = Kept::new(alloc);
+    let mut kept = KeptOptions::new(alloc);
     while let Some(line) = lines.take_content() {
         read_option_line(alloc, names, primary, &mut kept, line)?;
     }

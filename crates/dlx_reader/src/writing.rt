@@ -5,9 +5,9 @@ ghost use Rattle.dlx_reader.specs.Devices.{IsWritten, IsCounted};
 ghost use Rattle.dlx_reader.specs.Writing.{cover_text, answer_text, IsWritable};
 ghost use Rattle.cover_problem.specs.Prefix.{AreOptions};
 
+use crate::buffer::Buffer;
+use crate::cover_text::buffer_cover;
 use crate::devices::Sink;
-use crate::passing::pass_cover;
-use crate::waiting::Waiting;
 use cover_problem::{Answer, Problem};
 
 /// The writer took no more: its count of failures rose, and a beginning of the text was written.
@@ -40,9 +40,9 @@ fn write_cover<W: Sink>(problem: &Problem, options: &[u16], sink: &mut W) -> Res
         (cover_text problem.now options.now) result }
     ensures failed { IsCounted (W.failed sink.old) (W.failed sink.new) result }
 {
-    let mut waiting = Waiting::new();
-    pass_cover(problem, options, &mut waiting, sink)?;
-    write_bytes(waiting.as_slice(), sink)
+    let mut buffer = Buffer::new();
+    buffer_cover(problem, options, &mut buffer, sink)?;
+    write_bytes(buffer.as_slice(), sink)
 }
 
 /// Writes the text of an answer: the line `cover k` and the lines of the k options, or the line `none`.

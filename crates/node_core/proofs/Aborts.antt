@@ -4,7 +4,7 @@ use Rattle.std.specs.Bool.{OnTrue}
 use Rattle.node_core.proofs.Sending.{sends_more}
 use Rattle.node_core.specs.Arrivals.{Drops}
 use Rattle.node_core.specs.Membership.{MembersStep}
-use Rattle.node_core.specs.Outgoing.{Lists, Sends}
+use Rattle.node_core.specs.Outgoing.{Outgoing, Sends}
 use Rattle.node_core.specs.Results.{FinishStep, return_packets}
 use Rattle.node_core.specs.SiteView.{View, abort_packets, with_ledger}
 use Rattle.packet_wire.specs.declared.packet.Packet.{Packet}
@@ -29,7 +29,7 @@ pub appended_whole : (P : List Reached → Type 0) (old new : List Reached) → 
 appended_whole P old new none a = subst P (sym (a.1 ∙ ap (λ l. l ++ a.0) none)) a.2
 
 -- room is made, and then packets are sent
-pub sends_after : (old mid new : Lists) (ps : List Packet) → Sends old [] mid → Sends mid ps new → Sends old ps new
+pub sends_after : (old mid new : Outgoing) (ps : List Packet) → Sends old [] mid → Sends mid ps new → Sends old ps new
 sends_after old mid new ps room sends = sends_more old mid new [] ps room sends
 
 -- a guest is dropped

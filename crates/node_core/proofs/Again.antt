@@ -3,7 +3,7 @@ use Rattle.std.proofs.Common.{◌≡◌, ℕ, zero, suc, ◌+◌, ◌<◌, ◌�
 use Rattle.std.proofs.Math.Seq.{take-length}
 use Rattle.std.proofs.lemmas.List.{take_all}
 use Rattle.node_core.proofs.Sending.{sends_more}
-use Rattle.node_core.specs.Outgoing.{Lists, Sends}
+use Rattle.node_core.specs.Outgoing.{Outgoing, Sends}
 use Rattle.node_core.specs.Requests.{give_again, given_again, gives_again, moved_by, return_again, returned_again, returns_again}
 use Rattle.node_core.specs.declared.reply.Reply.TheVariants.{Ignored, Moved}
 use Rattle.packet_wire.specs.declared.packet.Packet.{Packet}
@@ -69,7 +69,7 @@ some_moved ps [] e = absurd (e (ap length (append-nil ps)))
 some_moved ps (q ∷ qs) e = refl
 
 -- the Gives up to a serial are sent, and that of the child at it
-pub gives_sent : (old mid new : Lists) (from : Site) (own : List Entry) (i : ℕ) → i < length own
+pub gives_sent : (old mid new : Outgoing) (from : Site) (own : List Entry) (i : ℕ) → i < length own
     → Sends old (gives_again from 0 (take i own)) mid → Sends mid (given_again from i (slice_get own i)) new
     → Sends old (gives_again from 0 (take (i + 1) own)) new
 gives_sent old mid new from own i l before then =
@@ -82,7 +82,7 @@ gives_sent old mid new from own i l before then =
     (sends_more old mid new (gives_again from 0 (take i own)) (given_again from i (slice_get own i)) before then)
 
 -- the Returns up to a place are sent, and that of the guest at it
-pub returns_sent : (old mid new : Lists) (from : Site) (guests : List GuestEntry) (i : ℕ) → i < length guests
+pub returns_sent : (old mid new : Outgoing) (from : Site) (guests : List GuestEntry) (i : ℕ) → i < length guests
     → Sends old (returns_again from (take i guests)) mid → Sends mid (returned_again from (slice_get guests i)) new
     → Sends old (returns_again from (take (i + 1) guests)) new
 returns_sent old mid new from guests i l before then =
@@ -93,7 +93,7 @@ returns_sent old mid new from guests i l before then =
     (sends_more old mid new (returns_again from (take i guests)) (returned_again from (slice_get guests i)) before then)
 
 -- where the walk over the open guests has come to the end, all Returns are sent
-pub all_returned : (old new : Lists) (from : Site) (guests : List GuestEntry) (i : ℕ) → length (open_guests guests) ≤ i
+pub all_returned : (old new : Outgoing) (from : Site) (guests : List GuestEntry) (i : ℕ) → length (open_guests guests) ≤ i
     → Sends old (returns_again from (take i (open_guests guests))) new → Sends old (returns_again from guests) new
 all_returned old new from guests i le sent =
     subst (λ ps. Sends old ps new) (ap (returns_again from) (take_all i (open_guests guests) le) ∙ returns_open from guests) sent
@@ -122,7 +122,7 @@ gives_over from own i k le within gap =
     ∙ sym (gives_next from 0 own j (omega (arith, m, within)))) refl
 
 -- the Gives up to a serial are sent, and that of the next child that is out
-pub gives_to_next : (old mid new : Lists) (from : Site) (own : List Entry) (i k : ℕ) → IsNext is_out own i k
+pub gives_to_next : (old mid new : Outgoing) (from : Site) (own : List Entry) (i k : ℕ) → IsNext is_out own i k
     → Sends old (gives_again from 0 (take i own)) mid → Sends mid (given_again from k (slice_get own k)) new
     → Sends old (gives_again from 0 (take (k + 1) own)) new
 gives_to_next old mid new from own i k next before then =
@@ -130,7 +130,7 @@ gives_to_next old mid new from own i k next before then =
     (subst (λ ps. Sends old ps mid) (gives_over from own i k next.behind (omega (arith, next.within)) next.gap) before) then
 
 -- where none is out from here on, all Gives are sent
-pub all_given : (old new : Lists) (from : Site) (own : List Entry) (i : ℕ) → i ≤ length own
+pub all_given : (old new : Outgoing) (from : Site) (own : List Entry) (i : ℕ) → i ≤ length own
     → ((j : ℕ) → i ≤ j → has_status is_out (slice_get own j) ≡ false)
     → Sends old (gives_again from 0 (take i own)) new → Sends old (gives_again from 0 own) new
 all_given old new from own i le none sent =
@@ -138,7 +138,7 @@ all_given old new from own i le none sent =
     (gives_over from own i (length own) le (omega arith) (λ j l m. none j l) ∙ ap (gives_again from 0) (take-length own)) sent
 
 -- where the walk has come to the end, all Gives are sent
-pub whole_given : (old new : Lists) (from : Site) (own : List Entry) (i : ℕ) → i ≡ length own
+pub whole_given : (old new : Outgoing) (from : Site) (own : List Entry) (i : ℕ) → i ≡ length own
     → Sends old (gives_again from 0 (take i own)) new → Sends old (gives_again from 0 own) new
 whole_given old new from own i e sent =
     subst (λ ps. Sends old ps new) (ap (λ k. gives_again from 0 (take k own)) e ∙ ap (gives_again from 0) (take-length own)) sent

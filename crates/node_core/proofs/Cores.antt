@@ -5,7 +5,7 @@ use Rattle.cover_problem.specs.Problem.{Problem}
 use Rattle.node_core.specs.Acting.{Acts, GivesShare, Sending}
 use Rattle.node_core.specs.Formed.{AllFormed, FormedStep, IsFormedNode}
 use Rattle.node_core.specs.NodeStep.{NodeStep}
-use Rattle.node_core.specs.Outgoing.{Lists}
+use Rattle.node_core.specs.Outgoing.{Outgoing}
 use Rattle.node_core.specs.Refusal.{IsFit}
 use Rattle.node_core.specs.SiteView.{View}
 use Rattle.node_core.specs.declared.act_fault.ActFault.{ActFault}
@@ -13,7 +13,7 @@ use Rattle.node_core.specs.declared.event.Event.{Event}
 use Rattle.node_core.specs.declared.reply.Reply.{Reply}
 use Rattle.packet_wire.specs.declared.packet.Packet.{Packet}
 
-module _ (problem : Problem) (old new : View) (event : Event) (before after : Lists) (is : IsFormedNode problem old) (fit : IsFit problem event) where
+module _ (problem : Problem) (old new : View) (event : Event) (before after : Outgoing) (is : IsFormedNode problem old) (fit : IsFit problem event) where
   -- what a node does with the event
   abbrev pub Steps : Reply → Type 0
   Steps reply = Sending before after (λ sent. NodeStep problem old event reply sent new × GivesShare old event sent)

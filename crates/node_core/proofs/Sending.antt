@@ -1,6 +1,6 @@
 -- Packets that are appended to the lists of an event.
 use Rattle.std.proofs.Common.{◌≡◌, Bool, true, false, List, [], ◌++◌, refl, sym, ap, ◌∙◌, append_assoc, append-nil}
-use Rattle.node_core.specs.Outgoing.{Lists, Sends, copied}
+use Rattle.node_core.specs.Outgoing.{Outgoing, Sends, copied}
 use Rattle.packet_wire.specs.declared.packet.Packet.{Packet}
 
 copied_none : (both : Bool) (ps : List Packet) → ps ≡ ps ++ copied both []
@@ -12,11 +12,11 @@ copied_more true ps qs = refl
 copied_more false ps qs = refl
 
 -- nothing is sent
-pub sends_none : (old : Lists) → Sends old [] old
+pub sends_none : (old : Outgoing) → Sends old [] old
 sends_none old = record { packets = sym (append-nil old.packets); copies = copied_none old.both old.copies; both = refl }
 
 -- packets are sent, and then others
-pub sends_more : (old mid new : Lists) (ps qs : List Packet) → Sends old ps mid → Sends mid qs new → Sends old (ps ++ qs) new
+pub sends_more : (old mid new : Outgoing) (ps qs : List Packet) → Sends old ps mid → Sends mid qs new → Sends old (ps ++ qs) new
 sends_more old mid new ps qs first second = record {
   packets = second.packets ∙ ap (λ l. l ++ qs) first.packets ∙ append_assoc old.packets ps qs;
   copies =

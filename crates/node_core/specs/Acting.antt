@@ -5,7 +5,7 @@ use Rattle.cover_problem.specs.Problem.{Problem}
 use Rattle.node_core.specs.Arrivals.{answer_packet}
 use Rattle.node_core.specs.Formed.{AllFormed}
 use Rattle.node_core.specs.NodeStep.{HearStep, NodeStep}
-use Rattle.node_core.specs.Outgoing.{Lists, Sends}
+use Rattle.node_core.specs.Outgoing.{Outgoing, Sends}
 use Rattle.node_core.specs.SiteView.{View, opening_view, unit_in}
 use Rattle.node_core.specs.declared.act_fault.ActFault.{ActFault}
 use Rattle.node_core.specs.declared.act_fault.ActFault.TheVariants.{Memory}
@@ -70,11 +70,11 @@ abbrev pub ActsTo : StepOf → Problem → View → Event → View → Reply →
 ActsTo Step problem old event new reply out = Acts Step problem old event reply out new
 
 -- packets of which this is so are appended to each list
-abbrev pub Sending : Lists → Lists → (List Packet → Type 0) → Type 0
+abbrev pub Sending : Outgoing → Outgoing → (List Packet → Type 0) → Type 0
 Sending old new P = (out : List Packet) × Sends old out new × P out
 
 -- what is so of the answer to an event that isn't refused, and of the packets that it sends
-abbrev pub Answered : {A : Type 0} → Result A ActFault → Lists → Lists → (A → List Packet → Type 0) → Type 0
+abbrev pub Answered : {A : Type 0} → Result A ActFault → Outgoing → Outgoing → (A → List Packet → Type 0) → Type 0
 Answered result old new P = IfOk result (λ answer. Sending old new (P answer))
 
 -- the same, of packets that are appended to a list
@@ -88,7 +88,7 @@ PutsOutBoth result old new P =
     IfOk result (λ answer. (out : List Packet) × (new.0 ≡ old.0 ++ out) × (new.1 ≡ old.1 ++ out) × P answer out)
 
 -- some packets are appended to each list
-abbrev pub MaySend : Lists → Lists → Type 0
+abbrev pub MaySend : Outgoing → Outgoing → Type 0
 MaySend old new = (out : List Packet) × Sends old out new
 
 -- a packet is delivered

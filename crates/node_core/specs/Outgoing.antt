@@ -3,7 +3,7 @@ use Rattle.std.specs.Prelude.{◌≡◌, ℕ, Bool, true, false, List, [], ◌�
 use Rattle.packet_wire.specs.declared.packet.Packet.{Packet}
 
 -- one list that packets are appended to, or two alike
-pub record Lists : Type 0 where
+pub record Outgoing : Type 0 where
   pub packets : List Packet
   pub copies : List Packet
   pub both : Bool  -- whether the second list gets them too
@@ -20,13 +20,13 @@ copied false out = []
 copied true out = out
 
 -- These packets are appended to each list.
-pub record Sends (old : Lists) (out : List Packet) (new : Lists) : Type 0 where
+pub record Sends (old : Outgoing) (out : List Packet) (new : Outgoing) : Type 0 where
   pub packets : new.packets ≡ old.packets ++ out
   pub copies : new.copies ≡ old.copies ++ copied old.both out
   pub both : new.both ≡ old.both
 
 -- a packet for each of the lists
-pub record LoadValue : Type 0 where
+pub record Load : Type 0 where
   pub packet : Packet
   pub copy : Option Packet
 
@@ -36,16 +36,16 @@ copy_for false packet = None
 copy_for true packet = Some packet
 
 -- It is this packet, for each of the lists.
-pub record IsLoad (both : Bool) (packet : Packet) (load : LoadValue) : Type 0 where
+pub record IsLoad (both : Bool) (packet : Packet) (load : Load) : Type 0 where
   pub packet_is : load.packet ≡ packet
   pub copy_is : load.copy ≡ copy_for both packet
 
 -- the packet that is ready, if there is one
-abbrev pub loaded : Option LoadValue → List Packet
+abbrev pub loaded : Option Load → List Packet
 loaded None = []
 loaded (Some load) = load.packet ∷ []
 
 -- what is ready is so for each of the lists
-abbrev pub IsReady : Bool → Option LoadValue → Type 0
+abbrev pub IsReady : Bool → Option Load → Type 0
 IsReady both None = ⊤
 IsReady both (Some load) = IsLoad both load.packet load

@@ -19,9 +19,9 @@ pub struct Outgoing {
 
 impl Model for Outgoing {
     ghost use Rattle.std.specs.Prelude.{◌-◌, vec_capacity, vec_len};
-    ghost use Rattle.node_core.specs.Outgoing.{Lists, room_in};
+    ghost use Rattle.node_core.specs.Outgoing.{Outgoing as OutgoingValue, room_in};
 
-    ghost Value = { Lists };
+    ghost Value = { OutgoingValue };
 
     ghost view = { λ o. record {
       packets = o.packets.items;
@@ -41,7 +41,7 @@ pub struct Load {
 
 impl Model for Load {
     ghost use Rattle.std.specs.Prelude.{Option};
-    ghost use Rattle.node_core.specs.Outgoing.{LoadValue};
+    ghost use Rattle.node_core.specs.Outgoing.{Load as LoadValue};
 
     ghost Value = { LoadValue };
 

@@ -2,7 +2,7 @@
 use Rattle.std.proofs.Common.{◌≡◌, ℕ, zero, suc, ◌+◌, ◌<◌, List, [], ◌∷◌, ◌++◌, length, take, sym, ap, ◌∙◌, subst, arith}
 use Rattle.std.specs.Prelude.{slice_index}
 use Rattle.node_core.proofs.Sending.{sends_more}
-use Rattle.node_core.specs.Outgoing.{Lists, Sends}
+use Rattle.node_core.specs.Outgoing.{Outgoing, Sends}
 use Rattle.packet_wire.specs.declared.packet.Body.{Body}
 use Rattle.packet_wire.specs.declared.packet.Packet.{Packet}
 use Rattle.root_registry.specs.RegistryStep.{to_each}
@@ -23,7 +23,7 @@ each_next from body n (k ∷ ks) (suc i) l =
     ∙ ap (λ m. to_each from body (suc n) (take i ks) ++ to_each from body m (slice_index ks i ∷ [])) same)
 
 -- the packets up to a place are sent, and that to the node at it
-pub each_sent : (old mid new : Lists) (from : Site) (body : Body) (runs : List ℕ) (i node run : ℕ) → i < length runs → node ≡ 1 + i → run ≡ slice_index runs i
+pub each_sent : (old mid new : Outgoing) (from : Site) (body : Body) (runs : List ℕ) (i node run : ℕ) → i < length runs → node ≡ 1 + i → run ≡ slice_index runs i
     → Sends old (to_each from body 1 (take i runs)) mid → Sends mid (to_each from body node (run ∷ [])) new
     → Sends old (to_each from body 1 (take (i + 1) runs)) new
 each_sent old mid new from body runs i node run l at there before then =

@@ -4,7 +4,7 @@ use Rattle.cover_problem.specs.Problem.{IsProblem, Problem}
 use Rattle.node_core.proofs.Sending.{sends_more}
 use Rattle.node_core.specs.Acting.{Sending}
 use Rattle.node_core.specs.Arrivals.{answer_packet}
-use Rattle.node_core.specs.Outgoing.{Lists, Sends}
+use Rattle.node_core.specs.Outgoing.{Outgoing, Sends}
 use Rattle.node_core.specs.SiteView.{View, with_ledger}
 use Rattle.node_core.specs.declared.reply.Reply.TheVariants.{Moved}
 use Rattle.packet_wire.specs.declared.packet.Body.TheVariants.{Accept, Return}
@@ -17,7 +17,7 @@ use Rattle.spawn_frame.specs.declared.child_result.ChildResult.{ChildResult}
 use Rattle.spawn_frame.specs.declared.site.Site.{Site}
 use Rattle.steal_return.specs.Returns.{Enters, judged, returned}
 
-pub entered : (problem : Problem) (old new : View) (from site : Site) (serial attempt : ℕ) (result copy : ChildResult) (before mid after : Lists)
+pub entered : (problem : Problem) (old new : View) (from site : Site) (serial attempt : ℕ) (result copy : ChildResult) (before mid after : Outgoing)
     → IsProblem problem → is_acceptable problem result ≡ true → copy ≡ result → site ≡ old.site
     → judged (slice_get old.own serial) from attempt ≡ Enters
     → Sends before (record { from = site; to = from; body = Accept serial attempt copy } ∷ []) mid

@@ -43,20 +43,20 @@ entering view (Deliver packet) = entering_with view packet.from packet.body
 entering view _ = None
 
 -- A problem, and the answer to it that is published, once there is one.
-pub record Publishing : Type 0 where
+pub record Publication : Type 0 where
   pub problem : Problem
   pub answer : Option Answer
 
 -- a problem of which nothing is published yet
-abbrev pub unanswered : Problem → Publishing
+abbrev pub unanswered : Problem → Publication
 unanswered problem = record { problem = problem; answer = None }
 
 -- the same problem with this answer
-abbrev pub answered : Publishing → Answer → Publishing
+abbrev pub answered : Publication → Answer → Publication
 answered old answer = record old { answer = Some answer }
 
 -- what is published once a result enters, if one does
-abbrev pub publishing : Publishing → Option ChildResult → Publishing
+abbrev pub publishing : Publication → Option ChildResult → Publication
 publishing old None = old
 publishing old (Some result) = answered old (answer_of old.problem result)
 

@@ -16,9 +16,9 @@ pub(crate) struct Publication<'a> {
 }
 
 impl<'a> Model for Publication<'a> {
-    ghost use Rattle.root_registry.specs.Published.{Publishing};
+    ghost use Rattle.root_registry.specs.Published.{Publication as PublicationValue};
 
-    ghost Value = { Publishing };
+    ghost Value = { PublicationValue };
 
     ghost view = { λ p. record { problem = p.problem.now; answer = p.answer } };
 }

@@ -18,7 +18,7 @@ use Rattle.root_registry.specs.Published.{answer_of, entering, entering_with, if
 use Rattle.root_registry.specs.RegistryStep.{RegistryStep, RootAnswers, RootHears, RootSteal, entry_result, if_done, root_result, status_result, to_each}
 use Rattle.run_book.proofs.Sites.{formed_at_first, formed_next}
 use Rattle.run_book.specs.Answers.{accepted_in, book_answer, first_accepted, first_result}
-use Rattle.run_book.specs.Books.{BookView, EndsIn, LeadsTo}
+use Rattle.run_book.specs.Books.{Book, EndsIn, LeadsTo}
 use Rattle.run_book.specs.Entries.{Entry}
 use Rattle.run_book.specs.Sites.{IsRun, MayBeginAt, RunName, opening_at}
 use Rattle.spawn_frame.specs.Names.{same_site}
@@ -217,7 +217,7 @@ registry_tells zero run site limit entries last at is may l =
 registry_tells (suc n) run site limit entries last at is may l = absurd (omega (arith, at))
 
 -- what the registry's book tells is what its last view publishes
-pub book_tells : (run : RunName) (book : BookView) (limit : ℕ) (last : View) → book.site.node ≡ 0 → EndsIn run book limit last
+pub book_tells : (run : RunName) (book : Book) (limit : ℕ) (last : View) → book.site.node ≡ 0 → EndsIn run book limit last
     → book_answer run.problem book.entries ≡ published_by run.problem last
 book_tells run book limit last at ends =
     sym (ap (option_map (answer_of run.problem)) (registry_tells book.site.node run book.site limit book.entries last at ends.lawful ends.begins ends.leads))

@@ -20,7 +20,7 @@ use Rattle.root_registry.specs.RegistryStep.{IsAcceptable, RegistryStep, RootAns
 use Rattle.run_book.proofs.Answering.{book_tells}
 use Rattle.run_book.proofs.Sites.{formed_at_first, formed_next}
 use Rattle.run_book.specs.Answers.{book_answer}
-use Rattle.run_book.specs.Books.{BookView, EndsIn, IsBook, LeadsTo}
+use Rattle.run_book.specs.Books.{Book, EndsIn, IsBook, LeadsTo}
 use Rattle.run_book.specs.Entries.{Entry}
 use Rattle.run_book.specs.Runs.{CountsRight}
 use Rattle.run_book.specs.Sites.{IsRun, MayBeginAt, RunName, opening_at}
@@ -101,12 +101,12 @@ shown problem None h = tt
 shown problem (Some result) h = counts_right problem result h
 
 -- what the last view of the registry's book publishes counts right
-published_right : (run : RunName) (book : BookView) (limit : ℕ) (last : View) → book.site.node ≡ 0 → EndsIn run book limit last
+published_right : (run : RunName) (book : Book) (limit : ℕ) (last : View) → book.site.node ≡ 0 → EndsIn run book limit last
     → IfSome (published_by run.problem last) (CountsRight run.problem)
 published_right run book limit last at ends =
     shown run.problem (root_result last) (registry_counts book.site.node run book.site limit book.entries last at ends.lawful ends.begins ends.leads)
 
 -- the answer of the registry's book counts right
-pub answer_right : (run : RunName) (book : BookView) → book.site.node ≡ 0 → IsBook run book → IfSome (book_answer run.problem book.entries) (CountsRight run.problem)
+pub answer_right : (run : RunName) (book : Book) → book.site.node ≡ 0 → IsBook run book → IfSome (book_answer run.problem book.entries) (CountsRight run.problem)
 answer_right run book at (limit, last, ends) =
     subst (λ (answer : Option Answer). IfSome answer (CountsRight run.problem)) (sym (book_tells run book limit last at ends)) (published_right run book limit last at ends)

@@ -11,14 +11,14 @@ use Rattle.run_book.proofs.Counting.{are_below}
 use Rattle.run_book.proofs.Leading.{ends_on}
 use Rattle.run_book.proofs.Sites.{formed_next, reply_fits, reply_prefix}
 use Rattle.run_book.specs.Books.{EndsIn, Enters}
-use Rattle.run_book.specs.Desks.{DeskView, IsDesk, IsLawful, prefix_in, room_for}
+use Rattle.run_book.specs.Desks.{Desk, IsDesk, IsLawful, prefix_in, room_for}
 use Rattle.run_book.specs.Entries.{Entry, Placed}
 use Rattle.run_book.specs.Places.{AreBelow, places}
 use Rattle.run_book.specs.Sites.{RunName}
-use Rattle.run_book.specs.Tickets.{AreApart, RegisterView}
+use Rattle.run_book.specs.Tickets.{AreApart, Register}
 use Rattle.spawn_frame.specs.declared.site.Site.{Site}
 
-module _ (run : RunName) (site : Site) (names : ℕ) (Step : StepOf) (problem : Problem) (view : View) (desk : DeskView) (register : RegisterView) (total : ℕ)
+module _ (run : RunName) (site : Site) (names : ℕ) (Step : StepOf) (problem : Problem) (view : View) (desk : Desk) (register : Register) (total : ℕ)
     (is : IsDesk run site names Step problem view desk register total) where
   -- what the core does at an event that is fit is an entry of the site
   enters : (event : Event) (reply : Reply) (out : List Packet) (new : View) → IsFit run.problem event → Acts Step problem view event reply out new
@@ -46,7 +46,7 @@ module _ (run : RunName) (site : Site) (names : ℕ) (Step : StepOf) (problem : 
 
   -- the desk with one entry more
   pub desk_next : (entry : Entry) (event : Event) (reply : Reply) (out : List Packet) (problem' : Problem) (new : View) (entries : List Entry)
-      (given : ℕ) (register' : RegisterView) (total' : ℕ)
+      (given : ℕ) (register' : Register) (total' : ℕ)
       → IsFit run.problem event → Acts Step problem view event reply out new
       → entry ≡ record { event = event; reply = reply; packets = out }
       → problem' ≡ problem → length desk.entries < desk.limit

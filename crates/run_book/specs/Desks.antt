@@ -14,20 +14,20 @@ use Rattle.node_core.specs.declared.reply.Reply.TheVariants.{Taken}
 use Rattle.run_book.specs.Books.{EndsIn}
 use Rattle.run_book.specs.Entries.{Entry}
 use Rattle.run_book.specs.Sites.{FormedAt, RunName, StepsAt}
-use Rattle.run_book.specs.Tickets.{RegisterView}
+use Rattle.run_book.specs.Tickets.{Register}
 use Rattle.run_book.specs.declared.fault.BookFault.{BookFault}
 use Rattle.run_book.specs.declared.fault.BookFault.TheVariants.{BookFull, Core}
 use Rattle.spawn_frame.specs.declared.site.Site.{Site}
 
 -- a core's history: its entries, how many it may have, and how many seats were given out
-pub record DeskView : Type 0 where
+pub record Desk : Type 0 where
   pub entries : List Entry
   pub limit : ℕ
   pub given : ℕ
 
 -- The core is of the run and the site, and the entries, which the register has too, led it to its view.
-pub record IsDesk (run : RunName) (site : Site) (names : ℕ) (Step : StepOf) (problem : Problem) (view : View) (desk : DeskView)
-    (register : RegisterView) (total : ℕ) : Type 0 where
+pub record IsDesk (run : RunName) (site : Site) (names : ℕ) (Step : StepOf) (problem : Problem) (view : View) (desk : Desk)
+    (register : Register) (total : ℕ) : Type 0 where
   pub same : problem ≡ run.problem
   pub steps : StepsAt site.node Step
   pub formed : FormedAt site.node run.problem view

@@ -26,23 +26,23 @@ abbrev pub FoundEmpty : List Parcel → Type 0
 FoundEmpty taken = (moment : Moment) × (moment.held ≡ []) × (moment.taken ≡ taken)
 
 -- a pass: the outbox that it is of, and what it has seen put in
-pub record PassView : Type 0 where
+pub record Pass : Type 0 where
   pub outbox : TableId
   pub seen : List Parcel
 
 -- the drain: the outbox that it is of, and what it has taken out
-pub record DrainView : Type 0 where
+pub record Drain : Type 0 where
   pub outbox : TableId
   pub taken : List Parcel
 
 -- The pass has seen more put in, at its end the parcel.
-pub record HasPut (old : PassView) (parcel : Parcel) (new : PassView) : Type 0 where
+pub record HasPut (old : Pass) (parcel : Parcel) (new : Pass) : Type 0 where
   pub outbox : new.outbox ≡ old.outbox
   pub between : List Parcel
   pub seen : new.seen ≡ (old.seen ++ between) ++ parcel ∷ []
 
 -- the drain with the parcel added to what it has taken out
-abbrev pub has_taken : DrainView → Parcel → DrainView
+abbrev pub has_taken : Drain → Parcel → Drain
 has_taken drain parcel = record drain { taken = drain.taken ++ parcel ∷ [] }
 
 -- ---- the rule of the queue
@@ -90,9 +90,9 @@ abbrev pub name_of : {Q A : Type 0} → Slotted (Option Parcel) (Doing Parcel Kn
 name_of queue = queue.table.shared.table_id
 
 -- a holder as a pass
-abbrev pub pass_view : Holder Parcel Known → PassView
+abbrev pub pass_view : Holder Parcel Known → Pass
 pass_view holder = record { outbox = holder.table_id; seen = (view holder).seen }
 
 -- a holder as the drain
-abbrev pub drain_view : Holder Parcel Known → DrainView
+abbrev pub drain_view : Holder Parcel Known → Drain
 drain_view holder = record { outbox = holder.table_id; taken = (view holder).taken }

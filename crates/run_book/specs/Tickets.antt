@@ -76,12 +76,12 @@ abbrev pub spent : Knows
 spent = Nothing
 
 -- the log that is kept, and the receipts that are back
-pub record RegisterView : Type 0 where
+pub record Register : Type 0 where
   pub log : List Entry
   pub back : List Placed
 
 -- what the keeper knows, as a register
-abbrev pub register_view : Knows → RegisterView
+abbrev pub register_view : Knows → Register
 register_view known = record { log = log_of known; back = back_of known }
 
 -- the holder is the keeper

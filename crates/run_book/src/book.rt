@@ -24,9 +24,9 @@ pub struct Book<J: Run> {
 }
 
 impl<J: Run> Model for Book<J> {
-    ghost use Rattle.run_book.specs.Books.{BookView, IsBook};
+    ghost use Rattle.run_book.specs.Books.{Book as BookValue, IsBook};
 
-    ghost Value = { BookView };
+    ghost Value = { BookValue };
 
     ghost view = { λ b. record { site = b.site; entries = b.entries.items } };
 

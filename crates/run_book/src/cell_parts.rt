@@ -20,9 +20,9 @@ impl Model for CellParts {
     ghost use Rattle.std.specs.Prelude.{◌≡◌};
     ghost use Rattle.crossbeam_queue.specs.Passes.{view as known, IsPassOf};
     ghost use Rattle.run_book.specs.Tickets.{keeper_of_none};
-    ghost use Rattle.run_book.specs.Seats.{CellNames};
+    ghost use Rattle.run_book.specs.Seats.{CellParts as CellPartsValue};
 
-    ghost Value = { CellNames };
+    ghost Value = { CellPartsValue };
 
     ghost view = { λ o. record { table = o.keeper.table_id; name = o.blank.name } };
 

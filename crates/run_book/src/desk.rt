@@ -36,9 +36,9 @@ pub struct Desk<J: Run, C: Core + Drop, N: CellName> {
 }
 
 impl<J: Run, C: Core + Drop, N: CellName> Model for Desk<J, C, N> {
-    ghost use Rattle.run_book.specs.Desks.{DeskView, IsDesk};
+    ghost use Rattle.run_book.specs.Desks.{Desk as DeskValue, IsDesk};
 
-    ghost Value = { DeskView };
+    ghost Value = { DeskValue };
 
     ghost view = { λ d. record {
       entries = d.entries.items;

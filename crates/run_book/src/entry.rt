@@ -15,9 +15,9 @@ pub struct Entry {
 }
 
 impl Model for Entry {
-    ghost use Rattle.run_book.specs.Entries.{Entry as EntryView};
+    ghost use Rattle.run_book.specs.Entries.{Entry as EntryValue};
 
-    ghost Value = { EntryView };
+    ghost Value = { EntryValue };
 
     ghost view = { λ e. e.step.value };
 }

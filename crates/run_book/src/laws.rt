@@ -8,7 +8,7 @@ ghost use Rattle.node_core.specs.SiteView.{View, opening_view};
 ghost use Rattle.root_registry.specs.Published.{published_by};
 ghost use Rattle.root_registry.specs.RegistryStep.{RegistryStep};
 ghost use Rattle.run_book.specs.Answers.{book_answer};
-ghost use Rattle.run_book.specs.Books.{BookView, EndsIn, IsBook};
+ghost use Rattle.run_book.specs.Books.{Book as BookValue, EndsIn, IsBook};
 ghost use Rattle.run_book.specs.Runs.{CountsRight};
 ghost use Rattle.run_book.specs.Sites.{opening_of, MayBeginIn, RunName, StepsAt};
 ghost use Rattle.spawn_frame.specs.declared.site.Site.{Site};
@@ -22,14 +22,14 @@ pub fn cores_step_as_their_sites()
 
 /// The answer of the registry's book is what its last view publishes: the book's first Accept told the root's result.
 pub fn a_book_tells_what_is_published()
-    ensures { (run : RunName) (book : BookView) (limit : ℕ) (last : View) → book.site.node ≡ 0 →
+    ensures { (run : RunName) (book : BookValue) (limit : ℕ) (last : View) → book.site.node ≡ 0 →
         EndsIn run book limit last → book_answer run.problem book.entries
         ≡ published_by run.problem last }
 {}
 
 /// The answer of the registry's book counts right: the registry has counted each cover before it entered.
 pub fn what_is_published_counts_right()
-    ensures { (run : RunName) (book : BookView) → book.site.node ≡ 0 → IsBook run book →
+    ensures { (run : RunName) (book : BookValue) → book.site.node ≡ 0 → IsBook run book →
         IfSome (book_answer run.problem book.entries) (CountsRight run.problem) }
 {}
 

@@ -19,9 +19,9 @@ pub struct Pass {
 
 impl Model for Pass {
     ghost use Rattle.std.specs.Prelude.{◌≡◌, []};
-    ghost use Rattle.run_book.specs.Outbox.{PassView, pass_view};
+    ghost use Rattle.run_book.specs.Outbox.{Pass as PassValue, pass_view};
 
-    ghost Value = { PassView };
+    ghost Value = { PassValue };
 
     ghost view = { λ p. pass_view p.inner };
 
@@ -36,9 +36,9 @@ pub struct Drain {
 
 impl Model for Drain {
     ghost use Rattle.std.specs.Prelude.{◌≡◌, []};
-    ghost use Rattle.run_book.specs.Outbox.{DrainView, drain_view};
+    ghost use Rattle.run_book.specs.Outbox.{Drain as DrainValue, drain_view};
 
-    ghost Value = { DrainView };
+    ghost Value = { DrainValue };
 
     ghost view = { λ d. drain_view d.inner };
 

@@ -10,9 +10,9 @@ pub struct Known {
 }
 
 impl Model for Known {
-    ghost use Rattle.run_book.specs.Outbox.{Known as SeenKnown, newcomer};
+    ghost use Rattle.run_book.specs.Outbox.{Known as KnownValue, newcomer};
 
-    ghost Value = { SeenKnown };
+    ghost Value = { KnownValue };
 
     ghost view = { λ _. newcomer };
 }

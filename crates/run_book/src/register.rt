@@ -96,9 +96,9 @@ pub struct Register<N: CellName> {
 impl<N: CellName> Model for Register<N> {
     ghost use Rattle.std.specs.Prelude.{◌≡◌};
     ghost use Rattle.crossbeam_queue.specs.Passes.{view as known, IsPassOf};
-    ghost use Rattle.run_book.specs.Tickets.{register_view, IsKeeper, RegisterView};
+    ghost use Rattle.run_book.specs.Tickets.{register_view, IsKeeper, Register as RegisterValue};
 
-    ghost Value = { RegisterView };
+    ghost Value = { RegisterValue };
 
     ghost view = { λ r. register_view (known r.keeper) };
 

@@ -40,9 +40,9 @@ pub struct Seats<N: CellName> {
 
 impl<N: CellName> Model for Seats<N> {
     ghost use Rattle.std.specs.Prelude.{◌≡◌, ◌+◌};
-    ghost use Rattle.run_book.specs.Seats.{SeatsView};
+    ghost use Rattle.run_book.specs.Seats.{Seats as SeatsValue};
 
-    ghost Value = { SeatsView };
+    ghost Value = { SeatsValue };
 
     ghost view = { λ s. record { given = s.given; total = s.book.total } };
 

@@ -11,10 +11,10 @@ pub struct Knows {
 }
 
 impl Model for Knows {
-    ghost use Rattle.run_book.specs.Tickets.{Knows as SeenKnows};
+    ghost use Rattle.run_book.specs.Tickets.{Knows as KnowsValue};
     ghost use Rattle.run_book.specs.Tickets.Knows.{Nothing};
 
-    ghost Value = { SeenKnows };
+    ghost Value = { KnowsValue };
 
     ghost view = { λ _. Nothing };
 }

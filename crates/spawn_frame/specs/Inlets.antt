@@ -11,7 +11,7 @@ use Rattle.spawn_frame.specs.declared.status.Status.TheVariants.{Done}
 use Rattle.spawn_frame.specs.declared.unit.Unit.{Unit as WorkUnit}
 
 -- how many children an inlet has not heard, and which of those heard it goes by
-pub record Hearing : Type 0 where
+pub record FirstFound : Type 0 where
   pub left : ℕ
   pub winner : Option ℕ
 
@@ -21,7 +21,7 @@ is_cover (Cover options) = true
 is_cover Empty = false
 
 -- before any child is heard
-abbrev pub new_hearing : ℕ → Hearing
+abbrev pub new_hearing : ℕ → FirstFound
 new_hearing children = record { left = children; winner = None }
 
 -- the lesser serial, where there are two
@@ -30,12 +30,12 @@ lesser child None = child
 lesser child (Some winner) = min winner child
 
 -- what was heard, and the result of one child more: the least serial that had a cover goes on
-abbrev pub hearing_of : Hearing → ℕ → ChildResult → Hearing
+abbrev pub hearing_of : FirstFound → ℕ → ChildResult → FirstFound
 hearing_of before child (Cover options) = record { left = before.left - 1; winner = Some (lesser child before.winner) }
 hearing_of before child Empty = record before { left = before.left - 1 }
 
 -- settled once there is a winner, or none is left
-abbrev pub heard_of : Hearing → Heard
+abbrev pub heard_of : FirstFound → Heard
 heard_of hearing = if is_some hearing.winner || hearing.left == 0 then Settled else Open
 
 -- the winner is the one before, or a child with a cover
@@ -62,7 +62,7 @@ abbrev pub frame_winner : WorkUnit → List Entry → Option ℕ
 frame_winner unit own = winner_from unit 0 own
 
 -- what an inlet has heard that took the result of each child of the unit that is done
-abbrev pub frame_hearing : WorkUnit → List Entry → Hearing
+abbrev pub frame_hearing : WorkUnit → List Entry → FirstFound
 frame_hearing unit own = record { left = children_left unit own; winner = frame_winner unit own }
 
 -- whether a frame is settled, by the result that it gives

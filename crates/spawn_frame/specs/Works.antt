@@ -3,7 +3,7 @@ use Rattle.std.specs.Prelude.{◌≡◌, ℕ, zero, suc, ◌+◌, ◌<◌, ◌�
 use Rattle.std.specs.List.{AllByRecursion, list_any}
 use Rattle.spawn_frame.specs.Aborts.{is_open}
 use Rattle.spawn_frame.specs.Frames.{is_unit}
-use Rattle.spawn_frame.specs.Inlets.{Hearing, frame_hearing, heard_of, hearing_of, is_done, new_hearing}
+use Rattle.spawn_frame.specs.Inlets.{FirstFound, frame_hearing, heard_of, hearing_of, is_done, new_hearing}
 use Rattle.spawn_frame.specs.Picks.{either_unit, is_ready, is_split, pick, ready_unit, ripe_unit}
 use Rattle.spawn_frame.specs.Prefixes.{AreGrown, last_of, link_of, origin_of}
 use Rattle.spawn_frame.specs.Tables.{AreChildren, HasParents, IsAscending, is_here, is_out, suits}
@@ -75,7 +75,7 @@ abbrev pub new_work : List ℕ → ℕ → Work
 new_work path attempt = record { path = record { options = path }; attempt = attempt; status = Ready; inlet = None; children = record { first = 0; end = 0 } }
 
 -- what an inlet says, where there is one
-abbrev pub heard_work : Option Hearing → Heard
+abbrev pub heard_work : Option FirstFound → Heard
 heard_work None = Open
 heard_work (Some hearing) = heard_of hearing
 
@@ -103,7 +103,7 @@ first_wanted wanted (g ∷ gs) = if is_wanted wanted g.work then Some (units.Gue
 
 -- a frame has children that its inlet has not heard
 abbrev pub HearsChildren : Work → Type 0
-HearsChildren w = w.status ≡ Split → (h : Hearing) × (w.inlet ≡ Some h) × (0 < h.left)
+HearsChildren w = w.status ≡ Split → (h : FirstFound) × (w.inlet ≡ Some h) × (0 < h.left)
 
 -- the same of a unit, where it is there
 abbrev pub HearsFrom : Option Work → Type 0
@@ -111,7 +111,7 @@ HearsFrom None = Unit {0}
 HearsFrom (Some w) = HearsChildren w
 
 -- what an inlet has heard once it hears a child
-abbrev pub inlet_after : ℕ → ChildResult → Option Hearing → Option Hearing
+abbrev pub inlet_after : ℕ → ChildResult → Option FirstFound → Option FirstFound
 inlet_after child result None = None
 inlet_after child result (Some hearing) = Some (hearing_of hearing child result)
 

@@ -31,10 +31,10 @@ pub struct Children {
 
 impl Model for Children {
     ghost use Rattle.std.specs.Prelude.{List};
-    ghost use Rattle.spawn_frame.specs.declared.child.Child.{Child as OwnChild};
+    ghost use Rattle.spawn_frame.specs.declared.child.Child.{Child as ChildValue};
     ghost use Rattle.spawn_frame.specs.Pages.{in_pages, IsPaged};
 
-    ghost Value = { List OwnChild };
+    ghost Value = { List ChildValue };
 
     ghost view = { λ c. in_pages c.pages.items };
 
@@ -43,7 +43,7 @@ impl Model for Children {
 
 ghost use Rattle.spawn_frame.specs.Pages.{next_wanted};
 ghost use Rattle.spawn_frame.specs.Units.{last_attempt};
-ghost use Rattle.spawn_frame.specs.declared.child.Child.{Child as OwnChild};
+ghost use Rattle.spawn_frame.specs.declared.child.Child.{Child as ChildValue};
 
 impl Children {
     /// No children. It costs nothing.
@@ -175,7 +175,7 @@ impl Children {
     /// Makes a child ready again, at the next attempt.
     pub fn redo(&mut self, serial: u32)
         requires within { serial < length self.old }
-        requires attempt { (child : OwnChild) → slice_get self.old serial ≡ Some child
+        requires attempt { (child : ChildValue) → slice_get self.old serial ≡ Some child
             → child.work.attempt < last_attempt }
         ensures { self.new ≡ change_child redone_work self.old serial }
     {

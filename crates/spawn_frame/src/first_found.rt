@@ -16,9 +16,9 @@ pub struct FirstFound {
 }
 
 impl Model for FirstFound {
-    ghost use Rattle.spawn_frame.specs.Inlets.{Hearing};
+    ghost use Rattle.spawn_frame.specs.Inlets.{FirstFound as FirstFoundValue};
 
-    ghost Value = { Hearing };
+    ghost Value = { FirstFoundValue };
 
     ghost view = { λ s. record { left = s.left; winner = s.winner } };
 

@@ -31,9 +31,9 @@ pub struct Guests {
 impl Model for Guests {
     ghost use Rattle.std.specs.Prelude.{◌≡◌, List};
     ghost use Rattle.spawn_frame.specs.Guests.{open_places};
-    ghost use Rattle.spawn_frame.specs.declared.guest.Guest.{Guest as OneGuest};
+    ghost use Rattle.spawn_frame.specs.declared.guest.Guest.{Guest as GuestValue};
 
-    ghost Value = { List OneGuest };
+    ghost Value = { List GuestValue };
 
     ghost view = { λ g. g.items.items };
 

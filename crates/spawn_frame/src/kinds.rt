@@ -18,7 +18,7 @@ pub struct Kinds {
 
 impl Kinds {
     ghost use Rattle.spawn_frame.specs.Pages.{has_wanted, kinds_of, tells};
-    ghost use Rattle.spawn_frame.specs.declared.child.Child.{Child as OwnChild};
+    ghost use Rattle.spawn_frame.specs.declared.child.Child.{Child as ChildValue};
 
     /// The kinds that stand among these children. It costs four passes through them at most.
     pub fn of(children: &[Child]) -> Kinds
@@ -34,7 +34,7 @@ impl Kinds {
 
     /// The kinds once this child stands behind the others.
     pub fn with(self, child: &Child) -> Kinds
-        ensures { (own : List OwnChild) → self ≡ kinds_of own
+        ensures { (own : List ChildValue) → self ≡ kinds_of own
             → result ≡ kinds_of (own ++ child.now ∷ []) }
     {
         Kinds {

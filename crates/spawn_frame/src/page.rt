@@ -4,7 +4,7 @@ ghost use Rattle.std.specs.Prelude.{◌≡◌, ◌+◌, ◌<◌, ◌++◌, ◌^�
 ghost use Rattle.spawn_frame.specs.Pages.{has_wanted};
 ghost use Rattle.spawn_frame.specs.Units.{last_attempt};
 ghost use Rattle.spawn_frame.specs.Works.{change_child, child_work, frame_says, redone_work, split_work, with_heard, with_work_status, HearsFrom};
-ghost use Rattle.spawn_frame.specs.declared.child.Child.{Child as OwnChild};
+ghost use Rattle.spawn_frame.specs.declared.child.Child.{Child as ChildValue};
 
 use crate::child::Child;
 use crate::child_result::ChildResult;
@@ -28,10 +28,10 @@ pub struct Page {
 
 impl Model for Page {
     ghost use Rattle.std.specs.Prelude.{◌≡◌, ◌≤◌, List, length, vec_capacity};
-    ghost use Rattle.spawn_frame.specs.declared.child.Child.{Child as OwnChild};
+    ghost use Rattle.spawn_frame.specs.declared.child.Child.{Child as ChildValue};
     ghost use Rattle.spawn_frame.specs.Pages.{kinds_of, page_size};
 
-    ghost Value = { List OwnChild };
+    ghost Value = { List ChildValue };
 
     ghost view = { λ p. p.children.items };
 
@@ -110,7 +110,7 @@ impl Page {
     /// Makes a child ready again, at the next attempt.
     pub fn redo(&mut self, place: usize)
         requires within { place < length self.old }
-        requires attempt { (child : OwnChild) → slice_get self.old place ≡ Some child
+        requires attempt { (child : ChildValue) → slice_get self.old place ≡ Some child
             → child.work.attempt < last_attempt }
         ensures { self.new ≡ change_child redone_work self.old place }
     {

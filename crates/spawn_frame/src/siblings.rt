@@ -28,9 +28,9 @@ pub struct Siblings {
 
 impl Model for Siblings {
     ghost use Rattle.std.specs.Prelude.{List};
-    ghost use Rattle.spawn_frame.specs.declared.siblings.Sibling.{Sibling as OneSibling};
+    ghost use Rattle.spawn_frame.specs.declared.siblings.Sibling.{Sibling as SiblingValue};
 
-    ghost Value = { List OneSibling };
+    ghost Value = { List SiblingValue };
 
     ghost view = { λ s. s.items.items };
 }

@@ -56,9 +56,9 @@ pub struct Table {
 }
 
 impl Model for Table {
-    ghost use Rattle.spawn_frame.specs.Units.{Table as SeenTable};
+    ghost use Rattle.spawn_frame.specs.Units.{Table as TableValue};
 
-    ghost Value = { SeenTable };
+    ghost Value = { TableValue };
 
     ghost use Rattle.spawn_frame.specs.Works.{table_of, IsTable};
 

@@ -53,9 +53,9 @@ pub struct Ledger {
 impl Model for Ledger {
     ghost use Rattle.std.specs.Prelude.{◌-◌, length};
     ghost use Rattle.steal_return.specs.Invariant.{IsLedger};
-    ghost use Rattle.steal_return.specs.Ledger.{Ledger as SeenLedger};
+    ghost use Rattle.steal_return.specs.Ledger.{Ledger as LedgerValue};
 
-    ghost Value = { SeenLedger };
+    ghost Value = { LedgerValue };
 
     ghost view = { λ l. record { table = l.table; nodes = length l.known - 1; known = l.known } };
 

@@ -3,7 +3,7 @@ use Rattle.std.proofs.Common.{◌≡◌, ℕ, suc, ◌+◌, ◌<◌, ◌≤◌, 
 use Rattle.std.proofs.lemmas.Bool.{and_from, and_parts, cases_lt, eq-eqb, eqb-true, false_from_ne_true, le-leb, leb-true, not-true, or_from, or_parts}
 use Rattle.std.proofs.lemmas.List.{append_assoc, get_or_push, length_push}
 use Rattle.std.proofs.Math.ListN.{get_or-append}
-use Rattle.run_book.specs.Books.{are_distinct, has_site, BookView}
+use Rattle.run_book.specs.Books.{are_distinct, has_site, Book}
 use Rattle.spawn_frame.specs.Names.{same_site}
 use Rattle.spawn_frame.specs.declared.site.Site.{Site}
 use Rattle.udp_node.specs.Numbers.{AreNumbered}
@@ -34,7 +34,7 @@ numbered_from number xs each = from_places number 0 xs (λ k d h. omega (arith, 
 
 -- ---- one start
 
-start_parts : (node first next : ℕ) (book : BookView) (books : List BookView) → are_starts node first next (book ∷ books) ≡ true
+start_parts : (node first next : ℕ) (book : Book) (books : List Book) → are_starts node first next (book ∷ books) ≡ true
     → (book.site.node ≡ node) × (first ≤ book.site.incarnation) × (are_starts node (suc book.site.incarnation) next books ≡ true)
 start_parts node first next book books starts =
     let rest = are_starts node (suc book.site.incarnation) next books in
@@ -42,7 +42,7 @@ start_parts node first next book books starts =
     let inner = and_parts (book.site.node == node) (leb first book.site.incarnation) outer.0 in
     (eqb-true book.site.node node inner.0, leb-true first book.site.incarnation inner.1, outer.1)
 
-start_from : (node first next : ℕ) (book : BookView) (books : List BookView) → book.site.node ≡ node → first ≤ book.site.incarnation
+start_from : (node first next : ℕ) (book : Book) (books : List Book) → book.site.node ≡ node → first ≤ book.site.incarnation
     → are_starts node (suc book.site.incarnation) next books ≡ true → are_starts node first next (book ∷ books) ≡ true
 start_from node first next book books here at rest =
     and_from ((book.site.node == node) && leb first book.site.incarnation) (are_starts node (suc book.site.incarnation) next books)
@@ -52,14 +52,14 @@ start_from node first next book books here at rest =
 -- ---- starts
 
 -- there is room above the incarnations for one more
-pub starts_later : (node first next : ℕ) (books : List BookView) → are_starts node first next books ≡ true → are_starts node first (suc next) books ≡ true
+pub starts_later : (node first next : ℕ) (books : List Book) → are_starts node first next books ≡ true → are_starts node first (suc next) books ≡ true
 starts_later node first next [] starts = le-leb first (suc next) (omega (arith, leb-true first next starts))
 starts_later node first next (book ∷ books) starts =
     let parts = start_parts node first next book books starts in
     start_from node first (suc next) book books parts.0 parts.1 (starts_later node (suc book.site.incarnation) next books parts.2)
 
 -- the book of the next start
-pub starts_more : (node first next : ℕ) (books : List BookView) (book : BookView) → are_starts node first next books ≡ true → book.site.node ≡ node → book.site.incarnation ≡ next
+pub starts_more : (node first next : ℕ) (books : List Book) (book : Book) → are_starts node first next books ≡ true → book.site.node ≡ node → book.site.incarnation ≡ next
     → are_starts node first (suc next) (books ++ book ∷ []) ≡ true
 starts_more node first next [] book starts here at =
     start_from node first (suc next) book [] here (omega (arith, at, leb-true first next starts)) (le-leb (suc book.site.incarnation) (suc next) (omega (arith, at)))
@@ -74,7 +74,7 @@ abbrev pub IsBefore : ℕ → ℕ → Site → Type 0
 IsBefore node next site = (site.node < node) ⊎ ((site.node ≡ node) × (site.incarnation < next))
 
 -- the books are of such sites
-abbrev pub AreBefore : ℕ → ℕ → List BookView → Type 0
+abbrev pub AreBefore : ℕ → ℕ → List Book → Type 0
 AreBefore node next [] = Unit {0}
 AreBefore node next (book ∷ books) = IsBefore node next book.site × AreBefore node next books
 
@@ -82,7 +82,7 @@ is_before_later : (node next later : ℕ) (site : Site) → next ≤ later → I
 is_before_later node next later site h (inl below) = inl below
 is_before_later node next later site h (inr same) = inr (same.0, omega (arith, h, same.1))
 
-before_later : (node next later : ℕ) (books : List BookView) → next ≤ later → AreBefore node next books → AreBefore node later books
+before_later : (node next later : ℕ) (books : List Book) → next ≤ later → AreBefore node next books → AreBefore node later books
 before_later node next later [] h before = tt
 before_later node next later (book ∷ books) h before = (is_before_later node next later book.site h before.0, before_later node next later books h before.1)
 
@@ -91,11 +91,11 @@ is_before_next node next first site (inl below) = inl (omega (arith, below))
 is_before_next node next first site (inr same) = inl (omega (arith, same.0))
 
 -- all of a node come before the next node
-pub before_next_node : (node next first : ℕ) (books : List BookView) → AreBefore node next books → AreBefore (suc node) first books
+pub before_next_node : (node next first : ℕ) (books : List Book) → AreBefore node next books → AreBefore (suc node) first books
 before_next_node node next first [] before = tt
 before_next_node node next first (book ∷ books) before = (is_before_next node next first book.site before.0, before_next_node node next first books before.1)
 
-before_more : (node next : ℕ) (books : List BookView) (book : BookView) → AreBefore node next books → IsBefore node next book.site → AreBefore node next (books ++ book ∷ [])
+before_more : (node next : ℕ) (books : List Book) (book : Book) → AreBefore node next books → IsBefore node next book.site → AreBefore node next (books ++ book ∷ [])
 before_more node next [] book before is = (is, tt)
 before_more node next (b ∷ books) book before is = (before.0, before_more node next books book before.1 is)
 
@@ -112,13 +112,13 @@ apart s t before =
     ])
 
 -- a site that none of the books has, but for one more at the end
-none_more : (site : Site) (books : List BookView) (book : BookView) → has_site site books ≡ false → same_site book.site site ≡ false → has_site site (books ++ book ∷ []) ≡ false
+none_more : (site : Site) (books : List Book) (book : Book) → has_site site books ≡ false → same_site book.site site ≡ false → has_site site (books ++ book ∷ []) ≡ false
 none_more site [] book none other = or_from (same_site book.site site) false other refl
 none_more site (b ∷ books) book none other =
     let parts = or_parts (same_site b.site site) (has_site site books) none in
     or_from (same_site b.site site) (has_site site (books ++ book ∷ [])) parts.0 (none_more site books book parts.1 other)
 
-distinct_more : (books : List BookView) (book : BookView) → AreBefore book.site.node book.site.incarnation books → are_distinct books ≡ true
+distinct_more : (books : List Book) (book : Book) → AreBefore book.site.node book.site.incarnation books → are_distinct books ≡ true
     → are_distinct (books ++ book ∷ []) ≡ true
 distinct_more [] book before distinct = refl
 distinct_more (b ∷ books) book before distinct =
@@ -132,11 +132,11 @@ distinct_more (b ∷ books) book before distinct =
 -- ---- the books of a node's starts after those before them
 
 -- What is known of the books that were gathered so far: they are of different sites, all before this one.
-pub record AreGathered (node next : ℕ) (books : List BookView) : Type 0 where
+pub record AreGathered (node next : ℕ) (books : List Book) : Type 0 where
   pub before : AreBefore node next books
   pub distinct : are_distinct books ≡ true
 
-pub gathered_all : (node first next : ℕ) (books own : List BookView) → AreGathered node first books → are_starts node first next own ≡ true → AreGathered node next (books ++ own)
+pub gathered_all : (node first next : ℕ) (books own : List Book) → AreGathered node first books → are_starts node first next own ≡ true → AreGathered node next (books ++ own)
 gathered_all node first next books [] gathered starts =
     subst (AreGathered node next) (sym (append-nil books)) (record {
       before = before_later node first next books (leb-true first next starts) gathered.before;

@@ -1,6 +1,6 @@
 -- Starts of a node that restarts: the plan of each, and their books.
 use Rattle.std.specs.Prelude.{ℕ, suc, ◌/◌, ◌==◌, ◌&&◌, nat_le, Bool, if◌then◌else◌, List, [], ◌∷◌}
-use Rattle.run_book.specs.Books.{BookView}
+use Rattle.run_book.specs.Books.{Book}
 use Rattle.udp_node.specs.declared.plan.Plan.{Plan}
 
 -- the plan of each start of a site that restarts so many times: the turns are shared evenly, rounded down; once the search is over at
@@ -9,7 +9,7 @@ abbrev pub start_plan : Plan → ℕ → Bool → Plan
 start_plan plan restarts is_over = record plan { turns = plan.turns / suc restarts; quiet = if is_over then 1 else plan.quiet }
 
 -- the books are those of a node's starts in their order: of the node, of rising incarnations from `first` on, and below `next`
-abbrev pub are_starts : ℕ → ℕ → ℕ → List BookView → Bool
+abbrev pub are_starts : ℕ → ℕ → ℕ → List Book → Bool
 are_starts node first next [] = nat_le first next
 are_starts node first next (book ∷ books) =
     (book.site.node == node) && nat_le first book.site.incarnation && are_starts node (suc book.site.incarnation) next books

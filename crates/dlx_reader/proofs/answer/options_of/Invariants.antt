@@ -5,8 +5,8 @@ use Rattle.dlx_reader.proofs.answer.options_of.Given as goal
 
 abbrev pub invariant-loop-line : goal.invariant-loop-line
 invariant-loop-line l = record {
-  same : l.meant.problem ≡ l.problem;
-  further : Further l.problem (worded_left l.lines) (worded_left l.fn.lines) l.meant.options;
+  same : l.index.problem ≡ l.problem;
+  further : Further l.problem (worded_left l.lines) (worded_left l.fn.lines) l.index.options;
 }
 
 abbrev pub decreases-loop-line : goal.decreases-loop-line

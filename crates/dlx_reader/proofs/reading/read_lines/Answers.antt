@@ -1,6 +1,6 @@
 use Rattle.std.proofs.Common.{refl}
 use Rattle.dlx_reader.specs.Lines.{lines_of}
-use Rattle.dlx_reader.proofs.Words.{first_words}
+use Rattle.dlx_reader.proofs.WordTexts.{first_words}
 use Rattle.dlx_reader.proofs.reading.read_lines.Goals as goal
 
 pub read_content-requires-clause-content : goal.read_content-requires-clause-content

@@ -1,4 +1,4 @@
-use Rattle.std.proofs.Common.{◌≡◌, List, ℕ, length, false, refl, sym, ◌∙◌}
+use Rattle.std.proofs.Common.{◌≡◌, length, false, refl, sym, ◌∙◌}
 use Rattle.std.specs.List.{list_any}
 use Rattle.std.proofs.lemmas.Bool.{lt-ltb, le-ltb}
 use Rattle.dlx_reader.specs.Faults.{is_illegal}

@@ -1,5 +1,5 @@
 use Rattle.std.proofs.Common.{◌≡◌, ◌+◌, ◌-◌, ◌<◌, ◌∙◌, ap, length, get_or, [], arith}
-use Rattle.dlx_reader.proofs.MeantNames.{name_fresh}
+use Rattle.dlx_reader.proofs.KeyNames.{name_fresh}
 use Rattle.dlx_reader.proofs.names.Names.of_colours.Goals as goal
 
 pub push-requires-clause-fresh : goal.push-requires-clause-fresh

@@ -1,8 +1,0 @@
-use Rattle.std.proofs.Common.{[], ◌∷◌}
-use Rattle.std.specs.List.{flat_map}
-use Rattle.dlx_reader.specs.Writing.{option_text}
-use Rattle.dlx_reader.proofs.Passed.{passed_both}
-use Rattle.dlx_reader.proofs.passing.pass_line_end.Goals as goal
-
-pub returns-clause-bytes : goal.returns-clause-bytes
-returns-clause-bytes g c = passed_both _ _ _ _ _ _ (10 ∷ []) (flat_map (option_text c.args.problem.now) c.args.options.now) c.pass_options.result c.in_ok-pass_bytes.ensures.bytes c.pass_options.ensures.bytes
