@@ -7,10 +7,8 @@ use Rattle.std.proofs.lemmas.Nat.Bits.{bit_at_and, bit_at_xor, bit_at_not, bit_a
 pub digit_raised : (digits carry i : ℕ) → bit_at (bit_xor digits carry) i + 2 * bit_at (bit_and digits carry) i ≡ bit_at digits i + bit_at carry i
 digit_raised digits carry i = omega (arith, bit_at_xor digits carry i, bit_at_and digits carry i, bit_at-lt digits i, bit_at-lt carry i)
 
-pub digit_lowered : (digits borrow i : ℕ) → digits < 2 ^ 64 → i < 64
-    → bit_at (bit_xor digits borrow) i + bit_at borrow i ≡ bit_at digits i + 2 * bit_at (bit_and borrow (bit_not w64 digits)) i
-digit_lowered digits borrow i small inside =
-    omega (arith, bit_at_xor digits borrow i, bit_at_and borrow (bit_not w64 digits) i, bit_at_not w64 digits i small inside, bit_at-lt digits i, bit_at-lt borrow i)
+pub digit_lowered : (digits borrow i : ℕ) → bit_at (bit_xor digits borrow) i + bit_at borrow i ≡ bit_at digits i + 2 * bit_at (bit_and borrow (bit_xor digits borrow)) i
+digit_lowered digits borrow i = omega (arith, bit_at_xor digits borrow i, bit_at_and borrow (bit_xor digits borrow) i, bit_at-lt digits i, bit_at-lt borrow i)
 
 -- of some items those whose digit is 0
 pub zeros_of : (items digits i : ℕ) → digits < 2 ^ 64 → i < 64 → (bit_at (bit_and items (bit_not w64 digits)) i ≡ 1) ↔ ((bit_at items i ≡ 1) × (bit_at digits i ≡ 0))

@@ -19,7 +19,8 @@ pub fn lowered(digits: u64, borrow: u64) -> (u64, u64)
     ensures { (i : ℕ) → i < 64 → bit_at result.0 i + bit_at borrow i
         ≡ bit_at digits i + 2 * bit_at result.1 i }
 {
-    (digits ^ borrow, borrow & !digits)
+    let lower = digits ^ borrow;
+    (lower, borrow & lower)
 }
 
 /// Of some items those whose digit is least, and this digit.

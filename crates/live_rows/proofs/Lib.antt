@@ -1,5 +1,6 @@
 pub mod Behind
 pub mod Choosing
+pub mod Cleared
 pub mod Counted
 pub mod Gone
 pub mod Keying

@@ -20,8 +20,8 @@ use Rattle.live_rows.proofs.Keying.{fewest_branch}
 pub count_small : (planes : Planes) (i : ℕ) → count_at planes i < 32
 count_small planes i = omega (arith, bit_at-lt planes.ones i, bit_at-lt planes.twos i, bit_at-lt planes.fours i, bit_at-lt planes.eights i, bit_at-lt planes.sixteens i)
 
-pub planes_branch : (p : Problem) (prefix : List ℕ) (planes : Planes) (item count key : ℕ) → p.primary ≤ 64 → ArePlanes p prefix planes → IsLeast planes item count → key ≡ count * 65536 + item → branch_item p prefix ≡ item_of key
-planes_branch p prefix planes item count key few are is at =
+pub planes_branch : (p : Problem) (prefix : List ℕ) (planes : Planes) (item count : ℕ) → p.primary ≤ 64 → ArePlanes p prefix planes → IsLeast planes item count → branch_item p prefix ≡ item_of item
+planes_branch p prefix planes item count few are is =
     let here = (are.uncovered item is.inside).0 is.uncovered in
     let own = are.counted item here.0 in
     let open_bit : (other : ℕ) → IsOpen p prefix other → bit_at planes.uncovered other ≡ 1 = λ other o. (are.uncovered other (omega (arith, o.primary, few))).1 (o.primary, o.uncovered) in
@@ -35,9 +35,9 @@ planes_branch p prefix planes item count key few are is at =
             | inr more ↦ omega (arith, more, own, is.counted, are.counted other o.primary, is.least other low (open_bit other o))
           ];
     } in
-    let small : key < 2147483648 = omega (arith, at, is.counted, count_small planes item, is.inside) in
-    let low : key % 65536 ≡ item = omega (arith, at, is.inside) in
-    fewest_branch p prefix item first ∙ sym (ap (λ b. if b then Some (key % 65536) else None) (lt-ltb key 2147483648 small) ∙ ap Some low)
+    let small : item < 2147483648 = omega (arith, is.inside) in
+    let low : item % 65536 ≡ item = omega (arith, is.inside) in
+    fewest_branch p prefix item first ∙ sym (ap (λ b. if b then Some (item % 65536) else None) (lt-ltb item 2147483648 small) ∙ ap Some low)
 
 pub planes_none : (p : Problem) (prefix : List ℕ) (planes : Planes) → p.primary ≤ 64 → ArePlanes p prefix planes → planes.uncovered ≡ 0 → branch_item p prefix ≡ None
 planes_none p prefix planes few are none = go (branch_item p prefix) refl

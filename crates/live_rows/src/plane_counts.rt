@@ -164,7 +164,7 @@ fn take_word(masks: &[u64], place: usize, gone: u64, planes: &mut Planes)
     while left != 0 {
         let bit = left.trailing_zeros();
         planes.take(masks[place * 64 + bit as usize]);
-        left &= !(1 << bit);
+        left &= left - 1;
     }
 }
 
@@ -175,7 +175,7 @@ fn least_key(planes: &Planes) -> u32
         → ArePlanes problem prefix planes.now → branch_item problem prefix ≡ item_of result }
 {
     match planes.least() {
-        Some((item, count)) => count * 65_536 + item,
+        Some((item, _)) => item,
         None => u32::MAX,
     }
 }

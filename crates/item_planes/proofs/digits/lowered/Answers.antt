@@ -2,4 +2,4 @@ use Rattle.item_planes.proofs.Binary.{digit_lowered}
 use Rattle.item_planes.proofs.digits.lowered.Goals as goal
 
 pub returns : goal.returns
-returns c i = digit_lowered c.args.digits c.args.borrow i c.ranges.digits.fits
+returns c i inside = digit_lowered c.args.digits c.args.borrow i

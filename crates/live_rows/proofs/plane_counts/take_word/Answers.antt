@@ -1,7 +1,8 @@
-use Rattle.std.proofs.Common.{◌≡◌, ap, arith, rules, w64}
-use Rattle.std.specs.Int.{trailing_zeros}
+use Rattle.std.proofs.Common.{◌≡◌, ap, sym, ◌∙◌, arith, rules, w64}
+use Rattle.std.specs.Int.{bit_at, trailing_zeros}
 use Rattle.std.proofs.lemmas.Nat.Bits.{bit_at-trailing_zeros}
 use Rattle.live_rows.specs.Planes.{named_in}
+use Rattle.live_rows.proofs.Cleared.{without_lowest}
 use Rattle.live_rows.proofs.Masked.{named_none, named_less, cut_less, cut_part}
 use Rattle.live_rows.proofs.plane_counts.take_word.Goals as goal
 
@@ -36,16 +37,18 @@ take-requires c i inside =
 pub loop-left-smaller : goal.loop-left-smaller
 loop-left-smaller c =
     let low = bit_at-trailing_zeros w64 c.loop-left.left (omega (arith, c.loop-left-test.true)) (search rules) in
-    cut_less c.loop-left.left (trailing_zeros w64 c.loop-left.left) low.0 low.1
+    let cut = without_lowest c.loop-left.left (omega (arith, c.loop-left-test.true)) (search rules) in
+    omega (arith, cut, cut_less c.loop-left.left (trailing_zeros w64 c.loop-left.left) low.0 low.1)
 
 pub loop-left-preserved : goal.loop-left-preserved
 loop-left-preserved c =
     let low = bit_at-trailing_zeros w64 c.loop-left.left (omega (arith, c.loop-left-test.true)) (search rules) in
+    let cut = without_lowest c.loop-left.left (omega (arith, c.loop-left-test.true)) (search rules) in
     record {
       uncovered = omega (arith, c.take.ensures.uncovered, c.loop-left.invariant.uncovered);
-      part = λ k inside here. c.loop-left.invariant.part k inside (cut_part c.loop-left.left (trailing_zeros w64 c.loop-left.left) k low.0 inside here);
+      part = λ k inside here. c.loop-left.invariant.part k inside (cut_part c.loop-left.left (trailing_zeros w64 c.loop-left.left) k low.0 inside (sym (ap (λ n. bit_at n k) cut) ∙ here));
       counts = λ i inside.
-          omega (arith, c.take.ensures.counts i inside, c.loop-left.invariant.counts i inside, named_less c.args.masks.now c.args.place c.loop-left.left (trailing_zeros w64 c.loop-left.left) i low.0 low.1);
+          omega (arith, ap (λ n. named_in c.args.masks.now c.args.place n i) cut, c.take.ensures.counts i inside, c.loop-left.invariant.counts i inside, named_less c.args.masks.now c.args.place c.loop-left.left (trailing_zeros w64 c.loop-left.left) i low.0 low.1);
     }
 
 pub returns-clause-counts : goal.returns-clause-counts
