@@ -14,7 +14,7 @@ pub record IsPassing (row : List Word) (live : List ℕ) (option n : ℕ) (u : U
   pub low : (x : ℕ) → x < n → is_left u live x ≡ false
   pub high : (x : ℕ) → option < x → is_left u live x ≡ (row_has row x && has live x)
 
-nothing : (place x : ℕ) → word_has place 0 x ≡ false
+pub nothing : (place x : ℕ) → word_has place 0 x ≡ false
 nothing place x = and_right (place == x / 64) (bit_at 0 (x % 64) == 1) (ne_eqb (bit_at 0 (x % 64)) 1 (λ h. omega (arith, bit_at-zero (x % 64), h)))
 
 -- a row of which nothing is passed

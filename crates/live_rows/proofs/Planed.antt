@@ -1,5 +1,5 @@
 -- The branch item is the uncovered one with the least count.
-use Rattle.std.proofs.Common.{◌≡◌, ℕ, ◌+◌, ◌*◌, ◌%◌, ◌<◌, ◌≤◌, ◌↔◌, List, [], ◌∷◌, ◌++◌, length, set, get_or, slice_get, Bool, false, true, ◌&&◌, ◌||◌, nat_lt, Option, Some, None, IfSome, if◌then◌else◌, refl, arith, sym, ap, ◌∙◌, inl, inr, subst, length-append}
+use Rattle.std.proofs.Common.{◌≡◌, ℕ, ◌+◌, ◌%◌, ◌<◌, ◌≤◌, ◌↔◌, List, [], ◌∷◌, ◌++◌, length, set, get_or, slice_get, Bool, false, true, ◌&&◌, ◌||◌, nat_lt, Option, Some, None, IfSome, if◌then◌else◌, refl, arith, sym, ap, ◌∙◌, inl, inr, subst, length-append}
 use Rattle.std.specs.Int.{bit_at}
 use Rattle.std.proofs.lemmas.Bool.{cases_lt, cases_eq, cases_Bool, both_ways, eq-eqb, ne_eqb, lt-ltb, or_left, or_right}
 use Rattle.std.proofs.lemmas.List.{take-append-le, take_all, get_or-set_same, get_or-set_other, length-set}

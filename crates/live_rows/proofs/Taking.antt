@@ -1,19 +1,18 @@
 -- The first of the options that are left.
-use Rattle.std.proofs.Common.{◌≡◌, ℕ, zero, suc, ◌+◌, ◌-◌, ◌/◌, ◌%◌, ◌==◌, ◌<◌, ◌≤◌, List, length, Bool, true, false, nat_lt, nat_le, ◌&&◌, ◌||◌, Some, None, slice_get, refl, arith, sym, ap, ◌∙◌, inl, inr, subst}
-use Rattle.std.proofs.lemmas.Bool.{cases_lt, and_parts, and_from, and_right, ne_eqb, both_ways, lt-ltb, le-ltb, le-leb, lt-leb, ltb-true, leb-true, false_from_ne_true}
+use Rattle.std.proofs.Common.{◌≡◌, ℕ, zero, suc, ◌+◌, ◌-◌, ◌<◌, ◌≤◌, List, [], length, Bool, true, false, nat_lt, nat_le, ◌&&◌, ◌||◌, Some, None, slice_get, refl, arith, sym, ap, ◌∙◌, inl, inr, subst}
+use Rattle.std.proofs.lemmas.Bool.{cases_lt, and_parts, and_from, both_ways, lt-ltb, le-ltb, le-leb, lt-leb, ltb-true, leb-true, false_from_ne_true}
 use Rattle.cover_problem.specs.Branching.{is_choice}
 use Rattle.cover_problem.specs.Onward.{live_options_from}
 use Rattle.cover_problem.specs.Prefix.{is_live}
 use Rattle.cover_problem.specs.Problem.{Problem, names_item}
 use Rattle.cover_problem.proofs.Remaining.{live_options_from_take, live_options_from_skip, live_options_from_end}
 use Rattle.choices.specs.Choices.{IsChild}
-use Rattle.std.specs.Int.{bit_at}
-use Rattle.std.proofs.lemmas.Nat.Bits.{bit_at-zero}
 use Rattle.option_sets.specs.declared.word.Word.{Word}
 use Rattle.option_sets.specs.Sets.{has, row_has, word_has, words_of, IsRow}
 use Rattle.live_rows.specs.declared.untried.Untried.{Untried}
 use Rattle.live_rows.specs.Counting.{IsLive}
 use Rattle.live_rows.specs.Rows.{IsUntried}
+use Rattle.live_rows.proofs.Behind.{nothing}
 use Rattle.live_rows.specs.Trying.{IsTrying, AreBehind, IsBehind, IsNextAt, is_left}
 
 -- whether an option is a child by the item, from one on
@@ -66,15 +65,27 @@ next_child p os i start o u rest live is set next =
       };
     }
 
--- none is left
-pub none_left : (p : Problem) (os : List ℕ) (i start : ℕ) (u : Untried) (live : List ℕ) → IsUntried p os i start u → IsLive p os live → ((x : ℕ) → is_left u live x ≡ false) → None ≡ slice_get (live_options_from p os i start) 0
-none_left p os i start u live is set none = elim (cases_lt start (length p.options)) [
+none_later : (p : Problem) (os : List ℕ) (i start : ℕ) → ((x : ℕ) → is_later p os i start x ≡ false) → None ≡ slice_get (live_options_from p os i start) 0
+none_later p os i start none = elim (cases_lt start (length p.options)) [
   | inl less ↦
       let n : ℕ = length p.options in
-      let skip = skip_to p os i (n - start) start n (omega (arith, less)) (omega arith) (λ x low high. no_choice p os i start x low high (sym (left_is p os i start x u live is set) ∙ none x)) in
+      let skip = skip_to p os i (n - start) start n (omega (arith, less)) (omega arith) (λ x low high. no_choice p os i start x low high (none x)) in
       sym (ap (λ (xs : List ℕ). slice_get xs 0) (skip ∙ live_options_from_end p os i n (omega arith)))
   | inr past ↦ sym (ap (λ (xs : List ℕ). slice_get xs 0) (live_options_from_end p os i start past))
 ]
+
+-- none is left
+pub none_left : (p : Problem) (os : List ℕ) (i start : ℕ) (u : Untried) (live : List ℕ) → IsUntried p os i start u → IsLive p os live → ((x : ℕ) → is_left u live x ≡ false) → None ≡ slice_get (live_options_from p os i start) 0
+none_left p os i start u live is set none = none_later p os i start (λ x. sym (left_is p os i start x u live is set) ∙ none x)
+
+-- nor where there is neither an option of the word nor a word behind it
+pub none_untried : (p : Problem) (os : List ℕ) (i start : ℕ) (u : Untried) → IsUntried p os i start u → u.bits ≡ 0 → u.later.now ≡ [] → None ≡ slice_get (live_options_from p os i start) 0
+none_untried p os i start u is empty last =
+    none_later p os i start
+    (λ x.
+    sym (is.left x) ∙ ap (λ n. word_has u.place n x || (row_has u.later.now x && (nat_lt x (length p.options) && is_live p os x))) empty
+    ∙ ap (λ b. b || (row_has u.later.now x && (nat_lt x (length p.options) && is_live p os x))) (nothing u.place x)
+    ∙ ap (λ (r : List Word). row_has r x && (nat_lt x (length p.options) && is_live p os x)) last)
 
 turn : (a b c : Bool) → (a && (b && c)) ≡ (b && (c && a))
 turn true true true = refl
@@ -117,6 +128,3 @@ row_untried p os i row u is empty later =
           ∙ turn (names_item p x i) (nat_lt x (length p.options)) (is_live p os x)
           ∙ sym (ap (λ b. b && (nat_lt x (length p.options) && is_choice p os i x)) (le-leb 0 x (omega arith)));
     }
-  where
-    nothing : (place x : ℕ) → word_has place 0 x ≡ false
-    nothing place x = and_right (place == x / 64) (bit_at 0 (x % 64) == 1) (ne_eqb (bit_at 0 (x % 64)) 1 (λ h. omega (arith, bit_at-zero (x % 64), h)))

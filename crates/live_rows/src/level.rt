@@ -44,7 +44,8 @@ pub fn count_first(sets: &OptionSets, live: &[u64], keys: &mut [u32]) -> u32
 
 /// Makes the live options of the level behind one: those of that level that don't clash with an option.
 #[inline(always)]
-pub fn spare_level(sets: &OptionSets, live: &mut [u64], depth: usize, option: u16)
+pub fn spare_level(sets: &OptionSets, live: &mut [u64], depth: usize, option: u16, width: usize)
+    requires width { width ≡ words_of sets.now }
     requires option { option < length sets.now.options }
     requires inside { depth * words_of sets.now + words_of sets.now + words_of sets.now
         ≤ length live.old }
@@ -54,14 +55,13 @@ pub fn spare_level(sets: &OptionSets, live: &mut [u64], depth: usize, option: u1
     ensures kept { (e : ℕ) → e ≤ depth → level_at (words_of sets.now) e live.new
         ≡ level_at (words_of sets.now) e live.old }
 {
-    let width = sets.words();
     let start = depth * width;
     let (front, back) = live.split_at_mut(start + width);
     sets.spare(option, &front[start..], &mut back[..width]);
 }
 
 /// Makes the keys of the level behind one, whose live options are given; answers the least of them.
-#[inline(always)]
+#[inline(never)]
 pub fn count_level(
     sets: &OptionSets,
     live: &[u64],

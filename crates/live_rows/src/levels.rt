@@ -56,10 +56,27 @@ impl Levels {
         requires option { option < length sets.now.options }
         ensures { AreLevels sets.now (chosen.now ++ option ∷ []) self.new }
     {
+        // (where the compiler knows how many words there are, it needs no loop over them)
+        match sets.words() {
+            2 => self.push_words(sets, chosen, option, 2),
+            4 => self.push_words(sets, chosen, option, 4),
+            words => self.push_words(sets, chosen, option, words),
+        }
+    }
+
+    /// Makes the level as `push` does, where each has so many words.
+    #[inline(always)]
+    fn push_words(&mut self, sets: &OptionSets, chosen: &[u16], option: u16, words: usize)
+        requires words { words ≡ words_of sets.now }
+        requires levels { AreLevels sets.now chosen.now self.old }
+        requires room { length chosen.now < sets.now.primary }
+        requires option { option < length sets.now.options }
+        ensures { AreLevels sets.now (chosen.now ++ option ∷ []) self.new }
+    {
         let depth = chosen.len();
-        spare_level(sets, &mut self.live, depth, option);
-        let before = level_at(&self.live, sets.words(), depth);
-        let live = level_at(&self.live, sets.words(), depth + 1);
+        spare_level(sets, &mut self.live, depth, option, words);
+        let before = level_at(&self.live, words, depth);
+        let live = level_at(&self.live, words, depth + 1);
         self.leasts[depth + 1] = self.counts.push(sets, chosen, before, live, option);
     }
 }

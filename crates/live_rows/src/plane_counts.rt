@@ -116,37 +116,7 @@ fn take_gone(
     ensures counted { (i : ℕ) → i < sets.now.primary → count_at planes.new i
         ≡ length (live_options sets.now (chosen.now ++ option ∷ []) i) }
 {
-    // (where the compiler knows how many words there are, it needs no loop over them)
-    match live.len() {
-        2 => take_gone_words(sets, masks, chosen, before, live, option, planes, 2),
-        4 => take_gone_words(sets, masks, chosen, before, live, option, planes, 4),
-        words => take_gone_words(sets, masks, chosen, before, live, option, planes, words),
-    }
-}
-
-/// Takes the options of so many words as `take_gone` does.
-#[inline(always)]
-fn take_gone_words(
-    sets: &OptionSets,
-    masks: &[u64],
-    chosen: &[u16],
-    before: &[u64],
-    live: &[u64],
-    option: u16,
-    planes: &mut Planes,
-    words: usize,
-)
-    requires words { length live.now ≡ words }
-    requires few { sets.now.primary ≤ 64 }
-    requires masks { AreMasks sets.now masks.now }
-    requires before { IsLive sets.now chosen.now before.now }
-    requires live { IsLive sets.now (chosen.now ++ option ∷ []) live.now }
-    requires planes { ArePlanes sets.now chosen.now planes.old }
-    ensures uncovered { planes.new.uncovered ≡ planes.old.uncovered }
-    ensures counted { (i : ℕ) → i < sets.now.primary → count_at planes.new i
-        ≡ length (live_options sets.now (chosen.now ++ option ∷ []) i) }
-{
-    for place in 0..words {
+    for place in 0..live.len() {
         take_word(masks, place, before[place] & !live[place], planes);
     }
 }

@@ -128,6 +128,9 @@ impl<'a> LiveRows<'a> {
             IsNextChoice before item option result self.new }
     {
         let (_, mark) = self.pop();
+        if mark.untried.is_empty() {
+            return None;
+        }
         self.take(mark)
     }
 

@@ -1,6 +1,6 @@
 //! The options that are left to be tried at an item: those of a word, and those of the words behind it.
 
-ghost use Rattle.std.specs.Prelude.{◌≡◌, ◌≤◌, length};
+ghost use Rattle.std.specs.Prelude.{◌≡◌, ◌≤◌, [], length, IsTrue};
 ghost use Rattle.live_rows.specs.Trying.{AreBehind, IsTrying, IsBehind, IsFirstWord, IsNext, IsNextAt};
 
 use option_sets::Word;
@@ -29,6 +29,15 @@ impl<'a> Untried<'a> {
             bits: 0,
             later: row,
         }
+    }
+
+    /// Whether nothing is left.
+    #[inline(always)]
+    pub fn is_empty(&self) -> bool
+        ensures bits { IsTrue result → self.now.bits ≡ 0 }
+        ensures later { IsTrue result → self.now.later.now ≡ [] }
+    {
+        self.bits == 0 && self.later.is_empty()
     }
 
     /// The first option that is left and live, and those that are left behind it; none where none is.

@@ -46,23 +46,7 @@ pub fn meet(first: &[u64], second: &[u64], set: &mut [u64])
     requires second { length second.now ≡ length set.old }
     ensures { (x : ℕ) → has set.new x ≡ (has first.now x && has second.now x) }
 {
-    // (where the compiler knows how many words there are, it needs no loop)
-    match set.len() {
-        2 => meet_words(first, second, set, 2),
-        4 => meet_words(first, second, set, 4),
-        words => meet_words(first, second, set, words),
-    }
-}
-
-/// Makes a set of so many words what two others have in common.
-#[inline(always)]
-fn meet_words(first: &[u64], second: &[u64], set: &mut [u64], words: usize)
-    requires first { length first.now ≡ words }
-    requires second { length second.now ≡ words }
-    requires set { length set.old ≡ words }
-    ensures { (x : ℕ) → has set.new x ≡ (has first.now x && has second.now x) }
-{
-    for place in 0..words {
+    for place in 0..set.len() {
         set[place] = first[place] & second[place];
     }
 }

@@ -1,5 +1,14 @@
+use Rattle.std.proofs.Common.{◌+◌, refl}
 use Rattle.live_rows.proofs.Choosing.{next_choice}
+use Rattle.live_rows.proofs.Taking.{none_untried}
 use Rattle.live_rows.proofs.rows.LiveRows.choose_next.Goals as goal
+
+pub returns-then-is_empty : goal.returns-then-is_empty
+returns-then-is_empty c before item option e =
+    let half = c.pop.new.self in
+    let mark = c.pop.result.1 in
+    let none = none_untried half.problem half.chosen mark.item (c.pop.result.0 + 1) mark.untried c.pop.ensures.untried (c.is_empty.ensures.bits c.if-is_empty.true) (c.is_empty.ensures.later c.if-is_empty.true) in
+    next_choice c.args.self.now c.pop.new.self before c.pop.result.0 c.pop.result.1 item option _ c.pop.new.self e c.pop.ensures (record { first = none; child = tt; chosen = refl })
 
 pub returns : goal.returns
 returns c before item option e = next_choice c.args.self.now c.pop.new.self before c.pop.result.0 c.pop.result.1 item option c.take.result c.take.new.self e c.pop.ensures (c.take.ensures _ c.pop.ensures.untried)

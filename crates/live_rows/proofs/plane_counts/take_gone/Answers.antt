@@ -2,7 +2,7 @@ use Rattle.std.proofs.Common.{◌≡◌, ℕ, ◌^◌, ◌<◌, ◌∷◌, ◌++
 use Rattle.std.specs.Int.{bit_not}
 use Rattle.std.proofs.lemmas.Bool.{cases_lt}
 use Rattle.live_rows.proofs.Gone.{counted_all, counted_more, counted_none, counted_to, gone_inside, live_part, named_live, named_off}
-use Rattle.live_rows.proofs.plane_counts.take_gone_words.Goals as goal
+use Rattle.live_rows.proofs.plane_counts.take_gone.Goals as goal
 
 pub loop-place-init : goal.loop-place-init
 loop-place-init c =
@@ -23,7 +23,7 @@ take_word-requires-clause-enough c i low = elim (cases_lt i c.args.sets.now.prim
   | inl primary ↦
       let fits : get_or c.args.live.now c.loop-place.place 0 < 2 ^ 64 = search rules in
       let more = counted_more c.args.sets.now c.args.masks.now c.args.before.now c.args.live.now i c.args.chosen.now c.requires.before
-      (live_part c.args.sets.now c.args.chosen.now c.args.option c.args.before.now c.args.live.now c.requires.before c.requires.live) c.requires.masks primary low c.loop-place.place (omega (arith, c.loop-place-test.true, c.requires.words)) fits in
+      (live_part c.args.sets.now c.args.chosen.now c.args.option c.args.before.now c.args.live.now c.requires.before c.requires.live) c.requires.masks primary low c.loop-place.place (omega (arith, c.loop-place-test.true)) fits in
       omega (arith, more, c.loop-place.invariant.counts i primary)
   | inr high ↦
       let gone : ℕ = bit_and (get_or c.args.before.now c.loop-place.place 0) (bit_not w64 (get_or c.args.live.now c.loop-place.place 0)) in
@@ -37,14 +37,14 @@ loop-place-preserved c = record {
       let fits : get_or c.args.live.now c.loop-place.place 0 < 2 ^ 64 = search rules in
       let low : i < 64 = omega (arith, primary, c.requires.few) in
       let more = counted_more c.args.sets.now c.args.masks.now c.args.before.now c.args.live.now i c.args.chosen.now c.requires.before
-      (live_part c.args.sets.now c.args.chosen.now c.args.option c.args.before.now c.args.live.now c.requires.before c.requires.live) c.requires.masks primary low c.loop-place.place (omega (arith, c.loop-place-test.true, c.requires.words)) fits in
+      (live_part c.args.sets.now c.args.chosen.now c.args.option c.args.before.now c.args.live.now c.requires.before c.requires.live) c.requires.masks primary low c.loop-place.place (omega (arith, c.loop-place-test.true)) fits in
       omega (arith, more, c.loop-place.invariant.counts i primary, c.take_word.ensures.counts i low);
 }
 
 pub returns-clause-counted : goal.returns-clause-counted
 returns-clause-counted c i primary =
     let p = c.args.sets.now in
-    let end : c.loop-place.place ≡ length c.args.live.now = omega (arith, c.loop-place-test.false, c.loop-place.auto.place-end, c.requires.words) in
+    let end : c.loop-place.place ≡ length c.args.live.now = omega (arith, c.loop-place-test.false, c.loop-place.auto.place-end) in
     c.loop-place.invariant.counts i primary ∙ ap (counted_to p c.args.masks.now c.args.before.now c.args.live.now i) end
     ∙ counted_all p c.args.masks.now c.args.before.now c.args.live.now i
     ∙ sym (named_live p (c.args.chosen.now ++ c.args.option ∷ []) c.args.live.now i c.requires.live)

@@ -1,7 +1,7 @@
 use Rattle.std.proofs.Common.{◌≡◌, ℕ, ◌<◌}
 use Rattle.item_planes.specs.Counts.{count_at}
 use Rattle.live_rows.proofs.Gone.{counted_to}
-use Rattle.live_rows.proofs.plane_counts.take_gone_words.Given as goal
+use Rattle.live_rows.proofs.plane_counts.take_gone.Given as goal
 
 abbrev pub invariant-loop-place : goal.invariant-loop-place
 invariant-loop-place l = record {
