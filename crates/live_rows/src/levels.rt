@@ -49,7 +49,7 @@ impl Levels {
     }
 
     /// Makes the level of some chosen options and one more, which is live once these are chosen.
-    #[inline(always)]
+    #[inline(never)]
     pub fn push(&mut self, sets: &OptionSets, chosen: &[u16], option: u16)
         requires levels { AreLevels sets.now chosen.now self.old }
         requires room { length chosen.now < sets.now.primary }
