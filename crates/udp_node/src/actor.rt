@@ -90,6 +90,7 @@ impl<'a, J: Run, C: Core + Drop, N: CellName, G: Gate> Actor<'a, J, C, N, G> {
             Ok(parcel) => self.shared.outbox.put(rt, &mut self.pass, parcel).is_ok(),
             Err(AllocError) => false,
         };
+        self.shared.signals.rouse();
         if !is_put {
             self.losses = self.losses.saturating_add(1);
         }

@@ -7,11 +7,7 @@ use crate::signals::Signals;
 use crate::turn::{Limits, Taken};
 use run_book::{Drain, Outbox};
 use std::sync::Wait;
-use std::thread;
-use std::time::{Clock, Duration};
-
-/// How long the thread waits where there is nothing to send, in microseconds.
-const NAP: u64 = 100;
+use std::time::Clock;
 
 /// How many empty looks into the outbox there are for each turn.
 const LOOKS: u64 = 1_000;
@@ -85,7 +81,7 @@ fn send_each<L: Link, R: Wait + Clock>(rt: &R, sender: Sender<'_, L>) -> Sent {
             None if is_last => break,
             None => {
                 left.wait();
-                thread::sleep(rt, Duration::from_micros(NAP));
+                signals.doze(rt);
             }
         }
     }

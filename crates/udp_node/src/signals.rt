@@ -1,5 +1,6 @@
+use std::sync::Wait;
 use std::sync::atomic::{AtomicBool, AtomicU64, Ordering};
-use std::thread;
+use std::thread::{self, Parker};
 use std::time::{Clock, Duration};
 
 /// How often a thread looks whether the others of its site have begun, before it gives up: for some two seconds.
@@ -7,6 +8,9 @@ const LOOKS: u32 = 10_000;
 
 /// How long it waits between two looks, in microseconds.
 const NAP: u64 = 100;
+
+/// How long the thread that sends waits at most, in microseconds, where nobody rouses it.
+const DOZE: u64 = 1_000;
 
 /// What the threads of a site tell one another beside the lock. No answer depends on it: it says when a look at the core is
 /// worth its entry in the book, how small a worker's job should be, which threads there are, and that all are to end.
@@ -26,6 +30,8 @@ pub struct Signals {
     hunger: AtomicU64,
     /// The site is to end.
     over: AtomicBool,
+    /// Where the thread that sends waits.
+    sender: Parker,
 }
 
 impl Signals {
@@ -39,6 +45,7 @@ impl Signals {
             stirs: AtomicU64::new(0),
             hunger: AtomicU64::new(0),
             over: AtomicBool::new(false),
+            sender: Parker::new(),
         }
     }
 
@@ -79,6 +86,17 @@ impl Signals {
     /// A thread that put parcels into the outbox puts no more.
     pub fn leave(&self) {
         self.running.fetch_sub(1, Ordering::SeqCst);
+        self.rouse();
+    }
+
+    /// A parcel was put into the outbox: the thread that sends looks into it, if it waits.
+    pub fn rouse(&self) {
+        self.sender.unpark();
+    }
+
+    /// The thread that sends waits until it is roused, a millisecond at most. It isn't late where a parcel came since its last look.
+    pub fn doze<R: Wait>(&self, rt: &R) {
+        self.sender.park_timeout(rt, Duration::from_micros(DOZE));
     }
 
     /// Whether no thread puts parcels into the outbox any more.
