@@ -25,8 +25,8 @@ use std::sync::Wait;
 use std::time::{Clock, Duration};
 use std::{mem, thread};
 
-/// In so many idle turns in a row only every eighth waits: work is near as long as others have some, and who asks sooner gets it sooner.
-const EAGER: u32 = 512;
+/// In so many idle turns in a row only every sixteenth waits: work is near as long as others have some, and who asks sooner gets it sooner.
+const EAGER: u32 = 1_024;
 
 /// A worker of a node, between its turns.
 #[derive(Drop)]
@@ -142,7 +142,7 @@ impl<'a, J: Run> Worker<'a, J> {
             let victim = self.victim(actor.shared.plan.nodes);
             return after(actor.act(rt, Event::Ask(victim)));
         }
-        if idle >= EAGER || idle % 8 == 0 {
+        if idle >= EAGER || idle % 16 == 0 {
             let workers = u64::from(actor.shared.plan.nodes) * u64::from(actor.shared.plan.workers);
             thread::sleep(rt, Duration::from_micros(nap(idle, workers)));
         }
