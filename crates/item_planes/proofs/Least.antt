@@ -40,7 +40,7 @@ narrowed_next items number left least digits next digit are is = record {
   );
 }
 
--- five digits are a count
+-- all digits are a count
 pub narrowed_all : (p : Planes) (left count : ℕ) → left < 2 ^ 64 → IsNarrowed p.uncovered (count_at p) left count → IsLeast p (trailing_zeros w64 left) count
 narrowed_all p left count small are =
     let low = bit_at-trailing_zeros w64 left are.some small in

@@ -3,9 +3,13 @@ use Rattle.std.specs.Prelude.{◌≡◌, ℕ, ◌+◌, ◌*◌, ◌<◌, ◌≤�
 use Rattle.std.specs.Int.{bit_at}
 use Rattle.item_planes.specs.declared.planes.Planes.{Planes}
 
+-- what the five lowest digits of an item count
+abbrev pub low_count_at : Planes → ℕ → ℕ
+low_count_at p i = bit_at p.ones i + 2 * bit_at p.twos i + 4 * bit_at p.fours i + 8 * bit_at p.eights i + 16 * bit_at p.sixteens i
+
 -- the count of an item
 abbrev pub count_at : Planes → ℕ → ℕ
-count_at p i = bit_at p.ones i + 2 * bit_at p.twos i + 4 * bit_at p.fours i + 8 * bit_at p.eights i + 16 * bit_at p.sixteens i
+count_at p i = low_count_at p i + 32 * bit_at p.thirty_twos i + 64 * bit_at p.sixty_fours i
 
 -- of some items those whose digit is least, and this digit
 pub record IsLeastDigit (items digits left digit : ℕ) : Type 0 where

@@ -1,12 +1,12 @@
-//! The counts of at most 64 items, each below 32.
+//! The counts of at most 64 items, each below 128.
 
-ghost use Rattle.std.specs.Prelude.{◌≡◌, ℕ, ◌+◌, ◌<◌, ◌≤◌, ◌↔◌, None, IfSome};
+ghost use Rattle.std.specs.Prelude.{◌≡◌, ℕ, ◌+◌, ◌*◌, ◌<◌, ◌≤◌, ◌↔◌, false, None, IfSome};
 ghost use Rattle.std.specs.Int.{bit_at};
-ghost use Rattle.item_planes.specs.Counts.{count_at, IsLeast};
+ghost use Rattle.item_planes.specs.Counts.{count_at, low_count_at, IsLeast};
 
 use crate::digits::{least_digit, lowered, raised};
 
-/// The counts of at most 64 items, each below 32, and which of the items are uncovered: bit `i` is that of item `i`.
+/// The counts of at most 64 items, each below 128, and which of the items are uncovered: bit `i` is that of item `i`.
 #[derive(Clone, Copy)]
 pub struct Planes {
     /// The items that are uncovered.
@@ -19,8 +19,12 @@ pub struct Planes {
     pub fours: u64,
     /// The fourth one.
     pub eights: u64,
-    /// The highest one.
+    /// The fifth one.
     pub sixteens: u64,
+    /// The sixth one.
+    pub thirty_twos: u64,
+    /// The highest one.
+    pub sixty_fours: u64,
 }
 
 impl Planes {
@@ -36,13 +40,15 @@ impl Planes {
             fours: 0,
             eights: 0,
             sixteens: 0,
+            thirty_twos: 0,
+            sixty_fours: 0,
         }
     }
 
-    /// Adds one to the counts of these items, which are below 31.
+    /// Adds one to the counts of these items, which are below 127.
     #[inline(always)]
     pub fn add(&mut self, items: u64)
-        requires { (i : ℕ) → i < 64 → count_at self.old i + bit_at items i < 32 }
+        requires { (i : ℕ) → i < 64 → count_at self.old i + bit_at items i < 128 }
         ensures uncovered { self.new.uncovered ≡ self.old.uncovered }
         ensures counts { (i : ℕ) → i < 64 → count_at self.new i
             ≡ count_at self.old i + bit_at items i }
@@ -51,7 +57,9 @@ impl Planes {
         let (twos, four) = raised(self.twos, two);
         let (fours, eight) = raised(self.fours, four);
         let (eights, sixteen) = raised(self.eights, eight);
-        let (sixteens, _) = raised(self.sixteens, sixteen);
+        let (sixteens, thirty_two) = raised(self.sixteens, sixteen);
+        let (thirty_twos, sixty_four) = raised(self.thirty_twos, thirty_two);
+        let (sixty_fours, _) = raised(self.sixty_fours, sixty_four);
         *self = Planes {
             uncovered: self.uncovered,
             ones,
@@ -59,30 +67,57 @@ impl Planes {
             fours,
             eights,
             sixteens,
+            thirty_twos,
+            sixty_fours,
         };
     }
 
-    /// Takes one from the counts of these items, none of which is 0.
+    /// Whether some count may be above 31.
     #[inline(always)]
-    pub fn take(&mut self, items: u64)
-        requires { (i : ℕ) → i < 64 → bit_at items i ≤ count_at self.old i }
+    pub fn is_large(&self) -> bool
+        ensures { result ≡ false → (i : ℕ) → i < 64 → count_at self.now i < 32 }
+    {
+        self.thirty_twos != 0 || self.sixty_fours != 0
+    }
+
+    /// Takes one from the counts of these items, none of which is 0. Where all counts are below 32, `large` may be false.
+    #[inline(always)]
+    pub fn take(&mut self, items: u64, large: bool)
+        requires enough { (i : ℕ) → i < 64 → bit_at items i ≤ count_at self.old i }
+        requires small { large ≡ false → (i : ℕ) → i < 64 → count_at self.old i < 32 }
         ensures uncovered { self.new.uncovered ≡ self.old.uncovered }
         ensures counts { (i : ℕ) → i < 64 → count_at self.new i + bit_at items i
             ≡ count_at self.old i }
+    {
+        let thirty_two = self.take_low(items);
+        if large {
+            let (thirty_twos, sixty_four) = lowered(self.thirty_twos, thirty_two);
+            let (sixty_fours, _) = lowered(self.sixty_fours, sixty_four);
+            self.thirty_twos = thirty_twos;
+            self.sixty_fours = sixty_fours;
+        }
+    }
+
+    /// Takes one from what the five lowest digits of these items count; answers the borrow from the next ones.
+    #[inline(always)]
+    fn take_low(&mut self, items: u64) -> u64
+        ensures uncovered { self.new.uncovered ≡ self.old.uncovered }
+        ensures thirty_twos { self.new.thirty_twos ≡ self.old.thirty_twos }
+        ensures sixty_fours { self.new.sixty_fours ≡ self.old.sixty_fours }
+        ensures counts { (i : ℕ) → i < 64 → low_count_at self.new i + bit_at items i
+            ≡ low_count_at self.old i + 32 * bit_at result i }
     {
         let (ones, two) = lowered(self.ones, items);
         let (twos, four) = lowered(self.twos, two);
         let (fours, eight) = lowered(self.fours, four);
         let (eights, sixteen) = lowered(self.eights, eight);
-        let (sixteens, _) = lowered(self.sixteens, sixteen);
-        *self = Planes {
-            uncovered: self.uncovered,
-            ones,
-            twos,
-            fours,
-            eights,
-            sixteens,
-        };
+        let (sixteens, thirty_two) = lowered(self.sixteens, sixteen);
+        self.ones = ones;
+        self.twos = twos;
+        self.fours = fours;
+        self.eights = eights;
+        self.sixteens = sixteens;
+        thirty_two
     }
 
     /// Covers these items. The counts stay.
@@ -104,12 +139,15 @@ impl Planes {
         if self.uncovered == 0 {
             return None;
         }
-        let (items, sixteen) = least_digit(self.uncovered, self.sixteens);
+        let (items, sixty_four) = least_digit(self.uncovered, self.sixty_fours);
+        let (items, thirty_two) = least_digit(items, self.thirty_twos);
+        let (items, sixteen) = least_digit(items, self.sixteens);
         let (items, eight) = least_digit(items, self.eights);
         let (items, four) = least_digit(items, self.fours);
         let (items, two) = least_digit(items, self.twos);
         let (items, one) = least_digit(items, self.ones);
-        let count = one + 2 * two + 4 * four + 8 * eight + 16 * sixteen;
+        let small = one + 2 * two + 4 * four + 8 * eight + 16 * sixteen;
+        let count = small + 32 * thirty_two + 64 * sixty_four;
         Some((items.trailing_zeros(), count))
     }
 }

@@ -185,7 +185,7 @@ first_live p masks i are primary low =
     ∙ count_same f g 0 (length p.options) (λ k less. are.each (0 + k) (omega (arith, less)) i low ∙ ap (λ b. b && names_item p (0 + k) i) (lt-ltb i p.primary primary))
     ∙ sym (length-filter g (range_with_len 0 (length p.options)))
 
-pub first_few : (p : Problem) (masks : List ℕ) (n i : ℕ) → AreMasks p masks → IsSmall p → n < length masks → i < 64 → first_named masks n i + bit_at (get_or masks n 0) i < 32
+pub first_few : (p : Problem) (masks : List ℕ) (n i : ℕ) → AreMasks p masks → IsSmall p → n < length masks → i < 64 → first_named masks n i + bit_at (get_or masks n 0) i < 128
 first_few p masks n i are small inside low = elim (cases_lt i p.primary) [
   | inl primary ↦
       let f : ℕ → Bool = λ x. bit_at (get_or masks x 0) i == 1 in

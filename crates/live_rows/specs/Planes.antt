@@ -30,7 +30,7 @@ pub record ArePlanes (problem : Problem) (prefix : List ℕ) (planes : Planes) :
 -- there are few primary items, with few options each
 pub record IsSmall (problem : Problem) : Type 0 where
   pub items : problem.primary ≤ 64
-  pub options : (i : ℕ) → i < problem.primary → length (live_options problem [] i) < 32
+  pub options : (i : ℕ) → i < problem.primary → length (live_options problem [] i) < 128
 
 -- the planes of each level
 pub record ArePlaneCounts (problem : Problem) (chosen : List ℕ) (counts : PlaneCounts) : Type 0 where

@@ -25,7 +25,7 @@ pub struct PlaneCounts {
     pub planes: Vec<Planes>,
 }
 
-/// Whether there are at most 64 primary items, and at most 31 options for each. All options are live.
+/// Whether there are at most 64 primary items, and at most 127 options for each. All options are live.
 pub fn is_small(sets: &OptionSets, live: &[u64]) -> bool
     requires { IsLive sets.now [] live.now }
     ensures { IsTrue result → IsSmall sets.now }
@@ -35,7 +35,7 @@ pub fn is_small(sets: &OptionSets, live: &[u64]) -> bool
         return false;
     }
     for item in 0..primary as u16 {
-        if count_row(sets.row(item), live) > 31 {
+        if count_row(sets.row(item), live) > 127 {
             return false;
         }
     }
@@ -116,16 +116,18 @@ fn take_gone(
     ensures counted { (i : ℕ) → i < sets.now.primary → count_at planes.new i
         ≡ length (live_options sets.now (chosen.now ++ option ∷ []) i) }
 {
+    let large = planes.is_large();
     for place in 0..live.len() {
-        take_word(masks, place, before[place] & !live[place], planes);
+        take_word(masks, place, before[place] & !live[place], planes, large);
     }
 }
 
 /// Takes the options of a word from the counts of their items.
 #[inline(always)]
-fn take_word(masks: &[u64], place: usize, gone: u64, planes: &mut Planes)
+fn take_word(masks: &[u64], place: usize, gone: u64, planes: &mut Planes, large: bool)
     requires inside { (k : ℕ) → k < 64 → bit_at gone k ≡ 1 → place * 64 + k < length masks.now }
     requires enough { (i : ℕ) → i < 64 → named_in masks.now place gone i ≤ count_at planes.old i }
+    requires small { large ≡ false → (i : ℕ) → i < 64 → count_at planes.old i < 32 }
     ensures uncovered { planes.new.uncovered ≡ planes.old.uncovered }
     ensures counts { (i : ℕ) → i < 64 → count_at planes.new i + named_in masks.now place gone i
         ≡ count_at planes.old i }
@@ -133,7 +135,7 @@ fn take_word(masks: &[u64], place: usize, gone: u64, planes: &mut Planes)
     let mut left = gone;
     while left != 0 {
         let bit = left.trailing_zeros();
-        planes.take(masks[place * 64 + bit as usize]);
+        planes.take(masks[place * 64 + bit as usize], large);
         left &= left - 1;
     }
 }

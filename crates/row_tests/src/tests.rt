@@ -124,12 +124,10 @@ fn same_as_links(rt: HostRuntime) -> Result<(), Fail> {
     Ok(())
 }
 
-/// Many options over few items, in colours: sets of five words.
-#[test]
-fn many(rt: HostRuntime) -> Result<(), Fail> {
-    let alloc = rt.alloc();
+/// So many options over five items, in colours.
+fn five_items(alloc: Global, options: u32) -> Result<String, AllocError> {
     let mut text = String::from_str(alloc, "a b c d e | x y z\n")?;
-    for k in 0..300u32 {
+    for k in 0..options {
         let item = [b'a', b'b', b'c', b'd', b'e'][k as usize % 5] as char;
         let line = match k % 4 {
             0 => format!(in alloc; "{item} x:{} y:{}\n", k % 7, k % 3)?,
@@ -139,6 +137,14 @@ fn many(rt: HostRuntime) -> Result<(), Fail> {
         };
         text.push_str(line.as_str())?;
     }
-    assert!(rt; search_same(&rt, alloc, text.as_str(), 200));
+    Ok(text)
+}
+
+/// Many options over few items: sets of five words, counted digit by digit, and of eleven words, counted in keys.
+#[test]
+fn many(rt: HostRuntime) -> Result<(), Fail> {
+    let alloc = rt.alloc();
+    assert!(rt; search_same(&rt, alloc, five_items(alloc, 300)?.as_str(), 200));
+    assert!(rt; search_same(&rt, alloc, five_items(alloc, 700)?.as_str(), 200));
     Ok(())
 }

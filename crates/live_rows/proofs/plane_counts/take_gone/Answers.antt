@@ -9,6 +9,7 @@ loop-place-init c =
     let p = c.args.sets.now in
     record {
       uncovered = refl;
+      small = λ few i low. c.is_large-large.ensures few i low;
       counts = λ i primary.
           c.requires.planes.counted i primary ∙ named_live p c.args.chosen.now c.args.before.now i c.requires.before
           ∙ sym (counted_none p c.args.masks.now c.args.before.now c.args.live.now i (c.requires.before.words ∙ sym c.requires.live.words));
@@ -30,9 +31,13 @@ take_word-requires-clause-enough c i low = elim (cases_lt i c.args.sets.now.prim
       omega (arith, named_off c.args.sets.now c.args.masks.now c.loop-place.place gone i c.requires.masks high low)
 ]
 
+pub take_word-requires-clause-small : goal.take_word-requires-clause-small
+take_word-requires-clause-small c few i low = c.loop-place.invariant.small few i low
+
 pub loop-place-preserved : goal.loop-place-preserved
 loop-place-preserved c = record {
   uncovered = c.take_word.ensures.uncovered ∙ c.loop-place.invariant.uncovered;
+  small = λ few i low. omega (arith, c.take_word.ensures.counts i low, c.loop-place.invariant.small few i low);
   counts = λ i primary.
       let fits : get_or c.args.live.now c.loop-place.place 0 < 2 ^ 64 = search rules in
       let low : i < 64 = omega (arith, primary, c.requires.few) in

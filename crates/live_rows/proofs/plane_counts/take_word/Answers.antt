@@ -29,10 +29,13 @@ offset_bounds-masks-place c =
     let inside = c.requires.inside (trailing_zeros w64 c.loop-left.left) low.0 (c.loop-left.invariant.part (trailing_zeros w64 c.loop-left.left) low.0 low.1) in
     omega (arith, inside)
 
-pub take-requires : goal.take-requires
-take-requires c i inside =
+pub take-requires-clause-enough : goal.take-requires-clause-enough
+take-requires-clause-enough c i inside =
     let low = bit_at-trailing_zeros w64 c.loop-left.left (omega (arith, c.loop-left-test.true)) (search rules) in
     omega (arith, c.loop-left.invariant.counts i inside, c.requires.enough i inside, named_less c.args.masks.now c.args.place c.loop-left.left (trailing_zeros w64 c.loop-left.left) i low.0 low.1)
+
+pub take-requires-clause-small : goal.take-requires-clause-small
+take-requires-clause-small c few i inside = c.loop-left.invariant.small few i inside
 
 pub loop-left-smaller : goal.loop-left-smaller
 loop-left-smaller c =
@@ -47,6 +50,7 @@ loop-left-preserved c =
     record {
       uncovered = omega (arith, c.take.ensures.uncovered, c.loop-left.invariant.uncovered);
       part = λ k inside here. c.loop-left.invariant.part k inside (cut_part c.loop-left.left (trailing_zeros w64 c.loop-left.left) k low.0 inside (sym (ap (λ n. bit_at n k) cut) ∙ here));
+      small = λ few i inside. omega (arith, c.take.ensures.counts i inside, c.loop-left.invariant.small few i inside);
       counts = λ i inside.
           omega (arith, ap (λ n. named_in c.args.masks.now c.args.place n i) cut, c.take.ensures.counts i inside, c.loop-left.invariant.counts i inside, named_less c.args.masks.now c.args.place c.loop-left.left (trailing_zeros w64 c.loop-left.left) i low.0 low.1);
     }
