@@ -49,6 +49,7 @@ impl Levels {
     }
 
     /// Makes the level of some chosen options and one more, which is live once these are chosen.
+    // (inlined into the loop of a search, it would have too few registers)
     #[inline(never)]
     pub fn push(&mut self, sets: &OptionSets, chosen: &[u16], option: u16)
         requires levels { AreLevels sets.now chosen.now self.old }

@@ -140,7 +140,7 @@ fn take_word(masks: &[u64], place: usize, gone: u64, planes: &mut Planes, large:
     }
 }
 
-/// The key of the uncovered item with the least count.
+/// A key of the uncovered item with the least count: the item alone, since only the branch item is asked for.
 #[inline(always)]
 fn least_key(planes: &Planes) -> u32
     ensures { (problem : ProblemValue) (prefix : List ℕ) → problem.primary ≤ 64
