@@ -15,10 +15,18 @@ use std::thread::{self, Threads};
 
 /// Lets a core of a node greet so many times.
 pub fn greet_core(alloc: Global, problem: &Problem, times: u64) -> Result<(), BenchFault> {
-    let mut node = NodeCore::start(alloc, problem, NODE, 1, 1)?;
+    greet_often(
+        alloc,
+        &mut NodeCore::start(alloc, problem, NODE, 1, 1)?,
+        times,
+    )
+}
+
+/// Lets a core greet so many times.
+fn greet_often<C: Core>(alloc: Global, core: &mut C, times: u64) -> Result<(), BenchFault> {
     let mut out = Vec::new(alloc);
     for _ in 0..times {
-        node.act(Event::Greet, &mut out)?;
+        core.act(Event::Greet, &mut out)?;
         out.clear();
     }
     Ok(())
@@ -61,15 +69,31 @@ fn greet_at_once<J: Run + Send + Sync, N: CellName + Send + Sync, R: Threads + W
     cores_step_as_their_sites();
     let limit = times.saturating_mul(u64::from(threads));
     let cell: SiteCell<J, NodeCore, N> = SiteCell::new(cell_parts, core, limit);
+    let seats = seats_of(rt, alloc, &cell, threads)?;
+    match thread::map_vec(rt, seats, &|seat| greet(rt, &cell, seat, times)) {
+        Ok(ended) => all_well(ended),
+        Err(_) => Err(BenchFault::Memory),
+    }
+}
+
+/// A seat of the cell for each thread.
+fn seats_of<J: Run, C: Core + Drop, N: CellName, R: Wait>(
+    rt: &R,
+    alloc: Global,
+    cell: &SiteCell<J, C, N>,
+    threads: u8,
+) -> Result<Vec<Seat<N>>, BenchFault> {
     let mut seats = Vec::new(alloc);
     for _ in 0..threads {
         if seats.push(cell.seat(rt)?).is_err() {
             return Err(BenchFault::Memory);
         }
     }
-    let Ok(ended) = thread::map_vec(rt, seats, &|seat| greet(rt, &cell, seat, times)) else {
-        return Err(BenchFault::Memory);
-    };
+    Ok(seats)
+}
+
+/// The first fault, if any thread met one.
+fn all_well(ended: Vec<Result<(), BenchFault>>) -> Result<(), BenchFault> {
     for end in ended {
         end?;
     }

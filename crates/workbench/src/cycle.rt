@@ -63,6 +63,21 @@ impl<'a> Pair<'a> {
         }
     }
 
+    /// So many cycles.
+    fn cycles(&mut self, times: u64) -> Result<(), BenchFault> {
+        for _ in 0..times {
+            self.cycle()?;
+        }
+        Ok(())
+    }
+
+    /// A whole cycle.
+    fn cycle(&mut self) -> Result<(), BenchFault> {
+        self.steal()?;
+        self.search()?;
+        self.refuse()
+    }
+
     /// The node asks for work, and gets the root.
     fn steal(&mut self) -> Result<(), BenchFault> {
         self.node.act(Event::Ask(0), &mut self.out)?;
@@ -102,52 +117,51 @@ impl<'a> Pair<'a> {
 
 /// So many cycles.
 pub fn act_cycles(alloc: Global, problem: &Problem, times: u64) -> Result<(), BenchFault> {
-    let mut pair = Pair::new(alloc, problem)?;
-    for _ in 0..times {
-        pair.steal()?;
-        pair.search()?;
-        pair.refuse()?;
-    }
-    Ok(())
+    Pair::new(alloc, problem)?.cycles(times)
 }
 
 /// The packets of the first cycle.
-pub fn packets(alloc: Global) -> Result<Vec<Packet>, AllocError> {
+pub fn packets(alloc: Global) -> [Packet; 4] {
     let (serial, attempt) = (0, 1);
-    let between = |from: Site, to: Site, body: Body| Packet { from, to, body };
-    let prefix = Numbers::from_vec(Vec::new(alloc));
-    let result = ChildResult::Empty;
-    let cause = Cause::Superseded;
-    let mut packets = Vec::with_capacity(alloc, 4)?;
-    packets.push(between(NODE, REGISTRY, Body::Steal))?;
-    packets.push(between(
-        REGISTRY,
-        NODE,
-        Body::Give {
-            serial,
-            attempt,
-            prefix,
-        },
-    ))?;
-    packets.push(between(
-        NODE,
-        REGISTRY,
-        Body::Return {
-            serial,
-            attempt,
-            result,
-        },
-    ))?;
-    packets.push(between(
-        REGISTRY,
-        NODE,
-        Body::Refuse {
-            serial,
-            attempt,
-            cause,
-        },
-    ))?;
-    Ok(packets)
+    let give = Body::Give {
+        serial,
+        attempt,
+        prefix: Numbers::from_vec(Vec::new(alloc)),
+    };
+    let returned = Body::Return {
+        serial,
+        attempt,
+        result: ChildResult::Empty,
+    };
+    let refuse = Body::Refuse {
+        serial,
+        attempt,
+        cause: Cause::Superseded,
+    };
+    [
+        from_node(Body::Steal),
+        from_registry(give),
+        from_node(returned),
+        from_registry(refuse),
+    ]
+}
+
+/// A packet of the node to the registry.
+fn from_node(body: Body) -> Packet {
+    Packet {
+        from: NODE,
+        to: REGISTRY,
+        body,
+    }
+}
+
+/// A packet of the registry to the node.
+fn from_registry(body: Body) -> Packet {
+    Packet {
+        from: REGISTRY,
+        to: NODE,
+        body,
+    }
 }
 
 /// Copies the packets so many times over.

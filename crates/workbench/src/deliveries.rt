@@ -91,9 +91,30 @@ pub fn act_deliveries(
 ) -> Result<(), BenchFault> {
     let packet = packet_of(alloc, kind)?;
     if packet.to.node == 0 {
-        let mut registry = Registry::start(alloc, problem, 2)?;
-        return deliver(alloc, &mut registry, &packet, times);
+        deliver_to_registry(alloc, problem, &packet, times)
+    } else {
+        deliver_to_node(alloc, problem, &packet, times)
     }
+}
+
+/// Delivers the packet to a registry that begins, so many times.
+fn deliver_to_registry(
+    alloc: Global,
+    problem: &Problem,
+    packet: &Packet,
+    times: u64,
+) -> Result<(), BenchFault> {
+    let mut registry = Registry::start(alloc, problem, 2)?;
+    deliver(alloc, &mut registry, packet, times)
+}
+
+/// The same of a node.
+fn deliver_to_node(
+    alloc: Global,
+    problem: &Problem,
+    packet: &Packet,
+    times: u64,
+) -> Result<(), BenchFault> {
     let mut node = NodeCore::start(alloc, problem, NODE, 2, 1)?;
-    deliver(alloc, &mut node, &packet, times)
+    deliver(alloc, &mut node, packet, times)
 }

@@ -23,9 +23,8 @@ use crate::cells::{greet_cell, greet_core};
 use crate::cycle::{act_cycles, copy_packets, packets};
 use crate::deliveries::{act_deliveries, packet_of};
 use crate::fault::BenchFault;
-use crate::shares::{act_shares, share_in, share_packets};
+use crate::shares::{act_shares, one_item, share_in, share_packets};
 use crate::table::{measure_children, measure_guests};
-use dlx_reader::read_problem;
 use std::alloc::Global;
 use std::process::ExitCode;
 use std::sync::Wait;
@@ -33,21 +32,17 @@ use std::thread::Threads;
 use std::time::Clock;
 use std::{env, io};
 
-/// One item and no option: the search of the root is short, and there is no cover.
-const ONE_ITEM: &str = "a\n";
-
 /// Lets cores take the events of this kind so many times.
 fn act(alloc: Global, kind: &str, times: u64) -> Result<(), BenchFault> {
     if let Some(share) = share_in(kind) {
         return act_shares(alloc, share, times);
     }
-    let Ok(read) = read_problem(alloc, ONE_ITEM.as_bytes()) else {
-        return Err(BenchFault::Memory);
-    };
+    // One item and no option: the search of the root is short, and there is no cover.
+    let problem = one_item(alloc, 0)?;
     if kind == "cycle" {
-        return act_cycles(alloc, &read.problem, times);
+        return act_cycles(alloc, &problem, times);
     }
-    act_deliveries(alloc, &read.problem, kind, times)
+    act_deliveries(alloc, &problem, kind, times)
 }
 
 /// Copies the packets of this kind so many times.
@@ -56,7 +51,7 @@ fn copy(alloc: Global, kind: &str, times: u64) -> Result<(), BenchFault> {
         return copy_packets(alloc, &share_packets(alloc, share)?, times);
     }
     if kind == "cycle" {
-        return copy_packets(alloc, &packets(alloc)?, times);
+        return copy_packets(alloc, &packets(alloc), times);
     }
     copy_packets(alloc, &[packet_of(alloc, kind)?], times)
 }
@@ -83,13 +78,11 @@ fn greet<R: Threads + Wait + Sync>(
     let (Ok(threads), Ok(times)) = (threads.parse::<u8>(), times.parse::<u64>()) else {
         return Err(BenchFault::Unexpected);
     };
-    let Ok(read) = read_problem(alloc, ONE_ITEM.as_bytes()) else {
-        return Err(BenchFault::Memory);
-    };
+    let problem = one_item(alloc, 0)?;
     if threads == 0 {
-        return greet_core(alloc, &read.problem, times);
+        return greet_core(alloc, &problem, times);
     }
-    greet_cell(rt, alloc, &read.problem, threads, times)
+    greet_cell(rt, alloc, &problem, threads, times)
 }
 
 /// Times the calls of a ledger with so many children, or guests.

@@ -77,12 +77,17 @@ impl ManyUnits {
     /// The ledger of a node with one guest, which is split into so many children.
     pub fn of_children(alloc: Global, children: u32) -> Result<ManyUnits, BenchFault> {
         let mut units = ManyUnits::new(alloc)?;
-        units.receive_give(0)?;
-        units.take()?;
-        let options = vec![in alloc; 0u16; children as usize]?;
-        let job = units.job()?;
-        split(&mut units.ledger, job.unit, &options)?;
+        units.split_first(children)?;
         Ok(units)
+    }
+
+    /// The other node gives a child, which is split into so many children.
+    fn split_first(&mut self, children: u32) -> Result<(), BenchFault> {
+        self.receive_give(0)?;
+        self.take()?;
+        let options = vec![in self.alloc; 0u16; children as usize]?;
+        let job = self.job()?;
+        split(&mut self.ledger, job.unit, &options)
     }
 
     /// Makes ready what this call asks for, where no call before it does.

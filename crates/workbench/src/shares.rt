@@ -44,9 +44,14 @@ impl<'a> Victim<'a> {
     /// The node, once it has the root and has split it.
     fn new(alloc: Global, problem: &'a Problem) -> Result<Victim<'a>, BenchFault> {
         let mut victim = Victim::start(alloc, problem)?;
-        victim.hear_of_root(alloc)?;
-        victim.split_root()?;
+        victim.open(alloc)?;
         Ok(victim)
+    }
+
+    /// The node gets the root and splits it.
+    fn open(&mut self, alloc: Global) -> Result<(), BenchFault> {
+        self.hear_of_root(alloc)?;
+        self.split_root()
     }
 
     /// The registry gives the root.
@@ -86,6 +91,21 @@ impl<'a> Victim<'a> {
         }
     }
 
+    /// A thief that begins gets so many children, which are ready again after that.
+    fn share(&mut self, alloc: Global, share: u32) -> Result<(), BenchFault> {
+        let give = self.give()?;
+        hear(alloc, self.problem, give)?;
+        self.redo(share)
+    }
+
+    /// The same so many times.
+    fn share_often(&mut self, alloc: Global, share: u32, times: u64) -> Result<(), BenchFault> {
+        for _ in 0..times {
+            self.share(alloc, share)?;
+        }
+        Ok(())
+    }
+
     /// The children that were given are ready again.
     fn redo(&mut self, share: u32) -> Result<(), BenchFault> {
         for serial in 0..share {
@@ -119,13 +139,13 @@ fn root(alloc: Global) -> Packet {
     }
 }
 
-/// One item and so many options that name it.
-fn one_item(alloc: Global, options: u32) -> Result<Vec<u8>, AllocError> {
-    let mut text = Vec::new(alloc);
-    for _ in 0..=options {
-        text.extend_from_slice(b"a\n")?;
+/// The problem of one item and so many options that name it.
+pub fn one_item(alloc: Global, options: u32) -> Result<Problem, BenchFault> {
+    let text = "a\n".repeat(alloc, options as usize + 1)?;
+    match read_problem(alloc, text.as_bytes()) {
+        Ok(read) => Ok(read.problem),
+        Err(_) => Err(BenchFault::Memory),
     }
-    Ok(text)
 }
 
 /// A thief that begins hears the packet.
@@ -133,7 +153,14 @@ fn hear(alloc: Global, problem: &Problem, packet: Packet) -> Result<(), BenchFau
     requires { is_well_formed packet ≡ true }
 {
     let mut thief = NodeCore::start(alloc, problem, THIEF, 2, 1)?;
-    thief.act(Event::Deliver(packet), &mut Vec::new(alloc))?;
+    deliver(alloc, &mut thief, packet)
+}
+
+/// The core hears the packet; what it puts out is let go.
+fn deliver<C: Core>(alloc: Global, core: &mut C, packet: Packet) -> Result<(), BenchFault>
+    requires { is_well_formed packet ≡ true }
+{
+    core.act(Event::Deliver(packet), &mut Vec::new(alloc))?;
     Ok(())
 }
 
@@ -149,37 +176,35 @@ pub fn share_in(kind: &str) -> Option<u32>
     }
 }
 
+/// The problem whose frame has as many children as make this share.
+fn problem_of(alloc: Global, share: u32) -> Result<Problem, BenchFault>
+    requires some { 1 ≤ share }
+    requires most { share ≤ 8 }
+{
+    one_item(alloc, 2 * share - 1)
+}
+
 /// A thief that begins gets so many children of a frame, which are ready again after that; all this so many times. A round has
 /// two deliveries, and a redo of each child.
 pub fn act_shares(alloc: Global, share: u32, times: u64) -> Result<(), BenchFault>
     requires some { 1 ≤ share }
     requires most { share ≤ 8 }
 {
-    let text = one_item(alloc, 2 * share - 1)?;
-    let Ok(read) = read_problem(alloc, &text) else {
-        return Err(BenchFault::Memory);
-    };
-    let mut victim = Victim::new(alloc, &read.problem)?;
-    for _ in 0..times {
-        let give = victim.give()?;
-        hear(alloc, &read.problem, give)?;
-        victim.redo(share)?;
-    }
-    Ok(())
+    let problem = problem_of(alloc, share)?;
+    Victim::new(alloc, &problem)?.share_often(alloc, share, times)
+}
+
+/// The Give of a victim's share.
+fn given(alloc: Global, problem: &Problem) -> Result<Packet, BenchFault> {
+    Victim::new(alloc, problem)?.give()
 }
 
 /// The packets of a round.
-pub fn share_packets(alloc: Global, share: u32) -> Result<Vec<Packet>, BenchFault>
+pub fn share_packets(alloc: Global, share: u32) -> Result<[Packet; 2], BenchFault>
     requires some { 1 ≤ share }
     requires most { share ≤ 8 }
 {
-    let text = one_item(alloc, 2 * share - 1)?;
-    let Ok(read) = read_problem(alloc, &text) else {
-        return Err(BenchFault::Memory);
-    };
-    let mut victim = Victim::new(alloc, &read.problem)?;
-    let mut packets = Vec::with_capacity(alloc, 2)?;
-    packets.push(steal())?;
-    packets.push(victim.give()?)?;
-    Ok(packets)
+    let problem = problem_of(alloc, share)?;
+    let give = given(alloc, &problem)?;
+    Ok([steal(), give])
 }
