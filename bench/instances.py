@@ -105,6 +105,9 @@ def instances():
     generate.dominoes("mutilated-chessboard.dlx", "none", rectangle(8, 8) - {(0, 0), (7, 7)})
     crowd("crowd.dlx", 6)
     scattered("scattered-19.dlx", 95, 19, 4000, 1)
+    # (three divides neither number, so there is no cover)
+    scattered("triples-19.dlx", 19, 3, 300, 1)
+    scattered("triples-22.dlx", 22, 3, 250, 1)
     for n in (14, 15, 16):
         torus_queens(f"torus-queens-{n}.dlx", n)
     generate.squares("macmahon-4x6.dlx", "MacMahon's squares, one colour all round", rectangle(4, 6), three_coloured(), "a")
