@@ -120,12 +120,44 @@ fn plays<R: Abort>(
 fn play<R: Abort>(rt: &R, alloc: Global, text: &str, scripts: &[&[Step]]) {
     let read = read_problem(alloc, text.as_bytes()).expect(rt, "a problem");
     let mut world = World::start(alloc, &read.problem, 2).expect(rt, "memory");
-    let mut twin = World::start(alloc, &read.problem, 2).expect(rt, "memory");
+    play_beside(rt, alloc, &read.problem, &mut world, scripts);
+}
+
+/// Takes them in this world and in another.
+fn play_beside<R: Abort>(
+    rt: &R,
+    alloc: Global,
+    problem: &Problem,
+    world: &mut World<'_>,
+    scripts: &[&[Step]],
+) {
+    let mut twin = World::start(alloc, problem, 2).expect(rt, "memory");
+    play_parts(rt, alloc, (world, &mut twin), scripts);
+}
+
+/// Takes the steps of each part.
+fn play_parts<R: Abort>(
+    rt: &R,
+    alloc: Global,
+    (world, twin): (&mut World<'_>, &mut World<'_>),
+    scripts: &[&[Step]],
+) {
     for (part, steps) in scripts.iter().enumerate() {
-        for (number, row) in steps.iter().enumerate() {
-            let right = plays(rt, alloc, (&mut world, &mut twin), *row);
-            assert!(rt; right, "part {part}, step {number}");
-        }
+        play_part(rt, alloc, (world, twin), part, steps);
+    }
+}
+
+/// Takes the steps of this part.
+fn play_part<R: Abort>(
+    rt: &R,
+    alloc: Global,
+    (world, twin): (&mut World<'_>, &mut World<'_>),
+    part: usize,
+    steps: &[Step],
+) {
+    for (number, row) in steps.iter().enumerate() {
+        let right = plays(rt, alloc, (world, twin), *row);
+        assert!(rt; right, "part {part}, step {number}");
     }
 }
 
@@ -148,6 +180,15 @@ fn push_events<R: Abort>(rt: &R, events: &mut Vec<WorldEvent>, steps: &[Step]) {
     }
 }
 
+/// The events of these scripts.
+fn events_of<R: Abort>(rt: &R, alloc: Global, scripts: &[&[Step]]) -> Vec<WorldEvent> {
+    let mut events = Vec::new(alloc);
+    for steps in scripts {
+        push_events(rt, &mut events, steps);
+    }
+    events
+}
+
 /// Runs on where a run stopped for want of memory: the events before that one were taken or passed over, as in a new world. How many
 /// were taken in all.
 fn go_on<R: Abort>(
@@ -158,35 +199,64 @@ fn go_on<R: Abort>(
     starved: Starved,
 ) -> usize {
     let (before, left) = events.split_at_checked(starved.at).expect(rt, "a place");
-    let mut twin = World::start(alloc, problem, 2).expect(rt, "memory");
-    assert!(rt; twin.run(before) == Ok(starved.done));
-    assert!(rt; is_alike(world, &twin), "it stopped elsewhere");
+    let stopped_there = is_as_after(rt, alloc, (world, problem), before, starved.done);
+    assert!(rt; stopped_there, "it stopped elsewhere");
     let more = world.run(left).expect(rt, "memory");
     starved.done.wrapping_add(more)
 }
 
-/// Whether a run between marks, with what follows it where memory is refused, takes as many events as a run with memory, and ends so.
-fn ends_so<R: Abort>(rt: &R, alloc: Global, problem: &Problem, events: &[WorldEvent]) -> bool {
+/// Whether a new world takes so many of these events, and is then alike.
+fn is_as_after<R: Abort>(
+    rt: &R,
+    alloc: Global,
+    (world, problem): (&World<'_>, &Problem),
+    events: &[WorldEvent],
+    done: usize,
+) -> bool {
     let mut twin = World::start(alloc, problem, 2).expect(rt, "memory");
-    let expected = twin.run(events).expect(rt, "memory");
-    let mut world = World::start(alloc, problem, 2).expect(rt, "memory");
+    twin.run(events) == Ok(done) && is_alike(world, &twin)
+}
+
+/// How many events a run between marks takes, with what follows it where memory is refused.
+fn run_marked<R: Abort>(
+    rt: &R,
+    alloc: Global,
+    (world, problem): (&mut World<'_>, &Problem),
+    events: &[WorldEvent],
+) -> usize {
     begin(alloc, RUN).expect(rt, "memory");
     let ran = world.run(events);
     end(alloc, ran.is_err()).expect(rt, "memory");
-    let done = match ran {
+    match ran {
         Ok(done) => done,
-        Err(starved) => go_on(rt, alloc, (&mut world, problem), events, starved),
-    };
-    done == expected && is_alike(&world, &twin)
+        Err(starved) => go_on(rt, alloc, (world, problem), events, starved),
+    }
+}
+
+/// Whether a run between marks takes as many events as a run with memory, and ends so.
+fn ends_so<R: Abort>(rt: &R, alloc: Global, problem: &Problem, events: &[WorldEvent]) -> bool {
+    let mut twin = World::start(alloc, problem, 2).expect(rt, "memory");
+    let expected = twin.run(events).expect(rt, "memory");
+    ends_as(rt, alloc, problem, events, (&twin, expected))
+}
+
+/// Whether it takes so many, and ends as this world has.
+fn ends_as<R: Abort>(
+    rt: &R,
+    alloc: Global,
+    problem: &Problem,
+    events: &[WorldEvent],
+    (twin, expected): (&World<'_>, usize),
+) -> bool {
+    let mut world = World::start(alloc, problem, 2).expect(rt, "memory");
+    let done = run_marked(rt, alloc, (&mut world, problem), events);
+    done == expected && is_alike(&world, twin)
 }
 
 /// Whether a run of the scripts' events ends so.
 fn runs<R: Abort>(rt: &R, alloc: Global, text: &str, scripts: &[&[Step]]) -> bool {
     let read = read_problem(alloc, text.as_bytes()).expect(rt, "a problem");
-    let mut events = Vec::new(alloc);
-    for steps in scripts {
-        push_events(rt, &mut events, steps);
-    }
+    let events = events_of(rt, alloc, scripts);
     ends_so(rt, alloc, &read.problem, &events)
 }
 

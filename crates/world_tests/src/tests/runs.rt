@@ -156,11 +156,21 @@ pub fn goes(world: &mut World<'_>, step: Step) -> bool {
 fn play<R: Abort>(rt: &R, alloc: Global, text: &str, scripts: &[&[Step]]) {
     let read = read_problem(alloc, text.as_bytes()).expect(rt, "a problem");
     let mut world = World::start(alloc, &read.problem, 2).expect(rt, "memory");
+    play_parts(rt, &mut world, scripts);
+}
+
+/// Takes the steps of each part.
+fn play_parts<R: Abort>(rt: &R, world: &mut World<'_>, scripts: &[&[Step]]) {
     for (part, steps) in scripts.iter().enumerate() {
-        for (number, step) in steps.iter().enumerate() {
-            let right = goes(&mut world, *step);
-            assert!(rt; right, "part {part}, step {number}");
-        }
+        play_part(rt, world, part, steps);
+    }
+}
+
+/// Takes the steps of this part.
+fn play_part<R: Abort>(rt: &R, world: &mut World<'_>, part: usize, steps: &[Step]) {
+    for (number, step) in steps.iter().enumerate() {
+        let right = goes(world, *step);
+        assert!(rt; right, "part {part}, step {number}");
     }
 }
 
