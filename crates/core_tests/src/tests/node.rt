@@ -190,6 +190,14 @@ impl<'a> Stage<'a> {
         let answer = self.does(rt, &does, &mut lists);
         has_come(&answer, comes) && lists.have(rt, self.alloc, HERE, sent)
     }
+
+    /// Plays the script; the first row that isn't as it says ends it.
+    fn play<R: Abort>(&mut self, rt: &R, rows: &[Row]) {
+        for (number, row) in rows.iter().enumerate() {
+            let right = self.plays(rt, *row);
+            assert!(rt; right, "row {number}");
+        }
+    }
 }
 
 impl<'a> Played for Stage<'a> {
@@ -222,11 +230,7 @@ impl<'a> Played for Stage<'a> {
 /// Plays the script at a node with so many names, which searches this problem; the first row that isn't as it says ends it.
 fn play<R: Abort>(rt: &R, alloc: Global, text: &str, names_limit: u32, rows: &[Row]) {
     let read = read_problem(alloc, text.as_bytes()).expect(rt, "a problem");
-    let mut stage = Stage::new(rt, alloc, &read.problem, names_limit);
-    for (number, row) in rows.iter().enumerate() {
-        let right = stage.plays(rt, *row);
-        assert!(rt; right, "row {number}");
-    }
+    Stage::new(rt, alloc, &read.problem, names_limit).play(rt, rows);
 }
 
 use self::Comes::{Fault, Idle, Ignored, Moved, Ripe, Taken};

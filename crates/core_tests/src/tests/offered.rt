@@ -430,6 +430,14 @@ impl<'a> Stage<'a> {
         }
     }
 
+    /// Lets all these happen.
+    fn happen_all<R: Abort>(&mut self, rt: &R, moves: &[Move]) {
+        for one in moves {
+            // (some are refused in their run)
+            let _answer = self.happen(rt, *one);
+        }
+    }
+
     /// Offers a packet to each site.
     fn offer<R: Abort>(&mut self, rt: &R, packet: &Packet) -> [u8; 3] {
         [
@@ -494,10 +502,7 @@ fn stage_at<'a, R: Abort>(
     moves: &[Move],
 ) -> Stage<'a> {
     let mut stage = Stage::new(rt, alloc, problem);
-    for one in moves {
-        // (some are refused in their run)
-        let _answer = stage.happen(rt, *one);
-    }
+    stage.happen_all(rt, moves);
     stage
 }
 
@@ -527,6 +532,19 @@ fn comes_so<R: Abort>(
         && is_expected(two, moment, place, at_two)
 }
 
+/// The same of a packet at sites of its own.
+fn agrees_at<R: Abort>(
+    rt: &R,
+    alloc: Global,
+    problem: &Problem,
+    (moves, rows): (&[Move], &[&[Row]; 3]),
+    packet: &Packet,
+    place: usize,
+) -> bool {
+    let mut stage = stage_at(rt, alloc, problem, moves);
+    comes_so(rt, &mut stage, packet, rows, (moves.len(), place))
+}
+
 /// Whether all packets come to what they should at a moment.
 fn agrees<R: Abort>(
     rt: &R,
@@ -536,8 +554,7 @@ fn agrees<R: Abort>(
 ) -> bool {
     for (place, (from, to, said)) in OFFERED.iter().enumerate() {
         let packet = packet_of(alloc, *from, *to, *said).expect(rt, "memory");
-        let mut stage = stage_at(rt, alloc, problem, moves);
-        if !comes_so(rt, &mut stage, &packet, rows, (moves.len(), place)) {
+        if !agrees_at(rt, alloc, problem, (moves, rows), &packet, place) {
             return false;
         }
     }

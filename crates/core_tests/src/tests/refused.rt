@@ -7,6 +7,7 @@
 use super::lists::Lists;
 use super::said::{Comes, FOUR_WAYS, LETTERS, Said, has_come};
 use super::{node, registry};
+use cover_problem::Problem;
 use dlx_reader::read_problem;
 use node_core::{ActFault, Reply};
 use spawn_frame::Site;
@@ -92,20 +93,41 @@ fn play<S: Played, R: Abort>(
 fn play_at_node<R: Abort>(rt: &R, alloc: Global, text: &str, names_limit: u32, rows: &[node::Row]) {
     let read = read_problem(alloc, text.as_bytes()).expect(rt, "a problem");
     for both in [false, true] {
-        let mut tried = node::Stage::new(rt, alloc, &read.problem, names_limit);
-        let mut twin = node::Stage::new(rt, alloc, &read.problem, names_limit);
-        play(rt, alloc, &mut tried, &mut twin, (rows, both));
+        play_at_nodes(rt, alloc, &read.problem, names_limit, (rows, both));
     }
+}
+
+/// Plays a script at a node with so many names and its twin.
+fn play_at_nodes<R: Abort>(
+    rt: &R,
+    alloc: Global,
+    problem: &Problem,
+    names_limit: u32,
+    script: (&[node::Row], bool),
+) {
+    let mut tried = node::Stage::new(rt, alloc, problem, names_limit);
+    let mut twin = node::Stage::new(rt, alloc, problem, names_limit);
+    play(rt, alloc, &mut tried, &mut twin, script);
 }
 
 /// The same at a registry of two nodes.
 fn play_at_registry<R: Abort>(rt: &R, alloc: Global, rows: &[registry::Row]) {
     let read = read_problem(alloc, LETTERS.as_bytes()).expect(rt, "a problem");
     for both in [false, true] {
-        let mut tried = registry::Stage::new(rt, alloc, &read.problem);
-        let mut twin = registry::Stage::new(rt, alloc, &read.problem);
-        play(rt, alloc, &mut tried, &mut twin, (rows, both));
+        play_at_registries(rt, alloc, &read.problem, (rows, both));
     }
+}
+
+/// Plays a script at a registry and its twin.
+fn play_at_registries<R: Abort>(
+    rt: &R,
+    alloc: Global,
+    problem: &Problem,
+    script: (&[registry::Row], bool),
+) {
+    let mut tried = registry::Stage::new(rt, alloc, problem);
+    let mut twin = registry::Stage::new(rt, alloc, problem);
+    play(rt, alloc, &mut tried, &mut twin, script);
 }
 
 #[test]

@@ -126,6 +126,16 @@ impl<'a> Stage<'a> {
         let answer = self.does(rt, &does, &mut lists);
         has_come(&answer, comes) && lists.have(rt, self.alloc, REGISTRY, sent)
     }
+
+    /// Plays the script; the first row that isn't as it says ends it.
+    fn play<R: Abort>(&mut self, rt: &R, rows: &[Row], publishes: Publishes) {
+        for (number, row) in rows.iter().enumerate() {
+            let right = self.plays(rt, *row);
+            assert!(rt; right, "row {number}");
+            let published = is_published(&self.core, number, publishes);
+            assert!(rt; published, "row {number}");
+        }
+    }
 }
 
 impl<'a> Played for Stage<'a> {
@@ -176,13 +186,7 @@ fn is_published(core: &Registry<'_>, number: usize, (row, cover): Publishes) -> 
 /// Plays the script at a registry of two nodes.
 fn play<R: Abort>(rt: &R, alloc: Global, rows: &[Row], publishes: Publishes) {
     let read = read_problem(alloc, LETTERS.as_bytes()).expect(rt, "a problem");
-    let mut stage = Stage::new(rt, alloc, &read.problem);
-    for (number, row) in rows.iter().enumerate() {
-        let right = stage.plays(rt, *row);
-        assert!(rt; right, "row {number}");
-        let published = is_published(&stage.core, number, publishes);
-        assert!(rt; published, "row {number}");
-    }
+    Stage::new(rt, alloc, &read.problem).play(rt, rows, publishes);
 }
 
 /// A cover that doesn't count right enters nothing; one that does is accepted, all nodes are told that it is over, and it

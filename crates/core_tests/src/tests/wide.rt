@@ -80,6 +80,14 @@ fn is_aborted<R: Abort>(rt: &R, alloc: Global, stage: &mut Stage<'_>, serial: u3
     plays(rt, alloc, stage, (comes, Moved), &[(NODE_2, refuse)])
 }
 
+/// The node has aborted so many of its children, the first ones.
+fn are_aborted<R: Abort>(rt: &R, alloc: Global, stage: &mut Stage<'_>, children: u32) {
+    for serial in 0..children {
+        let aborted = is_aborted(rt, alloc, stage, serial);
+        assert!(rt; aborted, "child {serial}");
+    }
+}
+
 /// Plays the script; the first row that isn't as it says ends it.
 fn play<R: Abort>(rt: &R, alloc: Global, stage: &mut Stage<'_>, rows: &[Row]) {
     for (number, (does, comes, sent)) in rows.iter().enumerate() {
@@ -95,9 +103,6 @@ fn a_frame_of_three_pages(rt: HostRuntime) {
     let read = read_problem(alloc, text.as_bytes()).expect(&rt, "a problem");
     let mut stage = Stage::new(&rt, alloc, &read.problem, 600);
     play(&rt, alloc, &mut stage, &WIDE);
-    for serial in 0..599 {
-        let aborted = is_aborted(&rt, alloc, &mut stage, serial);
-        assert!(rt; aborted, "child {serial}");
-    }
+    are_aborted(&rt, alloc, &mut stage, 599);
     assert!(rt; !is_aborted(&rt, alloc, &mut stage, 599));
 }
