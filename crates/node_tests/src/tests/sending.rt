@@ -197,24 +197,41 @@ fn play<J: Run + Send + Sync, N: CellName + Send + Sync, R: Threads + Wait + Clo
     run_beside(rt, alloc, &cell, problem, link, meeting)
 }
 
+/// The node's link, which is slow.
+fn slow_link(alloc: Global, meeting: &Arc<Meeting, Global>) -> Result<SlowLink, AllocError> {
+    Ok(SlowLink {
+        inner: MemoryLink::new(Arc::new(alloc, Wires::new(alloc, 2)?)?, 1),
+        meeting: Arc::try_clone(meeting)?,
+    })
+}
+
+/// The node's site.
+const HERE: Site = Site {
+    node: 1,
+    incarnation: 1,
+};
+
+/// Runs a node whose link is slow; how many of its threads have come back.
+fn run_slow<R: Threads + Wait + Clock + Sync>(
+    rt: &R,
+    alloc: Global,
+    problem: &Problem,
+    meeting: &Arc<Meeting, Global>,
+) -> Result<Option<usize>, Fail> {
+    // (for what the getter says: that the problem is lawful)
+    let _items = problem.items();
+    let link = slow_link(alloc, meeting)?;
+    let cell_parts = CellParts::new(alloc)?;
+    let core = NodeCore::start(alloc, problem, HERE, 1, 1000)?;
+    let came = play::<Brand, Brand, _>(rt, alloc, cell_parts, core, problem, link, meeting);
+    Ok(came)
+}
+
 #[test]
 fn send_holds_no_lock(rt: HostRuntime) -> Result<(), Fail> {
-    let alloc = rt.alloc();
-    let read = read_problem(alloc, b"a\na\n")?;
-    // (for what the getter says: that the problem is lawful)
-    let _items = read.problem.items();
-    let here = Site {
-        node: 1,
-        incarnation: 1,
-    };
-    let core = NodeCore::start(alloc, &read.problem, here, 1, 1000)?;
-    let meeting = Arc::new(alloc, Meeting::new())?;
-    let link = SlowLink {
-        inner: MemoryLink::new(Arc::new(alloc, Wires::new(alloc, 2)?)?, 1),
-        meeting: Arc::try_clone(&meeting)?,
-    };
-    let cell_parts = CellParts::new(alloc)?;
-    let came = play::<Brand, Brand, _>(&rt, alloc, cell_parts, core, &read.problem, link, &meeting);
+    let read = read_problem(rt.alloc(), b"a\na\n")?;
+    let meeting = Arc::new(rt.alloc(), Meeting::new())?;
+    let came = run_slow(&rt, rt.alloc(), &read.problem, &meeting)?;
     assert_eq!(rt; (came, meeting.is_kept()), (Some(2), true));
     Ok(())
 }

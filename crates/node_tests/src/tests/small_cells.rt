@@ -114,30 +114,43 @@ fn give_root<R: Wait>(rt: &R, alloc: Global, registry: &mut MemoryLink) -> Resul
     Ok(())
 }
 
-/// What a node comes to that is given the root of a problem with a cover. Its book has room for so many entries, and it may name
-/// one child.
+/// The node's link, by which the root has come.
+fn link_with_root<R: Wait>(rt: &R, alloc: Global) -> Result<MemoryLink, Fail> {
+    let wires = Arc::new(alloc, Wires::new(alloc, 2)?)?;
+    give_root(rt, alloc, &mut MemoryLink::new(Arc::try_clone(&wires)?, 0))?;
+    Ok(MemoryLink::new(wires, 1))
+}
+
+/// What a node comes to that is given the root of this problem. Its book has room for so many entries, and it may name one child.
 fn run_small<R: Threads + Wait + Clock + Sync>(
+    rt: &R,
+    alloc: Global,
+    problem: &Problem,
+    entries: u64,
+) -> Result<Option<Ended>, Fail> {
+    // (for what the getter says: that the problem is lawful)
+    let _items = problem.items();
+    let link = link_with_root(rt, alloc)?;
+    let cell_parts = CellParts::new(alloc)?;
+    let core = NodeCore::start(alloc, problem, HERE, 1, 1)?;
+    let ended = play::<Brand, Brand, _>(rt, alloc, cell_parts, core, problem, link, entries);
+    Ok(ended)
+}
+
+/// The same of a problem with a cover.
+fn run_covered<R: Threads + Wait + Clock + Sync>(
     rt: &R,
     alloc: Global,
     entries: u64,
 ) -> Result<Option<Ended>, Fail> {
     let read = read_problem(alloc, COVERED.0.as_bytes())?;
-    // (for what the getter says: that the problem is lawful)
-    let _items = read.problem.items();
-    let core = NodeCore::start(alloc, &read.problem, HERE, 1, 1)?;
-    let wires = Arc::new(alloc, Wires::new(alloc, 2)?)?;
-    give_root(rt, alloc, &mut MemoryLink::new(Arc::try_clone(&wires)?, 0))?;
-    let link = MemoryLink::new(wires, 1);
-    let cell_parts = CellParts::new(alloc)?;
-    let problem = &read.problem;
-    let ended = play::<Brand, Brand, _>(rt, alloc, cell_parts, core, problem, link, entries);
-    Ok(ended)
+    run_small(rt, alloc, &read.problem, entries)
 }
 
 /// It searches the root by one visit, which is too little, and then by sixteen, since it has no names for two children.
 #[test]
 fn a_node_of_few_names(rt: HostRuntime) -> Result<(), Fail> {
-    let Some(ended) = run_small(&rt, rt.alloc(), 10_000)? else {
+    let Some(ended) = run_covered(&rt, rt.alloc(), 10_000)? else {
         return Err(Fail::new("memory ran out"));
     };
     assert_eq!(rt;
@@ -149,7 +162,7 @@ fn a_node_of_few_names(rt: HostRuntime) -> Result<(), Fail> {
 
 #[test]
 fn a_node_of_a_small_book(rt: HostRuntime) -> Result<(), Fail> {
-    let Some(ended) = run_small(&rt, rt.alloc(), 3)? else {
+    let Some(ended) = run_covered(&rt, rt.alloc(), 3)? else {
         return Err(Fail::new("memory ran out"));
     };
     assert_eq!(rt;

@@ -1,4 +1,4 @@
-use Rattle.node_tests.proofs.tests.sending.send_holds_no_lock.Given as goal
+use Rattle.node_tests.proofs.tests.sending.run_slow.Given as goal
 
 abbrev pub ghosts-play-J-Run : goal.ghosts-play-J-Run
 ghosts-play-J-Run g a = record { run = record { problem = a.core.problem; nodes = 1 } }
