@@ -33,7 +33,7 @@ names_next names more item name inside is all = all ∙ ap (λ (n : List ℕ). t
 
 -- ---- the item of a name
 
-own_named : (names : List (List ℕ)) (item : ℕ) → names_differ names ≡ true → item < length names → item_named names (get_or names item []) ≡ Some item
+pub own_named : (names : List (List ℕ)) (item : ℕ) → names_differ names ≡ true → item < length names → item_named names (get_or names item []) ≡ Some item
 own_named names item differ inside =
     (elim (item_named names (get_or names item [])) as (λ found. item_named names (get_or names item []) ≡ found → item_named names (get_or names item []) ≡ Some item) [
       | None ↦ λ e.

@@ -8,8 +8,8 @@ use std::alloc::{AllocError, Global};
 use std::collections::BTreeMap;
 use std::marker::Model;
 
-/// The names of items or of colours in their order, of which there are at most 10,000. Each is found by some ten comparisons,
-/// whatever the names are.
+/// The names of items or of colours in their order, no two of them alike, of which there are at most 10,000. Each is found by some
+/// ten comparisons, whatever the names are.
 #[derive(Drop)]
 pub struct Names<'a> {
     list: Vec<Name>,
@@ -18,14 +18,18 @@ pub struct Names<'a> {
 
 impl<'a> Model for Names<'a> {
     ghost use Rattle.std.specs.Prelude.{ℕ, List, length, ◌≤◌};
+    ghost use Rattle.std.specs.Prelude.{◌≡◌, true};
     ghost use Rattle.cover_problem.specs.declared.limits.TheConstants.{MOST_COLOURS};
+    ghost use Rattle.cover_problem.specs.Problem.{names_differ};
     ghost use Rattle.dlx_reader.specs.Names.{IsIndex};
 
     ghost Value = { List (List ℕ) };
 
     ghost view = { λ n. n.list.items };
 
-    ghost invariant = { λ n. (length n.list.items ≤ MOST_COLOURS) × IsIndex n.list.items n.index };
+    ghost invariant = { λ n. (length n.list.items ≤ MOST_COLOURS)
+        × IsIndex n.list.items n.index
+        × (names_differ n.list.items ≡ true) };
 }
 
 impl<'a> Names<'a> {
@@ -81,6 +85,19 @@ impl<'a> Names<'a> {
         ensures most { length self.now ≤ MOST_COLOURS }
     {
         self.index.get(word).copied()
+    }
+
+    /// The number of the item or colour with a name, as `item_named` answers it. The name numbered `next` is looked at first: options
+    /// often name items in their order.
+    pub fn item_named_near(&self, next: usize, word: &[u8]) -> Option<u16>
+        ensures item { result ≡ item_named self.now word.now }
+        ensures within { IfSome result (λ item. item < length self.now) }
+        ensures most { length self.now ≤ MOST_COLOURS }
+    {
+        match self.list.get(next) {
+            Some(name) if name.as_slice() == word => Some(next as u16),
+            _ => self.item_named(word),
+        }
     }
 
     /// Whether it is one of the names.

@@ -182,7 +182,8 @@ fn read_option_item(
     ensures one { OnOk result (length items.new.items ≡ length items.old.items + 1) }
 {
     let (name, has_colour) = read_parts(word, line)?;
-    let Some(item) = names.item_named(name) else {
+    let next = items.last().map_or(0, |item| usize::from(*item) + 1);
+    let Some(item) = names.item_named_near(next, name) else {
         return Err(ReadFault::UnknownItem(line));
     };
     if items.contains(&item) {
