@@ -1,7 +1,8 @@
 //! Reading a problem, in the general form of the inputs of Knuth's programs DLX1 and DLX2.
 
 ghost use Rattle.std.specs.Prelude.{◌≡◌, ◌≢◌, ◌<◌, ◌≤◌, ◌+◌, ◌^◌, [], ◌∷◌, length, true, false, is_some, Some, IfOk, IfErr, OnOk};
-ghost use Rattle.std.specs.List.{list_any, list_all};
+ghost use Rattle.std.specs.List.{All, list_any, list_all};
+ghost use Rattle.cover_problem.specs.Numbers.{is_in};
 ghost use Rattle.dlx_reader.specs.Content.{is_content, is_word, content_from, content_of};
 ghost use Rattle.dlx_reader.specs.Faults.{first_fault, is_bad_colour, is_illegal, name_tests, part_tests};
 ghost use Rattle.dlx_reader.specs.Items.{name_part, primary_in};
@@ -167,15 +168,26 @@ fn read_parts(word: &[u8], line: usize) -> Result<(&[u8], bool), ReadFault>
     Ok((word, false))
 }
 
-/// Reads a further word of an option, and answers whether it has a colour.
+/// Whether an item is among others, all of which are below the bound: where options name items in their order, the bound alone tells.
+fn is_among(items: &[u16], bound: usize, item: u16) -> bool
+    requires { All (λ i. i < bound) items.now }
+    ensures { result ≡ is_in items.now item }
+{
+    usize::from(item) < bound && items.contains(&item)
+}
+
+/// Reads a further word of an option, and answers whether it has a colour. All items of the option are below the bound.
 #[tactic(auto, unfolding(crate::specs::Reading::option_item_at))]
 fn read_option_item(
     names: &Names,
     primary: usize,
     items: &mut Vec<u16>,
+    bound: &mut usize,
     word: &[u8],
     line: usize,
 ) -> Result<bool, ReadFault>
+    requires below { All (λ i. i < bound.old) items.old.items }
+    ensures below { OnOk result (All (λ i. i < bound.new) items.new.items) }
     ensures gives { Gives (λ _. items.new.items) result
         (option_item_at line names.now primary items.old.items word.now) }
     ensures colon { IfOk result (λ colon. colon ≡ has_colon word.now) }
@@ -186,13 +198,14 @@ fn read_option_item(
     let Some(item) = names.item_named_near(next, name) else {
         return Err(ReadFault::UnknownItem(line));
     };
-    if items.contains(&item) {
+    if is_among(items, *bound, item) {
         return Err(ReadFault::DuplicateInOption(line));
     }
     if has_colour && usize::from(item) < primary {
         return Err(ReadFault::ColourOnPrimary(line));
     }
     items.push(item)?;
+    *bound = usize::from(item + 1).max(*bound);
     Ok(has_colour)
 }
 
@@ -209,10 +222,11 @@ fn read_option(
     ensures of { IfOk result (λ read. AreItemsOf (words_of line.entry.text.now) read) }
 {
     let mut items = Vec::with_capacity(alloc, USUAL_ITEMS)?;
+    let mut bound = 0;
     let mut has_colours = false;
     let mut left = line.text;
     while let Some((word, rest)) = split_word(left) {
-        if read_option_item(names, primary, &mut items, word, line.number)? {
+        if read_option_item(names, primary, &mut items, &mut bound, word, line.number)? {
             has_colours = true;
         }
         left = rest;
