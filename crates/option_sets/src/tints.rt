@@ -68,6 +68,10 @@ impl Numbering {
         ensures more { OnOk result (Extends self.old self.new) }
         ensures few { OnOk result (length self.new ≤ length self.old + 1) }
     {
+        // (nearly all items have no colour, and that key is the first)
+        if key == self.keys[0] {
+            return Ok(0);
+        }
         if let Some(number) = self.index.get(&key) {
             return Ok(*number);
         }
