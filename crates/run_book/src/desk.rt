@@ -1,8 +1,11 @@
-ghost use Rattle.std.specs.Prelude.{◌≡◌, ℕ, ◌+◌, ◌<◌, ◌≤◌, [], ◌∷◌, ◌++◌, length, sum, vec_len, None, IfErr, IfNone, IfOk, IfSome, OnErr, OnOk};
+ghost use Rattle.std.specs.Prelude.{◌≡◌, ℕ, ◌+◌, ◌<◌, ◌≤◌, List, [], ◌∷◌, ◌++◌, length, sum, vec_len, None, Some, IfErr, IfNone, IfOk, IfSome, OnErr, OnOk};
 ghost use Rattle.node_core.specs.Acting.{named_fault, Acts};
 ghost use Rattle.node_core.specs.Refusal.{IsFit};
+ghost use Rattle.node_core.specs.SiteView.{View};
+ghost use Rattle.node_core.specs.declared.reply.Reply.{Reply};
+ghost use Rattle.packet_wire.specs.declared.packet.Packet.{Packet};
 ghost use Rattle.run_book.specs.Closing.{IsMissing};
-ghost use Rattle.run_book.specs.Desks.{fault_told, IsLawful, IsTold, Refuses};
+ghost use Rattle.run_book.specs.Desks.{fault_told, prefix_in, room_for, IsLawful, IsTold, Refuses};
 ghost use Rattle.run_book.specs.Places.{AllStand, AreBelow, places};
 ghost use Rattle.run_book.specs.Sites.{opening_of, IsRun, MayBeginIn, StepsAt};
 
@@ -58,6 +61,14 @@ struct Done {
     packets: Vec<Packet>,
     copies: Vec<Packet>,
     ghost same: { copies.items ≡ packets.items },
+}
+
+/// What a core did at an event, for the book and for the caller.
+#[derive(Drop)]
+struct Acted {
+    entry: Entry,
+    told: Step,
+    ghost same: { told ≡ entry },
 }
 
 /// All that was handed in to `close`, and what is missing.
@@ -137,39 +148,14 @@ impl<J: Run, C: Core + Drop, N: CellName> Desk<J, C, N> {
             (Refuses J.run N.site N.limit C.refusal prepared.event)) }
     {
         let place = self.entries.len() as u64;
-        let Prepared {
-            event,
-            kept,
-            told,
-            room,
-        } = prepared;
         if place >= self.limit {
-            return Err((event, BookFault::BookFull(place)));
+            return Err((prepared.into_event(), BookFault::BookFull(place)));
         }
         if self.entries.reserve(1).is_err() {
-            return Err((event, BookFault::Memory));
+            return Err((prepared.into_event(), BookFault::Memory));
         }
-        let AnswerRoom {
-            prefix,
-            packets,
-            copies,
-            mut step,
-        } = room;
-        // (nobody else has it yet)
-        let Some(written) = Arc::get_mut(&mut step) else {
-            return Err((event, BookFault::Memory));
-        };
-        let Done {
-            reply,
-            packets,
-            copies,
-        } = match run(&mut self.core, event, packets, copies) {
-            Ok(done) => done,
-            Err(fault) => return Err((told, of_core(fault))),
-        };
-        *written = Step::of(kept, copied_reply(&reply, prefix), copies);
-        let told = Step::of(told, reply, packets);
-        let entry = self.repeated.shared(Entry::new(step));
+        let Acted { entry, told } = act_on(&mut self.core, prepared)?;
+        let entry = self.repeated.shared(entry);
         let receipt = self.register.enter(place, &entry, told);
         self.entries.push_reserved(entry);
         self.seats.count(seat);
@@ -249,6 +235,54 @@ impl<J: Run, C: Core + Drop, N: CellName> Desk<J, C, N> {
         register.look();
         Ok(Book::new(site, entries))
     }
+}
+
+/// Lets a core act on what is prepared. Where it refuses, the event comes back with the fault.
+fn act_on<C: Core>(core: &mut C, prepared: Prepared) -> Result<Acted, (Event, BookFault)>
+    requires fit { IsFit (C.problem core.old) prepared.event }
+    requires fits { (reply : Reply) (out : List Packet) (new : View) →
+        Acts C.step (C.problem core.old) (C.view core.old) prepared.event reply out new →
+        length (prefix_in reply) ≤ room_for prepared.event }
+    ensures problem { C.problem core.new ≡ C.problem core.old }
+    ensures event { IfOk result (λ acted. acted.entry.event ≡ prepared.event) }
+    ensures acts { IfOk result (λ acted.
+        Acts C.step (C.problem core.old) (C.view core.old) prepared.event acted.entry.reply
+        acted.entry.packets (C.view core.new)) }
+    ensures same { OnErr result (C.view core.new ≡ C.view core.old) }
+    ensures back { IfErr result (λ back. back.0 ≡ prepared.event) }
+    ensures fault { IfErr result (λ back. (many limit : ℕ) → many < limit → IsTold back.1 many limit) }
+    ensures refusal { IfErr result (λ back. IfSome (fault_told back.1) (λ fault.
+        C.refusal (C.problem core.old) (C.view core.old) prepared.event ≡ Some fault)) }
+{
+    let Prepared {
+        event,
+        kept,
+        told,
+        room,
+    } = prepared;
+    let AnswerRoom {
+        prefix,
+        packets,
+        copies,
+        mut step,
+    } = room;
+    // (nobody else has it yet)
+    let Some(written) = Arc::get_mut(&mut step) else {
+        return Err((event, BookFault::Memory));
+    };
+    let Done {
+        reply,
+        packets,
+        copies,
+    } = match run(core, event, packets, copies) {
+        Ok(done) => done,
+        Err(fault) => return Err((told, of_core(fault))),
+    };
+    *written = Step::of(kept, copied_reply(&reply, prefix), copies);
+    Ok(Acted {
+        entry: Entry::new(step),
+        told: Step::of(told, reply, packets),
+    })
 }
 
 /// Lets a core act, and put its packets into these lists.

@@ -54,6 +54,13 @@ impl Prepared {
             room,
         })
     }
+
+    /// The event, by itself.
+    pub fn into_event(self) -> Event
+        ensures { result ≡ self.event }
+    {
+        self.event
+    }
 }
 
 impl AnswerRoom {
