@@ -1,6 +1,6 @@
 //! The threads of a site, from their start to their end.
 
-ghost use Rattle.std.specs.Prelude.{◌≡◌, ◌+◌, ◌<◌, ◌≤◌, ◌⊎◌, IfOk, vec_len};
+ghost use Rattle.std.specs.Prelude.{◌≡◌, ◌+◌, ◌<◌, ◌≤◌, ◌⊎◌, IfOk, OnOk, vec_len};
 ghost use Rattle.std.specs.Vec.{vec_capacity};
 ghost use Rattle.udp_node.specs.declared.cause.Cause.TheVariants.{Memory};
 
@@ -125,9 +125,19 @@ fn work<J: Run, C: Core + Drop, N: CellName, G: Gate, R: Wait + Clock>(
     shared.signals.begin_working();
     shared.muster(rt);
     let node = shared.cell.site().node;
-    let Ok(mut worker) = Worker::new(shared.alloc, shared.tables, shared.plan, node, number) else {
-        return Cause::Memory;
-    };
+    match Worker::new(shared.alloc, shared.tables, shared.plan, node, number) {
+        Ok(mut worker) => take_turns(rt, actor, &mut worker, left),
+        Err(_) => Cause::Memory,
+    }
+}
+
+/// The turns of a worker that has begun.
+fn take_turns<'a, J: Run, C: Core + Drop, N: CellName, G: Gate, R: Wait + Clock>(
+    rt: &R,
+    actor: &mut Actor<'_, J, C, N, G>,
+    worker: &mut Worker<'a, J>,
+    left: &mut Limits,
+) -> Cause {
     for _turn in 0..u64::MAX {
         if left.is_spent() {
             break;
@@ -380,12 +390,25 @@ fn places_for<'a, J: Run, C: Core + Drop, N: CellName, L: Link, G: Gate, R: Wait
     ensures { IfOk result (λ places. vec_len places ≡ workers + 1) }
 {
     let mut places = Vec::with_capacity(shared.alloc, usize::from(workers) + 1)?;
-    let receiver = Task::Receive(Receiver::new(twin));
-    places.push(Place::new(receiver, Actor::new(rt, shared)?))?;
+    add_place(rt, shared, &mut places, Task::Receive(Receiver::new(twin)))?;
     for worker in 0..workers {
-        places.push(Place::new(Task::Work(worker), Actor::new(rt, shared)?))?;
+        add_place(rt, shared, &mut places, Task::Work(worker))?;
     }
     Ok(places)
+}
+
+/// Adds a thread before its start. The only error is want of memory, or that no seats are left.
+fn add_place<'a, J: Run, C: Core + Drop, N: CellName, L: Link, G: Gate, R: Wait>(
+    rt: &R,
+    shared: &'a Shared<'a, J, C, N, G>,
+    places: &mut Vec<Place<'a, J, C, N, L, G>>,
+    task: Task<L>,
+) -> Result<(), AllocError>
+    ensures { OnOk result (vec_len places.new ≡ vec_len places.old + 1) }
+{
+    let actor = Actor::new(rt, shared)?;
+    places.push(Place::new(task, actor))?;
+    Ok(())
 }
 
 /// What came of all threads; whether there was one of each kind.
