@@ -11,10 +11,14 @@ const PLENTY: u64 = 30;
 /// Of so many visits that a worker has made, a job in plenty gets one.
 const SHARE: u64 = 1_024;
 
+/// How many searches of the next length one of an unknown length is thought to take.
+const WIDTH: u64 = 8;
+
 /// How many visits a worker's next search gets. Where work is short jobs are small, so that they are split; in plenty they are
 /// large and grow with the work done, so that few visits are made twice. A search that ends for want of visits is lost,
 /// so a prefix that is thought to take far more is split at once: for each length of a prefix a worker keeps
-/// how many visits a search without a cover takes, as the last ones tell.
+/// how many visits a search without a cover takes, as the last ones tell. It learns from long prefixes upwards: a length of which it
+/// knows nothing is thought to take eight times the next one, and where that isn't known either, too much.
 #[derive(Debug, Drop)]
 pub struct Pace {
     /// How many visits a first search has, at least 1.
@@ -25,8 +29,8 @@ pub struct Pace {
     visits: u64,
     /// A search of more than a small job's visits was spent, and none has ended without a cover since then.
     is_wary: bool,
-    /// By the prefix's length, how many visits a search is thought to take.
-    expected: Vec<u64>,
+    /// By the prefix's length, how many visits a search is thought to take, once one has told.
+    expected: Vec<Option<u64>>,
 }
 
 impl Pace {
@@ -35,7 +39,7 @@ impl Pace {
     pub fn new(alloc: Global, base: u64, alone: bool, longest: usize) -> Result<Pace, AllocError> {
         let mut expected = Vec::with_capacity(alloc, longest)?;
         for _ in 0..longest {
-            expected.push(0)?;
+            expected.push(None)?;
         }
         Ok(Pace {
             base: base.max(1),
@@ -50,9 +54,10 @@ impl Pace {
     ///
     /// With a base of 1 each gets one visit. Else a worker that is alone has no limit; the prefix without an option gets the base;
     /// where the site is hungry, a fifth of it; and else eight times the greater of 30 times the base and a 1,024th of the visits made,
-    /// unless it is thought to take more than that greater number: then it gets a fifth of the base, and is thought to take a
-    /// tenth less the next time. After a search of more than that fifth was spent, each gets a fifth of the base until one ends
-    /// without a cover: what stands behind a spent prefix may take as long, at each length anew.
+    /// unless it is thought to take more than that greater number, or nothing is known of its length and the next: then it gets a fifth
+    /// of the base, and what was thought of its length is a tenth less the next time. After a search of more than that fifth was spent,
+    /// each gets a fifth of the base until one ends without a cover: what stands behind a spent prefix may take as long, at each length
+    /// anew.
     pub fn fuel(&mut self, length: usize, is_hungry: bool) -> u64
         ensures { 1 ≤ result }
     {
@@ -70,8 +75,8 @@ impl Pace {
 
     /// A search of a prefix of this length ended so, after so many visits.
     ///
-    /// One without a cover is a quarter of what is thought of such prefixes from now on; one that was spent with more than a small job's
-    /// visits is thought to take twice its visits at least.
+    /// One without a cover is a quarter of what is thought of such prefixes from now on, the first one all of it; one that was spent with
+    /// more than a small job's visits is thought to take twice its visits at least.
     pub fn note(&mut self, length: usize, outcome: Outcome, visits: u64) {
         self.visits = self.visits.saturating_add(visits);
         let small = self.small();
@@ -84,9 +89,10 @@ impl Pace {
             return;
         };
         match outcome {
-            Outcome::Barren => *expected = *expected / 4 * 3 + visits / 4,
+            Outcome::Barren => *expected = Some(mean(*expected, visits)),
             Outcome::Spent if visits > small => {
-                *expected = (*expected).max(visits.saturating_mul(2));
+                let least = visits.saturating_mul(2);
+                *expected = Some(expected.unwrap_or(0).max(least));
             }
             Outcome::Cover | Outcome::Spent => {}
         }
@@ -104,16 +110,33 @@ impl Pace {
         self.base.saturating_mul(PLENTY).max(self.visits / SHARE)
     }
 
-    /// Whether a search of a prefix of this length is thought to take more than a job in plenty does; it is thought to take
-    /// a tenth less the next time.
+    /// Whether a search of a prefix of this length is thought to take more than a job in plenty does; where searches of this length
+    /// have told so, it is thought to take a tenth less the next time.
     fn is_too_long(&mut self, length: usize) -> bool {
         let plenty = self.plenty();
+        let next = self
+            .expected
+            .get(length.saturating_add(1))
+            .copied()
+            .flatten();
         match self.expected.get_mut(length) {
-            Some(expected) if *expected > plenty => {
+            Some(Some(expected)) if *expected > plenty => {
                 *expected = *expected / 10 * 9;
                 true
             }
-            _ => false,
+            Some(None) => match next {
+                Some(next) => next.saturating_mul(WIDTH) > plenty,
+                None => true,
+            },
+            Some(Some(_)) | None => false,
         }
+    }
+}
+
+/// What is thought of searches, after one more of so many visits.
+fn mean(thought: Option<u64>, visits: u64) -> u64 {
+    match thought {
+        Some(thought) => thought / 4 * 3 + visits / 4,
+        None => visits,
     }
 }

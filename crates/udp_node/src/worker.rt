@@ -1,6 +1,6 @@
 //! A worker of a node.
 
-ghost use Rattle.std.specs.Prelude.{◌≡◌, true};
+ghost use Rattle.std.specs.Prelude.{◌≡◌, ◌≤◌, true};
 ghost use Rattle.cover_problem.specs.Prefix.{is_prefix};
 ghost use Rattle.udp_node.specs.Hands.{IsPosted};
 
@@ -25,7 +25,8 @@ use std::sync::Wait;
 use std::time::{Clock, Duration};
 use std::{mem, thread};
 
-/// In so many idle turns in a row only every sixteenth waits: work is near as long as others have some, and who asks sooner gets it sooner.
+/// In so many idle turns in a row only every 32nd waits, then in as many more every sixteenth, and so on down to each: work is near
+/// as long as others have some, and who asks sooner gets it sooner.
 const EAGER: u32 = 1_024;
 
 /// A worker of a node, between its turns.
@@ -142,7 +143,7 @@ impl<'a, J: Run> Worker<'a, J> {
             let victim = self.victim(actor.shared.plan.nodes);
             return after(actor.act(rt, Event::Ask(victim)));
         }
-        if idle >= EAGER || idle % 16 == 0 {
+        if idle % stride(idle) == 0 {
             let workers = u64::from(actor.shared.plan.nodes) * u64::from(actor.shared.plan.workers);
             thread::sleep(rt, Duration::from_micros(nap(idle, workers)));
         }
@@ -272,6 +273,20 @@ impl<'a, J: Run> Worker<'a, J> {
                 self.search_again(job, &finding),
             (_, refused) => after_refusal(refused),
         }
+    }
+}
+
+/// Of how many idle turns one waits, after so many in a row.
+fn stride(idle: u32) -> u32
+    ensures { 1 ≤ result }
+{
+    match idle / EAGER {
+        0 => 32,
+        1 => 16,
+        2 => 8,
+        3 => 4,
+        4 => 2,
+        _ => 1,
     }
 }
 

@@ -16,14 +16,22 @@ enum Step {
 }
 
 /// A worker among others, with a base of 1,000.
-static AMONG_OTHERS: [Step; 18] = [
+static AMONG_OTHERS: [Step; 25] = [
     Asks(0, true, 1_000),
     Asks(0, false, 1_000),
     Asks(3, true, 200),
-    Asks(3, false, 240_000),
+    // nothing is known of its length, nor of the next
+    Asks(3, false, 200),
     // a small job that is spent tells nothing
     Ends(4, Outcome::Spent, 200),
+    Asks(4, false, 200),
+    // one of length 4 is thought to take eight times as much: 30,000, which isn't too much; and of length 6 8 visits more
+    Ends(5, Outcome::Barren, 3_750),
+    Asks(5, false, 240_000),
     Asks(4, false, 240_000),
+    Asks(3, false, 200),
+    Ends(7, Outcome::Barren, 3_751),
+    Asks(6, false, 200),
     // spent: it is thought to take 480,000, more than 30,000, and what stands behind it to take long as well
     Ends(3, Outcome::Spent, 240_000),
     Asks(3, false, 200),
@@ -34,11 +42,12 @@ static AMONG_OTHERS: [Step; 18] = [
     Ends(3, Outcome::Barren, 100),
     Asks(3, false, 200),
     Asks(4, false, 240_000),
-    // 40,240,500 visits were made: a 1,024th of them is 39,297
-    Ends(5, Outcome::Barren, 40_000_000),
-    Asks(4, false, 314_376),
+    // 40,248,001 visits were made: a 1,024th of them is 39,304
+    Ends(8, Outcome::Barren, 40_000_000),
+    Asks(8, false, 200),
+    Asks(4, false, 314_432),
     Ends(99, Outcome::Barren, 5),
-    Asks(99, false, 314_376),
+    Asks(99, false, 314_432),
 ];
 
 /// What is thought to take too long is searched again once it was thought to take a tenth less often enough.
