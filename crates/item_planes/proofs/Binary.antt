@@ -2,10 +2,14 @@
 use Rattle.std.proofs.Common.{◌≡◌, ℕ, ◌+◌, ◌*◌, ◌^◌, ◌<◌, ◌↔◌, bit_and, arith, w64}
 use Rattle.std.specs.Int.{bit_at, bit_not}
 use Rattle.std.specs.Int.Bits.{bit_xor}
-use Rattle.std.proofs.lemmas.Nat.Bits.{bit_at_and, bit_at_xor, bit_at_not, bit_at-lt, bit_at-zero}
+use Rattle.std.proofs.lemmas.Nat.Bits.{bit_at_and, bit_at_xor, bit_at_not, bit_at_ones, bit_at-lt, bit_at-zero}
 
-pub digit_raised : (digits carry i : ℕ) → bit_at (bit_xor digits carry) i + 2 * bit_at (bit_and digits carry) i ≡ bit_at digits i + bit_at carry i
-digit_raised digits carry i = omega (arith, bit_at_xor digits carry i, bit_at_and digits carry i, bit_at-lt digits i, bit_at-lt carry i)
+-- each digit is 1, or each is turned
+pub digit_full : (i : ℕ) → i < 64 → bit_at 18446744073709551615 i ≡ 1
+digit_full i inside = bit_at_ones 64 i inside
+
+pub digit_turned : (digits i : ℕ) → digits < 2 ^ 64 → i < 64 → bit_at (bit_not w64 digits) i + bit_at digits i ≡ 1
+digit_turned digits i small inside = omega (arith, bit_at_not w64 digits i small inside, bit_at-lt digits i)
 
 pub digit_lowered : (digits borrow i : ℕ) → bit_at (bit_xor digits borrow) i + bit_at borrow i ≡ bit_at digits i + 2 * bit_at (bit_and borrow (bit_xor digits borrow)) i
 digit_lowered digits borrow i = omega (arith, bit_at_xor digits borrow i, bit_at_and borrow (bit_xor digits borrow) i, bit_at-lt digits i, bit_at-lt borrow i)

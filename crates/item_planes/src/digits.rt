@@ -4,15 +4,6 @@ ghost use Rattle.std.specs.Prelude.{◌≡◌, ℕ, ◌+◌, ◌*◌, ◌<◌, �
 ghost use Rattle.std.specs.Int.{bit_at};
 ghost use Rattle.item_planes.specs.Counts.{IsLeastDigit};
 
-/// Adds a carry to the digits; answers the digits, and the carry into the next ones.
-#[inline(always)]
-pub fn raised(digits: u64, carry: u64) -> (u64, u64)
-    ensures { (i : ℕ) → bit_at result.0 i + 2 * bit_at result.1 i
-        ≡ bit_at digits i + bit_at carry i }
-{
-    (digits ^ carry, digits & carry)
-}
-
 /// Takes a borrow from the digits; answers the digits, and the borrow from the next ones.
 #[inline(always)]
 pub fn lowered(digits: u64, borrow: u64) -> (u64, u64)

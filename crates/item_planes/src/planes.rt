@@ -4,7 +4,7 @@ ghost use Rattle.std.specs.Prelude.{◌≡◌, ℕ, ◌+◌, ◌*◌, ◌<◌, �
 ghost use Rattle.std.specs.Int.{bit_at};
 ghost use Rattle.item_planes.specs.Counts.{count_at, low_count_at, IsLeast};
 
-use crate::digits::{least_digit, lowered, raised};
+use crate::digits::{least_digit, lowered};
 
 /// The counts of at most 64 items, each below 128, and which of the items are uncovered: bit `i` is that of item `i`.
 #[derive(Clone, Copy)]
@@ -28,48 +28,41 @@ pub struct Planes {
 }
 
 impl Planes {
-    /// These items are uncovered, and all counts are 0.
-    pub fn new(uncovered: u64) -> Planes
+    /// These items are uncovered, and all counts are 127.
+    #[inline(always)]
+    pub fn full(uncovered: u64) -> Planes
         ensures uncovered { result.uncovered ≡ uncovered }
-        ensures counts { (i : ℕ) → i < 64 → count_at result i ≡ 0 }
+        ensures low { (i : ℕ) → i < 64 → low_count_at result i ≡ 31 }
+        ensures counts { (i : ℕ) → i < 64 → count_at result i ≡ 127 }
     {
         Planes {
             uncovered,
-            ones: 0,
-            twos: 0,
-            fours: 0,
-            eights: 0,
-            sixteens: 0,
-            thirty_twos: 0,
-            sixty_fours: 0,
+            ones: u64::MAX,
+            twos: u64::MAX,
+            fours: u64::MAX,
+            eights: u64::MAX,
+            sixteens: u64::MAX,
+            thirty_twos: u64::MAX,
+            sixty_fours: u64::MAX,
         }
     }
 
-    /// Adds one to the counts of these items, which are below 127.
+    /// What each count lacks of 127.
     #[inline(always)]
-    pub fn add(&mut self, items: u64)
-        requires { (i : ℕ) → i < 64 → count_at self.old i + bit_at items i < 128 }
-        ensures uncovered { self.new.uncovered ≡ self.old.uncovered }
-        ensures counts { (i : ℕ) → i < 64 → count_at self.new i
-            ≡ count_at self.old i + bit_at items i }
+    pub fn complement(&self) -> Planes
+        ensures uncovered { result.uncovered ≡ self.now.uncovered }
+        ensures counts { (i : ℕ) → i < 64 → count_at result i + count_at self.now i ≡ 127 }
     {
-        let (ones, two) = raised(self.ones, items);
-        let (twos, four) = raised(self.twos, two);
-        let (fours, eight) = raised(self.fours, four);
-        let (eights, sixteen) = raised(self.eights, eight);
-        let (sixteens, thirty_two) = raised(self.sixteens, sixteen);
-        let (thirty_twos, sixty_four) = raised(self.thirty_twos, thirty_two);
-        let (sixty_fours, _) = raised(self.sixty_fours, sixty_four);
-        *self = Planes {
+        Planes {
             uncovered: self.uncovered,
-            ones,
-            twos,
-            fours,
-            eights,
-            sixteens,
-            thirty_twos,
-            sixty_fours,
-        };
+            ones: !self.ones,
+            twos: !self.twos,
+            fours: !self.fours,
+            eights: !self.eights,
+            sixteens: !self.sixteens,
+            thirty_twos: !self.thirty_twos,
+            sixty_fours: !self.sixty_fours,
+        }
     }
 
     /// Whether some count may be above 31.
@@ -80,12 +73,14 @@ impl Planes {
         self.thirty_twos != 0 || self.sixty_fours != 0
     }
 
-    /// Takes one from the counts of these items, none of which is 0. Where all counts are below 32, `large` may be false.
+    /// Takes one from the counts of these items, none of which is 0. Where none is 0 in its five lowest digits, `large` may be false.
     #[inline(always)]
     pub fn take(&mut self, items: u64, large: bool)
         requires enough { (i : ℕ) → i < 64 → bit_at items i ≤ count_at self.old i }
-        requires small { large ≡ false → (i : ℕ) → i < 64 → count_at self.old i < 32 }
+        requires low { large ≡ false → (i : ℕ) → i < 64 → bit_at items i ≤ low_count_at self.old i }
         ensures uncovered { self.new.uncovered ≡ self.old.uncovered }
+        ensures low { large ≡ false → (i : ℕ) → i < 64 → low_count_at self.new i + bit_at items i
+            ≡ low_count_at self.old i }
         ensures counts { (i : ℕ) → i < 64 → count_at self.new i + bit_at items i
             ≡ count_at self.old i }
     {

@@ -3,7 +3,7 @@ use Rattle.std.proofs.Common.{◌≡◌, ℕ, zero, suc, ◌+◌, ◌-◌, ◌*�
 use Rattle.std.specs.List.{range_with_len}
 use Rattle.std.specs.Int.{bit_at, bit_not}
 use Rattle.std.proofs.lemmas.Bool.{cases_lt, both_ways, eq-eqb, ne_eqb, lt-ltb, le-ltb, ltb-true, and_parts, and_from}
-use Rattle.std.proofs.lemmas.Nat.Bits.{bit_at-lt, bit_at-zero}
+use Rattle.std.proofs.lemmas.Nat.Bits.{bit_at-zero}
 use Rattle.std.proofs.lemmas.List.{get_or_past}
 use Rattle.std.proofs.lemmas.List.Folds.{list_all-append}
 use Rattle.std.proofs.lemmas.List.Sums.{length-filter}
@@ -13,13 +13,8 @@ use Rattle.cover_problem.specs.Problem.{Problem, names_item}
 use Rattle.option_sets.specs.Sets.{has}
 use Rattle.option_sets.proofs.Bits.{bit_of_and, bit_of_not}
 use Rattle.live_rows.specs.Counting.{IsLive}
-use Rattle.live_rows.specs.Planes.{named_in, AreMasks, IsSmall}
+use Rattle.live_rows.specs.Planes.{named_in, named_of, AreMasks}
 use Rattle.live_rows.proofs.Counted.{one, step, count_same, count_none, count_split}
-use Rattle.live_rows.proofs.Masked.{bit_one}
-
--- how many options that name an item are in a set
-abbrev pub named_of : Problem → List ℕ → ℕ → ℕ
-named_of p set i = count_by (λ x. names_item p x i && has set x) (range_with_len 0 (64 * length set))
 
 swap : (a b c : Bool) → (a && (b && c)) ≡ (b && (c && a))
 swap true true true = refl
@@ -29,6 +24,7 @@ swap false true true = refl
 swap false true false = refl
 swap false false c = refl
 
+-- what is live names an item as often as it has live options
 pub named_live : (p : Problem) (prefix set : List ℕ) (i : ℕ) → IsLive p prefix set → length (live_options p prefix i) ≡ named_of p set i
 unfolding live_options
 named_live p prefix set i live =
@@ -43,7 +39,7 @@ named_live p prefix set i live =
     ∙ omega (arith, count_none f (0 + n) (64 * length set - n) (λ k low. each (0 + n + k) ∙ ap (λ b. b && g (0 + n + k)) (le-ltb (0 + n + k) n (omega arith))), count_split f 0 n (64 * length set - n), ap (λ m. count_by f (range_with_len 0 m)) room)
 
 -- a sum of counts over two ranges
-count_sum : (f g h : ℕ → Bool) (a b n : ℕ) → ((k : ℕ) → k < n → one (f (a + k)) ≡ one (g (a + k)) + one (h (b + k)))
+pub count_sum : (f g h : ℕ → Bool) (a b n : ℕ) → ((k : ℕ) → k < n → one (f (a + k)) ≡ one (g (a + k)) + one (h (b + k)))
     → count_by f (range_with_len a n) ≡ count_by g (range_with_len a n) + count_by h (range_with_len b n)
 count_sum f g h a b zero each = refl
 count_sum f g h a b (suc n) each =
@@ -163,37 +159,3 @@ live_part p prefix o before live was now x here =
     let both = and_parts (nat_lt x (length p.options)) (is_live p (prefix ++ o ∷ []) x) (sym (now.exact x) ∙ here) in
     let parts = and_parts (is_live p prefix x) (not (clash p o x) && true) (sym (list_all-append (λ q. not (clash p q x)) prefix (o ∷ [])) ∙ both.1) in
     was.exact x ∙ and_from (nat_lt x (length p.options)) (is_live p prefix x) both.0 parts.0
-
--- ---- the masks of the first options
-
-abbrev pub first_named : List ℕ → ℕ → ℕ → ℕ
-first_named masks n i = count_by (λ x. bit_at (get_or masks x 0) i == 1) (range_with_len 0 n)
-
-pub first_more : (masks : List ℕ) (n i : ℕ) → first_named masks (n + 1) i ≡ first_named masks n i + bit_at (get_or masks n 0) i
-first_more masks n i =
-    let f : ℕ → Bool = λ x. bit_at (get_or masks x 0) i == 1 in
-    let none : count_by f (range_with_len (0 + n + 1) 0) ≡ 0 = refl in
-    let at : one (f (0 + n)) ≡ one (f n) = let e : 0 + n ≡ n = omega arith in ap (λ m. one (f m)) e in
-    omega (arith, count_split f 0 n 1, step f (0 + n) 0, none, at, bit_one (get_or masks n 0) i)
-
-pub first_live : (p : Problem) (masks : List ℕ) (i : ℕ) → AreMasks p masks → i < p.primary → i < 64 → first_named masks (length masks) i ≡ length (live_options p [] i)
-unfolding live_options
-first_live p masks i are primary low =
-    let f : ℕ → Bool = λ x. bit_at (get_or masks x 0) i == 1 in
-    let g : ℕ → Bool = is_choice p [] i in
-    ap (λ n. count_by f (range_with_len 0 n)) are.long
-    ∙ count_same f g 0 (length p.options) (λ k less. are.each (0 + k) (omega (arith, less)) i low ∙ ap (λ b. b && names_item p (0 + k) i) (lt-ltb i p.primary primary))
-    ∙ sym (length-filter g (range_with_len 0 (length p.options)))
-
-pub first_few : (p : Problem) (masks : List ℕ) (n i : ℕ) → AreMasks p masks → IsSmall p → n < length masks → i < 64 → first_named masks n i + bit_at (get_or masks n 0) i < 128
-first_few p masks n i are small inside low = elim (cases_lt i p.primary) [
-  | inl primary ↦
-      let f : ℕ → Bool = λ x. bit_at (get_or masks x 0) i == 1 in
-      let rest : ℕ = length masks - (n + 1) in
-      let room : length masks ≡ n + 1 + rest = omega (arith, inside) in
-      let all : first_named masks (length masks) i ≡ count_by f (range_with_len 0 (n + 1 + rest)) = ap (λ m. count_by f (range_with_len 0 m)) room in
-      omega (arith, first_more masks n i, all, count_split f 0 (n + 1) rest, first_live p masks i are primary low, small.options i primary)
-  | inr high ↦
-      let none = count_none (λ x. bit_at (get_or masks x 0) i == 1) 0 n (λ k less. mask_off p masks (0 + k) i are high low) in
-      omega (arith, none, bit_at-lt (get_or masks n 0) i)
-]

@@ -10,5 +10,6 @@ pub mod Lowest
 pub mod Marked
 pub mod Masked
 pub mod Planed
+pub mod Staying
 pub mod Taking
 pub mod Words

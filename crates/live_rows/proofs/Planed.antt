@@ -17,6 +17,10 @@ use Rattle.live_rows.specs.declared.plane_counts.PlaneCounts.{PlaneCounts}
 use Rattle.live_rows.specs.Planes.{AreMasks, ArePlanes, ArePlaneCounts, IsMask}
 use Rattle.live_rows.proofs.Keying.{fewest_branch}
 
+pub count_small : (planes : Planes) (i : ℕ) → count_at planes i < 128
+count_small planes i =
+    omega (arith, bit_at-lt planes.ones i, bit_at-lt planes.twos i, bit_at-lt planes.fours i, bit_at-lt planes.eights i, bit_at-lt planes.sixteens i, bit_at-lt planes.thirty_twos i, bit_at-lt planes.sixty_fours i)
+
 pub planes_branch : (p : Problem) (prefix : List ℕ) (planes : Planes) (item count : ℕ) → p.primary ≤ 64 → ArePlanes p prefix planes → IsLeast planes item count → branch_item p prefix ≡ item_of item
 planes_branch p prefix planes item count few are is =
     let here = (are.uncovered item is.inside).0 is.uncovered in

@@ -5,6 +5,7 @@ use Rattle.std.specs.List.{range_with_len}
 use Rattle.cover_problem.specs.Branching.{live_options}
 use Rattle.cover_problem.specs.Prefix.{is_covered}
 use Rattle.cover_problem.specs.Problem.{Problem, names_item}
+use Rattle.option_sets.specs.Sets.{has}
 use Rattle.item_planes.specs.declared.planes.Planes.{Planes}
 use Rattle.item_planes.specs.Counts.{count_at}
 use Rattle.live_rows.specs.declared.plane_counts.PlaneCounts.{PlaneCounts}
@@ -21,6 +22,10 @@ pub record AreMasks (problem : Problem) (masks : List ℕ) : Type 0 where
 -- how many options of a word name an item
 unfoldable pub named_in : List ℕ → ℕ → ℕ → ℕ → ℕ
 named_in masks place bits i = count_by (λ k. bit_at bits k == 1 && bit_at (slice_index_or masks (place * 64 + k) 0) i == 1) (range_with_len 0 64)
+
+-- how many options of a set name an item
+abbrev pub named_of : Problem → List ℕ → ℕ → ℕ
+named_of problem set i = count_by (λ x. names_item problem x i && has set x) (range_with_len 0 (64 * length set))
 
 -- which primary items are uncovered, and how many live options name each one
 pub record ArePlanes (problem : Problem) (prefix : List ℕ) (planes : Planes) : Type 0 where

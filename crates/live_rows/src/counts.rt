@@ -32,7 +32,7 @@ impl Counts {
         ensures branch { IfOk result (λ built. branch_item sets.now [] ≡ item_of built.1) }
     {
         if is_small(sets, live) {
-            let (planes, least) = PlaneCounts::build(alloc, sets)?;
+            let (planes, least) = PlaneCounts::build(alloc, sets, live)?;
             return Ok((Counts::Planes(planes), least));
         }
         let primary = sets.problem().primary();

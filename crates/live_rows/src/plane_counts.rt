@@ -6,10 +6,10 @@ ghost use Rattle.std.specs.List.{All};
 ghost use Rattle.cover_problem.specs.Branching.{branch_item, live_options};
 ghost use Rattle.cover_problem.specs.Numbers.{is_in};
 ghost use Rattle.cover_problem.specs.Problem.{Problem as ProblemValue, IsProblem};
-ghost use Rattle.option_sets.specs.Sets.{words_of};
-ghost use Rattle.item_planes.specs.Counts.{count_at};
+ghost use Rattle.option_sets.specs.Sets.{has};
+ghost use Rattle.item_planes.specs.Counts.{count_at, low_count_at};
 ghost use Rattle.live_rows.specs.Counting.{item_of, IsLive};
-ghost use Rattle.live_rows.specs.Planes.{named_in, AreMasks, ArePlanes, ArePlaneCounts, IsSmall};
+ghost use Rattle.live_rows.specs.Planes.{named_in, named_of, AreMasks, ArePlanes, ArePlaneCounts, IsSmall};
 
 use crate::keys::count_row;
 use item_planes::Planes;
@@ -23,6 +23,8 @@ pub struct PlaneCounts {
     pub masks: Vec<u64>,
     /// The counts of each level.
     pub planes: Vec<Planes>,
+    /// Behind so many choices the options that stay live are counted, not those that leave.
+    pub turn: usize,
 }
 
 /// Whether there are at most 64 primary items, and at most 127 options for each. All options are live.
@@ -43,17 +45,31 @@ pub fn is_small(sets: &OptionSets, live: &[u64]) -> bool
 }
 
 impl PlaneCounts {
-    /// Room for all levels, and the counts of the empty prefix, with the least key. The only error is out of memory.
-    pub fn build(alloc: Global, sets: &OptionSets) -> Result<(PlaneCounts, u32), AllocError>
-        requires { IsSmall sets.now }
+    /// Room for all levels, and the counts of the empty prefix, whose live options are given, with the least key. The only error is
+    /// out of memory.
+    pub fn build(
+        alloc: Global,
+        sets: &OptionSets,
+        live: &[u64],
+    ) -> Result<(PlaneCounts, u32), AllocError>
+        requires small { IsSmall sets.now }
+        requires live { IsLive sets.now [] live.now }
         ensures counts { IfOk result (λ built. ArePlaneCounts sets.now [] built.0) }
         ensures branch { IfOk result (λ built. branch_item sets.now [] ≡ item_of built.1) }
     {
         let primary = sets.problem().primary();
         let masks = masks_of(alloc, sets)?;
-        let first = first_planes(sets, &masks);
+        let first = first_planes(sets, &masks, live);
         let planes = vec![in alloc; first; primary + 1]?;
-        Ok((PlaneCounts { masks, planes }, least_key(&first)))
+        let turn = turn_of(sets);
+        Ok((
+            PlaneCounts {
+                masks,
+                planes,
+                turn,
+            },
+            least_key(&first),
+        ))
     }
 
     /// Makes the counts of a level from those of the level before it, where one more option was chosen; answers the least key.
@@ -75,25 +91,88 @@ impl PlaneCounts {
         ensures branch { branch_item sets.now (chosen.now ++ option ∷ []) ≡ item_of result }
     {
         let depth = chosen.len();
-        let mut next = self.planes[depth];
-        take_gone(sets, &self.masks, chosen, before, live, option, &mut next);
+        let last = self.planes[depth];
+        let anew = depth >= self.turn;
+        let mut next = next_planes(sets, &self.masks, chosen, before, live, option, last, anew);
         next.cover(self.masks[option as usize]);
         self.planes[depth + 1] = next;
         least_key(&next)
     }
 }
 
-/// The counts of the empty prefix.
-fn first_planes(sets: &OptionSets, masks: &[u64]) -> Planes
+/// From how many choices on it is likely that fewer options stay live than leave.
+///
+/// Say that an option names k primary items, and that u are uncovered. An option stays if it names none of the k that a choice covers,
+/// with a chance of (1 - k/u)^k, which is about 1/2 where u is 3/2 k². So many are uncovered behind P/k - 3/2 k choices.
+fn turn_of(sets: &OptionSets) -> usize {
+    let mut names = 0usize;
+    for option in 0..sets.problem().options() as u16 {
+        names = names.saturating_add(sets.primary_items(option).len());
+    }
+    let options = sets.problem().options();
+    let choices = sets.problem().primary().saturating_mul(options) / names.max(1);
+    choices.saturating_sub(names.saturating_mul(3) / options.max(1) / 2)
+}
+
+/// The counts of the empty prefix, whose live options are given.
+fn first_planes(sets: &OptionSets, masks: &[u64], live: &[u64]) -> Planes
     requires small { IsSmall sets.now }
     requires masks { AreMasks sets.now masks.now }
+    requires live { IsLive sets.now [] live.now }
     ensures { ArePlanes sets.now [] result }
 {
-    let mut planes = Planes::new(word_below(sets.problem().primary()));
-    for mask in masks {
-        planes.add(*mask);
+    let uncovered = word_below(sets.problem().primary());
+    count_live(sets, masks, live, uncovered, true)
+}
+
+/// The counts of a level once one more option is chosen, whose items are not covered yet: counted anew, or from those of the level
+/// before it.
+#[inline(always)]
+fn next_planes(
+    sets: &OptionSets,
+    masks: &[u64],
+    chosen: &[u16],
+    before: &[u64],
+    live: &[u64],
+    option: u16,
+    last: Planes,
+    anew: bool,
+) -> Planes
+    requires few { sets.now.primary ≤ 64 }
+    requires masks { AreMasks sets.now masks.now }
+    requires before { IsLive sets.now chosen.now before.now }
+    requires live { IsLive sets.now (chosen.now ++ option ∷ []) live.now }
+    requires planes { ArePlanes sets.now chosen.now last }
+    ensures uncovered { result.uncovered ≡ last.uncovered }
+    ensures counted { (i : ℕ) → i < sets.now.primary → count_at result i
+        ≡ length (live_options sets.now (chosen.now ++ option ∷ []) i) }
+{
+    if anew {
+        return count_live(sets, masks, live, last.uncovered, last.is_large());
     }
-    planes
+    let mut next = last;
+    take_gone(sets, masks, chosen, before, live, option, &mut next);
+    next
+}
+
+/// Counts the options that are live. Where each item has fewer than 32 of them, `large` may be false.
+///
+/// They are taken from full counts, and what is left is turned: to take one costs less than to add one.
+#[inline(always)]
+fn count_live(sets: &OptionSets, masks: &[u64], live: &[u64], uncovered: u64, large: bool) -> Planes
+    requires few { sets.now.primary ≤ 64 }
+    requires masks { AreMasks sets.now masks.now }
+    requires inside { (x : ℕ) → has live.now x ≡ true → x < length sets.now.options }
+    requires small { (i : ℕ) → i < sets.now.primary → named_of sets.now live.now i < 128 }
+    requires low { large ≡ false → (i : ℕ) → i < sets.now.primary → named_of sets.now live.now i < 32 }
+    ensures uncovered { result.uncovered ≡ uncovered }
+    ensures counted { (i : ℕ) → i < sets.now.primary → count_at result i ≡ named_of sets.now live.now i }
+{
+    let mut planes = Planes::full(uncovered);
+    for place in 0..live.len() {
+        take_word(masks, place, live[place], &mut planes, large);
+    }
+    planes.complement()
 }
 
 /// Takes the options that are live before one more is chosen, and not then, from the counts of their items.
@@ -127,8 +206,10 @@ fn take_gone(
 fn take_word(masks: &[u64], place: usize, gone: u64, planes: &mut Planes, large: bool)
     requires inside { (k : ℕ) → k < 64 → bit_at gone k ≡ 1 → place * 64 + k < length masks.now }
     requires enough { (i : ℕ) → i < 64 → named_in masks.now place gone i ≤ count_at planes.old i }
-    requires small { large ≡ false → (i : ℕ) → i < 64 → count_at planes.old i < 32 }
+    requires low { large ≡ false → (i : ℕ) → i < 64 → named_in masks.now place gone i ≤ low_count_at planes.old i }
     ensures uncovered { planes.new.uncovered ≡ planes.old.uncovered }
+    ensures low { large ≡ false → (i : ℕ) → i < 64 → low_count_at planes.new i + named_in masks.now place gone i
+        ≡ low_count_at planes.old i }
     ensures counts { (i : ℕ) → i < 64 → count_at planes.new i + named_in masks.now place gone i
         ≡ count_at planes.old i }
 {

@@ -31,8 +31,8 @@ take_word-requires-clause-enough c i low = elim (cases_lt i c.args.sets.now.prim
       omega (arith, named_off c.args.sets.now c.args.masks.now c.loop-place.place gone i c.requires.masks high low)
 ]
 
-pub take_word-requires-clause-small : goal.take_word-requires-clause-small
-take_word-requires-clause-small c few i low = c.loop-place.invariant.small few i low
+pub take_word-requires-clause-low : goal.take_word-requires-clause-low
+take_word-requires-clause-low c few i low = omega (arith, take_word-requires-clause-enough c i low, c.loop-place.invariant.small few i low)
 
 pub loop-place-preserved : goal.loop-place-preserved
 loop-place-preserved c = record {

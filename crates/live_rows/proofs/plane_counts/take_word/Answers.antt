@@ -34,8 +34,10 @@ take-requires-clause-enough c i inside =
     let low = bit_at-trailing_zeros w64 c.loop-left.left (omega (arith, c.loop-left-test.true)) (search rules) in
     omega (arith, c.loop-left.invariant.counts i inside, c.requires.enough i inside, named_less c.args.masks.now c.args.place c.loop-left.left (trailing_zeros w64 c.loop-left.left) i low.0 low.1)
 
-pub take-requires-clause-small : goal.take-requires-clause-small
-take-requires-clause-small c few i inside = c.loop-left.invariant.small few i inside
+pub take-requires-clause-low : goal.take-requires-clause-low
+take-requires-clause-low c few i inside =
+    let low = bit_at-trailing_zeros w64 c.loop-left.left (omega (arith, c.loop-left-test.true)) (search rules) in
+    omega (arith, c.loop-left.invariant.low few i inside, c.requires.low few i inside, named_less c.args.masks.now c.args.place c.loop-left.left (trailing_zeros w64 c.loop-left.left) i low.0 low.1)
 
 pub loop-left-smaller : goal.loop-left-smaller
 loop-left-smaller c =
@@ -50,10 +52,16 @@ loop-left-preserved c =
     record {
       uncovered = omega (arith, c.take.ensures.uncovered, c.loop-left.invariant.uncovered);
       part = λ k inside here. c.loop-left.invariant.part k inside (cut_part c.loop-left.left (trailing_zeros w64 c.loop-left.left) k low.0 inside (sym (ap (λ n. bit_at n k) cut) ∙ here));
-      small = λ few i inside. omega (arith, c.take.ensures.counts i inside, c.loop-left.invariant.small few i inside);
+      low = λ few i inside.
+          omega (arith, ap (λ n. named_in c.args.masks.now c.args.place n i) cut, c.take.ensures.low few i inside, c.loop-left.invariant.low few i inside, named_less c.args.masks.now c.args.place c.loop-left.left (trailing_zeros w64 c.loop-left.left) i low.0 low.1);
       counts = λ i inside.
           omega (arith, ap (λ n. named_in c.args.masks.now c.args.place n i) cut, c.take.ensures.counts i inside, c.loop-left.invariant.counts i inside, named_less c.args.masks.now c.args.place c.loop-left.left (trailing_zeros w64 c.loop-left.left) i low.0 low.1);
     }
+
+pub returns-clause-low : goal.returns-clause-low
+returns-clause-low c few i inside =
+    let none : c.loop-left.left ≡ 0 = omega (arith, c.loop-left-test.false) in
+    omega (arith, c.loop-left.invariant.low few i inside, ap (λ n. named_in c.args.masks.now c.args.place n i) none, named_none c.args.masks.now c.args.place i)
 
 pub returns-clause-counts : goal.returns-clause-counts
 returns-clause-counts c i inside =

@@ -4,8 +4,8 @@ use Rattle.live_rows.specs.Planes.{IsMask}
 use Rattle.live_rows.proofs.Planed.{planes_here, planes_next, planes_push}
 use Rattle.live_rows.proofs.plane_counts.PlaneCounts.push.Goals as goal
 
-pub take_gone-requires-clause-planes : goal.take_gone-requires-clause-planes
-take_gone-requires-clause-planes c = planes_here c.args.sets.now c.args.chosen.now c.args.self.now c.index.result.now c.requires.counts c.requires.room c.index.ensures
+pub next_planes-next-requires-clause-planes : goal.next_planes-next-requires-clause-planes
+next_planes-next-requires-clause-planes c = planes_here c.args.sets.now c.args.chosen.now c.args.self.now c.index-last.result.now c.requires.counts c.requires.room c.index-last.ensures
 
 pub returns-clause-counts : goal.returns-clause-counts
 returns-clause-counts c =
@@ -13,12 +13,12 @@ returns-clause-counts c =
     let os : List ℕ = c.args.chosen.now in
     let o : ℕ = c.args.option in
     let are = c.requires.counts in
-    let here = planes_here c.args.sets.now c.args.chosen.now c.args.self.now c.index.result.now c.requires.counts c.requires.room c.index.ensures in
+    let here = planes_here c.args.sets.now c.args.chosen.now c.args.self.now c.index-last.result.now c.requires.counts c.requires.room c.index-last.ensures in
     let inside : c.args.option < length c.args.self.now.masks.items = omega (arith, c.requires.option, are.masks.long) in
-    let mask : c.index-2.result.now ≡ get_or c.args.self.now.masks.items c.args.option 0 = c.index-2.ensures ∙ get_or_default c.args.self.now.masks.items c.args.option c.index-2.result.now 0 inside in
+    let mask : c.index.result.now ≡ get_or c.args.self.now.masks.items c.args.option 0 = c.index.ensures ∙ get_or_default c.args.self.now.masks.items c.args.option c.index.result.now 0 inside in
     let M : ℕ → Type 0 = λ m. IsMask c.args.sets.now c.args.option m in
-    let next = planes_next p os o c.index-2.result.now c.index.result.now c.take_gone.new.planes c.cover.new.self are.few here (subst M (sym mask) (are.masks.each o c.requires.option))
-    c.take_gone.ensures.uncovered c.cover.ensures.uncovered c.cover.ensures.counts c.take_gone.ensures.counted in
+    let next = planes_next p os o c.index.result.now c.index-last.result.now c.next_planes-next.result c.cover.new.self are.few here (subst M (sym mask) (are.masks.each o c.requires.option))
+    c.next_planes-next.ensures.uncovered c.cover.ensures.uncovered c.cover.ensures.counts c.next_planes-next.ensures.counted in
     planes_push p os o c.args.self.now _ c.cover.new.self are c.requires.room refl refl next
 
 pub returns-clause-branch : goal.returns-clause-branch
@@ -27,10 +27,10 @@ returns-clause-branch c =
     let os : List ℕ = c.args.chosen.now in
     let o : ℕ = c.args.option in
     let are = c.requires.counts in
-    let here = planes_here c.args.sets.now c.args.chosen.now c.args.self.now c.index.result.now c.requires.counts c.requires.room c.index.ensures in
+    let here = planes_here c.args.sets.now c.args.chosen.now c.args.self.now c.index-last.result.now c.requires.counts c.requires.room c.index-last.ensures in
     let inside : c.args.option < length c.args.self.now.masks.items = omega (arith, c.requires.option, are.masks.long) in
-    let mask : c.index-2.result.now ≡ get_or c.args.self.now.masks.items c.args.option 0 = c.index-2.ensures ∙ get_or_default c.args.self.now.masks.items c.args.option c.index-2.result.now 0 inside in
+    let mask : c.index.result.now ≡ get_or c.args.self.now.masks.items c.args.option 0 = c.index.ensures ∙ get_or_default c.args.self.now.masks.items c.args.option c.index.result.now 0 inside in
     let M : ℕ → Type 0 = λ m. IsMask c.args.sets.now c.args.option m in
-    let next = planes_next p os o c.index-2.result.now c.index.result.now c.take_gone.new.planes c.cover.new.self are.few here (subst M (sym mask) (are.masks.each o c.requires.option))
-    c.take_gone.ensures.uncovered c.cover.ensures.uncovered c.cover.ensures.counts c.take_gone.ensures.counted in
+    let next = planes_next p os o c.index.result.now c.index-last.result.now c.next_planes-next.result c.cover.new.self are.few here (subst M (sym mask) (are.masks.each o c.requires.option))
+    c.next_planes-next.ensures.uncovered c.cover.ensures.uncovered c.cover.ensures.counts c.next_planes-next.ensures.counted in
     c.least_key.ensures p (os ++ o ∷ []) are.few next
