@@ -109,7 +109,7 @@ fn suits_links(alloc: Global, problem: &Problem) -> Result<bool, AllocError> {
 
 /// Whether there are so few primary items, with so few options each, that a search over sets counts digit by digit.
 fn are_few(rows: &[u64]) -> bool {
-    rows.len() <= 64 && rows.iter().all(|row| *row < 128)
+    rows.len() <= 128 && rows.iter().all(|row| *row < 128)
 }
 
 /// Counts an option in the rows of the items that it names.

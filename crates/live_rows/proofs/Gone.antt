@@ -52,25 +52,25 @@ count_sum f g h a b (suc n) each =
     omega (arith, each (suc k) (omega (arith, low)), ap (λ m. one (f m)) d, ap (λ m. one (g m)) d, ap (λ m. one (h m)) e)) in
     omega (arith, step f a n, step g a n, step h b n, here, rest)
 
-module _ (p : Problem) (masks before live : List ℕ) (i : ℕ) where
+module _ (p : Problem) (masks before live : List ℕ) (first i : ℕ) where
   -- in the words up to a place what is live, in the others what was
   abbrev pub is_counted : ℕ → ℕ → Bool
-  is_counted place x = names_item p x i && (if nat_lt (x / 64) place then has live x else has before x)
+  is_counted place x = names_item p x (first + i) && (if nat_lt (x / 64) place then has live x else has before x)
 
   abbrev pub counted_to : ℕ → ℕ
   counted_to place = count_by (is_counted place) (range_with_len 0 (64 * length live))
 
-  pub counted_none : length before ≡ length live → counted_to 0 ≡ named_of p before i
+  pub counted_none : length before ≡ length live → counted_to 0 ≡ named_of p before (first + i)
   counted_none long =
       ap (λ n. count_by (is_counted 0) (range_with_len 0 (64 * n))) (sym long)
-      ∙ count_same (is_counted 0) (λ x. names_item p x i && has before x) 0 (64 * length before) (λ k low. ap (λ b. names_item p (0 + k) i && (if b then has live (0 + k) else has before (0 + k))) (le-ltb ((0 + k) / 64) 0 (omega arith)))
+      ∙ count_same (is_counted 0) (λ x. names_item p x (first + i) && has before x) 0 (64 * length before) (λ k low. ap (λ b. names_item p (0 + k) (first + i) && (if b then has live (0 + k) else has before (0 + k))) (le-ltb ((0 + k) / 64) 0 (omega arith)))
 
-  pub counted_all : counted_to (length live) ≡ named_of p live i
+  pub counted_all : counted_to (length live) ≡ named_of p live (first + i)
   counted_all =
-      count_same (is_counted (length live)) (λ x. names_item p x i && has live x) 0 (64 * length live)
-      (λ k low. ap (λ b. names_item p (0 + k) i && (if b then has live (0 + k) else has before (0 + k))) (lt-ltb ((0 + k) / 64) (length live) (omega (arith, low))))
+      count_same (is_counted (length live)) (λ x. names_item p x (first + i) && has live x) 0 (64 * length live)
+      (λ k low. ap (λ b. names_item p (0 + k) (first + i) && (if b then has live (0 + k) else has before (0 + k))) (lt-ltb ((0 + k) / 64) (length live) (omega (arith, low))))
 
-  module _ (prefix : List ℕ) (was : IsLive p prefix before) (part : (x : ℕ) → has live x ≡ true → has before x ≡ true) (are : AreMasks p masks) (primary : i < p.primary) (low : i < 64) where
+  module _ (prefix : List ℕ) (was : IsLive p prefix before) (part : (x : ℕ) → has live x ≡ true → has before x ≡ true) (are : AreMasks p first masks) (primary : first + i < p.primary) (low : i < 64) where
     abbrev pub gone_at : ℕ → ℕ
     gone_at place = bit_and (get_or before place 0) (bit_not w64 (get_or live place 0))
 
@@ -89,11 +89,11 @@ module _ (p : Problem) (masks before live : List ℕ) (i : ℕ) where
     has_at : (set : List ℕ) (place k x : ℕ) → x / 64 ≡ place → x % 64 ≡ k → (bit_at (get_or set place 0) k == 1) ≡ has set x
     has_at set place k x at bit = ap (λ j. bit_at (get_or set j 0) k == 1) (sym at) ∙ ap (λ j. bit_at (get_or set (x / 64) 0) j == 1) (sym bit)
 
-    mask_at : (x : ℕ) → has before x ≡ true → (bit_at (get_or masks x 0) i == 1) ≡ names_item p x i
+    mask_at : (x : ℕ) → has before x ≡ true → (bit_at (get_or masks x 0) i == 1) ≡ names_item p x (first + i)
     mask_at x here =
         let both : (nat_lt x (length p.options) && is_live p prefix x) ≡ true = sym (was.exact x) ∙ here in
         let inside : x < length p.options = ltb-true x (length p.options) (and_parts (nat_lt x (length p.options)) (is_live p prefix x) both).0 in
-        are.each x inside i low ∙ ap (λ b. b && names_item p x i) (lt-ltb i p.primary primary)
+        are.each x inside i low ∙ ap (λ b. b && names_item p x (first + i)) (lt-ltb (first + i) p.primary primary)
 
     pub counted_more : (place : ℕ) → place < length live → get_or live place 0 < 2 ^ 64 → counted_to place ≡ counted_to (place + 1) + named_in masks place (gone_at place) i
     unfolding named_in
@@ -103,11 +103,11 @@ module _ (p : Problem) (masks before live : List ℕ) (i : ℕ) where
         let h : ℕ → Bool = λ k. bit_at (gone_at place) k == 1 && bit_at (get_or masks (place * 64 + k) 0) i == 1 in
         let rest : ℕ = length live - (place + 1) in
         let room : 64 * length live ≡ 64 * place + (64 + 64 * rest) = omega (arith, inside) in
-        let test : (t x : ℕ) → Bool = λ t x. names_item p x i && (if nat_lt (x / 64) t then has live x else has before x) in
+        let test : (t x : ℕ) → Bool = λ t x. names_item p x (first + i) && (if nat_lt (x / 64) t then has live x else has before x) in
         let front = count_same f g 0 (64 * place) (λ k less.
-        ap (λ t. names_item p (0 + k) i && (if t then has live (0 + k) else has before (0 + k))) (lt-ltb ((0 + k) / 64) place (omega (arith, less)) ∙ sym (lt-ltb ((0 + k) / 64) (place + 1) (omega (arith, less))))) in
+        ap (λ t. names_item p (0 + k) (first + i) && (if t then has live (0 + k) else has before (0 + k))) (lt-ltb ((0 + k) / 64) place (omega (arith, less)) ∙ sym (lt-ltb ((0 + k) / 64) (place + 1) (omega (arith, less))))) in
         let back = count_same f g (0 + 64 * place + 64) (64 * rest) (λ k less.
-        ap (λ t. names_item p (0 + 64 * place + 64 + k) i && (if t then has live (0 + 64 * place + 64 + k) else has before (0 + 64 * place + 64 + k)))
+        ap (λ t. names_item p (0 + 64 * place + 64 + k) (first + i) && (if t then has live (0 + 64 * place + 64 + k) else has before (0 + 64 * place + 64 + k)))
         (le-ltb ((0 + 64 * place + 64 + k) / 64) place (omega arith) ∙ sym (le-ltb ((0 + 64 * place + 64 + k) / 64) (place + 1) (omega arith)))) in
         let own = count_sum f g h (0 + 64 * place) 0 64 (λ k less.
         let x : ℕ = 0 + 64 * place + k in
@@ -115,36 +115,36 @@ module _ (p : Problem) (masks before live : List ℕ) (i : ℕ) where
         let bit : (0 + 64 * place + k) % 64 ≡ 0 + k = omega (arith, less) in
         let same : place * 64 + (0 + k) ≡ 0 + 64 * place + k = omega arith in
         let m : Bool = bit_at (get_or masks (place * 64 + (0 + k)) 0) i == 1 in
-        let f_is : f x ≡ (names_item p x i && has before x) = ap (λ t. names_item p x i && (if t then has live x else has before x)) (le-ltb (x / 64) place (omega (arith, at))) in
-        let g_is : g x ≡ (names_item p x i && has live x) = ap (λ t. names_item p x i && (if t then has live x else has before x)) (lt-ltb (x / 64) (place + 1) (omega (arith, at))) in
+        let f_is : f x ≡ (names_item p x (first + i) && has before x) = ap (λ t. names_item p x (first + i) && (if t then has live x else has before x)) (le-ltb (x / 64) place (omega (arith, at))) in
+        let g_is : g x ≡ (names_item p x (first + i) && has live x) = ap (λ t. names_item p x (first + i) && (if t then has live x else has before x)) (lt-ltb (x / 64) (place + 1) (omega (arith, at))) in
         let h_is : h (0 + k) ≡ ((has before x && not (has live x)) && m) =
         ap (λ c. c && m) (gone_is place (0 + k) (omega (arith, less)) fits ∙ ap (λ c. c && not (bit_at (get_or live place 0) (0 + k) == 1)) (has_at before place (0 + k) x at bit) ∙ ap (λ c. has before x && not c) (has_at live place (0 + k) x at bit)) in
-        let meant : has before x ≡ true → m ≡ names_item p x i = λ here. ap (λ n. bit_at (get_or masks n 0) i == 1) same ∙ mask_at x here in
-        omega (arith, ap one f_is, ap one g_is, ap one h_is, table (names_item p x i) (has before x) (has live x) m (part x) meant)) in
+        let meant : has before x ≡ true → m ≡ names_item p x (first + i) = λ here. ap (λ n. bit_at (get_or masks n 0) i == 1) same ∙ mask_at x here in
+        omega (arith, ap one f_is, ap one g_is, ap one h_is, table (names_item p x (first + i)) (has before x) (has live x) m (part x) meant)) in
         let f_all : counted_to place ≡ count_by f (range_with_len 0 (64 * place + (64 + 64 * rest))) = ap (λ n. count_by f (range_with_len 0 n)) room in
         let g_all : counted_to (place + 1) ≡ count_by g (range_with_len 0 (64 * place + (64 + 64 * rest))) = ap (λ n. count_by g (range_with_len 0 n)) room in
         omega (arith, f_all, g_all, front, back, own, count_split f 0 (64 * place) (64 + 64 * rest), count_split f (0 + 64 * place) 64 (64 * rest), count_split g 0 (64 * place) (64 + 64 * rest), count_split g (0 + 64 * place) 64 (64 * rest))
 
 -- an item that is not primary is named by no mask
-mask_off : (p : Problem) (masks : List ℕ) (x i : ℕ) → AreMasks p masks → p.primary ≤ i → i < 64 → (bit_at (get_or masks x 0) i == 1) ≡ false
-mask_off p masks x i are high low = elim (cases_lt x (length masks)) [
-  | inl inside ↦ are.each x (omega (arith, inside, are.long)) i low ∙ ap (λ b. b && names_item p x i) (le-ltb i p.primary high)
+mask_off : (p : Problem) (masks : List ℕ) (first x i : ℕ) → AreMasks p first masks → p.primary ≤ first + i → i < 64 → (bit_at (get_or masks x 0) i == 1) ≡ false
+mask_off p masks first x i are high low = elim (cases_lt x (length masks)) [
+  | inl inside ↦ are.each x (omega (arith, inside, are.long)) i low ∙ ap (λ b. b && names_item p x (first + i)) (le-ltb (first + i) p.primary high)
   | inr past ↦ ap (λ n. bit_at n i == 1) (get_or_past masks x 0 past) ∙ ne_eqb (bit_at 0 i) 1 (λ h. omega (arith, h, bit_at-zero i))
 ]
 
-pub named_off : (p : Problem) (masks : List ℕ) (place bits i : ℕ) → AreMasks p masks → p.primary ≤ i → i < 64 → named_in masks place bits i ≡ 0
+pub named_off : (p : Problem) (masks : List ℕ) (first place bits i : ℕ) → AreMasks p first masks → p.primary ≤ first + i → i < 64 → named_in masks place bits i ≡ 0
 unfolding named_in
-named_off p masks place bits i are high low =
+named_off p masks first place bits i are high low =
     count_none (λ k. bit_at bits k == 1 && bit_at (get_or masks (place * 64 + k) 0) i == 1) 0 64
-    (λ k less. ap (λ b. bit_at bits (0 + k) == 1 && b) (mask_off p masks (place * 64 + (0 + k)) i are high low) ∙ off (bit_at bits (0 + k) == 1))
+    (λ k less. ap (λ b. bit_at bits (0 + k) == 1 && b) (mask_off p masks first (place * 64 + (0 + k)) i are high low) ∙ off (bit_at bits (0 + k) == 1))
   where
     off : (b : Bool) → (b && false) ≡ false
     off true = refl
     off false = refl
 
 -- an option that leaves is one
-pub gone_inside : (p : Problem) (prefix masks before live : List ℕ) (place k : ℕ) → IsLive p prefix before → AreMasks p masks → k < 64 → bit_at (bit_and (get_or before place 0) (bit_not w64 (get_or live place 0))) k ≡ 1 → place * 64 + k < length masks
-gone_inside p prefix masks before live place k was are inside here =
+pub gone_inside : (p : Problem) (prefix masks before live : List ℕ) (first place k : ℕ) → IsLive p prefix before → AreMasks p first masks → k < 64 → bit_at (bit_and (get_or before place 0) (bit_not w64 (get_or live place 0))) k ≡ 1 → place * 64 + k < length masks
+gone_inside p prefix masks before live first place k was are inside here =
     let x : ℕ = place * 64 + k in
     let both = and_parts (bit_at (get_or before place 0) k == 1) (bit_at (bit_not w64 (get_or live place 0)) k == 1) (sym (bit_of_and (get_or before place 0) (bit_not w64 (get_or live place 0)) k) ∙ eq-eqb _ 1 here) in
     let at : (place * 64 + k) / 64 ≡ place = omega (arith, inside) in

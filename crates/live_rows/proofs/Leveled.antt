@@ -6,7 +6,7 @@ use Rattle.cover_problem.specs.Problem.{Problem}
 use Rattle.cover_problem.specs.Prefix.{clash}
 use Rattle.option_sets.specs.Sets.{has, words_of}
 use Rattle.live_rows.specs.declared.counts.Counts.{Counts}
-use Rattle.live_rows.specs.declared.counts.Counts.TheVariants.{Keys, Planes}
+use Rattle.live_rows.specs.declared.counts.Counts.TheVariants.{Keys, Planes, Halves}
 use Rattle.live_rows.specs.declared.levels.Levels.{Levels}
 use Rattle.live_rows.specs.declared.plane_counts.PlaneCounts.{PlaneCounts}
 use Rattle.cover_problem.specs.Branching.{branch_item}
@@ -128,17 +128,17 @@ keys_front p os o keys are = record {
 
 pub planes_front : (p : Problem) (os : List ℕ) (o : ℕ) (counts : PlaneCounts) → ArePlaneCounts p (os ++ o ∷ []) counts → ArePlaneCounts p os counts
 planes_front p os o counts are = record {
-  few = are.few;
   masks = are.masks;
   long = are.long;
   each = λ e le planes at.
-      let P : List ℕ → Type 0 = λ xs. ArePlanes p xs planes in
+      let P : List ℕ → Type 0 = λ xs. ArePlanes p xs counts.first planes in
       subst P (take-append-le e os (o ∷ []) le) (are.each e (omega (arith, le, length-append os (o ∷ []))) planes at);
 }
 
 pub counts_front : (p : Problem) (os : List ℕ) (o : ℕ) (counts : Counts) → AreCounts p (os ++ o ∷ []) counts → AreCounts p os counts
 counts_front p os o (Keys keys) are = keys_front p os o keys.items are
-counts_front p os o (Planes planes) are = planes_front p os o planes are
+counts_front p os o (Planes planes) are = (are.0, are.1, planes_front p os o planes are.2)
+counts_front p os o (Halves low high) are = (are.0, are.1, are.2, planes_front p os o low are.3, planes_front p os o high are.4)
 
 -- the first ones of numbers that are all zero
 pub first_zeros : (xs front : List ℕ) (n : ℕ) → front ≡ take n xs → ((i : ℕ) → get_or xs i 0 ≡ 0) → (i : ℕ) → get_or front i 0 ≡ 0

@@ -3,6 +3,7 @@ pub mod Choosing
 pub mod Cleared
 pub mod Counted
 pub mod Gone
+pub mod Halves
 pub mod Keying
 pub mod Layered
 pub mod Leveled

@@ -1,8 +1,8 @@
 -- The items of options as bits, and how many options of a word name an item.
-use Rattle.std.proofs.Common.{◌≡◌, ℕ, suc, ◌+◌, ◌-◌, ◌*◌, ◌%◌, ◌^◌, ◌<◌, List, length, take, get_or, filter, Bool, nat_lt, ◌==◌, ◌&&◌, ◌||◌, bit_and, bit_or, count_by, refl, arith, sym, ap, ◌∙◌, inl, inr, w64}
+use Rattle.std.proofs.Common.{◌≡◌, ℕ, suc, ◌+◌, ◌-◌, ◌*◌, ◌%◌, ◌^◌, ◌<◌, ◌≤◌, List, length, take, get_or, filter, Bool, nat_lt, ◌==◌, ◌&&◌, ◌||◌, bit_and, bit_or, count_by, refl, arith, sym, ap, ◌∙◌, inl, inr, w64}
 use Rattle.std.specs.List.{range_with_len}
 use Rattle.std.specs.Int.{bit_at, bit_not}
-use Rattle.std.proofs.lemmas.Bool.{cases_eq, eq-eqb, ne_eqb}
+use Rattle.std.proofs.lemmas.Bool.{cases_eq, cases_lt, eq-eqb, ne_eqb, lt-ltb, le-ltb}
 use Rattle.std.proofs.lemmas.List.Folds.{list_any_more}
 use Rattle.std.proofs.lemmas.Nat.{and_le_l}
 use Rattle.std.proofs.lemmas.Nat.Bits.{bit_at-lt, bit_at-zero, bit_at_clear_same, bit_at_clear_other}
@@ -67,22 +67,33 @@ cut_part bits b k inside low here = elim (cases_eq k b) [
   | inr other ↦ omega (arith, here, bit_at_clear_other w64 bits b inside k low other)
 ]
 
-same_either : (a b : ℕ) → (a == b) ≡ (b == a)
-same_either a b = elim (cases_eq a b) [
-  | inl e ↦ rw (eq-eqb a b e, eq-eqb b a (sym e)) refl
-  | inr d ↦ rw (ne_eqb a b d, ne_eqb b a (λ e. d (sym e))) refl
+-- one item more
+pub mask_more : (items : List ℕ) (mask bits n first i : ℕ) → n < length items → (bit_at mask i == 1) ≡ is_in (take n items) (first + i) → (bit_at bits i == 1) ≡ (get_or items n 0 == first + i)
+    → (bit_at (bit_or mask bits) i == 1) ≡ is_in (take (n + 1) items) (first + i)
+mask_more items mask bits n first i inside before own =
+    bit_of_or mask bits i
+    ∙ ap (λ t. t || (bit_at bits i == 1)) before
+    ∙ ap (λ t. is_in (take n items) (first + i) || t) own
+    ∙ sym (list_any_more (λ m. m == first + i) items n 0 inside)
+
+-- an item as a bit
+pub bit_inside : (item first i : ℕ) → first ≤ item → item - first < 64 → i < 64 → (bit_at (1 * 2 ^ (item - first) % 2 ^ 64) i == 1) ≡ (item == first + i)
+bit_inside item first i from low inside = bit_of_one (item - first) i low inside ∙ elim (cases_eq item (first + i)) [
+  | inl e ↦ rw (eq-eqb i (item - first) (omega (arith, e)), eq-eqb item (first + i) e) refl
+  | inr d ↦ rw (ne_eqb i (item - first) (λ e. d (omega (arith, e, from))), ne_eqb item (first + i) d) refl
 ]
 
--- one item more
-pub mask_more : (items : List ℕ) (mask n i : ℕ) → n < length items → get_or items n 0 < 64 → i < 64 → (bit_at mask i == 1) ≡ is_in (take n items) i
-    → (bit_at (bit_or mask (1 * 2 ^ get_or items n 0 % 2 ^ 64)) i == 1) ≡ is_in (take (n + 1) items) i
-mask_more items mask n i inside small low before =
-    bit_of_or mask (1 * 2 ^ get_or items n 0 % 2 ^ 64) i
-    ∙ ap (λ t. t || (bit_at (1 * 2 ^ get_or items n 0 % 2 ^ 64) i == 1)) before
-    ∙ ap (λ t. is_in (take n items) i || t) (bit_of_one (get_or items n 0) i small low ∙ same_either i (get_or items n 0))
-    ∙ sym (list_any_more (λ m. m == i) items n 0 inside)
+pub bit_outside : (item first i : ℕ) → (item ≡ first + i → ⊥) → (bit_at 0 i == 1) ≡ (item == first + i)
+bit_outside item first i off = rw (ne_eqb (bit_at 0 i) 1 (λ h. omega (arith, h, bit_at-zero i)), ne_eqb item (first + i) off) refl
 
 -- the primary items of an option
-pub mask_is : (p : Problem) (o mask : ℕ) (items : List ℕ) → items ≡ filter (λ i. nat_lt i p.primary) (items_of p o) → ((i : ℕ) → i < 64 → (bit_at mask i == 1) ≡ is_in items i) → IsMask p o mask
-mask_is p o mask items are bits i low =
-    bits i low ∙ ap (λ (is : List ℕ). is_in is i) are ∙ in_filtered (λ i. nat_lt i p.primary) (items_of p o) i
+pub mask_is : (p : Problem) (first o mask : ℕ) (items : List ℕ) → items ≡ filter (λ i. nat_lt i p.primary) (items_of p o) → ((i : ℕ) → i < 64 → (bit_at mask i == 1) ≡ is_in items (first + i)) → IsMask p first o mask
+mask_is p first o mask items are bits i low =
+    bits i low ∙ ap (λ (is : List ℕ). is_in is (first + i)) are ∙ in_filtered (λ i. nat_lt i p.primary) (items_of p o) (first + i)
+
+-- which bits of a word below a number of them are
+pub below_from : (primary first i : ℕ) → nat_lt i (primary - first) ≡ nat_lt (first + i) primary
+below_from primary first i = elim (cases_lt (first + i) primary) [
+  | inl low ↦ lt-ltb i (primary - first) (omega (arith, low)) ∙ sym (lt-ltb (first + i) primary low)
+  | inr high ↦ le-ltb i (primary - first) (omega (arith, high)) ∙ sym (le-ltb (first + i) primary high)
+]

@@ -45,28 +45,28 @@ named_part p before live i long part =
     both true l b part here = part here
     both false l b part here = here
 
-module _ (p : Problem) (masks set : List ℕ) (i : ℕ) where
+module _ (p : Problem) (masks set : List ℕ) (first i : ℕ) where
   -- how many options in the words from a place on name an item
   abbrev pub named_from : ℕ → ℕ
-  named_from place = count_by (λ x. names_item p x i && has set x) (range_with_len (64 * place) (64 * (length set - place)))
+  named_from place = count_by (λ x. names_item p x (first + i) && has set x) (range_with_len (64 * place) (64 * (length set - place)))
 
-  pub from_first : named_from 0 ≡ named_of p set i
+  pub from_first : named_from 0 ≡ named_of p set (first + i)
   from_first =
-      let first : 64 * 0 ≡ 0 = omega arith in
+      let start : 64 * 0 ≡ 0 = omega arith in
       let all : 64 * (length set - 0) ≡ 64 * length set = omega arith in
-      ap (λ n. count_by (λ x. names_item p x i && has set x) (range_with_len n (64 * (length set - 0)))) first
-      ∙ ap (λ n. count_by (λ x. names_item p x i && has set x) (range_with_len 0 n)) all
+      ap (λ n. count_by (λ x. names_item p x (first + i) && has set x) (range_with_len n (64 * (length set - 0)))) start
+      ∙ ap (λ n. count_by (λ x. names_item p x (first + i) && has set x) (range_with_len 0 n)) all
 
   pub from_last : (place : ℕ) → length set ≤ place → named_from place ≡ 0
   from_last place end =
       let none : 64 * (length set - place) ≡ 0 = omega (arith, end) in
-      ap (λ n. count_by (λ x. names_item p x i && has set x) (range_with_len (64 * place) n)) none
+      ap (λ n. count_by (λ x. names_item p x (first + i) && has set x) (range_with_len (64 * place) n)) none
 
-  pub from_next : AreMasks p masks → ((x : ℕ) → has set x ≡ true → x < length p.options) → i < p.primary → i < 64 → (place : ℕ) → place < length set
+  pub from_next : AreMasks p first masks → ((x : ℕ) → has set x ≡ true → x < length p.options) → first + i < p.primary → i < 64 → (place : ℕ) → place < length set
       → named_from place ≡ named_in masks place (get_or set place 0) i + named_from (place + 1)
   unfolding named_in
   from_next are inside primary low place here =
-      let f : ℕ → Bool = λ x. names_item p x i && has set x in
+      let f : ℕ → Bool = λ x. names_item p x (first + i) && has set x in
       let g : ℕ → Bool = λ x. false in
       let h : ℕ → Bool = λ k. bit_at (get_or set place 0) k == 1 && bit_at (get_or masks (place * 64 + k) 0) i == 1 in
       let rest : ℕ = length set - (place + 1) in
@@ -79,9 +79,9 @@ module _ (p : Problem) (masks set : List ℕ) (i : ℕ) where
       let same : place * 64 + (0 + k) ≡ 64 * place + k = omega arith in
       let m : Bool = bit_at (get_or masks (place * 64 + (0 + k)) 0) i == 1 in
       let set_is : (bit_at (get_or set place 0) (0 + k) == 1) ≡ has set x = ap (λ j. bit_at (get_or set j 0) (0 + k) == 1) (sym at) ∙ ap (λ j. bit_at (get_or set (x / 64) 0) j == 1) (sym bit) in
-      let meant : has set x ≡ true → m ≡ names_item p x i = λ set_here.
-      ap (λ n. bit_at (get_or masks n 0) i == 1) same ∙ are.each x (inside x set_here) i low ∙ ap (λ b. b && names_item p x i) (lt-ltb i p.primary primary) in
-      omega (arith, ap (λ c. one (c && m)) set_is, table (names_item p x i) (has set x) m meant)) in
+      let meant : has set x ≡ true → m ≡ names_item p x (first + i) = λ set_here.
+      ap (λ n. bit_at (get_or masks n 0) i == 1) same ∙ are.each x (inside x set_here) i low ∙ ap (λ b. b && names_item p x (first + i)) (lt-ltb (first + i) p.primary primary) in
+      omega (arith, ap (λ c. one (c && m)) set_is, table (names_item p x (first + i)) (has set x) m meant)) in
       let none = count_none g (64 * place) 64 (λ k less. refl) in
       omega (arith, ap (λ n. count_by f (range_with_len (64 * place) n)) room, count_split f (64 * place) 64 (64 * rest), own, none, ap (λ n. count_by f (range_with_len n (64 * rest))) next)
     where

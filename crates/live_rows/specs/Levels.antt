@@ -4,7 +4,7 @@ use Rattle.cover_problem.specs.Branching.{branch_item}
 use Rattle.cover_problem.specs.Problem.{Problem}
 use Rattle.option_sets.specs.Sets.{words_of}
 use Rattle.live_rows.specs.declared.counts.Counts.{Counts}
-use Rattle.live_rows.specs.declared.counts.Counts.TheVariants.{Keys, Planes}
+use Rattle.live_rows.specs.declared.counts.Counts.TheVariants.{Keys, Planes, Halves}
 use Rattle.live_rows.specs.declared.levels.Levels.{Levels}
 use Rattle.live_rows.specs.Counting.{item_of, IsLive, AreMarked}
 use Rattle.live_rows.specs.Planes.{ArePlaneCounts}
@@ -21,7 +21,8 @@ pub record AreKeyCounts (problem : Problem) (chosen keys : List ℕ) : Type 0 wh
 -- the counts of each level, whichever they are
 abbrev pub AreCounts : Problem → List ℕ → Counts → Type 0
 AreCounts problem chosen (Keys keys) = AreKeyCounts problem chosen keys.items
-AreCounts problem chosen (Planes planes) = ArePlaneCounts problem chosen planes
+AreCounts problem chosen (Planes planes) = (problem.primary ≤ 64) × (planes.first ≡ 0) × ArePlaneCounts problem chosen planes
+AreCounts problem chosen (Halves low high) = (problem.primary ≤ 128) × (low.first ≡ 0) × (high.first ≡ 64) × ArePlaneCounts problem chosen low × ArePlaneCounts problem chosen high
 
 -- what is kept of a prefix: its live options, and the least key, which tells the branch item
 pub record IsLevel (problem : Problem) (prefix live : List ℕ) (least : ℕ) : Type 0 where

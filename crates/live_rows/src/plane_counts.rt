@@ -2,24 +2,25 @@
 
 ghost use Rattle.std.specs.Prelude.{◌≡◌, ℕ, ◌+◌, ◌*◌, ◌<◌, ◌≤◌, [], ◌∷◌, ◌++◌, List, length, ◌==◌, true, false, IfOk, IsTrue};
 ghost use Rattle.std.specs.Int.{bit_at};
-ghost use Rattle.std.specs.List.{All};
 ghost use Rattle.cover_problem.specs.Branching.{branch_item, live_options};
 ghost use Rattle.cover_problem.specs.Numbers.{is_in};
 ghost use Rattle.cover_problem.specs.Problem.{Problem as ProblemValue, IsProblem};
 ghost use Rattle.option_sets.specs.Sets.{has};
 ghost use Rattle.item_planes.specs.Counts.{count_at, low_count_at};
 ghost use Rattle.live_rows.specs.Counting.{item_of, IsLive};
-ghost use Rattle.live_rows.specs.Planes.{named_in, named_of, AreMasks, ArePlanes, ArePlaneCounts, IsSmall};
+ghost use Rattle.live_rows.specs.Planes.{named_in, named_of, AreMasks, ArePlanes, ArePlaneCounts, IsLeastOf, IsSmall};
 
 use crate::keys::count_row;
 use item_planes::Planes;
 use option_sets::{OptionSets, word_below};
 use std::alloc::{AllocError, Global};
 
-/// How many live options name each primary item at each level, and the primary items of each option, as bits of a word.
+/// How many live options name each of 64 primary items at each level, and which of these each option names, as bits of a word.
 #[derive(Drop)]
 pub struct PlaneCounts {
-    /// The primary items of each option.
+    /// The first one of the items.
+    pub first: u16,
+    /// Those of each option.
     pub masks: Vec<u64>,
     /// The counts of each level.
     pub planes: Vec<Planes>,
@@ -27,13 +28,13 @@ pub struct PlaneCounts {
     pub turn: usize,
 }
 
-/// Whether there are at most 64 primary items, and at most 127 options for each. All options are live.
+/// Whether there are at most 128 primary items, and at most 127 options for each. All options are live.
 pub fn is_small(sets: &OptionSets, live: &[u64]) -> bool
     requires { IsLive sets.now [] live.now }
     ensures { IsTrue result → IsSmall sets.now }
 {
     let primary = sets.problem().primary();
-    if primary > 64 {
+    if primary > 128 {
         return false;
     }
     for item in 0..primary as u16 {
@@ -45,34 +46,38 @@ pub fn is_small(sets: &OptionSets, live: &[u64]) -> bool
 }
 
 impl PlaneCounts {
-    /// Room for all levels, and the counts of the empty prefix, whose live options are given, with the least key. The only error is
-    /// out of memory.
+    /// Room for all levels, and the counts of the empty prefix, whose live options are given, for the items from a first one on; with
+    /// the least. The only error is out of memory.
     pub fn build(
         alloc: Global,
         sets: &OptionSets,
         live: &[u64],
-    ) -> Result<(PlaneCounts, u32), AllocError>
+        first: u16,
+    ) -> Result<(PlaneCounts, Option<(u32, u32)>), AllocError>
         requires small { IsSmall sets.now }
         requires live { IsLive sets.now [] live.now }
+        ensures first { IfOk result (λ built. built.0.first ≡ first) }
         ensures counts { IfOk result (λ built. ArePlaneCounts sets.now [] built.0) }
-        ensures branch { IfOk result (λ built. branch_item sets.now [] ≡ item_of built.1) }
+        ensures least { IfOk result (λ built. IsLeastOf sets.now [] first built.1) }
     {
         let primary = sets.problem().primary();
-        let masks = masks_of(alloc, sets)?;
-        let first = first_planes(sets, &masks, live);
-        let planes = vec![in alloc; first; primary + 1]?;
+        let masks = masks_of(alloc, sets, first)?;
+        let start = first_planes(sets, &masks, live, first);
+        let planes = vec![in alloc; start; primary + 1]?;
         let turn = turn_of(sets);
         Ok((
             PlaneCounts {
+                first,
                 masks,
                 planes,
                 turn,
             },
-            least_key(&first),
+            least_from(&start, first),
         ))
     }
 
-    /// Makes the counts of a level from those of the level before it, where one more option was chosen; answers the least key.
+    /// Makes the counts of a level from those of the level before it, where one more option was chosen; answers the uncovered item with
+    /// the least count, and that count.
     #[inline(always)]
     pub fn push(
         &mut self,
@@ -81,22 +86,34 @@ impl PlaneCounts {
         before: &[u64],
         live: &[u64],
         option: u16,
-    ) -> u32
+    ) -> Option<(u32, u32)>
         requires counts { ArePlaneCounts sets.now chosen.now self.old }
         requires room { length chosen.now < sets.now.primary }
         requires option { option < length sets.now.options }
         requires before { IsLive sets.now chosen.now before.now }
         requires live { IsLive sets.now (chosen.now ++ option ∷ []) live.now }
+        ensures first { self.new.first ≡ self.old.first }
         ensures counts { ArePlaneCounts sets.now (chosen.now ++ option ∷ []) self.new }
-        ensures branch { branch_item sets.now (chosen.now ++ option ∷ []) ≡ item_of result }
+        ensures least { IsLeastOf sets.now (chosen.now ++ option ∷ []) self.old.first result }
     {
         let depth = chosen.len();
         let last = self.planes[depth];
         let anew = depth >= self.turn;
-        let mut next = next_planes(sets, &self.masks, chosen, before, live, option, last, anew);
+        let first = self.first;
+        let mut next = next_planes(
+            sets,
+            &self.masks,
+            chosen,
+            before,
+            live,
+            option,
+            first,
+            last,
+            anew,
+        );
         next.cover(self.masks[option as usize]);
         self.planes[depth + 1] = next;
-        least_key(&next)
+        least_from(&next, first)
     }
 }
 
@@ -115,14 +132,14 @@ fn turn_of(sets: &OptionSets) -> usize {
 }
 
 /// The counts of the empty prefix, whose live options are given.
-fn first_planes(sets: &OptionSets, masks: &[u64], live: &[u64]) -> Planes
+fn first_planes(sets: &OptionSets, masks: &[u64], live: &[u64], first: u16) -> Planes
     requires small { IsSmall sets.now }
-    requires masks { AreMasks sets.now masks.now }
+    requires masks { AreMasks sets.now first masks.now }
     requires live { IsLive sets.now [] live.now }
-    ensures { ArePlanes sets.now [] result }
+    ensures { ArePlanes sets.now [] first result }
 {
-    let uncovered = word_below(sets.problem().primary());
-    count_live(sets, masks, live, uncovered, true)
+    let uncovered = word_below(sets.problem().primary().saturating_sub(first as usize));
+    count_live(sets, masks, live, first, uncovered, true)
 }
 
 /// The counts of a level once one more option is chosen, whose items are not covered yet: counted anew, or from those of the level
@@ -135,23 +152,23 @@ fn next_planes(
     before: &[u64],
     live: &[u64],
     option: u16,
+    first: u16,
     last: Planes,
     anew: bool,
 ) -> Planes
-    requires few { sets.now.primary ≤ 64 }
-    requires masks { AreMasks sets.now masks.now }
+    requires masks { AreMasks sets.now first masks.now }
     requires before { IsLive sets.now chosen.now before.now }
     requires live { IsLive sets.now (chosen.now ++ option ∷ []) live.now }
-    requires planes { ArePlanes sets.now chosen.now last }
+    requires planes { ArePlanes sets.now chosen.now first last }
     ensures uncovered { result.uncovered ≡ last.uncovered }
-    ensures counted { (i : ℕ) → i < sets.now.primary → count_at result i
-        ≡ length (live_options sets.now (chosen.now ++ option ∷ []) i) }
+    ensures counted { (i : ℕ) → i < 64 → first + i < sets.now.primary → count_at result i
+        ≡ length (live_options sets.now (chosen.now ++ option ∷ []) (first + i)) }
 {
     if anew {
-        return count_live(sets, masks, live, last.uncovered, last.is_large());
+        return count_live(sets, masks, live, first, last.uncovered, last.is_large());
     }
     let mut next = last;
-    take_gone(sets, masks, chosen, before, live, option, &mut next);
+    take_gone(sets, masks, chosen, before, live, option, first, &mut next);
     next
 }
 
@@ -159,14 +176,21 @@ fn next_planes(
 ///
 /// They are taken from full counts, and what is left is turned: to take one costs less than to add one.
 #[inline(always)]
-fn count_live(sets: &OptionSets, masks: &[u64], live: &[u64], uncovered: u64, large: bool) -> Planes
-    requires few { sets.now.primary ≤ 64 }
-    requires masks { AreMasks sets.now masks.now }
+fn count_live(
+    sets: &OptionSets,
+    masks: &[u64],
+    live: &[u64],
+    first: u16,
+    uncovered: u64,
+    large: bool,
+) -> Planes
+    requires masks { AreMasks sets.now first masks.now }
     requires inside { (x : ℕ) → has live.now x ≡ true → x < length sets.now.options }
-    requires small { (i : ℕ) → i < sets.now.primary → named_of sets.now live.now i < 128 }
-    requires low { large ≡ false → (i : ℕ) → i < sets.now.primary → named_of sets.now live.now i < 32 }
+    requires small { (i : ℕ) → i < 64 → first + i < sets.now.primary → named_of sets.now live.now (first + i) < 128 }
+    requires low { large ≡ false → (i : ℕ) → i < 64 → first + i < sets.now.primary → named_of sets.now live.now (first + i) < 32 }
     ensures uncovered { result.uncovered ≡ uncovered }
-    ensures counted { (i : ℕ) → i < sets.now.primary → count_at result i ≡ named_of sets.now live.now i }
+    ensures counted { (i : ℕ) → i < 64 → first + i < sets.now.primary → count_at result i
+        ≡ named_of sets.now live.now (first + i) }
 {
     let mut planes = Planes::full(uncovered);
     for place in 0..live.len() {
@@ -184,16 +208,16 @@ fn take_gone(
     before: &[u64],
     live: &[u64],
     option: u16,
+    first: u16,
     planes: &mut Planes,
 )
-    requires few { sets.now.primary ≤ 64 }
-    requires masks { AreMasks sets.now masks.now }
+    requires masks { AreMasks sets.now first masks.now }
     requires before { IsLive sets.now chosen.now before.now }
     requires live { IsLive sets.now (chosen.now ++ option ∷ []) live.now }
-    requires planes { ArePlanes sets.now chosen.now planes.old }
+    requires planes { ArePlanes sets.now chosen.now first planes.old }
     ensures uncovered { planes.new.uncovered ≡ planes.old.uncovered }
-    ensures counted { (i : ℕ) → i < sets.now.primary → count_at planes.new i
-        ≡ length (live_options sets.now (chosen.now ++ option ∷ []) i) }
+    ensures counted { (i : ℕ) → i < 64 → first + i < sets.now.primary → count_at planes.new i
+        ≡ length (live_options sets.now (chosen.now ++ option ∷ []) (first + i)) }
 {
     let large = planes.is_large();
     for place in 0..live.len() {
@@ -221,38 +245,62 @@ fn take_word(masks: &[u64], place: usize, gone: u64, planes: &mut Planes, large:
     }
 }
 
-/// A key of the uncovered item with the least count: the item alone, since only the branch item is asked for.
+/// The uncovered item with the least count, and that count.
 #[inline(always)]
-fn least_key(planes: &Planes) -> u32
-    ensures { (problem : ProblemValue) (prefix : List ℕ) → problem.primary ≤ 64
-        → ArePlanes problem prefix planes.now → branch_item problem prefix ≡ item_of result }
+fn least_from(planes: &Planes, first: u16) -> Option<(u32, u32)>
+    ensures { (problem : ProblemValue) (prefix : List ℕ) → ArePlanes problem prefix first planes.now
+        → IsLeastOf problem prefix first result }
 {
     match planes.least() {
-        Some((item, _)) => item,
-        None => u32::MAX,
+        Some((item, count)) => Some((first as u32 + item, count)),
+        None => None,
     }
 }
 
-/// The primary items of each option, as bits of a word; the only error is out of memory.
-fn masks_of(alloc: Global, sets: &OptionSets) -> Result<Vec<u64>, AllocError>
-    requires { sets.now.primary ≤ 64 }
-    ensures { IfOk result (λ masks. AreMasks sets.now masks.items) }
+/// A key of the item that has the lesser count, in the lower half or the upper one: the item alone, since only the branch item is
+/// asked for.
+#[inline(always)]
+pub fn least_item(low: Option<(u32, u32)>, high: Option<(u32, u32)>) -> u32
+    ensures { (problem : ProblemValue) (prefix : List ℕ) → problem.primary ≤ 128
+        → IsLeastOf problem prefix 0 low → IsLeastOf problem prefix 64 high
+        → branch_item problem prefix ≡ item_of result }
+{
+    match (low, high) {
+        (Some((item, count)), Some((other, less))) => { if less < count { other } else { item } }
+        (Some((item, _)), None) => item,
+        (None, Some((item, _))) => item,
+        (None, None) => u32::MAX,
+    }
+}
+
+/// The items of each option from a first one on, as bits of a word; the only error is out of memory.
+fn masks_of(alloc: Global, sets: &OptionSets, first: u16) -> Result<Vec<u64>, AllocError>
+    ensures { IfOk result (λ masks. AreMasks sets.now first masks.items) }
 {
     let mut masks = Vec::with_capacity(alloc, sets.problem().options())?;
     for option in 0..sets.problem().options() as u16 {
-        masks.push(mask_of(sets.primary_items(option)))?;
+        masks.push(mask_of(sets.primary_items(option), first))?;
     }
     Ok(masks)
 }
 
-/// Some items as bits of a word.
-fn mask_of(items: &[u16]) -> u64
-    requires { All (λ i. i < 64) items.now }
-    ensures { (i : ℕ) → i < 64 → (bit_at result i == 1) ≡ is_in items.now i }
+/// Some items from a first one on as bits of a word.
+fn mask_of(items: &[u16], first: u16) -> u64
+    ensures { (i : ℕ) → i < 64 → (bit_at result i == 1) ≡ is_in items.now (first + i) }
 {
     let mut mask = 0;
     for item in items {
-        mask |= 1 << *item;
+        mask |= bit_of(*item, first);
     }
     mask
+}
+
+/// An item as a bit of a word, if it is one of the 64 from a first one on.
+fn bit_of(item: u16, first: u16) -> u64
+    ensures { (i : ℕ) → i < 64 → (bit_at result i == 1) ≡ (item == first + i) }
+{
+    if item < first || item - first > 63 {
+        return 0;
+    }
+    1 << (item - first)
 }

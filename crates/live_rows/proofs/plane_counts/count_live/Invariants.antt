@@ -7,6 +7,6 @@ use Rattle.live_rows.proofs.plane_counts.count_live.Given as goal
 abbrev pub invariant-loop-place : goal.invariant-loop-place
 invariant-loop-place l = record {
   uncovered : l.planes.uncovered ≡ l.uncovered;
-  low : l.large ≡ false → (i : ℕ) → i < l.sets.primary → low_count_at l.planes i + named_of l.sets l.live i ≡ 31 + named_from l.sets l.masks l.live i l.place;
-  counts : (i : ℕ) → i < l.sets.primary → count_at l.planes i + named_of l.sets l.live i ≡ 127 + named_from l.sets l.masks l.live i l.place;
+  low : l.large ≡ false → (i : ℕ) → i < 64 → l.first + i < l.sets.primary → low_count_at l.planes i + named_of l.sets l.live (l.first + i) ≡ 31 + named_from l.sets l.masks l.live l.first i l.place;
+  counts : (i : ℕ) → i < 64 → l.first + i < l.sets.primary → count_at l.planes i + named_of l.sets l.live (l.first + i) ≡ 127 + named_from l.sets l.masks l.live l.first i l.place;
 }

@@ -1,4 +1,4 @@
-use Rattle.std.proofs.Common.{◌≡◌, ℕ, ◌<◌, false}
+use Rattle.std.proofs.Common.{◌≡◌, ℕ, ◌+◌, ◌<◌, false}
 use Rattle.item_planes.specs.Counts.{count_at}
 use Rattle.live_rows.proofs.Gone.{counted_to}
 use Rattle.live_rows.proofs.plane_counts.take_gone.Given as goal
@@ -7,5 +7,5 @@ abbrev pub invariant-loop-place : goal.invariant-loop-place
 invariant-loop-place l = record {
   uncovered : l.planes.uncovered ≡ l.fn.planes.uncovered;
   small : l.large ≡ false → (i : ℕ) → i < 64 → count_at l.planes i < 32;
-  counts : (i : ℕ) → i < l.sets.primary → count_at l.planes i ≡ counted_to l.sets l.masks l.before l.live i l.place;
+  counts : (i : ℕ) → i < 64 → l.first + i < l.sets.primary → count_at l.planes i ≡ counted_to l.sets l.masks l.before l.live l.first i l.place;
 }

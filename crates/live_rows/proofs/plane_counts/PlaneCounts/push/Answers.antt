@@ -16,13 +16,13 @@ returns-clause-counts c =
     let here = planes_here c.args.sets.now c.args.chosen.now c.args.self.now c.index-last.result.now c.requires.counts c.requires.room c.index-last.ensures in
     let inside : c.args.option < length c.args.self.now.masks.items = omega (arith, c.requires.option, are.masks.long) in
     let mask : c.index.result.now ≡ get_or c.args.self.now.masks.items c.args.option 0 = c.index.ensures ∙ get_or_default c.args.self.now.masks.items c.args.option c.index.result.now 0 inside in
-    let M : ℕ → Type 0 = λ m. IsMask c.args.sets.now c.args.option m in
-    let next = planes_next p os o c.index.result.now c.index-last.result.now c.next_planes-next.result c.cover.new.self are.few here (subst M (sym mask) (are.masks.each o c.requires.option))
+    let M : ℕ → Type 0 = λ m. IsMask c.args.sets.now c.args.self.now.first c.args.option m in
+    let next = planes_next p os o c.index.result.now c.args.self.now.first c.index-last.result.now c.next_planes-next.result c.cover.new.self here (subst M (sym mask) (are.masks.each o c.requires.option))
     c.next_planes-next.ensures.uncovered c.cover.ensures.uncovered c.cover.ensures.counts c.next_planes-next.ensures.counted in
-    planes_push p os o c.args.self.now _ c.cover.new.self are c.requires.room refl refl next
+    planes_push p os o c.args.self.now _ c.cover.new.self are c.requires.room refl refl refl next
 
-pub returns-clause-branch : goal.returns-clause-branch
-returns-clause-branch c =
+pub returns-clause-least : goal.returns-clause-least
+returns-clause-least c =
     let p = c.args.sets.now in
     let os : List ℕ = c.args.chosen.now in
     let o : ℕ = c.args.option in
@@ -30,7 +30,7 @@ returns-clause-branch c =
     let here = planes_here c.args.sets.now c.args.chosen.now c.args.self.now c.index-last.result.now c.requires.counts c.requires.room c.index-last.ensures in
     let inside : c.args.option < length c.args.self.now.masks.items = omega (arith, c.requires.option, are.masks.long) in
     let mask : c.index.result.now ≡ get_or c.args.self.now.masks.items c.args.option 0 = c.index.ensures ∙ get_or_default c.args.self.now.masks.items c.args.option c.index.result.now 0 inside in
-    let M : ℕ → Type 0 = λ m. IsMask c.args.sets.now c.args.option m in
-    let next = planes_next p os o c.index.result.now c.index-last.result.now c.next_planes-next.result c.cover.new.self are.few here (subst M (sym mask) (are.masks.each o c.requires.option))
+    let M : ℕ → Type 0 = λ m. IsMask c.args.sets.now c.args.self.now.first c.args.option m in
+    let next = planes_next p os o c.index.result.now c.args.self.now.first c.index-last.result.now c.next_planes-next.result c.cover.new.self here (subst M (sym mask) (are.masks.each o c.requires.option))
     c.next_planes-next.ensures.uncovered c.cover.ensures.uncovered c.cover.ensures.counts c.next_planes-next.ensures.counted in
-    c.least_key.ensures p (os ++ o ∷ []) are.few next
+    c.least_from.ensures p (os ++ o ∷ []) next
