@@ -148,3 +148,39 @@ fn many(rt: HostRuntime) -> Result<(), Fail> {
     assert!(rt; search_same(&rt, alloc, five_items(alloc, 700)?.as_str(), 200));
     Ok(())
 }
+
+/// Appends an option of so many items from one on, in a ring.
+fn push_run(
+    alloc: Global,
+    text: &mut String,
+    ring: u32,
+    first: u32,
+    length: u32,
+) -> Result<(), AllocError> {
+    for step in 0..length {
+        let name = format!(in alloc; "i{} ", (first + step) % ring)?;
+        text.push_str(name.as_str())?;
+    }
+    text.push('\n')
+}
+
+/// So many items in a ring, and options of two to four or five to eight of them that follow one another.
+fn ring(alloc: Global, items: u32) -> Result<String, AllocError> {
+    let mut text = String::new(alloc);
+    push_run(alloc, &mut text, items, 0, items)?;
+    for first in 0..items {
+        push_run(alloc, &mut text, items, first, 2 + first % 3)?;
+        push_run(alloc, &mut text, items, first, 5 + first % 4)?;
+    }
+    Ok(text)
+}
+
+/// As many items as one word of bits holds, and two words, and one more than these: counted in keys only in the last case.
+#[test]
+fn words_of_items(rt: HostRuntime) -> Result<(), Fail> {
+    let alloc = rt.alloc();
+    for items in [64, 65, 128, 129] {
+        assert!(rt; search_same(&rt, alloc, ring(alloc, items)?.as_str(), 100));
+    }
+    Ok(())
+}

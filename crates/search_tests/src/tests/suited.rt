@@ -51,12 +51,12 @@ fn has_sets(alloc: Global, text: &[u8]) -> Result<bool, Fail> {
     Ok(Tables::build(alloc, &read.problem)?.has_sets())
 }
 
-/// Where there are at most 64 items with at most 127 options each, sets suit; else it depends on what a choice bars.
+/// Where there are at most 128 items with at most 127 options each, sets suit; else it depends on what a choice bars.
 #[test]
 fn the_search_suits_the_problem(rt: HostRuntime) -> Result<(), Fail> {
     let alloc = rt.alloc();
-    assert!(rt; has_sets(alloc, &dominoes(alloc, 64)?)?);
-    assert!(rt; !has_sets(alloc, &dominoes(alloc, 65)?)?);
+    assert!(rt; has_sets(alloc, &dominoes(alloc, 128)?)?);
+    assert!(rt; !has_sets(alloc, &dominoes(alloc, 129)?)?);
     assert!(rt; has_sets(alloc, &one_item(alloc, 127)?)?);
     assert!(rt; has_sets(alloc, &one_item(alloc, 128)?)?);
     Ok(())
