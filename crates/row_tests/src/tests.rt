@@ -158,7 +158,7 @@ fn push_run(
     length: u32,
 ) -> Result<(), AllocError> {
     for step in 0..length {
-        let name = format!(in alloc; "i{} ", (first + step) % ring)?;
+        let name = format!(in alloc; "i{} ", first.wrapping_add(step) % ring.max(1))?;
         text.push_str(name.as_str())?;
     }
     text.push('\n')
