@@ -2,7 +2,6 @@
 
 ghost use Rattle.std.specs.Prelude.{◌≡◌, ◌+◌, ◌≤◌, vec_len, IfOk};
 
-use super::recorder::{Recorder, Sent};
 use super::wild::Wild;
 use std::alloc::{AllocError, Global};
 use std::net::Net;
@@ -67,21 +66,6 @@ pub fn wild<L: Link>(alloc: Global, links: Vec<L>, seed: u64) -> Result<Vec<Wild
     for link in links {
         let own = seed.wrapping_mul(32).wrapping_add(all.len() as u64);
         all.push(Wild::new(alloc, link, own))?;
-    }
-    Ok(all)
-}
-
-/// The same links, each of which keeps here what is sent.
-pub fn recorded<L: Link>(
-    alloc: Global,
-    links: Vec<L>,
-    sent: &Sent,
-) -> Result<Vec<Recorder<L>>, AllocError>
-    ensures { IfOk result (λ all. vec_len all ≡ vec_len links) }
-{
-    let mut all = Vec::new(alloc);
-    for link in links {
-        all.push(Recorder::new(alloc, link, Arc::try_clone(sent)?))?;
     }
     Ok(all)
 }

@@ -132,7 +132,7 @@ fn search<J: Run + Send + Sync, L: Link + Send, G: Gate + Sync, R: Threads + Wai
 }
 
 /// What was published, beside the one cover that there is, or none.
-pub fn judged(answer: Option<&Answer>, cover: Option<&[u16]>) -> Told {
+fn judged(answer: Option<&Answer>, cover: Option<&[u16]>) -> Told {
     let is_right = match (answer, cover) {
         (None, _) => return Told::Nothing,
         (Some(Answer::Cover(options)), Some(expected)) => options.as_slice() == expected,

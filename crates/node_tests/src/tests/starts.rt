@@ -5,9 +5,10 @@
 //! `waits_before_a_restart_are_no_turns`.
 
 use super::broken::{Defect, links_with};
-use super::ends::{recorded, wires};
+use super::ends::wires;
 use super::runs::{COVERED, Came, Told, run_starts};
 use packet_wire::{Body, Packet};
+use run_probes::recorded;
 use spawn_frame::{Job, Site, Unit};
 use std::sync::{Arc, Mutex};
 use std::test::Fail;

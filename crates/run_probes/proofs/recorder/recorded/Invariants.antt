@@ -1,5 +1,5 @@
 use Rattle.std.proofs.Common.{◌≡◌, length, vec_len}
-use Rattle.node_tests.proofs.tests.ends.recorded.Given as goal
+use Rattle.run_probes.proofs.recorder.recorded.Given as goal
 
 abbrev pub invariant-loop-link : goal.invariant-loop-link
 invariant-loop-link g l = vec_len l.all ≡ length l.yielded

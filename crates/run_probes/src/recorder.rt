@@ -1,6 +1,6 @@
-//! A link that keeps what is sent.
+//! Links that keep what is sent.
 
-ghost use Rattle.std.specs.Prelude.{◌≡◌, ℕ, IfOk};
+ghost use Rattle.std.specs.Prelude.{◌≡◌, ℕ, vec_len, IfOk};
 
 use packet_wire::{Packet, read_packet};
 use std::alloc::{AllocError, Global};
@@ -54,4 +54,19 @@ impl<L: Link> Link for Recorder<L> {
         let sent = Arc::try_clone(&self.sent)?;
         Ok(Recorder::new(self.alloc, self.inner.twin()?, sent))
     }
+}
+
+/// The same links, each of which keeps here what is sent.
+pub fn recorded<L: Link>(
+    alloc: Global,
+    links: Vec<L>,
+    sent: &Sent,
+) -> Result<Vec<Recorder<L>>, AllocError>
+    ensures { IfOk result (λ all. vec_len all ≡ vec_len links) }
+{
+    let mut all = Vec::new(alloc);
+    for link in links {
+        all.push(Recorder::new(alloc, link, Arc::try_clone(sent)?))?;
+    }
+    Ok(all)
 }
