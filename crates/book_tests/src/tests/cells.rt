@@ -1,14 +1,15 @@
 //! Cells of a node, from their opening to their book.
 
-ghost use Rattle.std.specs.Prelude.{◌≡◌, ◌≤◌};
+ghost use Rattle.std.specs.Prelude.{◌≡◌, ◌≤◌, IfSome};
 ghost use Rattle.node_core.specs.Refusal.{IsFit};
 ghost use Rattle.run_book.specs.Sites.{opening_of, IsRun, MayBeginIn};
 
+use cover_problem::Problem;
 use dlx_reader::read_problem;
 use node_core::{ActFault, Core, Event, NodeCore, Reply};
 use packet_wire::Body;
 use run_book::{
-    BookFault, CellName, CellParts, Missing, Receipt, Run, Seat, SiteCell, Step,
+    Book, BookFault, CellName, CellParts, Entry, Missing, Receipt, Run, Seat, SiteCell, Step, Stub,
     cores_step_as_their_sites,
 };
 use spawn_frame::Site;
@@ -123,37 +124,114 @@ fn refusals<J: Run, C: Core + Drop, N: CellName, R: Wait>(
     )
 }
 
+/// The book of a cell at which one seat has worked, with all its receipts.
+pub fn book_of<J: Run, C: Core + Drop, N: CellName>(
+    alloc: Global,
+    cell: SiteCell<J, C, N>,
+    seat: Seat<N>,
+    receipts: Vec<Receipt<N>>,
+) -> Option<Book<J>>
+    ensures { IfSome result (λ book. book.site ≡ N.site) }
+{
+    let mut seats = Vec::new(alloc);
+    seats.push(seat).ok()?;
+    cell.close(seats, receipts).ok()
+}
+
+/// The cell and the receipts, where it doesn't close without its seat.
+fn unclosed<J: Run, C: Core + Drop, N: CellName>(
+    alloc: Global,
+    cell: SiteCell<J, C, N>,
+    receipts: Vec<Receipt<N>>,
+) -> Option<(SiteCell<J, C, N>, Vec<Receipt<N>>)> {
+    let open = cell.close(Vec::new(alloc), receipts).err()?;
+    if open.cause == Missing::SeatsMissing(1) {
+        Some((open.cell, open.receipts))
+    } else {
+        None
+    }
+}
+
+/// The book, where the cell doesn't close without this receipt, and then does with it.
+fn closed_at_last<J: Run, C: Core + Drop, N: CellName>(
+    cell: SiteCell<J, C, N>,
+    seats: Vec<Seat<N>>,
+    receipts: Vec<Receipt<N>>,
+    later: Receipt<N>,
+) -> Option<Book<J>> {
+    let mut open = cell.close(seats, receipts).err()?;
+    if open.cause != Missing::ReceiptsMissing {
+        return None;
+    }
+    open.receipts.push(later).ok()?;
+    open.cell.close(open.seats, open.receipts).ok()
+}
+
+/// The book of a cell that closes once nothing is missing: first the seat and a receipt are, then the receipt.
+fn late_book<J: Run, C: Core + Drop, N: CellName>(
+    alloc: Global,
+    cell: SiteCell<J, C, N>,
+    seat: Seat<N>,
+    receipts: Vec<Receipt<N>>,
+    later: Receipt<N>,
+) -> Option<Book<J>> {
+    let (cell, receipts) = unclosed(alloc, cell, receipts)?;
+    let mut seats = Vec::new(alloc);
+    seats.push(seat).ok()?;
+    closed_at_last(cell, seats, receipts, later)
+}
+
+/// A seat that has greeted twice, after events that are refused.
+fn greeted_twice<J: Run, C: Core + Drop, N: CellName, R: Wait>(
+    rt: &R,
+    alloc: Global,
+    cell: &SiteCell<J, C, N>,
+) -> Option<Greeted<N>> {
+    let seat = refusals(rt, cell, cell.seat(rt).ok()?)?;
+    greets(rt, alloc, cell, seat, 2)
+}
+
+/// Whether the first receipt is that of the book's first entry.
+fn begins<N: CellName>(receipts: &[Receipt<N>]) -> bool {
+    match receipts {
+        [first, ..] => first.place == 0,
+        _ => false,
+    }
+}
+
+/// Whether these are two Greets of the node.
+fn are_greets(entries: &[Entry]) -> bool {
+    match entries {
+        [one, other] => is_greet(one.step()) && is_greet(other.step()),
+        _ => false,
+    }
+}
+
 /// The script of two Greets.
 fn two<J: Run, C: Core + Drop, N: CellName, R: Wait>(
     rt: &R,
     alloc: Global,
     cell: SiteCell<J, C, N>,
 ) -> Option<bool> {
-    let seat = refusals(rt, &cell, cell.seat(rt).ok()?)?;
     let Greeted {
         seat,
         mut receipts,
         rising,
-    } = greets(rt, alloc, &cell, seat, 2)?;
-    let first = receipts.first()?.place;
+    } = greeted_twice(rt, alloc, &cell)?;
+    let is_first = begins(&receipts);
     let later = receipts.pop()?;
-    let mut seats = Vec::new(alloc);
-    let open = cell.close(Vec::new(alloc), receipts).err()?;
-    let no_seat = open.cause;
-    seats.push(seat).ok()?;
-    let mut still_open = open.cell.close(seats, open.receipts).err()?;
-    let no_receipt = still_open.cause;
-    still_open.receipts.push(later).ok()?;
-    let book = still_open
-        .cell
-        .close(still_open.seats, still_open.receipts)
-        .ok()?;
-    let [one, other] = book.entries() else {
-        return None;
-    };
-    let causes = no_seat == Missing::SeatsMissing(1) && no_receipt == Missing::ReceiptsMissing;
-    let greet = is_greet(one.step()) && is_greet(other.step());
-    Some(rising && first == 0 && causes && book.site() == HERE && greet)
+    let book = late_book(alloc, cell, seat, receipts, later)?;
+    Some(rising && is_first && book.site() == HERE && are_greets(book.entries()))
+}
+
+/// The seat, where a Greet comes back since the book is full with one entry.
+fn refused_greet<J: Run, C: Core + Drop, N: CellName, R: Wait>(
+    rt: &R,
+    cell: &SiteCell<J, C, N>,
+    seat: Seat<N>,
+) -> Option<Seat<N>> {
+    let (seat, event, fault) = cell.act(rt, seat, Event::Greet).err()?;
+    (event == Event::Greet && fault == BookFault::BookFull(1)).then_some(seat)
 }
 
 /// The script of a Greet too many.
@@ -167,11 +245,31 @@ fn full<J: Run, C: Core + Drop, N: CellName, R: Wait>(
         receipts,
         rising: _,
     } = greets(rt, alloc, &cell, cell.seat(rt).ok()?, 1)?;
-    let (seat, event, fault) = cell.act(rt, seat, Event::Greet).err()?;
+    let seat = refused_greet(rt, &cell, seat)?;
+    let book = book_of(alloc, cell, seat, receipts)?;
+    Some(book.entries().len() == 1)
+}
+
+/// The book of a cell at which one seat has acted once, by the stub of its receipt.
+fn settled<J: Run, C: Core + Drop, N: CellName>(
+    alloc: Global,
+    cell: SiteCell<J, C, N>,
+    seat: Seat<N>,
+    stub: Stub<N>,
+) -> Option<Book<J>> {
     let mut seats = Vec::new(alloc);
     seats.push(seat).ok()?;
-    let book = cell.close(seats, receipts).ok()?;
-    Some(event == Event::Greet && fault == BookFault::BookFull(1) && book.entries().len() == 1)
+    let mut stubs = Vec::new(alloc);
+    stubs.push(stub).ok()?;
+    cell.settle(seats, stubs).ok()
+}
+
+/// Whether the one entry is a Greet of the node.
+fn is_one_greet(entries: &[Entry]) -> bool {
+    match entries {
+        [kept] => is_greet(kept.step()),
+        _ => false,
+    }
 }
 
 /// The script of a Greet of which the stub is kept.
@@ -180,18 +278,53 @@ fn stub<J: Run, C: Core + Drop, N: CellName, R: Wait>(
     alloc: Global,
     cell: SiteCell<J, C, N>,
 ) -> Option<bool> {
-    let seat = cell.seat(rt).ok()?;
-    let (seat, receipt) = cell.act(rt, seat, Event::Greet).ok()?;
+    let (seat, receipt) = cell.act(rt, cell.seat(rt).ok()?, Event::Greet).ok()?;
     let (stub, step) = receipt.into_parts();
+    let book = settled(alloc, cell, seat, stub)?;
+    Some(is_one_greet(book.entries()) && is_greet(&step) && step.into_reply() == Reply::Moved)
+}
+
+/// So many seats of a cell.
+fn seats_of<J: Run, C: Core + Drop, N: CellName, R: Wait>(
+    rt: &R,
+    alloc: Global,
+    cell: &SiteCell<J, C, N>,
+    count: u8,
+) -> Option<Vec<Seat<N>>> {
     let mut seats = Vec::new(alloc);
+    for _ in 0..count {
+        seats.push(cell.seat(rt).ok()?).ok()?;
+    }
+    Some(seats)
+}
+
+/// Appends a seat that has greeted and its receipts; whether they rise.
+fn collect<N: CellName>(
+    greeted: Greeted<N>,
+    seats: &mut Vec<Seat<N>>,
+    receipts: &mut Vec<Receipt<N>>,
+) -> Option<bool> {
+    let Greeted {
+        seat,
+        receipts: mut some,
+        rising,
+    } = greeted;
     seats.push(seat).ok()?;
-    let mut stubs = Vec::new(alloc);
-    stubs.push(stub).ok()?;
-    let book = cell.settle(seats, stubs).ok()?;
-    let [kept] = book.entries() else {
-        return None;
-    };
-    Some(is_greet(kept.step()) && is_greet(&step) && step.into_reply() == Reply::Moved)
+    receipts.append(&mut some).ok()?;
+    Some(rising)
+}
+
+/// The same of all; none where one is missing.
+fn collect_all<N: CellName>(
+    all: Vec<Option<Greeted<N>>>,
+    seats: &mut Vec<Seat<N>>,
+    receipts: &mut Vec<Receipt<N>>,
+) -> Option<bool> {
+    let mut rising = true;
+    for greeted in all {
+        rising = collect(greeted?, seats, receipts)? && rising;
+    }
+    Some(rising)
 }
 
 /// The script of threads that greet at once.
@@ -201,24 +334,11 @@ fn threads<
     N: CellName + Send + Sync,
     R: Threads + Wait + Sync,
 >(rt: &R, alloc: Global, cell: SiteCell<J, C, N>, count: u8) -> Option<bool> {
-    let mut fresh = Vec::new(alloc);
-    for _ in 0..count {
-        fresh.push(cell.seat(rt).ok()?).ok()?;
-    }
+    let fresh = seats_of(rt, alloc, &cell, count)?;
     let all = thread::map_vec(rt, fresh, &|seat| greets(rt, alloc, &cell, seat, 100)).ok()?;
     let mut seats = Vec::new(alloc);
     let mut receipts = Vec::new(alloc);
-    let mut rising = true;
-    for greeted in all {
-        let Greeted {
-            seat,
-            receipts: mut some,
-            rising: mine,
-        } = greeted?;
-        seats.push(seat).ok()?;
-        receipts.append(&mut some).ok()?;
-        rising = rising && mine;
-    }
+    let rising = collect_all(all, &mut seats, &mut receipts)?;
     let book = cell.close(seats, receipts).ok()?;
     Some(rising && book.entries().len() == usize::from(count) * 100)
 }
@@ -258,22 +378,27 @@ static SCRIPTS: [(Script, u64); 5] = [
     (Script::Threads(8), 1000),
 ];
 
+/// Plays a script at a cell of the node in a run of this problem.
+fn play_in<R: Threads + Wait + Sync>(
+    rt: &R,
+    alloc: Global,
+    problem: &Problem,
+    script: Script,
+    limit: u64,
+) -> Result<Option<bool>, Fail> {
+    // (for what the getter says: that the problem is lawful)
+    let _items = problem.items();
+    let cell_parts = CellParts::new(alloc)?;
+    let core = NodeCore::start(alloc, problem, HERE, 1, 1000)?;
+    let right = play::<Brand, Brand, _>(rt, alloc, cell_parts, core, limit, script);
+    Ok(right)
+}
+
 #[test]
 fn seat_places_rise(rt: HostRuntime) -> Result<(), Fail> {
-    let alloc = rt.alloc();
-    let read = read_problem(alloc, LETTERS.as_bytes())?;
-    // (for what the getter says: that the problem is lawful)
-    let _items = read.problem.items();
+    let read = read_problem(rt.alloc(), LETTERS.as_bytes())?;
     for (script, limit) in &SCRIPTS {
-        let core = NodeCore::start(alloc, &read.problem, HERE, 1, 1000)?;
-        let right = play::<Brand, Brand, _>(
-            &rt,
-            alloc,
-            CellParts::new(alloc)?,
-            core,
-            *limit,
-            *script,
-        );
+        let right = play_in(&rt, rt.alloc(), &read.problem, *script, *limit)?;
         assert_eq!(rt; right, Some(true));
     }
     Ok(())

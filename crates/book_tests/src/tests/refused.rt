@@ -6,7 +6,8 @@ ghost use Rattle.std.specs.Prelude.{◌≡◌, ◌≤◌};
 ghost use Rattle.node_core.specs.Refusal.{IsFit};
 ghost use Rattle.run_book.specs.Sites.{opening_of, IsRun, MayBeginIn};
 
-use cover_problem::Numbers;
+use super::cells::book_of;
+use cover_problem::{Numbers, Problem};
 use dlx_reader::read_problem;
 use growth_marks::{begin, end};
 use node_core::{ActFault, Core, Event, NodeCore, Reply};
@@ -146,6 +147,25 @@ fn is_told<N: CellName>(receipt: &Receipt<N>, place: u64, (_, taken, packets): &
     receipt.place == place && told == *taken && receipt.packets.len() == *packets
 }
 
+/// Plays the rows with a seat at the cell; the seat, and whether all is as they say.
+fn play_rows<J: Run, C: Core + Drop, N: CellName, R: Abort + Wait>(
+    rt: &R,
+    alloc: Global,
+    cell: &SiteCell<J, C, N>,
+    receipts: &mut Vec<Receipt<N>>,
+) -> Option<(Seat<N>, bool)> {
+    let mut seat = cell.seat(rt).ok()?;
+    let mut right = true;
+    for row in &ROWS {
+        receipts.reserve(1).ok()?;
+        let (kept, receipt) = does(rt, alloc, cell, seat, row.0)?;
+        seat = kept;
+        right = right && is_told(&receipt, receipts.len() as u64, row);
+        receipts.push_reserved(receipt);
+    }
+    Some((seat, right))
+}
+
 /// Plays the rows at the node's cell; whether all is as they say, and its book then has so many entries.
 fn play<J: Run, N: CellName, R: Abort + Wait>(
     rt: &R,
@@ -162,30 +182,30 @@ fn play<J: Run, N: CellName, R: Abort + Wait>(
 {
     cores_step_as_their_sites();
     let cell: SiteCell<J, NodeCore, N> = SiteCell::new(cell_parts, core, 100);
-    let mut seat = cell.seat(rt).ok()?;
     let mut receipts = Vec::new(alloc);
-    let mut right = true;
-    for row in &ROWS {
-        receipts.reserve(1).ok()?;
-        let (kept, receipt) = does(rt, alloc, &cell, seat, row.0)?;
-        seat = kept;
-        right = right && is_told(&receipt, receipts.len() as u64, row);
-        receipts.push_reserved(receipt);
-    }
-    let mut seats = Vec::new(alloc);
-    seats.push(seat).ok()?;
-    let book = cell.close(seats, receipts).ok()?;
+    let (seat, right) = play_rows(rt, alloc, &cell, &mut receipts)?;
+    let book = book_of(alloc, cell, seat, receipts)?;
     Some(right && book.entries().len() == ROWS.len())
+}
+
+/// Plays the rows at a cell of the node in a run of this problem.
+fn play_in<R: Abort + Wait>(
+    rt: &R,
+    alloc: Global,
+    problem: &Problem,
+) -> Result<Option<bool>, Fail> {
+    // (for what the getter says: that the problem is lawful)
+    let _items = problem.items();
+    let cell_parts = CellParts::new(alloc)?;
+    let core = NodeCore::start(alloc, problem, HERE, 2, 1000)?;
+    let right = play::<Brand, Brand, _>(rt, alloc, cell_parts, core);
+    Ok(right)
 }
 
 #[test]
 fn refused_memory_at_a_cell(rt: HostRuntime) -> Result<(), Fail> {
-    let alloc = rt.alloc();
-    let read = read_problem(alloc, LETTERS.as_bytes())?;
-    // (for what the getter says: that the problem is lawful)
-    let _items = read.problem.items();
-    let core = NodeCore::start(alloc, &read.problem, HERE, 2, 1000)?;
-    let right = play::<Brand, Brand, _>(&rt, alloc, CellParts::new(alloc)?, core);
+    let read = read_problem(rt.alloc(), LETTERS.as_bytes())?;
+    let right = play_in(&rt, rt.alloc(), &read.problem)?;
     assert_eq!(rt; right, Some(true));
     Ok(())
 }

@@ -3,13 +3,15 @@
 ghost use Rattle.std.specs.Prelude.{◌≡◌};
 ghost use Rattle.run_book.specs.Sites.{opening_of, IsRun, MayBeginIn};
 
+use super::cells::book_of;
 use cover_problem::{Answer, Numbers, Problem};
 use dlx_reader::read_problem;
 use node_core::{Core, Event};
 use packet_wire::{Body, Packet, is_well_formed};
 use root_registry::Registry;
 use run_book::{
-    CellName, CellParts, Receipt, Run, Seat, SiteCell, cores_step_as_their_sites, distinct_sites,
+    Book, CellName, CellParts, Receipt, Run, Seat, SiteCell, cores_step_as_their_sites,
+    distinct_sites,
 };
 use spawn_frame::{ChildResult, Site};
 use std::alloc::{AllocError, Global};
@@ -59,6 +61,36 @@ fn cover(alloc: Global, options: &[u16]) -> Result<Numbers, AllocError> {
     Ok(Numbers::from_vec(Vec::from_slice(alloc, options)?))
 }
 
+/// What the node says once it has found the cover.
+fn found(alloc: Global) -> Option<Body> {
+    Some(Body::Return {
+        serial: 0,
+        attempt: 1,
+        result: ChildResult::Cover(cover(alloc, &[3, 4, 0]).ok()?),
+    })
+}
+
+/// The node asks for work, and then has found the cover.
+fn hears_all<J: Run, C: Core + Drop, N: CellName, R: Wait>(
+    rt: &R,
+    alloc: Global,
+    cell: &SiteCell<J, C, N>,
+    receipts: &mut Vec<Receipt<N>>,
+) -> Option<Seat<N>> {
+    let seat = hears(rt, cell, cell.seat(rt).ok()?, receipts, Body::Steal)?;
+    hears(rt, cell, seat, receipts, found(alloc)?)
+}
+
+/// Whether the registry's book tells the cover.
+fn tells<J: Run>(alloc: Global, book: &Book<J>, problem: &Problem) -> Option<bool>
+    requires registry { book.now.site.node ≡ 0 }
+    requires problem { problem.now ≡ J.run.problem }
+{
+    let published = Answer::Cover(cover(alloc, &[0, 3, 4]).ok()?);
+    let answer = book.answer(alloc, problem).ok()?;
+    Some(distinct_sites(slice::from_ref(book)) && answer == Some(published))
+}
+
 /// Plays a search of one node at a cell of the registry; whether its book tells the cover.
 fn play<J: Run, N: CellName, R: Wait>(
     rt: &R,
@@ -78,29 +110,25 @@ fn play<J: Run, N: CellName, R: Wait>(
     cores_step_as_their_sites();
     let cell: SiteCell<J, Registry, N> = SiteCell::new(cell_parts, core, 2);
     let mut receipts = Vec::new(alloc);
-    let found = Body::Return {
-        serial: 0,
-        attempt: 1,
-        result: ChildResult::Cover(cover(alloc, &[3, 4, 0]).ok()?),
-    };
-    let seat = hears(rt, &cell, cell.seat(rt).ok()?, &mut receipts, Body::Steal)?;
-    let seat = hears(rt, &cell, seat, &mut receipts, found)?;
-    let mut seats = Vec::new(alloc);
-    seats.push(seat).ok()?;
-    let book = cell.close(seats, receipts).ok()?;
-    let answer = book.answer(alloc, problem).ok()?;
-    let published = Answer::Cover(cover(alloc, &[0, 3, 4]).ok()?);
-    Some(distinct_sites(slice::from_ref(&book)) && answer == Some(published))
+    let seat = hears_all(rt, alloc, &cell, &mut receipts)?;
+    let book = book_of(alloc, cell, seat, receipts)?;
+    tells(alloc, &book, problem)
+}
+
+/// Plays it at a cell of the registry in a run of this problem.
+fn play_in<R: Wait>(rt: &R, alloc: Global, problem: &Problem) -> Result<Option<bool>, Fail> {
+    // (for what the getter says: that the problem is lawful)
+    let _items = problem.items();
+    let cell_parts = CellParts::new(alloc)?;
+    let core = Registry::start(alloc, problem, 1)?;
+    let right = play::<Brand, Brand, _>(rt, alloc, cell_parts, core, problem);
+    Ok(right)
 }
 
 #[test]
 fn book_of_the_registry(rt: HostRuntime) -> Result<(), Fail> {
-    let alloc = rt.alloc();
-    let read = read_problem(alloc, LETTERS.as_bytes())?;
-    // (for what the getter says: that the problem is lawful)
-    let _items = read.problem.items();
-    let core = Registry::start(alloc, &read.problem, 1)?;
-    let right = play::<Brand, Brand, _>(&rt, alloc, CellParts::new(alloc)?, core, &read.problem);
+    let read = read_problem(rt.alloc(), LETTERS.as_bytes())?;
+    let right = play_in(&rt, rt.alloc(), &read.problem)?;
     assert_eq!(rt; right, Some(true));
     Ok(())
 }

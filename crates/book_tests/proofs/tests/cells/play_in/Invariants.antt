@@ -1,7 +1,7 @@
-use Rattle.book_tests.proofs.tests.refused.refused_memory_at_a_cell.Given as goal
+use Rattle.book_tests.proofs.tests.cells.play_in.Given as goal
 
 abbrev pub ghosts-play-J-Run : goal.ghosts-play-J-Run
-ghosts-play-J-Run g a = record { run = record { problem = a.core.problem; nodes = 2 } }
+ghosts-play-J-Run g a = record { run = record { problem = a.core.problem; nodes = 1 } }
 
 abbrev pub ghosts-play-N-Ledger : goal.ghosts-play-N-Ledger
 ghosts-play-N-Ledger g a = record { name = a.cell_parts.name; parts = 18446744073709551615 }
