@@ -1,8 +1,12 @@
 -- Sums and differences of one binary digit.
-use Rattle.std.proofs.Common.{◌≡◌, ℕ, ◌+◌, ◌*◌, ◌^◌, ◌<◌, ◌↔◌, bit_and, arith, w64}
+use Rattle.std.proofs.Common.{◌≡◌, ℕ, ◌+◌, ◌*◌, ◌^◌, ◌<◌, refl, ◌↔◌, bit_and, arith, w64}
 use Rattle.std.specs.Int.{bit_at, bit_not}
-use Rattle.std.specs.Int.Bits.{bit_xor}
-use Rattle.std.proofs.lemmas.Nat.Bits.{bit_at_and, bit_at_xor, bit_at_not, bit_at_ones, bit_at-lt, bit_at-zero}
+use Rattle.std.specs.Int.Bits.{bit_or, bit_xor}
+use Rattle.item_planes.specs.declared.digits.Digits.{Digits}
+use Rattle.item_planes.specs.declared.digits.Digits.TheVariants.{Three, Five, Seven}
+use Rattle.item_planes.specs.declared.planes.Planes.{Planes}
+use Rattle.item_planes.specs.Counts.{count_at, limit_of, part_at}
+use Rattle.std.proofs.lemmas.Nat.Bits.{bit_at_and, bit_at_xor, bit_at_not, bit_at_or, bit_at_ones, bit_at-lt, bit_at-zero}
 
 -- each digit is 1, or each is turned
 pub digit_full : (i : ℕ) → i < 64 → bit_at 18446744073709551615 i ≡ 1
@@ -28,3 +32,15 @@ all_ones items digits i small inside none here =
     let other = bit_at_not w64 digits i small inside in
     let zero : bit_at (bit_and items (bit_not w64 digits)) i ≡ 0 = rw none (bit_at-zero i) in
     omega (arith, here, both, other, zero, bit_at-lt digits i)
+
+-- where no item has one of two digits, each is 0
+pub none_of_both : (one other i : ℕ) → bit_or one other ≡ 0 → bit_at one i + bit_at other i ≡ 0
+none_of_both one other i none =
+    let zero : bit_at (bit_or one other) i ≡ 0 = rw none (bit_at-zero i) in
+    omega (arith, bit_at_or one other i, zero, bit_at-lt one i, bit_at-lt other i)
+
+-- the lowest digits of a count with no more digits are all of it
+pub part_all : (digits : Digits) (p : Planes) (i : ℕ) → count_at p i < limit_of digits → part_at digits p i ≡ count_at p i
+part_all Three p i few = omega (arith, few)
+part_all Five p i few = omega (arith, few)
+part_all Seven p i few = refl

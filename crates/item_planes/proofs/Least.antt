@@ -1,16 +1,10 @@
 -- The least count, found from its highest digit to its lowest.
-use Rattle.std.proofs.Common.{◌≡◌, ℕ, ◌+◌, ◌*◌, ◌^◌, ◌<◌, ◌≤◌, ◌↔◌, refl, inl, inr, arith, w64}
+use Rattle.std.proofs.Common.{◌≡◌, ℕ, ◌+◌, ◌*◌, ◌^◌, ◌<◌, ◌≤◌, ◌∙◌, refl, inl, inr, arith, w64}
 use Rattle.std.specs.Int.{bit_at, trailing_zeros}
 use Rattle.std.proofs.lemmas.Bool.{cases_eq, cases_lt}
 use Rattle.std.proofs.lemmas.Nat.Bits.{bit_at-lt, bit_at-trailing_zeros}
 use Rattle.item_planes.specs.declared.planes.Planes.{Planes}
-use Rattle.item_planes.specs.Counts.{count_at, IsLeast, IsLeastDigit}
-
--- of some items those whose number, the highest digits of a count, is least
-pub record IsNarrowed (items : ℕ) (number : ℕ → ℕ) (left least : ℕ) : Type 0 where
-  pub some : 1 ≤ left
-  pub bound : (i : ℕ) → i < 64 → bit_at items i ≡ 1 → least ≤ number i
-  pub those : (i : ℕ) → i < 64 → (bit_at left i ≡ 1) ↔ ((bit_at items i ≡ 1) × (number i ≡ least))
+use Rattle.item_planes.specs.Counts.{count_at, IsLeast, IsLeastDigit, IsNarrowed}
 
 pub narrowed_first : (items : ℕ) → 1 ≤ items → IsNarrowed items (λ i. 0) items 0
 narrowed_first items some = record {
@@ -37,6 +31,18 @@ narrowed_next items number left least digits next digit are is = record {
         let number_is : number i ≡ least = omega (arith, h.1, bound, is.binary, bit_at-lt digits i) in
         let digit_is : bit_at digits i ≡ digit = omega (arith, h.1, number_is) in
         (is.those i inside).1 ((are.those i inside).1 (h.0, number_is), digit_is)),
+  );
+}
+
+-- the same by other numbers, which are alike on these items
+pub narrowed_same : (items : ℕ) (number other : ℕ → ℕ) (left least : ℕ) → IsNarrowed items number left least
+    → ((i : ℕ) → i < 64 → bit_at items i ≡ 1 → other i ≡ number i) → IsNarrowed items other left least
+narrowed_same items number other left least are same = record {
+  some = are.some;
+  bound = λ i inside here. omega (arith, same i inside here, are.bound i inside here);
+  those = λ i inside. (
+    (λ h. let there = (are.those i inside).0 h in (there.0, same i inside there.0 ∙ there.1)),
+    (λ h. (are.those i inside).1 (h.0, omega (arith, same i inside h.0, h.1))),
   );
 }
 

@@ -1,25 +1,10 @@
-//! One binary digit of all counts: bit `i` is that of item `i`.
-
-ghost use Rattle.std.specs.Prelude.{◌≡◌, ℕ, ◌+◌, ◌*◌, ◌<◌, ◌≤◌};
-ghost use Rattle.std.specs.Int.{bit_at};
-ghost use Rattle.item_planes.specs.Counts.{IsLeastDigit};
-
-/// Takes a borrow from the digits; answers the digits, and the borrow from the next ones.
-#[inline(always)]
-pub fn lowered(digits: u64, borrow: u64) -> (u64, u64)
-    ensures { (i : ℕ) → i < 64 → bit_at result.0 i + bit_at borrow i
-        ≡ bit_at digits i + 2 * bit_at result.1 i }
-{
-    let lower = digits ^ borrow;
-    (lower, borrow & lower)
-}
-
-/// Of some items those whose digit is least, and this digit.
-#[inline(always)]
-pub fn least_digit(items: u64, digits: u64) -> (u64, u32)
-    requires { 1 ≤ items }
-    ensures { IsLeastDigit items digits result.0 result.1 }
-{
-    let zeros = items & !digits;
-    if zeros != 0 { (zeros, 0) } else { (items, 1) }
+/// How many binary digits some counts have.
+#[derive(Clone, Copy)]
+pub enum Digits {
+    /// Each count is below 8.
+    Three,
+    /// Each count is below 32.
+    Five,
+    /// Each count is below 128.
+    Seven,
 }

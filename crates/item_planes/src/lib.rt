@@ -4,7 +4,9 @@
 //! least count is found in as many steps as there are planes.
 #![tactic(auto)]
 
+mod digit;
 mod digits;
 mod planes;
 
+pub use digits::Digits;
 pub use planes::Planes;

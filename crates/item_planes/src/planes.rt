@@ -2,9 +2,10 @@
 
 ghost use Rattle.std.specs.Prelude.{◌≡◌, ℕ, ◌+◌, ◌*◌, ◌<◌, ◌≤◌, ◌↔◌, false, None, IfSome};
 ghost use Rattle.std.specs.Int.{bit_at};
-ghost use Rattle.item_planes.specs.Counts.{count_at, low_count_at, IsLeast};
+ghost use Rattle.item_planes.specs.Counts.{count_at, high_at, limit_of, low_at, part_at, IsLeast, IsNarrowed};
 
-use crate::digits::{least_digit, lowered};
+use crate::digit::{least_digit, lowered};
+use crate::digits::Digits;
 
 /// The counts of at most 64 items, each below 128, and which of the items are uncovered: bit `i` is that of item `i`.
 #[derive(Clone, Copy)]
@@ -32,7 +33,8 @@ impl Planes {
     #[inline(always)]
     pub fn full(uncovered: u64) -> Planes
         ensures uncovered { result.uncovered ≡ uncovered }
-        ensures low { (i : ℕ) → i < 64 → low_count_at result i ≡ 31 }
+        ensures part { (digits : Digits) (i : ℕ) → i < 64 → part_at digits result i + 1
+            ≡ limit_of digits }
         ensures counts { (i : ℕ) → i < 64 → count_at result i ≡ 127 }
     {
         Planes {
@@ -65,54 +67,95 @@ impl Planes {
         }
     }
 
-    /// Whether some count may be above 31.
+    /// How many digits the counts have.
     #[inline(always)]
-    pub fn is_large(&self) -> bool
-        ensures { result ≡ false → (i : ℕ) → i < 64 → count_at self.now i < 32 }
+    pub fn digits(&self) -> Digits
+        ensures { (i : ℕ) → i < 64 → count_at self.now i < limit_of result }
     {
-        self.thirty_twos != 0 || self.sixty_fours != 0
-    }
-
-    /// Takes one from the counts of these items, none of which is 0. Where none is 0 in its five lowest digits, `large` may be false.
-    #[inline(always)]
-    pub fn take(&mut self, items: u64, large: bool)
-        requires enough { (i : ℕ) → i < 64 → bit_at items i ≤ count_at self.old i }
-        requires low { large ≡ false → (i : ℕ) → i < 64 → bit_at items i ≤ low_count_at self.old i }
-        ensures uncovered { self.new.uncovered ≡ self.old.uncovered }
-        ensures low { large ≡ false → (i : ℕ) → i < 64 → low_count_at self.new i + bit_at items i
-            ≡ low_count_at self.old i }
-        ensures counts { (i : ℕ) → i < 64 → count_at self.new i + bit_at items i
-            ≡ count_at self.old i }
-    {
-        let thirty_two = self.take_low(items);
-        if large {
-            let (thirty_twos, sixty_four) = lowered(self.thirty_twos, thirty_two);
-            let (sixty_fours, _) = lowered(self.sixty_fours, sixty_four);
-            self.thirty_twos = thirty_twos;
-            self.sixty_fours = sixty_fours;
+        if self.thirty_twos | self.sixty_fours != 0 {
+            Digits::Seven
+        } else if self.eights | self.sixteens != 0 {
+            Digits::Five
+        } else {
+            Digits::Three
         }
     }
 
-    /// Takes one from what the five lowest digits of these items count; answers the borrow from the next ones.
+    /// Takes one from the counts of these items, none of which is 0 in so many of its lowest digits.
     #[inline(always)]
-    fn take_low(&mut self, items: u64) -> u64
+    pub fn take(&mut self, items: u64, digits: Digits)
+        requires { (i : ℕ) → i < 64 → bit_at items i ≤ part_at digits self.old i }
         ensures uncovered { self.new.uncovered ≡ self.old.uncovered }
+        ensures part { (i : ℕ) → i < 64 → part_at digits self.new i + bit_at items i
+            ≡ part_at digits self.old i }
+        ensures counts { (i : ℕ) → i < 64 → count_at self.new i + bit_at items i
+            ≡ count_at self.old i }
+    {
+        let eight = self.take_three(items);
+        match digits {
+            Digits::Three => {}
+            Digits::Five => {
+                self.take_two(eight);
+            }
+            Digits::Seven => self.take_four(eight),
+        }
+    }
+
+    /// Takes one from what the three lowest digits of these items count; answers the borrow from the next ones.
+    #[inline(always)]
+    fn take_three(&mut self, items: u64) -> u64
+        ensures uncovered { self.new.uncovered ≡ self.old.uncovered }
+        ensures eights { self.new.eights ≡ self.old.eights }
+        ensures sixteens { self.new.sixteens ≡ self.old.sixteens }
         ensures thirty_twos { self.new.thirty_twos ≡ self.old.thirty_twos }
         ensures sixty_fours { self.new.sixty_fours ≡ self.old.sixty_fours }
-        ensures counts { (i : ℕ) → i < 64 → low_count_at self.new i + bit_at items i
-            ≡ low_count_at self.old i + 32 * bit_at result i }
+        ensures part { (i : ℕ) → i < 64 → low_at self.new i + bit_at items i
+            ≡ low_at self.old i + 8 * bit_at result i }
     {
         let (ones, two) = lowered(self.ones, items);
         let (twos, four) = lowered(self.twos, two);
         let (fours, eight) = lowered(self.fours, four);
-        let (eights, sixteen) = lowered(self.eights, eight);
-        let (sixteens, thirty_two) = lowered(self.sixteens, sixteen);
         self.ones = ones;
         self.twos = twos;
         self.fours = fours;
+        eight
+    }
+
+    /// Takes a borrow from the fourth and fifth digit; answers the borrow from the next ones.
+    #[inline(always)]
+    fn take_two(&mut self, eight: u64) -> u64
+        ensures uncovered { self.new.uncovered ≡ self.old.uncovered }
+        ensures ones { self.new.ones ≡ self.old.ones }
+        ensures twos { self.new.twos ≡ self.old.twos }
+        ensures fours { self.new.fours ≡ self.old.fours }
+        ensures thirty_twos { self.new.thirty_twos ≡ self.old.thirty_twos }
+        ensures sixty_fours { self.new.sixty_fours ≡ self.old.sixty_fours }
+        ensures part { (i : ℕ) → i < 64 → high_at Digits.Five self.new i + bit_at eight i
+            ≡ high_at Digits.Five self.old i + 4 * bit_at result i }
+    {
+        let (eights, sixteen) = lowered(self.eights, eight);
+        let (sixteens, thirty_two) = lowered(self.sixteens, sixteen);
         self.eights = eights;
         self.sixteens = sixteens;
         thirty_two
+    }
+
+    /// Takes a borrow from all digits above the third, which count as much.
+    #[inline(always)]
+    fn take_four(&mut self, eight: u64)
+        requires { (i : ℕ) → i < 64 → bit_at eight i ≤ high_at Digits.Seven self.old i }
+        ensures uncovered { self.new.uncovered ≡ self.old.uncovered }
+        ensures ones { self.new.ones ≡ self.old.ones }
+        ensures twos { self.new.twos ≡ self.old.twos }
+        ensures fours { self.new.fours ≡ self.old.fours }
+        ensures part { (i : ℕ) → i < 64 → high_at Digits.Seven self.new i + bit_at eight i
+            ≡ high_at Digits.Seven self.old i }
+    {
+        let thirty_two = self.take_two(eight);
+        let (thirty_twos, sixty_four) = lowered(self.thirty_twos, thirty_two);
+        let (sixty_fours, _) = lowered(self.sixty_fours, sixty_four);
+        self.thirty_twos = thirty_twos;
+        self.sixty_fours = sixty_fours;
     }
 
     /// Covers these items. The counts stay.
@@ -125,24 +168,62 @@ impl Planes {
         self.uncovered &= !items;
     }
 
-    /// The uncovered item with the least count, the first of those, and its count; none where all items are covered.
+    /// The uncovered item with the least count, the first of those, and its count, which has so many digits; none where all items are
+    /// covered.
     #[inline(always)]
-    pub fn least(&self) -> Option<(u32, u32)>
+    pub fn least(&self, digits: Digits) -> Option<(u32, u32)>
+        requires { (i : ℕ) → i < 64 → bit_at self.now.uncovered i ≡ 1
+            → count_at self.now i < limit_of digits }
         ensures none { result ≡ None → self.now.uncovered ≡ 0 }
         ensures least { IfSome result (λ least. IsLeast self.now least.0 least.1) }
     {
         if self.uncovered == 0 {
             return None;
         }
-        let (items, sixty_four) = least_digit(self.uncovered, self.sixty_fours);
-        let (items, thirty_two) = least_digit(items, self.thirty_twos);
-        let (items, sixteen) = least_digit(items, self.sixteens);
-        let (items, eight) = least_digit(items, self.eights);
+        let (items, high) = self.least_high(self.uncovered, digits);
         let (items, four) = least_digit(items, self.fours);
         let (items, two) = least_digit(items, self.twos);
         let (items, one) = least_digit(items, self.ones);
-        let small = one + 2 * two + 4 * four + 8 * eight + 16 * sixteen;
-        let count = small + 32 * thirty_two + 64 * sixty_four;
-        Some((items.trailing_zeros(), count))
+        Some((items.trailing_zeros(), 8 * high + 4 * four + 2 * two + one))
+    }
+
+    /// Of some items those with the least count by the digits above the third, and what these digits count of eights.
+    #[inline(always)]
+    fn least_high(&self, items: u64, digits: Digits) -> (u64, u32)
+        requires { 1 ≤ items }
+        ensures few { result.1 < 16 }
+        ensures least { IsNarrowed items (high_at digits self.now) result.0 result.1 }
+    {
+        match digits {
+            Digits::Three => (items, 0),
+            Digits::Five => self.least_two(items, 0),
+            Digits::Seven => self.least_four(items),
+        }
+    }
+
+    /// Of items whose counts have these higher digits those with the least count, and this count, by the fourth and fifth digit.
+    #[inline(always)]
+    fn least_two(&self, items: u64, high: u32) -> (u64, u32)
+        requires some { 1 ≤ items }
+        requires high { high < 4 }
+        ensures few { result.1 < 4 * high + 4 }
+        ensures least { (all : ℕ) (number : ℕ → ℕ) → IsNarrowed all number items high
+            → IsNarrowed all (λ i. 4 * number i + high_at Digits.Five self.now i) result.0 result.1 }
+    {
+        let (items, sixteen) = least_digit(items, self.sixteens);
+        let (items, eight) = least_digit(items, self.eights);
+        (items, 4 * high + 2 * sixteen + eight)
+    }
+
+    /// The same by all digits above the third.
+    #[inline(always)]
+    fn least_four(&self, items: u64) -> (u64, u32)
+        requires { 1 ≤ items }
+        ensures few { result.1 < 16 }
+        ensures least { IsNarrowed items (high_at Digits.Seven self.now) result.0 result.1 }
+    {
+        let (items, sixty_four) = least_digit(items, self.sixty_fours);
+        let (items, thirty_two) = least_digit(items, self.thirty_twos);
+        self.least_two(items, 2 * sixty_four + thirty_two)
     }
 }

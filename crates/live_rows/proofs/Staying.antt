@@ -1,5 +1,5 @@
 -- Options that stay, counted word by word.
-use Rattle.std.proofs.Common.{◌≡◌, ℕ, zero, suc, ◌+◌, ◌-◌, ◌*◌, ◌/◌, ◌%◌, ◌<◌, ◌≤◌, List, length, get_or, Bool, true, false, nat_lt, ◌==◌, ◌&&◌, count_by, refl, arith, sym, ap, ◌∙◌, inl, inr}
+use Rattle.std.proofs.Common.{◌≡◌, ℕ, zero, suc, ◌+◌, ◌-◌, ◌*◌, ◌/◌, ◌%◌, ◌<◌, ◌≤◌, List, [], ◌∷◌, ◌++◌, length, get_or, Bool, true, false, nat_lt, ◌==◌, ◌&&◌, count_by, refl, arith, sym, ap, ◌∙◌, inl, inr}
 use Rattle.std.specs.List.{range_with_len}
 use Rattle.std.specs.Int.{bit_at}
 use Rattle.std.proofs.lemmas.Bool.{cases_Bool, eq-eqb, lt-ltb, ltb-true, and_parts}
@@ -7,9 +7,11 @@ use Rattle.cover_problem.specs.Prefix.{is_live}
 use Rattle.cover_problem.specs.Problem.{Problem, names_item}
 use Rattle.option_sets.specs.Sets.{has}
 use Rattle.live_rows.specs.Counting.{IsLive}
-use Rattle.live_rows.specs.Planes.{named_in, named_of, AreMasks}
+use Rattle.item_planes.specs.declared.planes.Planes.{Planes}
+use Rattle.item_planes.specs.Counts.{count_at}
+use Rattle.live_rows.specs.Planes.{named_in, named_of, AreMasks, ArePlanes}
 use Rattle.live_rows.proofs.Counted.{one, step, count_none, count_split}
-use Rattle.live_rows.proofs.Gone.{count_sum}
+use Rattle.live_rows.proofs.Gone.{count_sum, live_part, named_live}
 
 -- a live option is one
 pub live_inside : (p : Problem) (prefix live : List ℕ) (x : ℕ) → IsLive p prefix live → has live x ≡ true → x < length p.options
@@ -90,3 +92,12 @@ module _ (p : Problem) (masks set : List ℕ) (first i : ℕ) where
       table false true m k = ap one (sym (k refl))
       table true false m k = refl
       table false false m k = refl
+
+-- no uncovered item has more live options once one more option is chosen
+pub planes_fewer : (p : Problem) (os : List ℕ) (o first n : ℕ) (before live : List ℕ) (old new : Planes) → IsLive p os before → IsLive p (os ++ o ∷ []) live
+    → ArePlanes p os first old → ArePlanes p (os ++ o ∷ []) first new → ((i : ℕ) → i < 64 → count_at old i < n)
+    → (i : ℕ) → i < 64 → bit_at new.uncovered i ≡ 1 → count_at new i < n
+planes_fewer p os o first n before live old new was now are next few i low here =
+    let primary = ((next.uncovered i low).0 here).0 in
+    let less = named_part p before live (first + i) (was.words ∙ sym now.words) (live_part p os o before live was now) in
+    omega (arith, less, named_live p os before (first + i) was, named_live p (os ++ o ∷ []) live (first + i) now, are.counted i low primary, next.counted i low primary, few i low)

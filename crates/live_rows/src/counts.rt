@@ -5,9 +5,11 @@ ghost use Rattle.cover_problem.specs.Branching.{branch_item};
 ghost use Rattle.live_rows.specs.Counting.{item_of, IsLive};
 ghost use Rattle.live_rows.specs.Levels.{AreCounts};
 ghost use Rattle.live_rows.specs.Planes.{IsSmall};
+ghost use Rattle.live_rows.specs.Step.{IsStep};
 
 use crate::level::{count_first, count_level};
 use crate::plane_counts::{PlaneCounts, is_small, least_item};
+use crate::step::Step;
 use option_sets::OptionSets;
 use std::alloc::{AllocError, Global};
 
@@ -64,30 +66,21 @@ impl Counts {
 
     /// Makes the counts of a level from those of the level before it, where one more option was chosen; answers the least key.
     #[inline(always)]
-    pub fn push(
-        &mut self,
-        sets: &OptionSets,
-        chosen: &[u16],
-        before: &[u64],
-        live: &[u64],
-        option: u16,
-    ) -> u32
-        requires counts { AreCounts sets.now chosen.now self.old }
-        requires room { length chosen.now < sets.now.primary }
-        requires option { option < length sets.now.options }
-        requires before { IsLive sets.now chosen.now before.now }
-        requires live { IsLive sets.now (chosen.now ++ option ∷ []) live.now }
-        ensures counts { AreCounts sets.now (chosen.now ++ option ∷ []) self.new }
-        ensures branch { branch_item sets.now (chosen.now ++ option ∷ []) ≡ item_of result }
+    pub fn push(&mut self, sets: &OptionSets, step: Step) -> u32
+        requires counts { AreCounts sets.now step.chosen.now self.old }
+        requires step { IsStep sets.now step }
+        ensures counts { AreCounts sets.now (step.entry.chosen.now ++ step.entry.option ∷ []) self.new }
+        ensures branch { branch_item sets.now (step.entry.chosen.now ++ step.entry.option ∷ [])
+            ≡ item_of result }
     {
         match self {
-            Counts::Keys(keys) => count_level(sets, live, keys, chosen.len(), option),
-            Counts::Planes(planes) => {
-                least_item(planes.push(sets, chosen, before, live, option), None)
+            Counts::Keys(keys) => {
+                count_level(sets, step.live, keys, step.chosen.len(), step.option)
             }
+            Counts::Planes(planes) => least_item(planes.push(sets, step), None),
             Counts::Halves(low, high) => {
-                let least = low.push(sets, chosen, before, live, option);
-                let other = high.push(sets, chosen, before, live, option);
+                let least = low.push(sets, step);
+                let other = high.push(sets, step);
                 least_item(least, other)
             }
         }

@@ -7,6 +7,7 @@ ghost use Rattle.live_rows.specs.Levels.{AreLevels, level_at};
 
 use crate::counts::Counts;
 use crate::level::{fill_first, level_at, spare_level};
+use crate::step::Step;
 use option_sets::OptionSets;
 use std::alloc::{AllocError, Global};
 
@@ -76,9 +77,13 @@ impl Levels {
     {
         let depth = chosen.len();
         spare_level(sets, &mut self.live, depth, option, words);
-        let before = level_at(&self.live, words, depth);
-        let live = level_at(&self.live, words, depth + 1);
-        self.leasts[depth + 1] = self.counts.push(sets, chosen, before, live, option);
+        let step = Step {
+            chosen,
+            option,
+            before: level_at(&self.live, words, depth),
+            live: level_at(&self.live, words, depth + 1),
+        };
+        self.leasts[depth + 1] = self.counts.push(sets, step);
     }
 }
 

@@ -12,6 +12,7 @@ mod mark;
 mod plane_counts;
 mod rows;
 mod searching;
+mod step;
 mod untried;
 
 pub use rows::LiveRows;

@@ -6,12 +6,14 @@ ghost use Rattle.cover_problem.specs.Branching.{branch_item, live_options};
 ghost use Rattle.cover_problem.specs.Numbers.{is_in};
 ghost use Rattle.cover_problem.specs.Problem.{Problem as ProblemValue, IsProblem};
 ghost use Rattle.option_sets.specs.Sets.{has};
-ghost use Rattle.item_planes.specs.Counts.{count_at, low_count_at};
+ghost use Rattle.item_planes.specs.Counts.{count_at, limit_of, part_at};
 ghost use Rattle.live_rows.specs.Counting.{item_of, IsLive};
 ghost use Rattle.live_rows.specs.Planes.{named_in, named_of, AreMasks, ArePlanes, ArePlaneCounts, IsLeastOf, IsSmall};
+ghost use Rattle.live_rows.specs.Step.{IsStep};
 
 use crate::keys::count_row;
-use item_planes::Planes;
+use crate::step::Step;
+use item_planes::{Digits, Planes};
 use option_sets::{OptionSets, word_below};
 use std::alloc::{AllocError, Global};
 
@@ -72,48 +74,55 @@ impl PlaneCounts {
                 planes,
                 turn,
             },
-            least_from(&start, first),
+            least_from(&start, first, Digits::Seven),
         ))
     }
 
     /// Makes the counts of a level from those of the level before it, where one more option was chosen; answers the uncovered item with
     /// the least count, and that count.
     #[inline(always)]
-    pub fn push(
-        &mut self,
-        sets: &OptionSets,
-        chosen: &[u16],
-        before: &[u64],
-        live: &[u64],
-        option: u16,
-    ) -> Option<(u32, u32)>
-        requires counts { ArePlaneCounts sets.now chosen.now self.old }
-        requires room { length chosen.now < sets.now.primary }
-        requires option { option < length sets.now.options }
-        requires before { IsLive sets.now chosen.now before.now }
-        requires live { IsLive sets.now (chosen.now ++ option ∷ []) live.now }
+    pub fn push(&mut self, sets: &OptionSets, step: Step) -> Option<(u32, u32)>
+        requires counts { ArePlaneCounts sets.now step.chosen.now self.old }
+        requires step { IsStep sets.now step }
         ensures first { self.new.first ≡ self.old.first }
-        ensures counts { ArePlaneCounts sets.now (chosen.now ++ option ∷ []) self.new }
-        ensures least { IsLeastOf sets.now (chosen.now ++ option ∷ []) self.old.first result }
+        ensures counts { ArePlaneCounts sets.now (step.entry.chosen.now ++ step.entry.option ∷ []) self.new }
+        ensures least { IsLeastOf sets.now (step.entry.chosen.now ++ step.entry.option ∷ []) self.old.first
+            result }
     {
-        let depth = chosen.len();
-        let last = self.planes[depth];
-        let anew = depth >= self.turn;
-        let first = self.first;
-        let mut next = next_planes(
-            sets,
-            &self.masks,
-            chosen,
-            before,
-            live,
-            option,
-            first,
-            last,
-            anew,
-        );
-        next.cover(self.masks[option as usize]);
-        self.planes[depth + 1] = next;
-        least_from(&next, first)
+        let last = self.planes[step.chosen.len()];
+        let digits = last.digits();
+        let mut next = self.next_planes(sets, step, last, digits);
+        next.cover(self.masks[step.option as usize]);
+        self.planes[step.chosen.len() + 1] = next;
+        least_from(&next, self.first, digits)
+    }
+
+    /// The counts of a level once one more option is chosen, whose items are not covered yet: counted anew, or from the last ones, which
+    /// have so many digits.
+    #[inline(always)]
+    fn next_planes(&self, sets: &OptionSets, step: Step, last: Planes, digits: Digits) -> Planes
+        requires masks { AreMasks sets.now self.now.first self.now.masks.items }
+        requires step { IsStep sets.now step }
+        requires last { ArePlanes sets.now step.chosen.now self.now.first last }
+        requires digits { (i : ℕ) → i < 64 → count_at last i < limit_of digits }
+        ensures uncovered { result.uncovered ≡ last.uncovered }
+        ensures counted { (i : ℕ) → i < 64 → self.now.first + i < sets.now.primary → count_at result i
+            ≡ length (live_options sets.now (step.entry.chosen.now ++ step.entry.option ∷ [])
+            (self.now.first + i)) }
+    {
+        if step.chosen.len() >= self.turn {
+            return count_live(
+                sets,
+                &self.masks,
+                step.live,
+                self.first,
+                last.uncovered,
+                digits,
+            );
+        }
+        let mut next = last;
+        take_gone(sets, &self.masks, step, self.first, &mut next, digits);
+        next
     }
 }
 
@@ -139,40 +148,10 @@ fn first_planes(sets: &OptionSets, masks: &[u64], live: &[u64], first: u16) -> P
     ensures { ArePlanes sets.now [] first result }
 {
     let uncovered = word_below(sets.problem().primary().saturating_sub(first as usize));
-    count_live(sets, masks, live, first, uncovered, true)
+    count_live(sets, masks, live, first, uncovered, Digits::Seven)
 }
 
-/// The counts of a level once one more option is chosen, whose items are not covered yet: counted anew, or from those of the level
-/// before it.
-#[inline(always)]
-fn next_planes(
-    sets: &OptionSets,
-    masks: &[u64],
-    chosen: &[u16],
-    before: &[u64],
-    live: &[u64],
-    option: u16,
-    first: u16,
-    last: Planes,
-    anew: bool,
-) -> Planes
-    requires masks { AreMasks sets.now first masks.now }
-    requires before { IsLive sets.now chosen.now before.now }
-    requires live { IsLive sets.now (chosen.now ++ option ∷ []) live.now }
-    requires planes { ArePlanes sets.now chosen.now first last }
-    ensures uncovered { result.uncovered ≡ last.uncovered }
-    ensures counted { (i : ℕ) → i < 64 → first + i < sets.now.primary → count_at result i
-        ≡ length (live_options sets.now (chosen.now ++ option ∷ []) (first + i)) }
-{
-    if anew {
-        return count_live(sets, masks, live, first, last.uncovered, last.is_large());
-    }
-    let mut next = last;
-    take_gone(sets, masks, chosen, before, live, option, first, &mut next);
-    next
-}
-
-/// Counts the options that are live. Where each item has fewer than 32 of them, `large` may be false.
+/// Counts the options that are live, of which each item has at most as many as have so many digits.
 ///
 /// They are taken from full counts, and what is left is turned: to take one costs less than to add one.
 #[inline(always)]
@@ -182,76 +161,75 @@ fn count_live(
     live: &[u64],
     first: u16,
     uncovered: u64,
-    large: bool,
+    digits: Digits,
 ) -> Planes
     requires masks { AreMasks sets.now first masks.now }
     requires inside { (x : ℕ) → has live.now x ≡ true → x < length sets.now.options }
-    requires small { (i : ℕ) → i < 64 → first + i < sets.now.primary → named_of sets.now live.now (first + i) < 128 }
-    requires low { large ≡ false → (i : ℕ) → i < 64 → first + i < sets.now.primary → named_of sets.now live.now (first + i) < 32 }
+    requires few { (i : ℕ) → i < 64 → first + i < sets.now.primary → named_of sets.now live.now (first + i) < limit_of digits }
     ensures uncovered { result.uncovered ≡ uncovered }
     ensures counted { (i : ℕ) → i < 64 → first + i < sets.now.primary → count_at result i
         ≡ named_of sets.now live.now (first + i) }
 {
     let mut planes = Planes::full(uncovered);
     for place in 0..live.len() {
-        take_word(masks, place, live[place], &mut planes, large);
+        take_word(masks, place, live[place], &mut planes, digits);
     }
     planes.complement()
 }
 
-/// Takes the options that are live before one more is chosen, and not then, from the counts of their items.
+/// Takes the options that are live before one more is chosen, and not then, from the counts of their items, which have so many
+/// digits.
 #[inline(always)]
 fn take_gone(
     sets: &OptionSets,
     masks: &[u64],
-    chosen: &[u16],
-    before: &[u64],
-    live: &[u64],
-    option: u16,
+    step: Step,
     first: u16,
     planes: &mut Planes,
+    digits: Digits,
 )
     requires masks { AreMasks sets.now first masks.now }
-    requires before { IsLive sets.now chosen.now before.now }
-    requires live { IsLive sets.now (chosen.now ++ option ∷ []) live.now }
-    requires planes { ArePlanes sets.now chosen.now first planes.old }
+    requires step { IsStep sets.now step }
+    requires planes { ArePlanes sets.now step.chosen.now first planes.old }
+    requires digits { (i : ℕ) → i < 64 → count_at planes.old i < limit_of digits }
     ensures uncovered { planes.new.uncovered ≡ planes.old.uncovered }
     ensures counted { (i : ℕ) → i < 64 → first + i < sets.now.primary → count_at planes.new i
-        ≡ length (live_options sets.now (chosen.now ++ option ∷ []) (first + i)) }
+        ≡ length (live_options sets.now (step.entry.chosen.now ++ step.entry.option ∷ []) (first + i)) }
 {
-    let large = planes.is_large();
-    for place in 0..live.len() {
-        take_word(masks, place, before[place] & !live[place], planes, large);
+    for place in 0..step.live.len() {
+        let gone = step.before[place] & !step.live[place];
+        take_word(masks, place, gone, planes, digits);
     }
 }
 
-/// Takes the options of a word from the counts of their items.
+/// Takes the options of a word from the counts of their items, none of which has fewer in so many of its lowest digits.
 #[inline(always)]
-fn take_word(masks: &[u64], place: usize, gone: u64, planes: &mut Planes, large: bool)
+fn take_word(masks: &[u64], place: usize, gone: u64, planes: &mut Planes, digits: Digits)
     requires inside { (k : ℕ) → k < 64 → bit_at gone k ≡ 1 → place * 64 + k < length masks.now }
-    requires enough { (i : ℕ) → i < 64 → named_in masks.now place gone i ≤ count_at planes.old i }
-    requires low { large ≡ false → (i : ℕ) → i < 64 → named_in masks.now place gone i ≤ low_count_at planes.old i }
+    requires enough { (i : ℕ) → i < 64 → named_in masks.now place gone i ≤ part_at digits planes.old i }
     ensures uncovered { planes.new.uncovered ≡ planes.old.uncovered }
-    ensures low { large ≡ false → (i : ℕ) → i < 64 → low_count_at planes.new i + named_in masks.now place gone i
-        ≡ low_count_at planes.old i }
+    ensures part { (i : ℕ) → i < 64 → part_at digits planes.new i + named_in masks.now place gone i
+        ≡ part_at digits planes.old i }
     ensures counts { (i : ℕ) → i < 64 → count_at planes.new i + named_in masks.now place gone i
         ≡ count_at planes.old i }
 {
     let mut left = gone;
     while left != 0 {
         let bit = left.trailing_zeros();
-        planes.take(masks[place * 64 + bit as usize], large);
+        planes.take(masks[place * 64 + bit as usize], digits);
         left &= left - 1;
     }
 }
 
-/// The uncovered item with the least count, and that count.
+/// The uncovered item with the least count, and that count, which has so many digits.
 #[inline(always)]
-fn least_from(planes: &Planes, first: u16) -> Option<(u32, u32)>
+fn least_from(planes: &Planes, first: u16, digits: Digits) -> Option<(u32, u32)>
+    requires { (i : ℕ) → i < 64 → bit_at planes.now.uncovered i ≡ 1
+        → count_at planes.now i < limit_of digits }
     ensures { (problem : ProblemValue) (prefix : List ℕ) → ArePlanes problem prefix first planes.now
         → IsLeastOf problem prefix first result }
 {
-    match planes.least() {
+    match planes.least(digits) {
         Some((item, count)) => Some((first as u32 + item, count)),
         None => None,
     }

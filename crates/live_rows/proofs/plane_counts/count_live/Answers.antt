@@ -7,7 +7,7 @@ use Rattle.live_rows.proofs.plane_counts.count_live.Goals as goal
 pub loop-place-init : goal.loop-place-init
 loop-place-init c = record {
   uncovered = c.full-planes.ensures.uncovered;
-  low = λ few i low primary. omega (arith, c.full-planes.ensures.low i low, from_first c.args.sets.now c.args.masks.now c.args.live.now c.args.first i);
+  part = λ i low primary. omega (arith, c.full-planes.ensures.part c.args.digits i low, from_first c.args.sets.now c.args.masks.now c.args.live.now c.args.first i);
   counts = λ i low primary. omega (arith, c.full-planes.ensures.counts i low, from_first c.args.sets.now c.args.masks.now c.args.live.now c.args.first i);
 }
 
@@ -19,16 +19,7 @@ pub take_word-requires-clause-enough : goal.take_word-requires-clause-enough
 take_word-requires-clause-enough c i low = elim (cases_lt (c.args.first + i) c.args.sets.now.primary) [
   | inl primary ↦
       let next = from_next c.args.sets.now c.args.masks.now c.args.live.now c.args.first i c.requires.masks c.requires.inside primary low c.loop-place.place (omega (arith, c.loop-place-test.true)) in
-      omega (arith, next, c.loop-place.invariant.counts i low primary, c.requires.small i low primary)
-  | inr high ↦
-      omega (arith, named_off c.args.sets.now c.args.masks.now c.args.first c.loop-place.place (get_or c.args.live.now c.loop-place.place 0) i c.requires.masks high low)
-]
-
-pub take_word-requires-clause-low : goal.take_word-requires-clause-low
-take_word-requires-clause-low c few i low = elim (cases_lt (c.args.first + i) c.args.sets.now.primary) [
-  | inl primary ↦
-      let next = from_next c.args.sets.now c.args.masks.now c.args.live.now c.args.first i c.requires.masks c.requires.inside primary low c.loop-place.place (omega (arith, c.loop-place-test.true)) in
-      omega (arith, next, c.loop-place.invariant.low few i low primary, c.requires.low few i low primary)
+      omega (arith, next, c.loop-place.invariant.part i low primary, c.requires.few i low primary)
   | inr high ↦
       omega (arith, named_off c.args.sets.now c.args.masks.now c.args.first c.loop-place.place (get_or c.args.live.now c.loop-place.place 0) i c.requires.masks high low)
 ]
@@ -39,7 +30,7 @@ loop-place-preserved c =
     from_next c.args.sets.now c.args.masks.now c.args.live.now c.args.first i c.requires.masks c.requires.inside primary low c.loop-place.place (omega (arith, c.loop-place-test.true)) in
     record {
       uncovered = omega (arith, c.take_word.ensures.uncovered, c.loop-place.invariant.uncovered);
-      low = λ few i low primary. omega (arith, next i low primary, c.loop-place.invariant.low few i low primary, c.take_word.ensures.low few i low);
+      part = λ i low primary. omega (arith, next i low primary, c.loop-place.invariant.part i low primary, c.take_word.ensures.part i low);
       counts = λ i low primary. omega (arith, next i low primary, c.loop-place.invariant.counts i low primary, c.take_word.ensures.counts i low);
     }
 

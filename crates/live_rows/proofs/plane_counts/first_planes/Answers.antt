@@ -10,8 +10,8 @@ use Rattle.live_rows.proofs.plane_counts.first_planes.Goals as goal
 pub count_live-requires-clause-inside : goal.count_live-requires-clause-inside
 count_live-requires-clause-inside c x here = live_inside c.args.sets.now [] c.args.live.now x c.requires.live here
 
-pub count_live-requires-clause-small : goal.count_live-requires-clause-small
-count_live-requires-clause-small c i low primary = omega (arith, named_live c.args.sets.now [] c.args.live.now (c.args.first + i) c.requires.live, c.requires.small.options (c.args.first + i) primary)
+pub count_live-requires-clause-few : goal.count_live-requires-clause-few
+count_live-requires-clause-few c i low primary = omega (arith, named_live c.args.sets.now [] c.args.live.now (c.args.first + i) c.requires.live, c.requires.small.options (c.args.first + i) primary)
 
 pub returns : goal.returns
 returns c =

@@ -1,7 +1,7 @@
 use Rattle.std.proofs.Common.{◌≡◌, ℕ, ◌<◌, arith}
 use Rattle.std.specs.Int.{bit_at}
 use Rattle.item_planes.proofs.Binary.{zeros_of, all_ones}
-use Rattle.item_planes.proofs.digits.least_digit.Goals as goal
+use Rattle.item_planes.proofs.digit.least_digit.Goals as goal
 
 pub returns-then-zeros-ne0 : goal.returns-then-zeros-ne0
 returns-then-zeros-ne0 c = record {
