@@ -1,5 +1,5 @@
 -- Which options each option bars, by the items that it names and the colours that it gives them.
-use Rattle.std.specs.Prelude.{◌≡◌, ℕ, ◌/◌, ◌<◌, ◌≤◌, List, [], length, slice_index_or, Bool, not, ◌==◌, ◌&&◌, nat_lt, map, filter}
+use Rattle.std.specs.Prelude.{◌≡◌, ℕ, ◌*◌, ◌/◌, ◌<◌, ◌≤◌, List, [], length, take, drop, slice_index_or, Bool, not, ◌==◌, ◌&&◌, nat_lt, map, filter}
 use Rattle.std.specs.List.{range_with_len}
 use Rattle.cover_problem.specs.Prefix.{agree, clash}
 use Rattle.cover_problem.specs.Problem.{Problem, IsProblem, items_of, names_item, colour_of}
@@ -45,12 +45,22 @@ pub record IsKept (problem : Problem) (option : ℕ) (set : List ℕ) : Type 0 w
   pub long : length set ≡ words_of problem
   pub exact : (x : ℕ) → x / 64 < words_of problem → has set x ≡ not (clash problem option x)
 
--- such sets of the first options, or of all, or none
-abbrev pub AreKept : Problem → List (List ℕ) → Type 0
-AreKept problem kept = (option : ℕ) → option < length kept → IsKept problem option (slice_index_or kept option [])
+-- The set of so many words that stands for an option, where those of all options stand one behind the other.
+abbrev pub set_at : ℕ → ℕ → List ℕ → List ℕ
+set_at words option sets = take words (drop (option * words) sets)
+
+-- the sets that all options leave, one behind the other
+pub record AreAllKept (problem : Problem) (kept : List ℕ) : Type 0 where
+  pub long : length kept ≡ length problem.options * words_of problem
+  pub each : (option : ℕ) → option < length problem.options → IsKept problem option (set_at (words_of problem) option kept)
+
+-- such sets, or none: the list is empty, or has those of all options
+abbrev pub AreKept : Problem → List ℕ → Type 0
+AreKept problem kept = 0 < length kept → AreAllKept problem kept
 
 -- what stands beside the tables: how many words a set has, the primary items of each option, and the sets that options leave
-pub record AreSets (problem : Problem) (words : ℕ) (named kept : List (List ℕ)) : Type 0 where
+pub record AreSets (problem : Problem) (words : ℕ) (named : List (List ℕ)) (kept : List ℕ) : Type 0 where
+  pub lawful : IsProblem problem
   pub words_are : words ≡ words_of problem
   pub named_are : named ≡ map (primary_of problem) (range_with_len 0 (length problem.options))
   pub kept_are : AreKept problem kept

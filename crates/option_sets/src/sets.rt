@@ -9,7 +9,7 @@ ghost use Rattle.option_sets.specs.Sets.{words_of, has, IsRow};
 ghost use Rattle.option_sets.specs.Tables.{primary_of};
 
 use crate::clear::meet;
-use crate::kept::{Set, kept_sets};
+use crate::kept::kept_sets;
 use crate::tables::Tables;
 use crate::word::Word;
 use cover_problem::{Numbers, Problem};
@@ -24,8 +24,8 @@ pub struct OptionSets<'a> {
     words: usize,
     /// The primary items of each option.
     named: Vec<Numbers>,
-    /// The set that each option leaves; of a large problem none.
-    kept: Vec<Set>,
+    /// The sets that each option leaves, one behind the other; of a large problem none.
+    kept: Vec<u64>,
 }
 
 impl<'a> Model for OptionSets<'a> {
@@ -106,8 +106,11 @@ impl<'a> OptionSets<'a> {
         requires next { length next.old ≡ words_of self.now }
         ensures { (x : ℕ) → has next.new x ≡ (has live.now x && not (clash self.now option x)) }
     {
-        if let Some(set) = self.kept.get(option as usize) {
-            return meet(live, set.as_slice(), next);
+        let kept: &[u64] = &self.kept;
+        let words = next.len();
+        let start = option as usize * words;
+        if start < kept.len() {
+            return meet(live, &kept[start..start + words], next);
         }
         next.copy_from_slice(live);
         self.tables.bar(option, next);

@@ -63,7 +63,8 @@ impl<'a> Tables<'a> {
 
     /// How many words a set of options has.
     pub fn words(&self) -> usize
-        ensures { result ≡ words_of self.now }
+        ensures words { result ≡ words_of self.now }
+        ensures lawful { IsProblem self.now }
     {
         self.problem.options().div_ceil(64)
     }
