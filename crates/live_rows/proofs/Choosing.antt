@@ -12,6 +12,7 @@ use Rattle.dancing_links.proofs.Prefixed.{prefix_push, prefix_front}
 use Rattle.option_sets.specs.Sets.{words_of}
 use Rattle.live_rows.specs.declared.levels.Levels.{Levels}
 use Rattle.live_rows.specs.declared.mark.Mark.{Mark}
+use Rattle.live_rows.specs.declared.untried.Untried.{Untried}
 use Rattle.cover_problem.specs.Branching.{branch_item, IsOpen}
 use Rattle.live_rows.specs.Counting.{IsLive, item_of}
 use Rattle.live_rows.proofs.Layered.{level_end, level_low}
@@ -19,7 +20,7 @@ use Rattle.live_rows.proofs.Leveled.{counts_front}
 use Rattle.cover_problem.proofs.Prefixes.{prefix_short, branch_is_open}
 use Rattle.dancing_links.proofs.Chosen.{room_left}
 use Rattle.live_rows.specs.Levels.{AreLevels, IsLevel, level_at}
-use Rattle.live_rows.specs.Rows.{AreMarks, AreRows, IsPopped, IsTaken, IsUntried}
+use Rattle.live_rows.specs.Rows.{AreMarks, AreRows, IsPopped, IsTaken, IsUntried, untried_of}
 
 -- the first options of a list with one more
 front_take : (os : List ℕ) (o e : ℕ) → e ≤ length os → take e (os ++ o ∷ []) ≡ take e os
@@ -44,18 +45,18 @@ marks_front p os o ms m long are = record {
   count = long;
   each = λ e mark at.
       let inside : e < length os = omega (arith, slice_get_within ms e mark at, long) in
-      let P : List ℕ → Type 0 = λ xs. IsUntried p xs mark.item (get_or (os ++ o ∷ []) e 0 + 1) mark.untried in
-      let Q : ℕ → Type 0 = λ n. IsUntried p (take e os) mark.item (n + 1) mark.untried in
+      let P : List ℕ → Type 0 = λ xs. IsUntried p xs mark.item (get_or (os ++ o ∷ []) e 0 + 1) (untried_of mark) in
+      let Q : ℕ → Type 0 = λ n. IsUntried p (take e os) mark.item (n + 1) (untried_of mark) in
       subst Q (get_or_append_left os (o ∷ []) 0 e inside) (subst P (front_take os o e (omega (arith, inside))) (are.each e mark (get_front ms (m ∷ []) e mark at)));
 }
 
 -- without the last option
-pub rows_front : (p : Problem) (os : List ℕ) (o : ℕ) (ms : List Mark) (m : Mark) (levels : Levels) → AreRows p (os ++ o ∷ []) (ms ++ m ∷ []) levels → AreRows p os ms levels × IsUntried p os m.item (o + 1) m.untried
+pub rows_front : (p : Problem) (os : List ℕ) (o : ℕ) (ms : List Mark) (m : Mark) (levels : Levels) → AreRows p (os ++ o ∷ []) (ms ++ m ∷ []) levels → AreRows p os ms levels × IsUntried p os m.item (o + 1) (untried_of m)
 rows_front p os o ms m levels are =
     let long : length ms ≡ length os = omega (arith, are.are_marks.count, length-append ms (m ∷ []), length-append os (o ∷ [])) in
     let last = are.are_marks.each (length ms) m (last_get ms m) in
-    let P : List ℕ → Type 0 = λ xs. IsUntried p xs m.item (get_or (os ++ o ∷ []) (length ms) 0 + 1) m.untried in
-    let Q : ℕ → Type 0 = λ n. IsUntried p os m.item (n + 1) m.untried in
+    let P : List ℕ → Type 0 = λ xs. IsUntried p xs m.item (get_or (os ++ o ∷ []) (length ms) 0 + 1) (untried_of m) in
+    let Q : ℕ → Type 0 = λ n. IsUntried p os m.item (n + 1) (untried_of m) in
     let front : take (length ms) (os ++ o ∷ []) ≡ os = ap (λ n. take n (os ++ o ∷ [])) long ∙ take-append_seam os (o ∷ []) in
     let option : get_or (os ++ o ∷ []) (length ms) 0 ≡ o = ap (λ n. get_or (os ++ o ∷ []) n 0) long ∙ get_or-append_seam os o [] 0 in (
       record {
@@ -67,17 +68,17 @@ rows_front p os o ms m levels are =
       subst Q option (subst P front last),
     )
 
-marks_push : (p : Problem) (os : List ℕ) (o : ℕ) (ms : List Mark) (m : Mark) → AreMarks p os ms → IsUntried p os m.item (o + 1) m.untried → AreMarks p (os ++ o ∷ []) (ms ++ m ∷ [])
+marks_push : (p : Problem) (os : List ℕ) (o : ℕ) (ms : List Mark) (m : Mark) → AreMarks p os ms → IsUntried p os m.item (o + 1) (untried_of m) → AreMarks p (os ++ o ∷ []) (ms ++ m ∷ [])
 marks_push p os o ms m are last = record {
   count = omega (arith, are.count, length-append ms (m ∷ []), length-append os (o ∷ []));
   each = λ e mark at.
-      let P : List ℕ → ℕ → Type 0 = λ xs n. IsUntried p xs mark.item (n + 1) mark.untried in
+      let P : List ℕ → ℕ → Type 0 = λ xs n. IsUntried p xs mark.item (n + 1) (untried_of mark) in
       elim (cases_lt e (length ms)) [
         | inl less ↦
             let inside : e < length os = omega (arith, less, are.count) in
             let own : slice_get ms e ≡ Some mark = slice_get-get_or ms e mark less ∙ ap Some (sym (get_or_append_left ms (m ∷ []) mark e less) ∙ get_or_from_slice_get (ms ++ m ∷ []) e mark mark at) in
-            let F : List ℕ → Type 0 = λ xs. IsUntried p xs mark.item (get_or (os ++ o ∷ []) e 0 + 1) mark.untried in
-            let G : ℕ → Type 0 = λ n. IsUntried p (take e os) mark.item (n + 1) mark.untried in
+            let F : List ℕ → Type 0 = λ xs. IsUntried p xs mark.item (get_or (os ++ o ∷ []) e 0 + 1) (untried_of mark) in
+            let G : ℕ → Type 0 = λ n. IsUntried p (take e os) mark.item (n + 1) (untried_of mark) in
             subst F (sym (front_take os o e (omega (arith, inside)))) (subst G (sym (get_or_append_left os (o ∷ []) 0 e inside)) (are.each e mark own))
         | inr more ↦
             let whole = slice_get_within (ms ++ m ∷ []) e mark at in
@@ -86,15 +87,15 @@ marks_push p os o ms m are last = record {
             let place : e ≡ length os = omega (arith, here, are.count) in
             let front : take e (os ++ o ∷ []) ≡ os = ap (λ n. take n (os ++ o ∷ [])) place ∙ take-append_seam os (o ∷ []) in
             let option : get_or (os ++ o ∷ []) e 0 ≡ o = ap (λ n. get_or (os ++ o ∷ []) n 0) place ∙ get_or-append_seam os o [] 0 in
-            let M : Mark → Type 0 = λ v. IsUntried p os v.item (o + 1) v.untried in
-            let F : List ℕ → Type 0 = λ xs. IsUntried p xs mark.item (get_or (os ++ o ∷ []) e 0 + 1) mark.untried in
-            let G : ℕ → Type 0 = λ n. IsUntried p os mark.item (n + 1) mark.untried in
+            let M : Mark → Type 0 = λ v. IsUntried p os v.item (o + 1) (untried_of v) in
+            let F : List ℕ → Type 0 = λ xs. IsUntried p xs mark.item (get_or (os ++ o ∷ []) e 0 + 1) (untried_of mark) in
+            let G : ℕ → Type 0 = λ n. IsUntried p os mark.item (n + 1) (untried_of mark) in
             subst F (sym front) (subst G (sym option) (subst M same last))
       ];
 }
 
 -- with one more
-pub rows_push : (p : Problem) (os : List ℕ) (o : ℕ) (ms : List Mark) (m : Mark) (old new : Levels) → AreRows p os ms old → o < length p.options → is_live p os o ≡ true → IsUntried p os m.item (o + 1) m.untried → AreLevels p (os ++ o ∷ []) new → AreRows p (os ++ o ∷ []) (ms ++ m ∷ []) new
+pub rows_push : (p : Problem) (os : List ℕ) (o : ℕ) (ms : List Mark) (m : Mark) (old new : Levels) → AreRows p os ms old → o < length p.options → is_live p os o ≡ true → IsUntried p os m.item (o + 1) (untried_of m) → AreLevels p (os ++ o ∷ []) new → AreRows p (os ++ o ∷ []) (ms ++ m ∷ []) new
 rows_push p os o ms m old new are inside live last levels = record {
   is_problem = are.is_problem;
   prefix = prefix_push p os o are.is_problem are.prefix inside live;
@@ -145,12 +146,12 @@ seen_push p os more o ms marks m v view e f =
     ∙ ap (λ (c : Choices). with_child c m.item o) view
 
 -- the same for the state
-pub pushed : (p : Problem) (os more : List ℕ) (o : ℕ) (ms marks : List Mark) (m : Mark) (old new : Levels) (v : Choices) → seen p os ms ≡ v → AreRows p os ms old → o < length v.problem.options → is_live v.problem v.chosen o ≡ true → IsUntried v.problem v.chosen m.item (o + 1) m.untried → AreLevels p (os ++ o ∷ []) new → more ≡ os ++ o ∷ [] → marks ≡ ms ++ m ∷ [] → AreRows p more marks new
+pub pushed : (p : Problem) (os more : List ℕ) (o : ℕ) (ms marks : List Mark) (m : Mark) (old new : Levels) (v : Choices) → seen p os ms ≡ v → AreRows p os ms old → o < length v.problem.options → is_live v.problem v.chosen o ≡ true → IsUntried v.problem v.chosen m.item (o + 1) (untried_of m) → AreLevels p (os ++ o ∷ []) new → more ≡ os ++ o ∷ [] → marks ≡ ms ++ m ∷ [] → AreRows p more marks new
 pushed p os more o ms marks m old new v view are inside live last levels e f =
     let back = sym view in
     let A : Choices → Type 0 = λ c. o < length c.problem.options in
     let B : Choices → Type 0 = λ c. is_live c.problem c.chosen o ≡ true in
-    let C : Choices → Type 0 = λ c. IsUntried c.problem c.chosen m.item (o + 1) m.untried in
+    let C : Choices → Type 0 = λ c. IsUntried c.problem c.chosen m.item (o + 1) (untried_of m) in
     let rows = rows_push p os o ms m old new are (subst A back inside) (subst B back live) (subst C back last) levels in
     let P : List ℕ → Type 0 = λ xs. AreRows p xs (ms ++ m ∷ []) new in
     let Q : List Mark → Type 0 = λ ys. AreRows p more ys new in
@@ -224,3 +225,16 @@ next_choice whole half before o m item option next after e pop taken =
     let R : ℕ → Type 0 = λ n. IsTaken before item (n + 1) next after in
     let all = subst R os.1 (subst Q is.1 (subst P base taken)) in
     record { next_is = all.first; child = all.child; chosen = all.chosen }
+
+-- a choice by an item, of which it leaves some options
+pub mark_leaves : (p : Problem) (os : List ℕ) (item start : ℕ) (m : Mark) (u : Untried) → m.item ≡ item → untried_of m ≡ u → IsUntried p os item start u → IsUntried p os m.item start (untried_of m)
+mark_leaves p os item start m u by rest is =
+    let P : ℕ → Type 0 = λ i. IsUntried p os i start (untried_of m) in
+    let Q : Untried → Type 0 = λ v. IsUntried p os item start v in
+    subst P (sym by) (subst Q (sym rest) is)
+
+-- and what such a choice does
+pub mark_takes : (before : Choices) (item start : ℕ) (option : Option ℕ) (after : Choices) (m : Mark) → m.item ≡ item → IsTaken before m.item start option after → IsTaken before item start option after
+mark_takes before item start option after m by taken =
+    let P : ℕ → Type 0 = λ i. IsTaken before i start option after in
+    subst P by taken

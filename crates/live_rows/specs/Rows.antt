@@ -18,10 +18,14 @@ pub record IsUntried (problem : Problem) (prefix : List ℕ) (item start : ℕ) 
   pub left : (x : ℕ) → (word_has untried.place untried.bits x || (row_has untried.later.now x && (nat_lt x (length problem.options) && is_live problem prefix x)))
       ≡ (nat_le start x && (nat_lt x (length problem.options) && is_choice problem prefix item x))
 
+-- what is left in place of a choice
+abbrev pub untried_of : Mark → Untried
+untried_of mark = record { place = mark.place; bits = mark.bits; later = mark.later }
+
 -- what is left behind each chosen option
 pub record AreMarks (problem : Problem) (chosen : List ℕ) (marks : List Mark) : Type 0 where
   pub count : length marks ≡ length chosen
-  pub each : (e : ℕ) (mark : Mark) → slice_get marks e ≡ Some mark → IsUntried problem (take e chosen) mark.item (slice_index chosen e + 1) mark.untried
+  pub each : (e : ℕ) (mark : Mark) → slice_get marks e ≡ Some mark → IsUntried problem (take e chosen) mark.item (slice_index chosen e + 1) (untried_of mark)
 
 -- a prefix, what is left behind each of its options, and its levels
 pub record AreRows (problem : Problem) (chosen : List ℕ) (marks : List Mark) (levels : Levels) : Type 0 where
@@ -39,4 +43,4 @@ pub record IsTaken (before : Choices) (item start : ℕ) (option : Option ℕ) (
 -- the last choice is taken back
 pub record IsPopped (before : Choices) (option : ℕ) (mark : Mark) (after : Choices) : Type 0 where
   pub choice : before ≡ with_child after mark.item option
-  pub untried : IsUntried after.problem after.chosen mark.item (option + 1) mark.untried
+  pub untried : IsUntried after.problem after.chosen mark.item (option + 1) (untried_of mark)

@@ -6,7 +6,7 @@ ghost use Rattle.cover_problem.specs.Onward.{live_options_from};
 ghost use Rattle.cover_problem.specs.Prefix.{is_covered, is_live, is_prefix};
 ghost use Rattle.cover_problem.specs.Problem.{IsProblem};
 ghost use Rattle.choices.specs.Choices.{Choices, with_child, with_child_if, with_choice, IsChild, IsNextChoice};
-ghost use Rattle.live_rows.specs.Rows.{IsUntried, IsTaken, IsPopped};
+ghost use Rattle.live_rows.specs.Rows.{IsUntried, IsTaken, IsPopped, untried_of};
 
 use crate::keys::item_in;
 use crate::levels::Levels;
@@ -101,7 +101,7 @@ impl<'a> LiveRows<'a> {
         let item = self.sets.primary_items(option)[0];
         let live = self.levels.live_at(self.sets, self.chosen.len());
         let untried = behind(self.sets.row(item), live, option);
-        self.push(option, Mark { item, untried });
+        self.push(option, Mark::new(item, untried));
     }
 
     /// Chooses the first live option that names an uncovered item, by that item. Answers the option; where there is none, nothing
@@ -116,7 +116,7 @@ impl<'a> LiveRows<'a> {
         ensures chosen { self.new ≡ with_child_if self.old item result }
     {
         let untried = Untried::of_row(self.sets.row(item));
-        self.take(Mark { item, untried })
+        self.take(Mark::new(item, untried))
     }
 
     /// Chooses, in place of the option that was chosen last, the next one that was live and names the item by which that one was
@@ -128,7 +128,7 @@ impl<'a> LiveRows<'a> {
             IsNextChoice before item option result self.new }
     {
         let (_, mark) = self.pop();
-        if mark.untried.is_empty() {
+        if mark.untried().is_empty() {
             return None;
         }
         self.take(mark)
@@ -146,19 +146,13 @@ impl<'a> LiveRows<'a> {
     /// Chooses the first live option that is left, by an item; where none is left, nothing changes.
     #[inline(always)]
     fn take(&mut self, mark: Mark<'a>) -> Option<u16>
-        requires { (start : ℕ) × IsUntried self.old.problem self.old.chosen mark.item start mark.untried }
-        ensures { (start : ℕ) → IsUntried self.old.problem self.old.chosen mark.entry.item start mark.entry.untried
+        requires { (start : ℕ) × IsUntried self.old.problem self.old.chosen mark.item start (untried_of mark) }
+        ensures { (start : ℕ) → IsUntried self.old.problem self.old.chosen mark.entry.item start (untried_of mark.entry)
             → IsTaken self.old mark.entry.item start result self.new }
     {
         let live = self.levels.live_at(self.sets, self.chosen.len());
-        let (option, untried) = mark.untried.next(live)?;
-        self.push(
-            option,
-            Mark {
-                item: mark.item,
-                untried,
-            },
-        );
+        let (option, untried) = mark.untried().next(live)?;
+        self.push(option, Mark::new(mark.item, untried));
         Some(option)
     }
 
@@ -167,7 +161,7 @@ impl<'a> LiveRows<'a> {
     fn push(&mut self, option: u16, mark: Mark<'a>)
         requires option { option < length self.old.problem.options }
         requires live { is_live self.old.problem self.old.chosen option ≡ true }
-        requires untried { IsUntried self.old.problem self.old.chosen mark.item (option + 1) mark.untried }
+        requires untried { IsUntried self.old.problem self.old.chosen mark.item (option + 1) (untried_of mark) }
         ensures { self.new ≡ with_child self.old mark.entry.item option }
     {
         self.levels.push(self.sets, &self.chosen, option);

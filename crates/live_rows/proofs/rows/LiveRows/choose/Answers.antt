@@ -1,7 +1,7 @@
-use Rattle.std.proofs.Common.{ℕ, length, arith, ap, subst, refl, get_or}
+use Rattle.std.proofs.Common.{ℕ, ◌+◌, length, arith, ap, subst, refl, get_or}
 use Rattle.choices.specs.Choices.{Choices}
 use Rattle.option_sets.specs.Sets.{IsRow}
-use Rattle.live_rows.proofs.Choosing.{live_here}
+use Rattle.live_rows.proofs.Choosing.{live_here, mark_leaves}
 use Rattle.live_rows.proofs.Marked.{primary_all, primary_some}
 use Rattle.live_rows.proofs.Taking.{row_behind}
 use Rattle.live_rows.proofs.rows.LiveRows.choose.Goals as goal
@@ -27,4 +27,5 @@ push-requires-clause-untried c =
     let item : ℕ = get_or c.primary_items.result.now 0 0 in
     let live = live_here s.sets.now s.chosen.items s.marks.items s.levels c.args.self.now c.len.result c.live_at-live.result.now c.self.view_is c.self.invariant.0 (omega (arith, s.chosen.ok.0, c.len.ensures)) c.live_at-live.ensures in
     let R : Choices → Type 0 = λ w. IsRow w.problem (get_or c.primary_items.result.now 0 0) c.row.result.now in
-    row_behind v.problem v.chosen item c.args.option c.row.result.now c.live_at-live.result.now c.behind-untried.result (subst R c.self.view_is c.row.ensures) live c.behind-untried.ensures
+    let left = row_behind v.problem v.chosen item c.args.option c.row.result.now c.live_at-live.result.now c.behind-untried.result (subst R c.self.view_is c.row.ensures) live c.behind-untried.ensures in
+    mark_leaves v.problem v.chosen item (c.args.option + 1) c.new.result c.behind-untried.result c.new.ensures.item c.new.ensures.untried left
