@@ -3,7 +3,7 @@
 
     python3 bench/solve.py [--times N] [NAME ..]
 
-Each instance that is named, or each of eight, is searched by `alone`, and by `solve` as one node of one, two and four workers
+Each instance that is named, or each of nine, is searched by `alone`, and by `solve` as one node of one, two and four workers
 and as two and four nodes of one worker, by turns. The least time that passed counts, from the start of the process to its end;
 the figure in brackets is how many times as fast as `alone` it was. All have to come to the same outcome, and covers are tested
 by `check`. A dash stands where `solve` gave no answer each time. The column `4 alone` is what the machine allows: four
@@ -25,7 +25,7 @@ sys.path[:0] = [os.path.join(HERE, "..", folder) for folder in ("examples", "scr
 import generate  # noqa: E402
 from built import parser_of, SOLVE_CLI, stop, want_program  # noqa: E402
 
-NAMES = ["langford-13", "langford-13-long", "torus-queens-15", "skewed", "diamond", "pentominoes-3x20", "sudoku-hard", "mutilated-chessboard"]
+NAMES = ["langford-13", "langford-13-long", "torus-queens-15", "skewed", "skewed-long", "diamond", "pentominoes-3x20", "sudoku-hard", "mutilated-chessboard"]
 # nodes, workers
 SITES = [(1, 1), (1, 2), (1, 4), (2, 1), (4, 1)]
 
@@ -36,20 +36,18 @@ PLACES = [f"s{place}" for place in range(1, 27)]
 PAIRS = [[str(d), f"s{place}", f"s{place + d + 1}"] for d in range(1, 14) for place in range(1, 26 - d)]
 
 
-def skewed(folder):
-    """Langford pairs of 13 behind thirty choices, each of which leaves all of the work to one of its two options."""
-    choices = [f"x{k}" for k in range(30)]
-    ways = [[choice] + rest for choice in choices for rest in (PLACES, [])]
-    generate.HERE = folder
-    generate.write("skewed.dlx", "thirty choices that leave all of the work to one option", choices + NUMBERS + PLACES, [],
-                   ways + PAIRS)
+# thirty choices, each of which leaves all of the work to one of its two options
+SKEWED = [f"z{k}" for k in range(30)]
+SKEWED_WAYS = [[choice] + rest for choice in SKEWED for rest in (PLACES, [])]
 
 
-def behind(folder, name, counts):
+def behind(folder, name, counts, skewed=False):
     """Langford pairs of 13 behind choices with so many options each: the product of these counts times the work."""
     choices = [f"x{k}" for k in range(len(counts))]
     marks = [f"y{k}.{way}" for k, count in enumerate(counts) for way in range(count)]
     ways = [[f"x{k}", f"y{k}.{way}"] for k, count in enumerate(counts) for way in range(count)]
+    if skewed:
+        choices, ways = SKEWED + choices, SKEWED_WAYS + ways
     generate.HERE = folder
     generate.write(f"{name}.dlx", f"choices that make the work {math.prod(counts)} times as much", choices + NUMBERS + PLACES,
                    marks, ways + PAIRS)
@@ -104,8 +102,9 @@ def main():
     want_program(SOLVE_CLI)
     with tempfile.TemporaryDirectory() as folder:
         subprocess.run([sys.executable, os.path.join(HERE, "instances.py"), folder], check=True)
-        skewed(folder)
         behind(folder, "langford-13-long", [2, 2])
+        behind(folder, "skewed", [], True)
+        behind(folder, "skewed-long", [2], True)
         print("| Instance | Outcome | `alone`, s | 4 alone | " + " | ".join(f"{n} x {w}" for n, w in SITES) + " |")
         print("|---|---|---|---|" + "---|" * len(SITES))
         for name in given.names or NAMES:
