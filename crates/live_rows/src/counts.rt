@@ -1,10 +1,10 @@
 //! How many live options name each primary item, level by level.
 
-ghost use Rattle.std.specs.Prelude.{◌≡◌, ◌+◌, ◌<◌, [], ◌∷◌, ◌++◌, length, IfOk};
+ghost use Rattle.std.specs.Prelude.{◌≡◌, ◌+◌, ◌<◌, ◌≤◌, [], ◌∷◌, ◌++◌, length, IfOk};
 ghost use Rattle.cover_problem.specs.Branching.{branch_item};
 ghost use Rattle.live_rows.specs.Counting.{item_of, IsLive};
 ghost use Rattle.live_rows.specs.Levels.{AreCounts};
-ghost use Rattle.live_rows.specs.Planes.{IsSmall};
+ghost use Rattle.live_rows.specs.Planes.{ArePlaneCounts, IsSmall};
 ghost use Rattle.live_rows.specs.Step.{IsStep};
 
 use crate::level::{count_first, count_level};
@@ -78,11 +78,30 @@ impl Counts {
                 count_level(sets, step.live, keys, step.chosen.len(), step.option)
             }
             Counts::Planes(planes) => least_item(planes.push(sets, step), None),
-            Counts::Halves(low, high) => {
-                let least = low.push(sets, step);
-                let other = high.push(sets, step);
-                least_item(least, other)
-            }
+            Counts::Halves(low, high) => push_halves(low, high, sets, step),
         }
     }
+}
+
+/// Makes the counts of both halves as `Counts::push` does; answers the branch item.
+// (inlined, it would make the loop of each other search too large to be inlined)
+#[inline(never)]
+fn push_halves(low: &mut PlaneCounts, high: &mut PlaneCounts, sets: &OptionSets, step: Step) -> u32
+    requires items { sets.now.primary ≤ 128 }
+    requires low { ArePlaneCounts sets.now step.chosen.now low.old }
+    requires high { ArePlaneCounts sets.now step.chosen.now high.old }
+    requires first { low.old.first ≡ 0 }
+    requires second { high.old.first ≡ 64 }
+    requires step { IsStep sets.now step }
+    ensures first { low.new.first ≡ low.old.first }
+    ensures second { high.new.first ≡ high.old.first }
+    ensures low { ArePlaneCounts sets.now (step.entry.chosen.now ++ step.entry.option ∷ []) low.new }
+    ensures high { ArePlaneCounts sets.now (step.entry.chosen.now ++ step.entry.option ∷ [])
+        high.new }
+    ensures branch { branch_item sets.now (step.entry.chosen.now ++ step.entry.option ∷ [])
+        ≡ item_of result }
+{
+    let least = low.push(sets, step);
+    let other = high.push(sets, step);
+    least_item(least, other)
 }
