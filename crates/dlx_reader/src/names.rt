@@ -8,6 +8,9 @@ use std::alloc::{AllocError, Global};
 use std::collections::BTreeMap;
 use std::marker::Model;
 
+/// With how many names a word is compared before it is looked up among all.
+const NEAR: usize = 8;
+
 /// The names of items or of colours in their order, no two of them alike, of which there are at most 10,000. Each is found by some
 /// ten comparisons, whatever the names are.
 #[derive(Drop)]
@@ -87,17 +90,19 @@ impl<'a> Names<'a> {
         self.index.get(word).copied()
     }
 
-    /// The number of the item or colour with a name, as `item_named` answers it. The name numbered `next` is looked at first: options
+    /// The number of the item or colour with a name, as `item_named` answers it. The names from `next` on are looked at first: options
     /// often name items in their order.
     pub fn item_named_near(&self, next: usize, word: &[u8]) -> Option<u16>
         ensures item { result ≡ item_named self.now word.now }
         ensures within { IfSome result (λ item. item < length self.now) }
         ensures most { length self.now ≤ MOST_COLOURS }
     {
-        match self.list.get(next) {
-            Some(name) if name.as_slice() == word => Some(next as u16),
-            _ => self.item_named(word),
+        for item in next..self.list.len().min(next.saturating_add(NEAR)) {
+            if self.list[item].as_slice() == word {
+                return Some(item as u16);
+            }
         }
+        self.item_named(word)
     }
 
     /// Whether it is one of the names.
