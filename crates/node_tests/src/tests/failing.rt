@@ -54,11 +54,10 @@ fn nodes_that_do_not_hear_the_registry_end(rt: HostRuntime) -> Result<(), Fail> 
     Ok(())
 }
 
-/// One node with one worker, which gives up soon.
-const SHORT: Plan = Plan {
+/// One node with one worker.
+const SMALL: Plan = Plan {
     workers: 1,
     nodes: 1,
-    quiet: 300,
     ..PLAN
 };
 
@@ -75,15 +74,18 @@ static NUMBERS: [(usize, Defect, Numbers); 6] = [
     (0, Defect::Noisy(7), (Cause::Over, 0, 7, 0)),
 ];
 
-/// The numbers of this site at the end of a run where its link has this defect; none where memory ran out.
+/// The numbers of this site at the end of a run where its link has this defect; none where memory ran out. Sites give up after so
+/// many receives that brought nothing.
 fn numbers<R: Threads + Wait + Clock + Sync>(
     rt: &R,
     alloc: Global,
+    quiet: u64,
     site: usize,
     defect: Defect,
 ) -> Option<Numbers> {
-    let links = links_with(alloc, SHORT.nodes, site, defect).ok()?;
-    let ran = run_whole(rt, alloc, &COVERED, SHORT, links, &Open)?;
+    let plan = Plan { quiet, ..SMALL };
+    let links = links_with(alloc, plan.nodes, site, defect).ok()?;
+    let ran = run_whole(rt, alloc, &COVERED, plan, links, &Open)?;
     let end = ran.sites.get(site)?;
     Some((end.cause, end.losses, end.dropped, end.failures))
 }
@@ -91,7 +93,7 @@ fn numbers<R: Threads + Wait + Clock + Sync>(
 #[test]
 fn numbers_of_a_site_with_a_defect(rt: HostRuntime) -> Result<(), Fail> {
     for (site, defect, expected) in NUMBERS {
-        let came = numbers(&rt, rt.alloc(), site, defect);
+        let came = numbers(&rt, rt.alloc(), u64::MAX, site, defect);
         assert_eq!(rt; came, Some(expected), "site {site}");
     }
     Ok(())
@@ -99,7 +101,9 @@ fn numbers_of_a_site_with_a_defect(rt: HostRuntime) -> Result<(), Fail> {
 
 #[test]
 fn a_send_that_fails_is_a_loss(rt: HostRuntime) -> Result<(), Fail> {
-    let Some((cause, losses, dropped, failures)) = numbers(&rt, rt.alloc(), 1, Defect::Stuck) else {
+    // (long enough for the node to send, however busy the machine is)
+    let came = numbers(&rt, rt.alloc(), 6_000, 1, Defect::Stuck);
+    let Some((cause, losses, dropped, failures)) = came else {
         return Err(Fail::new("memory ran out"));
     };
     assert_eq!(rt; (cause, dropped), (Cause::Turns, 0));

@@ -29,7 +29,7 @@ const PLAN: Plan = Plan {
     fuel: 1,
     seed: 1,
     turns: 500,
-    quiet: 100,
+    quiet: 2_000,
 };
 
 /// What a slow link and a second thread tell each other.

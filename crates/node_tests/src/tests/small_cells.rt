@@ -28,7 +28,7 @@ const PLAN: Plan = Plan {
     fuel: 1,
     seed: 1,
     turns: 100_000,
-    quiet: 300,
+    quiet: 6_000,
 };
 
 /// The node's site.
