@@ -35,7 +35,7 @@ REFUSED = ("tells", "stands", "anew", "want of memory", "of which no clause spea
 # how many words a page may have, and the pages of all crates together
 LIMITS = {
     "README.md": 850, "CONTRIBUTING.md": 900,
-    "docs/PROMISES.md": 800, "docs/PROTOCOL.md": 2300, "docs/SOLVE.md": 1150, "docs/DEFINITIONS.md": 450, "docs/GATE.md": 260,
+    "docs/PROMISES.md": 800, "docs/PROTOCOL.md": 2300, "docs/SOLVE.md": 1150, "docs/DEFINITIONS.md": 450, "docs/GATE.md": 250,
     "docs/DECISIONS.md": 1750, "docs/FORMAT.md": 1150, "docs/SIMULATE.md": 750,
     "bench/README.md": 850, "bench/TRIED.md": 350, "examples/README.md": 1500,
 }
