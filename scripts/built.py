@@ -13,6 +13,7 @@ def program_of(crate):
 
 
 SOLVE_CLI, WORKBENCH, RUN_TALLY, WORLD_STORY = map(program_of, ("solve_cli", "workbench", "run_tally", "world_story"))
+TWO_SEARCHES = program_of("two_searches")
 
 
 def parser_of(text):

@@ -1,0 +1,111 @@
+#!/usr/bin/env python3
+"""Times the search by links beside the search over sets of live options.
+
+    python3 bench/searches.py [--times N] [--fuel N] [NAME ..]
+
+Each instance that is named, or each of the benchmark's and four more whose options bar few others, is searched both ways, until the
+search ends or has made N visits (default 100,000). The first columns say which of the two the program takes and what the search came
+to. Times are the least processor seconds of the whole process, reading included. Where the command valgrind is on the path, millions of
+instructions are told too, without those of a search of one visit: reading and building the tables. The ratio is the time of the search
+that the program takes to the time of the other.
+
+It wants the program: (cd crates/two_searches && rt run) builds it. The exit status is 0, 1 where the two come to other outcomes, 2 for
+a fault of the command line or where there is no program.
+"""
+import math
+import os
+import random
+import re
+import resource
+import shutil
+import subprocess
+import sys
+import tempfile
+
+HERE = os.path.dirname(os.path.abspath(__file__))
+sys.path[:0] = [os.path.join(HERE, "..", folder) for folder in ("examples", "scripts")]
+import generate  # noqa: E402
+from built import TWO_SEARCHES, parser_of, stop, want_program  # noqa: E402
+
+KINDS = ["links", "sets"]
+
+
+def near(draw, places):
+    """Items next to one another, all or some of ten of these places."""
+    first = draw.randrange(-9, places)
+    row = [place for place in range(first, first + 10) if 0 <= place < places]
+    return row if draw.random() < 0.3 else sorted(draw.sample(row, draw.randrange(1, min(7, len(row)) + 1)))
+
+
+def sparse_instances(folder):
+    """Hundreds of items, and options that bar few others."""
+    generate.HERE = folder
+    for rows, columns in ((12, 10), (20, 20)):
+        cells = generate.rectangle(rows, columns) - {(0, 0), (rows - 1, columns - 1)}
+        generate.dominoes(f"dominoes-{rows}x{columns}.dlx", "without two corners of one colour", cells)
+    draw, names = random.Random(5), [f"i{k}" for k in range(1000)]
+    local = [[names[k] for k in near(draw, 1000)] for _ in range(20000)]
+    generate.write("local-1000.dlx", "options of items next to one another", names, [], local)
+    few = [[names[k] for k in sorted({item, *draw.sample(range(1000), draw.randrange(3))})] for item in range(1000) for _ in range(6)]
+    generate.write("primary-1000.dlx", "six options of one to three items for each item", names, [], few)
+
+
+def told(file, kind, fuel):
+    """What the program writes of a search, in words, and its processor seconds."""
+    before = resource.getrusage(resource.RUSAGE_CHILDREN)
+    text = subprocess.run([TWO_SEARCHES, file, kind, str(fuel)], capture_output=True, text=True).stdout
+    after = resource.getrusage(resource.RUSAGE_CHILDREN)
+    return text.split(), after.ru_utime + after.ru_stime - before.ru_utime - before.ru_stime
+
+
+def instructions(file, kind, fuel):
+    """How many instructions a search takes, without what one visit takes; none without valgrind."""
+    if not shutil.which("valgrind"):
+        return None
+    counts = []
+    for visits in (fuel, 1):
+        words = ["valgrind", "--tool=callgrind", "--callgrind-out-file=/dev/null", TWO_SEARCHES, file, kind, str(visits)]
+        errors = subprocess.run(words, capture_output=True, text=True).stderr
+        counts.append(int(re.search(r"refs:\s+([\d,]+)", errors)[1].replace(",", "")))
+    return counts[0] - counts[1]
+
+
+def row(file, times, fuel):
+    """The kind that the program takes, the outcome, and the least seconds of both kinds."""
+    suited, outcome = told(file, "suited", fuel)[0]
+    best = dict.fromkeys(KINDS, math.inf)
+    for _ in range(times):
+        for kind in KINDS:
+            text, seconds = told(file, kind, fuel)
+            if text != [kind, outcome]:
+                sys.exit(f"{file}: the searches come to other outcomes: {text}")
+            best[kind] = min(best[kind], seconds)
+    return suited, outcome, best
+
+
+def main():
+    words = parser_of(__doc__)
+    words.add_argument("--times", metavar="N", type=int, default=5, help="how often each is timed (default 5)")
+    words.add_argument("--fuel", metavar="N", type=int, default=100000, help="how many visits a search makes at most (default 100000)")
+    words.add_argument("names", nargs="*", metavar="NAME", help="instances, without their ending")
+    given = words.parse_args()
+    want_program(TWO_SEARCHES, "two_searches")
+    with tempfile.TemporaryDirectory() as folder:
+        subprocess.run([sys.executable, os.path.join(HERE, "instances.py"), folder], check=True)
+        sparse_instances(folder)
+        print("| Instance | Taken | Outcome | Links, s | Sets, s | Links, instructions | Sets, instructions | Ratio |")
+        print("|---|---|---|---|---|---|---|---|")
+        for name in given.names or sorted(it.removesuffix(".dlx") for it in os.listdir(folder)):
+            file = os.path.join(folder, name + ".dlx")
+            if not os.path.exists(file):
+                stop(f"there is no instance {name}")
+            suited, outcome, best = row(file, given.times, given.fuel)
+            counts = [instructions(file, kind, given.fuel) for kind in KINDS]
+            millions = ["-" if count is None else f"{count / 1e6:.1f}" for count in counts]
+            ratio = best[suited] / best[KINDS[1 - KINDS.index(suited)]]
+            print(f"| {name} | {suited} | {outcome} | {best['links']:.3f} | {best['sets']:.3f} | {' | '.join(millions)} | {ratio:.2f} |",
+                  flush=True)
+
+
+if __name__ == "__main__":
+    main()
