@@ -10,6 +10,7 @@ pub mod Example
 pub mod Extending
 pub mod Fewest
 pub mod Firsts
+pub mod Fronts
 pub mod Marks
 pub mod Named
 pub mod Ordered

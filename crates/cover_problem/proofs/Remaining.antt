@@ -2,7 +2,7 @@
 use Rattle.std.proofs.Common.{◌≡◌, ℕ, suc, ◌+◌, ◌-◌, ◌<◌, ◌≤◌, List, [], ◌∷◌, length, true, false, refl, arith}
 use Rattle.cover_problem.specs.Problem.{Problem}
 use Rattle.cover_problem.specs.Prefix.{is_covered}
-use Rattle.cover_problem.specs.Branching.{is_choice, live_options, open_items}
+use Rattle.cover_problem.specs.Branching.{is_choice, live_options}
 use Rattle.cover_problem.specs.Onward.{live_options_from, open_items_from}
 use Rattle.cover_problem.proofs.Basics.{range_step}
 

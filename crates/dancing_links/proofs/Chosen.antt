@@ -2,7 +2,7 @@
 use Rattle.std.proofs.Common.{◌≡◌, ℕ, ◌<◌, ◌≤◌, List, [], ◌∷◌, ◌++◌, length, true, false, nat_lt, ◌==◌, get_or, take, map, Option, refl, arith, sym, ap, ◌∙◌, subst, append_assoc, append-nil}
 use Rattle.std.specs.List.{All}
 use Rattle.std.proofs.lemmas.Bool.{and_parts, or_right, ltb-true}
-use Rattle.std.proofs.lemmas.List.{length-append, take-append-le, take_all, same_from_push, length-map}
+use Rattle.std.proofs.lemmas.List.{take-append-le, take_all, same_from_push, length-map}
 use Rattle.cover_problem.specs.Numbers.{is_in}
 use Rattle.cover_problem.specs.Prefix.{is_covered, is_live, are_apart, are_options, is_prefix}
 use Rattle.cover_problem.specs.Problem.{Problem, IsProblem}
@@ -24,7 +24,7 @@ use Rattle.dancing_links.proofs.Choose.{spelled_all, links_append, out_append, o
 use Rattle.dancing_links.proofs.Commits.{commit_kept, uncommit_commit, committed_append, committed_kept, committed_same, covering_append, covering_new, no_commits_kept, repeated_none}
 use Rattle.dancing_links.proofs.Entries.{IsSeen, each_head, each_tail, each_cons, nodes_more, nodes_short, row_item, seen_all, seen_start}
 use Rattle.dancing_links.proofs.Parts.{map_append}
-use Rattle.dancing_links.proofs.Prefixed.{prefix_push, prefix_front}
+use Rattle.cover_problem.proofs.Fronts.{prefix_push, prefix_front}
 use Rattle.dancing_links.proofs.Present.{AreNew, are_open, out_start, with_all}
 use Rattle.dancing_links.proofs.Ranges.{table_of}
 use Rattle.dancing_links.proofs.Tables.{table_is}
@@ -276,10 +276,6 @@ recovered p c os es mid new half now held kept piece trail room o k next f h r s
       links_are = r.links out m (spelled, parts.1.0, was, same) ∙ sym (links_append c [] before xs (next ∷ []));
       keyed = subst Q (sym (out_append c [] xs (next ∷ []))) (r.keys out m (spelled, parts.1.0, was, same) keyed);
     }
-
--- there is room for one more
-pub room_left : (p : Problem) (os : List ℕ) (o : ℕ) → IsProblem p → is_prefix p os ≡ true → o < length p.options → is_live p os o ≡ true → length os < p.primary
-room_left p os o is prefix inside live = omega (arith, prefix_short p (os ++ o ∷ []) is (prefix_push p os o is prefix inside live), length-append os (o ∷ []))
 
 -- links that were lent as a slice come back
 pub put_back : {X : Type 0} (new rest : List X) (n : ℕ) → n ≡ length new → take n (new ++ rest) ≡ new

@@ -16,11 +16,20 @@ use Rattle.dancing_links.specs.Table.{table, base_of}
 use Rattle.dancing_links.proofs.Agreeing.{Agrees, AreAgreed}
 use Rattle.cover_problem.proofs.Basics.{range_step}
 use Rattle.dancing_links.proofs.Parts.{range_split, map_append}
-use Rattle.dancing_links.proofs.Prefixed.{distinct-append, prefix_front, last_live}
+use Rattle.cover_problem.proofs.Fronts.{prefix_front, last_live}
 use Rattle.dancing_links.proofs.Present.{with_all}
 use Rattle.dancing_links.proofs.Ranges.{range_at}
 use Rattle.dancing_links.proofs.Round.{among-append, others_ranges, others_at, others_has}
 use Rattle.dancing_links.proofs.Tables.{IsNodeAt, node_at, node_by, node_colour, option_distinct, start_of, table_is}
+
+pub distinct-append : (xs ys : List ℕ) → is_distinct xs ≡ true → is_distinct ys ≡ true → ((i : ℕ) → is_in xs i ≡ true → is_in ys i ≡ false) → is_distinct (xs ++ ys) ≡ true
+distinct-append [] ys dx dy apart = dy
+distinct-append (x ∷ xs) ys dx dy apart =
+    let parts = and_parts (not (is_in xs x)) (is_distinct xs) dx in
+    let here : is_in ys x ≡ false = apart x (or_left (x == x) (is_in xs x) (eq-eqb x x refl)) in
+    let new : is_in (xs ++ ys) x ≡ false = among-append xs ys x ∙ rw (not-true (is_in xs x) parts.0, here) refl in
+    and_from (not (is_in (xs ++ ys) x)) (is_distinct (xs ++ ys)) (not_from_false (is_in (xs ++ ys) x) new)
+    (distinct-append xs ys parts.1 dy (λ i h. apart i (or_right (x == i) (is_in xs i) h)))
 
 -- ---- the items of one choice
 

@@ -19,7 +19,6 @@ pub mod Tables
 pub mod Laid
 pub mod Last
 pub mod Building
-pub mod Prefixed
 pub mod Ranges
 pub mod Entries
 pub mod Cast

@@ -18,7 +18,7 @@ use Rattle.dancing_links.proofs.Walk.{outs_same, option_node, column_skip_to, co
 use Rattle.dancing_links.proofs.Round.{others_at}
 use Rattle.dancing_links.proofs.Choose.{spelled_all, open_parts, out_append}
 use Rattle.dancing_links.proofs.Present.{AreNew, IsOut, dead_named, dead_stay, hidden_by, new_rest, open_by, out_all, out_start, out_step, with_all}
-use Rattle.dancing_links.proofs.Prefixed.{last_live}
+use Rattle.cover_problem.proofs.Fronts.{last_live}
 use Rattle.dancing_links.proofs.Tables.{IsNodeAt}
 use Rattle.dancing_links.proofs.Entries.{some_node}
 use Rattle.dancing_links.proofs.Cast.{IsCast}

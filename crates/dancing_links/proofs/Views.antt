@@ -5,7 +5,7 @@ use Rattle.std.proofs.lemmas.List.{length-map, get_or_default}
 use Rattle.cover_problem.specs.Branching.{live_options, is_choice, IsOpen}
 use Rattle.cover_problem.specs.Onward.{open_items_from, live_options_from}
 use Rattle.cover_problem.specs.Prefix.{is_covered, is_live}
-use Rattle.cover_problem.specs.Problem.{Problem, IsProblem, items_of, names_item}
+use Rattle.cover_problem.specs.Problem.{Problem, names_item}
 use Rattle.cover_problem.proofs.Prefixes.{live_at}
 use Rattle.cover_problem.proofs.Remaining.{open_items_from_take, open_items_from_skip, open_items_from_end, live_options_from_take, live_options_from_skip, live_options_from_end}
 use Rattle.dancing_links.specs.declared.link.Link.{Link}
@@ -15,14 +15,14 @@ use Rattle.dancing_links.specs.Columns.{Columns, among, column_of, column_from, 
 use Rattle.dancing_links.specs.Keys.{mark_of, AreMarked, IsFirstUnmarked}
 use Rattle.dancing_links.specs.Linking.{up_of, down_of}
 use Rattle.dancing_links.specs.Walking.{walk, options_left}
-use Rattle.dancing_links.specs.Table.{table, heads_of, base_of, first_list}
+use Rattle.dancing_links.specs.Table.{table, heads_of, base_of}
 use Rattle.dancing_links.proofs.Keyed.{few}
 use Rattle.dancing_links.proofs.Walk.{column_skip_to, column_from_take, column_from_end}
-use Rattle.dancing_links.proofs.Nodes.{starts_next, first_at}
-use Rattle.dancing_links.proofs.Tables.{IsNodeAt, start_of, node_by, table_is, place_of}
+use Rattle.dancing_links.proofs.Nodes.{starts_next}
+use Rattle.dancing_links.proofs.Tables.{IsNodeAt, start_of, table_is}
 use Rattle.dancing_links.proofs.Present.{IsOut, covers, is_dead, with_all}
 use Rattle.cover_problem.proofs.Basics.{same_truth}
-use Rattle.dancing_links.proofs.State.{IsState, state_of, item_gone, known_test}
+use Rattle.dancing_links.proofs.State.{state_of, item_gone, known_test}
 use Rattle.dancing_links.proofs.Cast.{IsCast, cast_names, node_live}
 use Rattle.dancing_links.proofs.Entries.{some_node}
 use Rattle.dancing_links.proofs.Columned.{column_options, column_options_from}
@@ -261,7 +261,3 @@ head_from p os i (suc n) start o enough e = elim (cases_lt start (length p.optio
 pub head_child : (p : Problem) (os : List ℕ) (i start : ℕ) (r : Option ℕ) → r ≡ slice_get (live_options_from p os i start) 0 → IfSome r (IsChild p os i)
 head_child p os i start None e = tt
 head_child p os i start (Some o) e = (head_from p os i (length p.options) start o (omega arith) (sym e)).0
-
-pub open_named : (p : Problem) (os : List ℕ) (r : Option ℕ) → IsProblem p → IfSome r (IsOpen p os) → IfSome r (λ i. i < length p.names)
-open_named p os None is h = tt
-open_named p os (Some i) is h = omega (arith, h.primary, is.primary)

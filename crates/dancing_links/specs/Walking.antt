@@ -1,5 +1,5 @@
 -- Walks down a column.
-use Rattle.std.specs.Prelude.{◌≡◌, ℕ, zero, suc, nat_lt, ◌<◌, ◌≤◌, ◌-◌, List, [], ◌∷◌, if◌then◌else◌}
+use Rattle.std.specs.Prelude.{ℕ, zero, suc, nat_lt, ◌<◌, ◌≤◌, ◌-◌, List, [], ◌∷◌, if◌then◌else◌}
 use Rattle.dancing_links.specs.declared.link.Link.{Link}
 use Rattle.dancing_links.specs.Linking.{down_of}
 use Rattle.dancing_links.specs.Columns.{Columns, column_of, option_of}

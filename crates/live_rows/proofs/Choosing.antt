@@ -8,7 +8,7 @@ use Rattle.cover_problem.proofs.Basics.{get_front}
 use Rattle.cover_problem.specs.Problem.{Problem, IsProblem}
 use Rattle.cover_problem.specs.Prefix.{is_live}
 use Rattle.choices.specs.Choices.{Choices, with_child, IsNextChoice}
-use Rattle.dancing_links.proofs.Prefixed.{prefix_push, prefix_front}
+use Rattle.cover_problem.proofs.Fronts.{prefix_push, prefix_front, room_left}
 use Rattle.option_sets.specs.Sets.{words_of}
 use Rattle.live_rows.specs.declared.levels.Levels.{Levels}
 use Rattle.live_rows.specs.declared.mark.Mark.{Mark}
@@ -18,7 +18,6 @@ use Rattle.live_rows.specs.Counting.{IsLive, item_of}
 use Rattle.live_rows.proofs.Layered.{level_end, level_low}
 use Rattle.live_rows.proofs.Leveled.{counts_front}
 use Rattle.cover_problem.proofs.Prefixes.{prefix_short, branch_is_open}
-use Rattle.dancing_links.proofs.Chosen.{room_left}
 use Rattle.live_rows.specs.Levels.{AreLevels, IsLevel, level_at}
 use Rattle.live_rows.specs.Rows.{AreMarks, AreRows, IsPopped, IsTaken, IsUntried, untried_of}
 

@@ -4,7 +4,7 @@ use Rattle.std.proofs.lemmas.Bool.{and_parts, false_from_ne_true, ltb-true}
 use Rattle.std.proofs.lemmas.List.Folds.{list_all-append}
 use Rattle.cover_problem.specs.Prefix.{are_apart, are_options, is_live, is_prefix}
 use Rattle.cover_problem.specs.Problem.{IsProblem, Problem}
-use Rattle.dancing_links.proofs.Prefixed.{last_live, prefix_front, prefix_push}
+use Rattle.cover_problem.proofs.Fronts.{last_live, prefix_front, prefix_push}
 
 pub not_before : (p : Problem) (xs : List ℕ) (o : ℕ) → is_prefix p xs ≡ false → is_prefix p (xs ++ o ∷ []) ≡ false
 not_before p xs o e = false_from_ne_true (is_prefix p (xs ++ o ∷ [])) (λ h. true≢false (sym (prefix_front p xs (o ∷ []) h) ∙ e))

@@ -4,7 +4,7 @@ use Rattle.cover_problem.specs.Problem.{IsProblem}
 use Rattle.choices.specs.Choices.{Choices}
 use Rattle.dancing_links.specs.Keys.{least_from}
 use Rattle.dancing_links.proofs.Branching.{least_told, told_item, told_open}
-use Rattle.dancing_links.proofs.Views.{open_named}
+use Rattle.cover_problem.proofs.Fronts.{open_named}
 use Rattle.dancing_links.proofs.links.Links.branch_item.Goals as goal
 
 pub returns-clause-item : goal.returns-clause-item

@@ -5,7 +5,8 @@ use Rattle.cover_problem.specs.Prefix.{is_covered}
 use Rattle.choices.specs.Choices.{Choices, IsChild}
 use Rattle.dancing_links.specs.Choices.{commits_of, trail_of}
 use Rattle.dancing_links.proofs.Ranges.{table_of}
-use Rattle.dancing_links.proofs.Chosen.{room_left, same_length, held_kept, commits_pushed, links_push, put_back, same_links_of, view_push}
+use Rattle.cover_problem.proofs.Fronts.{room_left}
+use Rattle.dancing_links.proofs.Chosen.{same_length, held_kept, commits_pushed, links_push, put_back, same_links_of, view_push}
 use Rattle.dancing_links.proofs.Next.{below_head, choice_of}
 use Rattle.dancing_links.proofs.Trailed.{marks_length, middle_pushed, ready_of, room_push, trail_more, trail_pushed}
 use Rattle.dancing_links.proofs.links.Links.choose_first.Goals as goal

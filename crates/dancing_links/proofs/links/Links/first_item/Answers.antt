@@ -3,7 +3,8 @@ use Rattle.cover_problem.specs.Branching.{IsOpen}
 use Rattle.cover_problem.specs.Onward.{open_items_from}
 use Rattle.cover_problem.specs.Problem.{IsProblem}
 use Rattle.choices.specs.Choices.{Choices}
-use Rattle.dancing_links.proofs.Views.{first_open, open_named}
+use Rattle.dancing_links.proofs.Views.{first_open}
+use Rattle.cover_problem.proofs.Fronts.{open_named}
 use Rattle.dancing_links.proofs.links.Links.first_item.Goals as goal
 
 pub returns-clause-first : goal.returns-clause-first

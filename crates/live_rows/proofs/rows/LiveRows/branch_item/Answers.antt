@@ -3,7 +3,7 @@ use Rattle.std.proofs.lemmas.List.{get_or_default}
 use Rattle.cover_problem.specs.Branching.{branch_item}
 use Rattle.cover_problem.specs.Problem.{IsProblem}
 use Rattle.choices.specs.Choices.{Choices}
-use Rattle.dancing_links.proofs.Views.{open_named}
+use Rattle.cover_problem.proofs.Fronts.{open_named}
 use Rattle.live_rows.specs.Counting.{item_of}
 use Rattle.live_rows.proofs.Choosing.{branch_here, least_inside, branch_open}
 use Rattle.live_rows.proofs.rows.LiveRows.branch_item.Goals as goal

@@ -1,25 +1,16 @@
--- What the options of a prefix cover.
-use Rattle.std.proofs.Common.{◌≡◌, ℕ, ◌<◌, List, [], ◌∷◌, ◌++◌, length, true, false, not, ◌==◌, refl, sym, ◌∙◌}
+-- A prefix, its front, and one live option more.
+use Rattle.std.proofs.Common.{◌≡◌, ℕ, ◌<◌, List, [], ◌∷◌, ◌++◌, length, true, not, Option, Some, None, IfSome, refl, sym, ◌∙◌, arith, length-append}
 use Rattle.std.specs.Prelude.{nat_lt}
-use Rattle.std.proofs.lemmas.Bool.{and_parts, and_from, or_left, or_right, not-true, not_from_false, eq-eqb}
+use Rattle.std.proofs.lemmas.Bool.{and_parts, and_from, not-true, not_from_false}
 use Rattle.std.proofs.lemmas.List.Elements.{All-get_or}
 use Rattle.std.proofs.lemmas.List.Folds.{list_all-append}
-use Rattle.cover_problem.specs.Numbers.{is_in, is_distinct, some_below}
+use Rattle.cover_problem.specs.Branching.{IsOpen}
+use Rattle.cover_problem.specs.Numbers.{some_below}
 use Rattle.cover_problem.specs.Prefix.{clash, is_live, are_apart, are_options, is_prefix}
 use Rattle.cover_problem.specs.Problem.{Problem, IsProblem, items_of, names_item}
 use Rattle.cover_problem.proofs.Among.{some_with}
 use Rattle.cover_problem.proofs.Clashes.{clash_both}
-use Rattle.cover_problem.proofs.Prefixes.{prefix_more}
-use Rattle.dancing_links.proofs.Round.{among-append}
-
-pub distinct-append : (xs ys : List ℕ) → is_distinct xs ≡ true → is_distinct ys ≡ true → ((i : ℕ) → is_in xs i ≡ true → is_in ys i ≡ false) → is_distinct (xs ++ ys) ≡ true
-distinct-append [] ys dx dy apart = dy
-distinct-append (x ∷ xs) ys dx dy apart =
-    let parts = and_parts (not (is_in xs x)) (is_distinct xs) dx in
-    let here : is_in ys x ≡ false = apart x (or_left (x == x) (is_in xs x) (eq-eqb x x refl)) in
-    let new : is_in (xs ++ ys) x ≡ false = among-append xs ys x ∙ rw (not-true (is_in xs x) parts.0, here) refl in
-    and_from (not (is_in (xs ++ ys) x)) (is_distinct (xs ++ ys)) (not_from_false (is_in (xs ++ ys) x) new)
-    (distinct-append xs ys parts.1 dy (λ i h. apart i (or_right (x == i) (is_in xs i) h)))
+use Rattle.cover_problem.proofs.Prefixes.{prefix_more, prefix_short}
 
 -- a live option goes with the prefix
 pub prefix_push : (p : Problem) (os : List ℕ) (o : ℕ) → IsProblem p → is_prefix p os ≡ true → o < length p.options → is_live p os o ≡ true → is_prefix p (os ++ o ∷ []) ≡ true
@@ -54,3 +45,12 @@ last_apart p (x ∷ xs) o h =
 -- the last option of a prefix is live before it
 pub last_live : (p : Problem) (os : List ℕ) (o : ℕ) → is_prefix p (os ++ o ∷ []) ≡ true → is_live p os o ≡ true
 last_live p os o h = last_apart p os o (and_parts (are_options p (os ++ o ∷ [])) (are_apart p (os ++ o ∷ [])) h).1
+
+-- there is room for one more
+pub room_left : (p : Problem) (os : List ℕ) (o : ℕ) → IsProblem p → is_prefix p os ≡ true → o < length p.options → is_live p os o ≡ true → length os < p.primary
+room_left p os o is prefix inside live = omega (arith, prefix_short p (os ++ o ∷ []) is (prefix_push p os o is prefix inside live), length-append os (o ∷ []))
+
+-- an open item is one of the problem's
+pub open_named : (p : Problem) (os : List ℕ) (r : Option ℕ) → IsProblem p → IfSome r (IsOpen p os) → IfSome r (λ i. i < length p.names)
+open_named p os None is h = tt
+open_named p os (Some i) is h = omega (arith, h.primary, is.primary)
