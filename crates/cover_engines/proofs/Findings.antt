@@ -8,9 +8,9 @@ use Rattle.audit.specs.declared.auditing.Clean.{Clean}
 use Rattle.audit.specs.declared.auditing.Unclean.{Unclean}
 use Rattle.audit.specs.declared.auditing.Unclean.TheVariants as unclean
 use Rattle.cover_engines.specs.Audit.{audited_said, AuditSays, IsFound}
-use Rattle.cover_engines.specs.Output.{IsOutput, IsOutputOf}
-use Rattle.cover_engines.specs.declared.fault.EngineFault.{EngineFault}
-use Rattle.cover_engines.specs.declared.fault.EngineFault.TheVariants as faults
+use Rattle.search_engines.specs.Output.{IsOutput, IsOutputOf}
+use Rattle.search_engines.specs.declared.fault.EngineFault.{EngineFault}
+use Rattle.search_engines.specs.declared.fault.EngineFault.TheVariants as faults
 
 module _ (run : RunName) (answer : Option Answer) (books : List Book) (found : Result Clean Unclean) (old new : Option (List ℕ)) where
   -- where memory lasted, it may be said

@@ -1,6 +1,3 @@
-pub mod Findings
 pub mod Checked
-pub mod Listed
+pub mod Findings
 pub mod Outputs
-pub mod Publishing
-pub mod Told

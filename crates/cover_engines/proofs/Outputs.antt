@@ -2,9 +2,9 @@
 use Rattle.std.proofs.Common.{◌≡◌, ℕ, List, ◌++◌, Option, Result, Ok, Err, IfErr, ap, ◌∙◌}
 use Rattle.std.proofs.KnownBytes.{Appends-trans}
 use Rattle.dlx_reader.proofs.Written.{front_both, written_both}
-use Rattle.cover_engines.specs.Output.{Said, IsOutput, IsOutputOf, IsSaid, IsStopped, IsStoppedOf, said}
-use Rattle.cover_engines.specs.declared.fault.EngineFault.{EngineFault}
-use Rattle.cover_engines.specs.declared.fault.EngineFault.TheVariants as faults
+use Rattle.search_engines.specs.Output.{Said, IsOutput, IsOutputOf, IsSaid, IsStopped, IsStoppedOf, said}
+use Rattle.search_engines.specs.declared.fault.EngineFault.{EngineFault}
+use Rattle.search_engines.specs.declared.fault.EngineFault.TheVariants as faults
 
 stopped_of : (may : Said → Type 0) (what : Said) (old new : Option (List ℕ)) (fault : EngineFault) → may what → IsStopped what old new fault → IsStoppedOf may old new fault
 stopped_of may what old new faults.Write is begun = record { what = what; may_be = is; written = begun }

@@ -12,7 +12,7 @@ use Rattle.audit.specs.Checked.{AreSafe, IsRight}
 use Rattle.audit.specs.declared.auditing.Clean.{Clean}
 use Rattle.audit.specs.declared.auditing.Unclean.{Unclean}
 use Rattle.audit.specs.declared.auditing.Unclean.TheVariants.{Memory, MissingBook, NeverSent}
-use Rattle.cover_engines.specs.Output.{Said, published_said, said}
+use Rattle.search_engines.specs.Output.{Said, published_said, said}
 
 -- ---- what is found
 

@@ -5,7 +5,7 @@ use Rattle.cover_problem.specs.declared.answer.Answer.{Answer}
 use Rattle.run_book.specs.Books.{Book}
 use Rattle.run_book.specs.Runs.{IsRunEnd}
 use Rattle.run_book.specs.Sites.{RunName}
-use Rattle.cover_engines.specs.Output.{Said, published_said}
+use Rattle.search_engines.specs.Output.{Said, published_said}
 use Rattle.run_settings.specs.declared.settings.Settings.{Settings}
 
 -- the run of the problem that has so many nodes as the settings say

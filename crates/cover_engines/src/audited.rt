@@ -4,13 +4,12 @@ ghost use Rattle.std.specs.Prelude.{Err, ◌≡◌, ◌≢◌, ◌-◌, ◌<◌,
 ghost use Rattle.audit.specs.declared.auditing.Unclean.TheVariants as unclean;
 ghost use Rattle.dlx_reader.specs.Writing.{IsWritable};
 ghost use Rattle.cover_engines.specs.Audit.{audited_said, finding_line, finding_status};
-ghost use Rattle.cover_engines.specs.Output.{IsOutput};
+ghost use Rattle.search_engines.specs.Output.{IsOutput};
 
-use crate::fault::EngineFault;
-use crate::lines::{write_line, write_published};
 use audit::{Clean, Unclean};
 use cover_problem::{Answer, Problem};
 use dlx_reader::Sink;
+use search_engines::{EngineFault, write_line, write_published};
 use spawn_frame::Site;
 use std::alloc::{AllocError, Global};
 

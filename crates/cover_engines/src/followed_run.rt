@@ -1,11 +1,10 @@
 //! How far a run of sites has come, and why it ended.
 
-use crate::gauge::Gauge;
-use crate::progress::{Progress, ProgressLog, Seconds};
 use brancher::{Finding, Outcome};
 use cover_problem::Problem;
 use dlx_reader::Sink;
 use run_settings::Settings;
+use search_engines::{Gauge, Progress, ProgressLog, Seconds};
 use spawn_frame::Job;
 use std::alloc::{AllocError, Global};
 use std::sync::{Mutex, Wait};

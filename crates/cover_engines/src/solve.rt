@@ -3,17 +3,16 @@
 ghost use Rattle.std.specs.Prelude.{◌≡◌, ◌+◌, ◌-◌, ◌<◌, ◌^◌, true, false, vec_len, IfErr, IfOk};
 ghost use Rattle.run_book.specs.Runs.{IsRunEnd};
 ghost use Rattle.cover_engines.specs.Audit.{AuditSays};
-ghost use Rattle.cover_engines.specs.Output.{IsOutputOf};
+ghost use Rattle.search_engines.specs.Output.{IsOutputOf};
 ghost use Rattle.cover_engines.specs.Solve.{run_of, RunSays};
 
 use crate::audited::write_audited;
-use crate::fault::EngineFault;
-use crate::lines::write_published;
 use audit::audit;
 use cover_problem::{Answer, Problem};
 use dlx_reader::Sink;
 use run_book::{Book, Run, a_book_tells_what_is_published};
 use run_settings::Settings;
+use search_engines::{EngineFault, write_published};
 use std::alloc::Global;
 use std::marker::Brand;
 use std::sync::Wait;

@@ -1,11 +1,9 @@
 //! What the engines write of texts in memory, and what is told where devices fail.
 
 mod alone;
-mod audited;
 mod check;
 mod colours;
 mod devices;
-mod followed;
 mod long;
 mod progress;
 mod refused;

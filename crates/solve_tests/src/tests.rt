@@ -3,6 +3,8 @@
 //! Of the bugs of `cover_engines` that are kept outside the gate, `most_runs_answer` finds `always_no_answer`, and
 //! `a_restarted_node_has_a_book_of_each_start` finds `restarts_are_not_handed_on`.
 
+mod audited;
+mod followed;
 mod order;
 
 ghost use Rattle.std.specs.Prelude.{◌≡◌};

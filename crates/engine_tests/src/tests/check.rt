@@ -4,8 +4,8 @@ ghost use Rattle.std.specs.Prelude.{◌≤◌};
 
 use super::texts::{LETTERS, NO_COVER};
 use super::told::Told;
-use cover_engines::{check_engine, tell_end};
 use dlx_reader::{CountedReader, CountedWriter};
+use search_engines::{check_engine, tell_end};
 use std::alloc::Global;
 use std::process::Abort;
 

@@ -3,8 +3,8 @@
 ghost use Rattle.std.specs.Prelude.{◌≤◌};
 
 use super::told::Told;
-use cover_engines::{alone_engine, check_engine, tell_end};
 use dlx_reader::{CountedReader, CountedWriter};
+use search_engines::{alone_engine, check_engine, tell_end};
 use std::alloc::Global;
 
 /// The problem of Knuth's DLX2: one cover.

@@ -1,12 +1,12 @@
 //! What is told where devices fail or memory is refused.
 //!
-//! Of the bugs of `cover_engines` that are kept outside the gate, `a_writer_that_fails_at_each_byte` finds
+//! Of the bugs of `search_engines` that are kept outside the gate, `a_writer_that_fails_at_each_byte` finds
 //! `failed_write_is_told_as_memory`.
 
 use super::texts::LETTERS;
 use super::told::Told;
-use cover_engines::{EngineFault, alone_engine, check_engine, tell, tell_fault};
 use dlx_reader::{CountedReader, CountedWriter};
+use search_engines::{EngineFault, alone_engine, check_engine, tell, tell_fault};
 use std::alloc::Global;
 use std::io;
 use std::io::{Read, Write};

@@ -1,10 +1,10 @@
 //! How far a search has come: the share of the tree, the lines, and that they change no answer.
 //!
-//! Of the bugs of `cover_engines` that are kept outside the gate, `what_comes_before_a_prefix_is_not_behind_its_search` finds
+//! Of the bugs of `search_engines` that are kept outside the gate, `what_comes_before_a_prefix_is_not_behind_its_search` finds
 //! `done_part_counts_from_the_root`.
 
-use cover_engines::{Gauge, Lines, Progress, ProgressLog, alone_engine, alone_with_progress};
 use dlx_reader::{CountedReader, CountedWriter, read_problem};
+use search_engines::{Gauge, Lines, Progress, ProgressLog, alone_engine, alone_with_progress};
 use std::alloc::Global;
 use std::io;
 use std::sync::atomic::{AtomicU64, Ordering};

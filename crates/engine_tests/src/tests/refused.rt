@@ -7,9 +7,9 @@ ghost use Rattle.std.specs.Prelude.{◌≤◌};
 
 use super::told::Told;
 use super::{alone, check};
-use cover_engines::{AloneEnd, EngineFault, alone_engine, check_engine, tell_end};
 use dlx_reader::{CountedReader, CountedWriter};
 use growth_marks::{begin, end};
+use search_engines::{AloneEnd, EngineFault, alone_engine, check_engine, tell_end};
 use std::alloc::Global;
 use std::process::Abort;
 

@@ -2,11 +2,12 @@
 
 use super::texts::{LETTERS, NO_COVER};
 use super::told::Told;
-use cover_engines::{simulate_engine, tell_end};
 use dlx_reader::{CountedReader, CountedWriter};
 use run_settings::{Mode, Settings};
+use search_engines::tell_end;
 use std::alloc::Global;
 use std::process::Abort;
+use world_engine::simulate_engine;
 
 /// What `simulate` tells of a problem.
 fn simulate(alloc: Global, text: &str, settings: &Settings<'_>) -> Told {

@@ -1,6 +1,6 @@
 use Rattle.std.proofs.Common.{subst, List, ℕ, option_map, ◌∙◌}
 use Rattle.cover_engines.specs.Audit.{finding_line, finding_status}
-use Rattle.cover_engines.specs.Output.{IsOutput, published_said, said}
+use Rattle.search_engines.specs.Output.{IsOutput, published_said, said}
 use Rattle.cover_engines.proofs.Outputs.{output_both}
 use Rattle.cover_engines.proofs.audited.write_audited.Goals as goal
 

@@ -4,7 +4,7 @@ use Rattle.cover_problem.specs.declared.answer.Answer.{Answer}
 use Rattle.run_book.specs.Runs.{IsRunEnd}
 use Rattle.run_book.specs.Sites.{RunName}
 use Rattle.cover_engines.specs.Audit.{audited_said}
-use Rattle.cover_engines.specs.Output.{IsOutput}
+use Rattle.search_engines.specs.Output.{IsOutput}
 use Rattle.cover_engines.proofs.Checked.{found_of}
 use Rattle.cover_engines.proofs.Findings.{audited_output}
 use Rattle.cover_engines.proofs.solve.write_audited_run.Goals as goal

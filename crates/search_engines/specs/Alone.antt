@@ -1,0 +1,21 @@
+-- What `alone` says of a problem.
+use Rattle.std.specs.Prelude.{◌≡◌, ℕ, []}
+use Rattle.cover_problem.specs.ExactCover.{in_order}
+use Rattle.cover_problem.specs.Problem.{Problem}
+use Rattle.cover_problem.specs.Search.{Outcome, Covers, Barren, Spent, outcome}
+use Rattle.cover_problem.specs.declared.answer.Answer.TheVariants.{Cover, NoCover}
+use Rattle.search_engines.specs.Output.{Said, answer_said, no_answer}
+
+-- the cover with its options in file order, or that there is none, or no answer where the fuel was spent
+abbrev pub outcome_said : Problem → Outcome → Said
+outcome_said problem (Covers options) = answer_said problem (Cover (in_order problem options))
+outcome_said problem Barren = answer_said problem NoCover
+outcome_said problem Spent = no_answer
+
+-- by the outcome of the search of the empty prefix
+unfoldable pub alone_said : Problem → ℕ → Said
+alone_said problem fuel = outcome_said problem (outcome problem [] fuel)
+
+-- with so much fuel it says this, and nothing else
+abbrev pub AloneSays : ℕ → Problem → Said → Type 0
+AloneSays fuel problem what = what ≡ alone_said problem fuel

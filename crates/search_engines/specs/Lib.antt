@@ -1,0 +1,5 @@
+pub mod Alone
+pub mod Check
+pub mod Engines
+pub mod Output
+pub mod Status

@@ -1,0 +1,134 @@
+//! `alone`: one thread searches a file's problem.
+
+ghost use Rattle.std.specs.Prelude.{◌≡◌, ◌≢◌, ◌-◌, ◌<◌, ◌≤◌, ◌^◌, false, IfSome};
+ghost use Rattle.std.specs.Io.KnownBytes.{IsAtEnd};
+ghost use Rattle.cover_problem.specs.Search.{Covers};
+ghost use Rattle.search_engines.specs.Alone.{AloneSays, alone_said, outcome_said};
+ghost use Rattle.search_engines.specs.Engines.{IsEnded, refuses_none};
+ghost use Rattle.search_engines.specs.Output.{IsOutput};
+
+use crate::engine::EngineEnd;
+use crate::fault::EngineFault;
+use crate::input::{problem_of, read_all};
+use crate::lines::{write_line, write_solution};
+use crate::progress::{Follows, ProgressLog, ProgressWatch};
+use brancher::{Outcome, Searcher, Tables, Unwatched};
+use cover_problem::{Answer, Problem, in_order};
+use dlx_reader::{Sink, Source};
+use std::alloc::Global;
+use std::time::Clock;
+
+/// How a run of `alone` ended: with status 0 for a cover, 1 for none, 4 where the fuel was spent.
+pub type AloneEnd = EngineEnd;
+
+/// Writes the text of the cover that a search found, with its options in the order of the file.
+fn write_found<W: Sink>(
+    alloc: Global,
+    problem: &Problem,
+    chosen: &[u16],
+    sink: &mut W,
+) -> Result<u8, EngineFault>
+    requires { W.failed sink.old < 2 ^ 64 - 1 }
+    ensures output { IsOutput (outcome_said problem.now (Covers chosen.now)) (W.contents sink.old)
+        (W.contents sink.new) result }
+    ensures failed { result ≡ Err EngineFault.Write → W.failed sink.old < W.failed sink.new }
+{
+    let Ok(options) = in_order(alloc, problem, chosen) else {
+        return Err(EngineFault::Memory);
+    };
+    write_solution(problem, &Answer::Cover(options), sink)
+}
+
+/// Searches the empty prefix under a watch, writes what comes of it, and answers the status.
+#[tactic(auto, unfolding(crate::specs::Alone::alone_said))]
+fn write_alone<V: Follows, W: Sink>(
+    alloc: Global,
+    problem: &Problem,
+    fuel: u64,
+    watch: &mut V,
+    sink: &mut W,
+) -> Result<u8, EngineFault>
+    requires fuel { 1 ≤ fuel }
+    requires watch { V.may_stop ≡ false }
+    requires failed { W.failed sink.old < 2 ^ 64 - 1 }
+    ensures output { IsOutput (alone_said problem.now fuel) (W.contents sink.old)
+        (W.contents sink.new) result }
+    ensures failed { result ≡ Err EngineFault.Write → W.failed sink.old < W.failed sink.new }
+{
+    let Ok(tables) = Tables::build(alloc, problem) else {
+        return Err(EngineFault::Memory);
+    };
+    let Ok(mut searcher) = Searcher::over(alloc, &tables) else {
+        return Err(EngineFault::Memory);
+    };
+    let outcome = searcher.search_watched(&[], fuel, watch);
+    watch.end();
+    match outcome {
+        Outcome::Cover => write_found(alloc, problem, searcher.found(), sink),
+        Outcome::Barren => write_solution(problem, &Answer::NoCover, sink),
+        Outcome::Spent => write_line(b"no answer\n", 4, sink),
+    }
+}
+
+/// Reads a problem to its end, searches it with so many visits at most, and writes its first cover, with the options
+/// in the order of the file, or `none`, or `no answer` where the fuel was spent.
+///
+/// The faults are `Read` and `Write`, where that device failed, `File`, with the text's first fault, and `Memory`.
+/// After `Write` a beginning of the answer's text was written, after another fault nothing. At `Memory` the source may have been
+/// read in part.
+pub fn alone_engine<R: Source, W: Sink>(
+    alloc: Global,
+    fuel: u64,
+    source: &mut R,
+    sink: &mut W,
+) -> Result<AloneEnd, EngineFault>
+    requires fuel { 1 ≤ fuel }
+    requires source { R.failed source.old < 2 ^ 64 - 1 }
+    requires sink { W.failed sink.old < 2 ^ 64 - 1 }
+    ensures ended { IfSome (R.remaining source.old) (λ text.
+        IsEnded (AloneSays fuel) refuses_none text (W.contents sink.old)
+        (W.contents sink.new) result) }
+    ensures read { result ≢ Err EngineFault.Read → result ≢ Err EngineFault.Memory →
+        IsAtEnd (R.remaining source.new) }
+    ensures read_fault { result ≡ Err EngineFault.Read → R.failed source.old < R.failed source.new }
+    ensures write_fault { result ≡ Err EngineFault.Write → W.failed sink.old < W.failed sink.new }
+{
+    let text = read_all(alloc, source)?;
+    let read = problem_of(alloc, &text)?;
+    let status = write_alone(alloc, &read.problem, fuel, &mut Unwatched, sink)?;
+    Ok(EngineEnd {
+        status,
+        ignored: read.ignored,
+    })
+}
+
+/// Does what `alone_engine` does, and meanwhile writes to the log each second how far the search has come, from the second one on. The
+/// log changes no answer: a fault of its sink is passed over. Memory is taken for what the log needs, too.
+pub fn alone_with_progress<R: Source, W: Sink, E: Sink, C: Clock>(
+    clock: &C,
+    alloc: Global,
+    fuel: u64,
+    source: &mut R,
+    sink: &mut W,
+    log: ProgressLog<'_, E>,
+) -> Result<AloneEnd, EngineFault>
+    requires fuel { 1 ≤ fuel }
+    requires source { R.failed source.old < 2 ^ 64 - 1 }
+    requires sink { W.failed sink.old < 2 ^ 64 - 1 }
+    ensures ended { IfSome (R.remaining source.old) (λ text.
+        IsEnded (AloneSays fuel) refuses_none text (W.contents sink.old)
+        (W.contents sink.new) result) }
+    ensures read { result ≢ Err EngineFault.Read → result ≢ Err EngineFault.Memory →
+        IsAtEnd (R.remaining source.new) }
+    ensures read_fault { result ≡ Err EngineFault.Read → R.failed source.old < R.failed source.new }
+    ensures write_fault { result ≡ Err EngineFault.Write → W.failed sink.old < W.failed sink.new }
+{
+    let text = read_all(alloc, source)?;
+    let read = problem_of(alloc, &text)?;
+    let Ok(mut watch) = ProgressWatch::new(clock, alloc, &read.problem, fuel, log) else {
+        return Err(EngineFault::Memory);
+    };
+    let status = write_alone(alloc, &read.problem, fuel, &mut watch, sink)?;
+    let ignored = read.ignored;
+    Ok(EngineEnd { status, ignored })
+}

@@ -1,0 +1,189 @@
+//! `check`: tests an answer to a file's problem.
+
+ghost use Rattle.std.specs.Prelude.{◌≡◌, ◌≢◌, ◌-◌, ◌<◌, ◌≤◌, ◌^◌, ◌⊎◌, [], length, IfOk, IfSome};
+ghost use Rattle.std.specs.Io.KnownBytes.{IsAtEnd};
+ghost use Rattle.cover_problem.specs.Search.{outcome};
+ghost use Rattle.cover_problem.specs.Verdict.{verdict_of};
+ghost use Rattle.search_engines.specs.Check.{CheckRefuses, CheckSays, IsListed, IsListedAnswer, check_said, item_said, none_said, verdict_said};
+ghost use Rattle.search_engines.specs.Engines.{IsEnded};
+ghost use Rattle.search_engines.specs.Output.{IsOutput};
+
+use crate::engine::EngineEnd;
+use crate::fault::EngineFault;
+use crate::input::{answer_of, problem_of, read_all};
+use crate::lines::write_line;
+use brancher::{Outcome, Searcher, Tables};
+use cover_problem::{Answer, Problem, Verdict, check_cover};
+use dlx_reader::{Sink, Source};
+use std::alloc::{AllocError, Global};
+
+/// How a run of `check` ended: with status 0 for right, 1 for wrong, 4 where the fuel was spent.
+pub type CheckEnd = EngineEnd;
+
+/// The line that says what is wrong with an item.
+fn item_line(
+    alloc: Global,
+    problem: &Problem,
+    wrong: &[u8],
+    item: u16,
+) -> Result<Vec<u8>, AllocError>
+    requires { item < length problem.now.names }
+    ensures { IfOk result (λ line. line.items ≡ (item_said problem.now wrong.now item).text) }
+{
+    let mut line = Vec::from_slice(alloc, wrong)?;
+    line.extend_from_slice(problem.name(item))?;
+    line.push(b'\n')?;
+    Ok(line)
+}
+
+/// Writes what is wrong with an item, and answers the status.
+fn write_wrong<W: Sink>(
+    alloc: Global,
+    problem: &Problem,
+    wrong: &[u8],
+    item: u16,
+    sink: &mut W,
+) -> Result<u8, EngineFault>
+    requires item { item < length problem.now.names }
+    requires failed { W.failed sink.old < 2 ^ 64 - 1 }
+    ensures output { IsOutput (item_said problem.now wrong.now item) (W.contents sink.old)
+        (W.contents sink.new) result }
+    ensures failed { result ≡ Err EngineFault.Write → W.failed sink.old < W.failed sink.new }
+{
+    match item_line(alloc, problem, wrong, item) {
+        Ok(line) => write_line(&line, 1, sink),
+        Err(_) => Err(EngineFault::Memory),
+    }
+}
+
+/// Tests a list of options, writes the verdict, and answers the status.
+fn write_verdict<W: Sink>(
+    alloc: Global,
+    problem: &Problem,
+    options: &[u16],
+    sink: &mut W,
+) -> Result<u8, EngineFault>
+    requires options { IsListed problem.now options.now }
+    requires failed { W.failed sink.old < 2 ^ 64 - 1 }
+    ensures output { IsOutput (verdict_said problem.now (verdict_of problem.now options.now))
+        (W.contents sink.old) (W.contents sink.new) result }
+    ensures failed { result ≡ Err EngineFault.Write → W.failed sink.old < W.failed sink.new }
+{
+    match check_cover(problem, options) {
+        Verdict::Exact => write_line(b"right\n", 0, sink),
+        Verdict::Uncovered(item) => {
+            write_wrong(alloc, problem, b"wrong: Uncovered ", item, sink)
+        }
+        Verdict::CoveredTwice(item) => {
+            write_wrong(alloc, problem, b"wrong: CoveredTwice ", item, sink)
+        }
+        Verdict::NoSuchOption | Verdict::ChosenTwice => unreachable!(),
+    }
+}
+
+/// Searches the empty prefix for a cover, writes whether none is right, and answers the status.
+fn write_none<W: Sink>(
+    alloc: Global,
+    problem: &Problem,
+    fuel: u64,
+    sink: &mut W,
+) -> Result<u8, EngineFault>
+    requires fuel { 1 ≤ fuel }
+    requires failed { W.failed sink.old < 2 ^ 64 - 1 }
+    ensures output { IsOutput (none_said (outcome problem.now [] fuel)) (W.contents sink.old)
+        (W.contents sink.new) result }
+    ensures failed { result ≡ Err EngineFault.Write → W.failed sink.old < W.failed sink.new }
+{
+    let Ok(tables) = Tables::build(alloc, problem) else {
+        return Err(EngineFault::Memory);
+    };
+    let Ok(mut searcher) = Searcher::over(alloc, &tables) else {
+        return Err(EngineFault::Memory);
+    };
+    match searcher.search(&[], fuel) {
+        Outcome::Cover => write_line(b"wrong: a cover exists\n", 1, sink),
+        Outcome::Barren => write_line(b"right\n", 0, sink),
+        Outcome::Spent => write_line(b"no answer\n", 4, sink),
+    }
+}
+
+/// Tests an answer, writes what comes of it, and answers the status.
+#[tactic(auto, unfolding(crate::specs::Check::check_said))]
+fn write_check<W: Sink>(
+    alloc: Global,
+    problem: &Problem,
+    answer: &Answer,
+    fuel: u64,
+    sink: &mut W,
+) -> Result<u8, EngineFault>
+    requires options { IsListedAnswer problem.now answer.now }
+    requires fuel { 1 ≤ fuel }
+    requires failed { W.failed sink.old < 2 ^ 64 - 1 }
+    ensures output { IsOutput (check_said problem.now answer.now fuel) (W.contents sink.old)
+        (W.contents sink.new) result }
+    ensures failed { result ≡ Err EngineFault.Write → W.failed sink.old < W.failed sink.new }
+{
+    match answer {
+        Answer::Cover(options) => write_verdict(alloc, problem, options.as_slice(), sink),
+        Answer::NoCover => write_none(alloc, problem, fuel, sink),
+    }
+}
+
+/// Tests the answer of one text to the problem of another, and writes what comes of it.
+fn check_texts<W: Sink>(
+    alloc: Global,
+    fuel: u64,
+    file: &[u8],
+    answer: &[u8],
+    sink: &mut W,
+) -> Result<CheckEnd, EngineFault>
+    requires fuel { 1 ≤ fuel }
+    requires failed { W.failed sink.old < 2 ^ 64 - 1 }
+    ensures ended { IsEnded (CheckSays answer.now fuel) (CheckRefuses answer.now) file.now
+        (W.contents sink.old) (W.contents sink.new) result }
+    ensures unread { result ≢ Err EngineFault.Read }
+    ensures failed { result ≡ Err EngineFault.Write → W.failed sink.old < W.failed sink.new }
+{
+    let read = problem_of(alloc, file)?;
+    let given = answer_of(alloc, answer, &read.problem)?;
+    let status = write_check(alloc, &read.problem, &given, fuel, sink)?;
+    Ok(EngineEnd {
+        status,
+        ignored: read.ignored,
+    })
+}
+
+/// Reads a problem and an answer to it, both to their ends, tests the answer, and writes `right`, or what is wrong, or
+/// `no answer`: a cover is tested by counting, and that there is none by a search of so many visits at most.
+///
+/// The faults are `Read` and `Write`, where a device failed, `File`, with the first fault of the problem's text, else
+/// `Answer`, with that of the answer's, and `Memory`. After `Write` a beginning of the line was written, after another
+/// fault nothing. At `Memory` both may have been read in part.
+pub fn check_engine<R: Source, S: Source, W: Sink>(
+    alloc: Global,
+    fuel: u64,
+    file: &mut R,
+    answer: &mut S,
+    sink: &mut W,
+) -> Result<CheckEnd, EngineFault>
+    requires fuel { 1 ≤ fuel }
+    requires file { R.failed file.old < 2 ^ 64 - 1 }
+    requires answer { S.failed answer.old < 2 ^ 64 - 1 }
+    requires sink { W.failed sink.old < 2 ^ 64 - 1 }
+    ensures ended { IfSome (R.remaining file.old) (λ text. IfSome (S.remaining answer.old) (λ given.
+        IsEnded (CheckSays given fuel) (CheckRefuses given) text (W.contents sink.old)
+        (W.contents sink.new) result)) }
+
+    // Both texts are read to their ends before either is tested, so a refusal of one says that the other can be read.
+    ensures file_read { result ≢ Err EngineFault.Read → result ≢ Err EngineFault.Memory →
+        IsAtEnd (R.remaining file.new) }
+    ensures answer_read { result ≢ Err EngineFault.Read → result ≢ Err EngineFault.Memory →
+        IsAtEnd (S.remaining answer.new) }
+    ensures read_fault { result ≡ Err EngineFault.Read →
+        (R.failed file.old < R.failed file.new) ⊎ (S.failed answer.old < S.failed answer.new) }
+    ensures write_fault { result ≡ Err EngineFault.Write → W.failed sink.old < W.failed sink.new }
+{
+    let file = read_all(alloc, file)?;
+    let answer = read_all(alloc, answer)?;
+    check_texts(alloc, fuel, &file, &answer, sink)
+}

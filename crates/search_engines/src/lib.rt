@@ -1,0 +1,23 @@
+//! The engines that search in one thread: each reads sources, writes a text to a sink and answers an exit status. What is read and
+//! written is a type parameter, so that the contracts can name the bytes.
+#![tactic(auto)]
+
+mod alone;
+mod check;
+mod engine;
+mod fault;
+mod gauge;
+mod input;
+mod lines;
+mod progress;
+mod telling;
+
+pub use alone::{AloneEnd, alone_engine, alone_with_progress};
+pub use check::{CheckEnd, check_engine};
+pub use engine::EngineEnd;
+pub use fault::EngineFault;
+pub use gauge::Gauge;
+pub use input::{problem_of, read_all, read_whole};
+pub use lines::{write_line, write_published};
+pub use progress::{Lines, Progress, ProgressLog, Seconds};
+pub use telling::{tell, tell_end, tell_fault, tell_unbound};

@@ -1,0 +1,67 @@
+//! The lines that an engine writes, each with the status that goes with it.
+
+ghost use Rattle.std.specs.Prelude.{◌≡◌, ◌-◌, ◌<◌, ◌^◌, option_map, IfErr, IfSome};
+ghost use Rattle.dlx_reader.specs.Devices.{IsCounted};
+ghost use Rattle.dlx_reader.specs.Writing.{IsWritable};
+ghost use Rattle.search_engines.specs.Output.{answer_said, published_said, said, IsOutput};
+
+use crate::fault::EngineFault;
+use cover_problem::{Answer, Problem};
+use dlx_reader::{Sink, WriteFault, write_answer, write_bytes};
+
+/// Writes all of a text, and answers the status.
+pub fn write_line<W: Sink>(text: &[u8], status: u8, sink: &mut W) -> Result<u8, EngineFault>
+    requires { W.failed sink.old < 2 ^ 64 - 1 }
+    ensures output { IsOutput (said text.now status) (W.contents sink.old)
+        (W.contents sink.new) result }
+    ensures failed { result ≡ Err EngineFault.Write → W.failed sink.old < W.failed sink.new }
+    ensures fault { IfErr result (λ fault. fault ≡ EngineFault.Write) }
+    ensures counted { IsCounted (W.failed sink.old) (W.failed sink.new) result }
+{
+    match write_bytes(text, sink) {
+        Ok(()) => Ok(status),
+        Err(WriteFault) => Err(EngineFault::Write),
+    }
+}
+
+/// Writes the text of an answer, and answers the status: 0 for a cover, 1 for none.
+pub fn write_solution<W: Sink>(
+    problem: &Problem,
+    answer: &Answer,
+    sink: &mut W,
+) -> Result<u8, EngineFault>
+    requires order { IsWritable problem.now answer.now }
+    requires failed { W.failed sink.old < 2 ^ 64 - 1 }
+    ensures output { IsOutput (answer_said problem.now answer.now) (W.contents sink.old)
+        (W.contents sink.new) result }
+    ensures failed { result ≡ Err EngineFault.Write → W.failed sink.old < W.failed sink.new }
+    ensures counted { IsCounted (W.failed sink.old) (W.failed sink.new) result }
+{
+    if write_answer(problem, answer, sink).is_err() {
+        return Err(EngineFault::Write);
+    }
+    match answer {
+        Answer::Cover(_) => Ok(0),
+        Answer::NoCover => Ok(1),
+    }
+}
+
+/// Writes what is published, or that nothing is, and answers the status.
+pub fn write_published<W: Sink>(
+    problem: &Problem,
+    published: Option<&Answer>,
+    sink: &mut W,
+) -> Result<u8, EngineFault>
+    requires order { IfSome published (λ answer. IsWritable problem.now answer.now) }
+    requires failed { W.failed sink.old < 2 ^ 64 - 1 }
+    ensures output { IsOutput (published_said problem.now (option_map
+        (λ answer. answer.now) published.entry))
+        (W.contents sink.old) (W.contents sink.new) result }
+    ensures failed { result ≡ Err EngineFault.Write → W.failed sink.old < W.failed sink.new }
+    ensures counted { IsCounted (W.failed sink.old) (W.failed sink.new) result }
+{
+    match published {
+        Some(answer) => write_solution(problem, answer, sink),
+        None => write_line(b"no answer\n", 4, sink),
+    }
+}

@@ -1,0 +1,110 @@
+//! `simulate`: a world of sites searches a file's problem, by chance.
+
+ghost use Rattle.std.specs.Prelude.{◌≡◌, ◌≢◌, ◌-◌, ◌<◌, ◌^◌, option_map, IfErr, IfOk, IfSome};
+ghost use Rattle.std.specs.Io.KnownBytes.{IsAtEnd};
+ghost use Rattle.dlx_reader.specs.Writing.{IsWritable};
+ghost use Rattle.search_engines.specs.Engines.{IsEnded, refuses_none};
+ghost use Rattle.search_engines.specs.Output.{IsOutputOf};
+ghost use Rattle.world_engine.specs.Simulate.{IsSimulated, SimulateSays};
+
+use cover_problem::{Answer, Problem};
+use cover_world::{World, simulate};
+use dlx_reader::{Sink, Source};
+use rand_core::SeedableRng;
+use rand_pcg::Pcg32;
+use run_settings::Settings;
+use search_engines::{EngineEnd, EngineFault, problem_of, read_all, write_published};
+use std::alloc::Global;
+
+/// How a run of `simulate` ended: with status 0 for a cover, 1 for none, 4 where nothing was published.
+pub type SimulateEnd = EngineEnd;
+
+/// A copy of what is published; the only fault is `Memory`.
+fn copied(published: Option<&Answer>) -> Result<Option<Answer>, EngineFault>
+    ensures answer { IfOk result (λ answer.
+        answer ≡ option_map (λ given. given.now) published.entry) }
+    ensures memory { IfErr result (λ fault. fault ≡ EngineFault.Memory) }
+{
+    let Some(answer) = published else {
+        return Ok(None);
+    };
+    match answer.clone() {
+        Ok(answer) => Ok(Some(answer)),
+        Err(_) => Err(EngineFault::Memory),
+    }
+}
+
+/// Simulates a world that begins with the problem, as the settings have it, and answers what it publishes. The only fault is
+/// `Memory`.
+fn simulated(
+    alloc: Global,
+    settings: &Settings,
+    problem: &Problem,
+) -> Result<Option<Answer>, EngineFault>
+    ensures simulated { IfOk result (IsSimulated problem.now settings.now) }
+    ensures order { IfOk result (λ answer. IfSome answer (IsWritable problem.now)) }
+    ensures memory { IfErr result (λ fault. fault ≡ EngineFault.Memory) }
+{
+    let Ok(mut world) = World::start(alloc, problem, settings.nodes) else {
+        return Err(EngineFault::Memory);
+    };
+    let mut rng = Pcg32::seed_from_u64(settings.seed);
+    let ended = simulate(
+        &mut world,
+        &mut rng,
+        settings.fuel,
+        settings.turns,
+        settings.restarts,
+    );
+    match ended {
+        Ok(()) => copied(world.published()),
+        Err(_) => Err(EngineFault::Memory),
+    }
+}
+
+/// Writes what a simulation of the problem publishes, and answers the status.
+fn write_simulation<W: Sink>(
+    alloc: Global,
+    settings: &Settings,
+    problem: &Problem,
+    sink: &mut W,
+) -> Result<u8, EngineFault>
+    requires failed { W.failed sink.old < 2 ^ 64 - 1 }
+    ensures output { IsOutputOf (SimulateSays settings.now problem.now) (W.contents sink.old)
+        (W.contents sink.new) result }
+    ensures failed { result ≡ Err EngineFault.Write → W.failed sink.old < W.failed sink.new }
+{
+    let answer = simulated(alloc, settings, problem)?;
+    write_published(problem, answer.as_ref(), sink)
+}
+
+/// Reads a problem to its end, lets a world of sites search it by chance, as the settings have it, and writes the answer
+/// that it publishes, or `no answer` where it publishes none.
+///
+/// The faults are `Read` and `Write`, where that device failed, `File`, with the text's first fault, and `Memory`.
+/// After `Write` a beginning of the answer's text was written, after another fault nothing. At `Memory` the source may have been
+/// read in part.
+pub fn simulate_engine<R: Source, W: Sink>(
+    alloc: Global,
+    settings: &Settings,
+    source: &mut R,
+    sink: &mut W,
+) -> Result<SimulateEnd, EngineFault>
+    requires source { R.failed source.old < 2 ^ 64 - 1 }
+    requires sink { W.failed sink.old < 2 ^ 64 - 1 }
+    ensures ended { IfSome (R.remaining source.old) (λ text.
+        IsEnded (SimulateSays settings.now) refuses_none text (W.contents sink.old)
+        (W.contents sink.new) result) }
+    ensures read { result ≢ Err EngineFault.Read → result ≢ Err EngineFault.Memory →
+        IsAtEnd (R.remaining source.new) }
+    ensures read_fault { result ≡ Err EngineFault.Read → R.failed source.old < R.failed source.new }
+    ensures write_fault { result ≡ Err EngineFault.Write → W.failed sink.old < W.failed sink.new }
+{
+    let text = read_all(alloc, source)?;
+    let read = problem_of(alloc, &text)?;
+    let status = write_simulation(alloc, settings, &read.problem, sink)?;
+    Ok(EngineEnd {
+        status,
+        ignored: read.ignored,
+    })
+}
