@@ -1,11 +1,11 @@
 //! Two sites talk, over sockets and in memory.
 
+use site_links::{Link, LinkFault, MemoryLink, Sockets, UdpLink, Wires, bound};
 use std::alloc::Global;
 use std::net::Net;
 use std::sync::{Arc, Wait};
 use std::test::Fail;
 use std::thread::{self, Threads};
-use udp_node::{Link, LinkFault, MemoryLink, Sockets, UdpLink, Wires, bound};
 
 /// How many datagrams each site sends.
 const SENT: u8 = 20;

@@ -1,9 +1,9 @@
 //! A gate that holds one worker back until another has posted.
 
+use site_links::Gate;
 use spawn_frame::{Job, Unit};
 use std::sync::atomic::{AtomicBool, AtomicU64, Ordering};
 use std::thread;
-use udp_node::Gate;
 
 /// Whose post the worker that is held back waits for.
 #[derive(Clone, Copy)]

@@ -3,9 +3,9 @@
 ghost use Rattle.std.specs.Prelude.{◌≡◌, ℕ, vec_len, IfOk};
 
 use packet_wire::{Packet, read_packet};
+use site_links::{Link, LinkFault};
 use std::alloc::{AllocError, Global};
 use std::sync::{Arc, Mutex, Wait};
-use udp_node::{Link, LinkFault};
 
 /// What was sent by several links.
 pub type Sent = Arc<Mutex<Vec<Packet>>, Global>;

@@ -1,4 +1,3 @@
 pub mod Hands
-pub mod Links
 pub mod Numbers
 pub mod Starts

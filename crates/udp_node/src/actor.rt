@@ -4,12 +4,12 @@ ghost use Rattle.node_core.specs.Refusal.{IsFit};
 ghost use Rattle.packet_wire.specs.WellFormed.{is_well_formed};
 ghost use Rattle.run_book.specs.Desks.{IsLawful};
 
-use crate::gate::Gate;
 use crate::shared::Shared;
 use crate::stand::{Refused, Stand};
 use node_core::{Core, Event, Reply};
 use packet_wire::{Body, Packet, write_packet};
 use run_book::{CellName, Parcel, Pass, Run, Step};
+use site_links::Gate;
 use std::alloc::{AllocError, Global};
 use std::sync::Wait;
 

@@ -2,27 +2,22 @@
 
 ghost use Rattle.std.specs.Prelude.{◌≡◌, ◌+◌, ◌<◌, ◌≤◌, ◌⊎◌, IfOk, OnOk, vec_len};
 ghost use Rattle.std.specs.Vec.{vec_capacity};
-ghost use Rattle.udp_node.specs.declared.cause.Cause.TheVariants.{Memory};
+ghost use Rattle.site_links.specs.declared.cause.Cause.TheVariants.{Memory};
 
 use crate::actor::Actor;
-use crate::cause::Cause;
-use crate::ending::Ending;
-use crate::gate::{Gate, Open};
-use crate::link::Link;
 use crate::node_end::NodeEnd;
-use crate::plan::Plan;
 use crate::receiver::Receiver;
 use crate::sender::{Sender, Sent, send_all};
 use crate::shared::Shared;
 use crate::signals::Signals;
 use crate::stand::Stand;
 use crate::start::Start;
-use crate::turn::{Limits, Taken, Turn};
 use crate::worker::Worker;
 use brancher::Tables;
 use cover_problem::Problem;
 use node_core::Core;
 use run_book::{CellName, Outbox, Run, SiteCell};
+use site_links::{Cause, Ending, Gate, Limits, Link, Open, Plan, Taken, Turn};
 use std::alloc::{AllocError, Global};
 use std::sync::Wait;
 use std::thread::{self, Threads};

@@ -1,11 +1,10 @@
 ghost use Rattle.std.specs.Prelude.{◌≡◌, ◌+◌, ◌≤◌, sum, sum_by, vec_len, IfErr, IfOk, IfSome};
 ghost use Rattle.std.specs.Vec.{vec_capacity};
-ghost use Rattle.udp_node.specs.declared.cause.Cause.TheVariants.{Memory};
+ghost use Rattle.site_links.specs.declared.cause.Cause.TheVariants.{Memory};
 
-use crate::cause::Cause;
 use crate::stand::Stand;
-use crate::turn::Taken;
 use run_book::{CellName, Seat, Stub};
+use site_links::{Cause, Taken};
 use std::alloc::Global;
 
 /// How the threads of a site ended. The greatest numbers stay.

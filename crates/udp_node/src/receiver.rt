@@ -1,15 +1,12 @@
 //! The thread of a site that receives.
 
 use crate::actor::Actor;
-use crate::cause::Cause;
-use crate::gate::Gate;
-use crate::link::Link;
 use crate::shared::Shared;
-use crate::turn::Turn;
 use crate::worker::{after, after_refusal};
 use node_core::{Core, Event};
 use packet_wire::{Body, Packet, WireFault, read_packet};
 use run_book::{CellName, Run};
+use site_links::{Cause, Gate, Link, Turn};
 use std::sync::Wait;
 use std::thread;
 use std::time::{Clock, Duration};

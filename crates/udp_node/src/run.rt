@@ -8,14 +8,11 @@ ghost use Rattle.run_book.specs.Sites.{IsRun};
 ghost use Rattle.udp_node.specs.Numbers.{AreNumbered};
 ghost use Rattle.spawn_frame.specs.declared.site.TheConstants.{LAST_NODE};
 
-use crate::ending::Ending;
-use crate::gate::Gate;
-use crate::link::Link;
-use crate::plan::Plan;
-use crate::site_run::{SiteEnd, SiteRun, Whole};
+use crate::site_run::{SiteRun, Whole};
 use brancher::Tables;
 use cover_problem::{Answer, Problem};
 use run_book::{Book, Run, published};
+use site_links::{Ending, Gate, Link, Plan, SiteEnd};
 use std::alloc::{AllocError, Global};
 use std::marker::PhantomData;
 use std::sync::Wait;

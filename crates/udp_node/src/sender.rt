@@ -2,10 +2,9 @@
 
 ghost use Rattle.std.specs.Prelude.{◌≡◌};
 
-use crate::link::Link;
 use crate::signals::Signals;
-use crate::turn::{Limits, Taken};
 use run_book::{Drain, Outbox};
+use site_links::{Limits, Link, Taken};
 use std::sync::Wait;
 use std::time::Clock;
 

@@ -1,12 +1,10 @@
 ghost use Rattle.std.specs.Prelude.{◌≡◌};
 
-use crate::ending::Ending;
-use crate::gate::Gate;
-use crate::plan::Plan;
 use crate::signals::Signals;
 use brancher::Tables;
 use node_core::Core;
 use run_book::{CellName, Outbox, Run, SiteCell};
+use site_links::{Ending, Gate, Plan};
 use std::alloc::Global;
 use std::time::Clock;
 

@@ -6,20 +6,15 @@ ghost use Rattle.node_core.specs.Requests.{registry};
 ghost use Rattle.run_book.specs.Sites.{opening_of, IsRun, MayBeginIn};
 ghost use Rattle.udp_node.specs.Starts.{are_starts};
 
-use crate::cause::Cause;
-use crate::ending::Ending;
-use crate::gate::{Gate, Open};
-use crate::link::Link;
 use crate::node::run_threads;
 use crate::node_end::NodeEnd;
-use crate::plan::Plan;
 use crate::start::Start;
-use crate::turn::Taken;
 use brancher::Tables;
 use cover_problem::Problem;
 use node_core::{Core, NodeCore};
 use root_registry::Registry;
 use run_book::{Book, CellName, CellParts, Run, SiteCell, cores_step_as_their_sites, sites_begin};
+use site_links::{Cause, Ending, Gate, Link, Open, Plan, SiteEnd};
 use spawn_frame::Site;
 use std::alloc::{AllocError, Global};
 use std::marker::{Brand, PhantomData};
@@ -62,63 +57,6 @@ impl<J: Run, G: Gate> Whole<'_, J, G> {
         self.gate.ended(node, end);
         self.ending.raise();
     }
-}
-
-/// How a site of a run ended, over all its starts. The greatest numbers stay.
-#[derive(Clone, Copy, Debug, PartialEq, Eq)]
-pub struct SiteEnd {
-    /// Why its threads ended: the first of all causes in the order of that type.
-    pub cause: Cause,
-    /// How many parcels were lost: the outbox was full, or the link didn't send them.
-    pub losses: u64,
-    /// How many datagrams came that are no packets.
-    pub dropped: u64,
-    /// How many calls of its link failed.
-    pub failures: u64,
-    /// How many turns its threads took at most, each by itself, and in how many they waited at most.
-    pub taken: Taken,
-    /// In some start a thread of each kind has begun while the site was to go on. Else the site took part in no search.
-    pub is_manned: bool,
-}
-
-impl SiteEnd {
-    /// The end of these starts and of a later one.
-    fn with(self, later: SiteEnd) -> SiteEnd {
-        SiteEnd {
-            cause: self.cause.min(later.cause),
-            losses: self.losses.saturating_add(later.losses),
-            dropped: self.dropped.saturating_add(later.dropped),
-            failures: self.failures.saturating_add(later.failures),
-            taken: self.taken.max(later.taken),
-            is_manned: self.is_manned || later.is_manned,
-        }
-    }
-
-    /// Whether the others can't go on without the site of this node: the registry, and a node that took part and has not heard that
-    /// the search is over, or whose memory ran out.
-    fn ends_run(&self, node: u8) -> bool {
-        match self.cause {
-            Cause::Over => node == 0,
-            Cause::Memory => true,
-            Cause::BookFull | Cause::Faults | Cause::Turns => node == 0 || self.is_manned,
-        }
-    }
-
-    /// There was no start: with any other end it is that end.
-    const NONE: SiteEnd = SiteEnd {
-        cause: Cause::Turns,
-        losses: 0,
-        dropped: 0,
-        failures: 0,
-        taken: Taken::NONE,
-        is_manned: false,
-    };
-
-    /// There was no memory for the site to start, or to close.
-    const STARVED: SiteEnd = SiteEnd {
-        cause: Cause::Memory,
-        ..SiteEnd::NONE
-    };
 }
 
 /// A site of a run: its link before it runs, its books and how it ended afterwards.

@@ -1,6 +1,6 @@
 //! A stranger's packets, which are well formed and name sites of the run, are not heard.
 //!
-//! No contract says who sent a datagram. Of the bugs of `udp_node` that are kept outside the gate, `a_strangers_result_is_not_taken`
+//! No contract says who sent a datagram. Of the bugs of `site_links` that are kept outside the gate, `a_strangers_result_is_not_taken`
 //! finds `hears_any_address`, as `link_tests` does.
 
 use super::ends::{bound_sockets, links_over};

@@ -1,7 +1,7 @@
 //! Sockets on 127.0.0.1.
 
 ghost use Rattle.std.specs.Prelude.{◌≡◌, ◌≤◌, ℕ, length, IfOk};
-ghost use Rattle.udp_node.specs.Links.{failed_once};
+ghost use Rattle.site_links.specs.Links.{failed_once};
 
 use crate::link::{Link, LinkFault};
 use std::alloc::{AllocError, Global};

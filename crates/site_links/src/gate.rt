@@ -1,4 +1,4 @@
-use crate::site_run::SiteEnd;
+use crate::site_end::SiteEnd;
 use brancher::{Finding, Watch};
 use spawn_frame::Job;
 use std::sync::atomic::{AtomicBool, Ordering};

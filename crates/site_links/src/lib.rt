@@ -1,0 +1,25 @@
+//! The links between the sites of a run, and what a site is given or ends with besides its core. It needs none of the cores, so that it
+//! is proved beside them.
+#![tactic(auto)]
+
+mod cause;
+mod ending;
+mod gate;
+mod link;
+mod memory_link;
+mod pace;
+mod plan;
+mod site_end;
+mod turn;
+mod udp_link;
+
+pub use cause::Cause;
+pub use ending::Ending;
+pub use gate::{Gate, Open, SearchWatch};
+pub use link::{Link, LinkFault};
+pub use memory_link::{MemoryLink, Wires};
+pub use pace::Pace;
+pub use plan::Plan;
+pub use site_end::SiteEnd;
+pub use turn::{Limits, Taken, Turn};
+pub use udp_link::{Sockets, UdpLink, bound};

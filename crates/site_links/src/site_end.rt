@@ -1,0 +1,59 @@
+use crate::cause::Cause;
+use crate::turn::Taken;
+
+/// How a site of a run ended, over all its starts. The greatest numbers stay.
+#[derive(Clone, Copy, Debug, PartialEq, Eq)]
+pub struct SiteEnd {
+    /// Why its threads ended: the first of all causes in the order of that type.
+    pub cause: Cause,
+    /// How many parcels were lost: the outbox was full, or the link didn't send them.
+    pub losses: u64,
+    /// How many datagrams came that are no packets.
+    pub dropped: u64,
+    /// How many calls of its link failed.
+    pub failures: u64,
+    /// How many turns its threads took at most, each by itself, and in how many they waited at most.
+    pub taken: Taken,
+    /// In some start a thread of each kind has begun while the site was to go on. Else the site took part in no search.
+    pub is_manned: bool,
+}
+
+impl SiteEnd {
+    /// The end of these starts and of a later one.
+    pub fn with(self, later: SiteEnd) -> SiteEnd {
+        SiteEnd {
+            cause: self.cause.min(later.cause),
+            losses: self.losses.saturating_add(later.losses),
+            dropped: self.dropped.saturating_add(later.dropped),
+            failures: self.failures.saturating_add(later.failures),
+            taken: self.taken.max(later.taken),
+            is_manned: self.is_manned || later.is_manned,
+        }
+    }
+
+    /// Whether the others can't go on without the site of this node: the registry, and a node that took part and has not heard that
+    /// the search is over, or whose memory ran out.
+    pub fn ends_run(&self, node: u8) -> bool {
+        match self.cause {
+            Cause::Over => node == 0,
+            Cause::Memory => true,
+            Cause::BookFull | Cause::Faults | Cause::Turns => node == 0 || self.is_manned,
+        }
+    }
+
+    /// There was no start: with any other end it is that end.
+    pub const NONE: SiteEnd = SiteEnd {
+        cause: Cause::Turns,
+        losses: 0,
+        dropped: 0,
+        failures: 0,
+        taken: Taken::NONE,
+        is_manned: false,
+    };
+
+    /// There was no memory for the site to start, or to close.
+    pub const STARVED: SiteEnd = SiteEnd {
+        cause: Cause::Memory,
+        ..SiteEnd::NONE
+    };
+}
