@@ -1,7 +1,7 @@
 //! The program's command and its subcommands, as clap has them.
 
 ghost use Rattle.std.specs.Prelude.{◌≡◌, false, IfOk, codes};
-ghost use Rattle.clap.specs.Words.{app_of, new_app, rule_of};
+ghost use Rattle.clap.specs.Words.{app_of, new_app, rule_of, with_rule};
 ghost use Rattle.clap.specs.declared.builder.command.Command.TheViews.{out-Command};
 ghost use Rattle.command_line.specs.CommandLine.{alone_app, check_app, file_rule, flag_rule, greatest_fuel_rule, limit_rule, number_rule, one_thread_app, simulate_app, sites_app, solve_app, solver_app, threads_app, versioned};
 
@@ -98,31 +98,38 @@ fn described<'a>(alloc: Global, name: &'a str, about: &'a str) -> Command<'a>
     Command::new(alloc, name).about(about).version(VERSION)
 }
 
+/// A command with two arguments more.
+fn with_two<'a>(
+    command: Command<'a>,
+    first: Arg<'a>,
+    second: Arg<'a>,
+) -> Result<Command<'a>, AllocError>
+    requires local { (out-Command command).has_globals ≡ false }
+    requires first { first.global ≡ false }
+    requires second { second.global ≡ false }
+    ensures app { IfOk result (λ grown. app_of grown ≡ with_rule
+        (with_rule (app_of command.entry) (rule_of first.entry)) (rule_of second.entry)) }
+    ensures local { IfOk result (λ grown. (out-Command grown).has_globals ≡ false) }
+{
+    command.arg(first)?.arg(second)
+}
+
 fn alone_command<'a>(alloc: Global) -> Result<Command<'a>, AllocError>
     ensures app { IfOk result (λ command. app_of command ≡ alone_app) }
     ensures local { IfOk result (λ command. (out-Command command).has_globals ≡ false) }
 {
     let about = "Searches the problem on one thread and writes its first exact cover, or none";
-    described(alloc, "alone", about)
-        .after_help(SEARCH_STATUSES)
-        .arg(file_argument(alloc))?
-        .arg(fuel_argument(alloc))?
-        .arg(progress_argument(alloc))
+    let command = described(alloc, "alone", about).after_help(SEARCH_STATUSES);
+    with_two(command, file_argument(alloc), fuel_argument(alloc))?.arg(progress_argument(alloc))
 }
 
 fn check_command<'a>(alloc: Global) -> Result<Command<'a>, AllocError>
     ensures app { IfOk result (λ command. app_of command ≡ check_app) }
     ensures local { IfOk result (λ command. (out-Command command).has_globals ≡ false) }
 {
-    described(
-        alloc,
-        "check",
-        "Tests whether an answer to the problem is right",
-    )
-    .after_help(CHECK_STATUSES)
-    .arg(file_argument(alloc))?
-    .arg(answer_argument(alloc))?
-    .arg(fuel_argument(alloc))
+    let about = "Tests whether an answer to the problem is right";
+    let command = described(alloc, "check", about).after_help(CHECK_STATUSES);
+    with_two(command, file_argument(alloc), answer_argument(alloc))?.arg(fuel_argument(alloc))
 }
 
 /// What sites search, how many nodes there are, and the seed of what is drawn.
@@ -134,19 +141,18 @@ fn sites_command<'a>(
     ensures app { IfOk result (λ command. app_of command ≡ sites_app name.now) }
     ensures local { IfOk result (λ command. (out-Command command).has_globals ≡ false) }
 {
-    let fuel = number_argument(
-        alloc,
-        "fuel",
-        "1000",
-        "How many prefixes a search may visit, from 1",
-    );
-    let nodes = number_argument(alloc, "nodes", "4", "How many nodes there are, 1 to 16");
-    let seed = number_argument(alloc, "seed", "1", "The seed of what is drawn");
-    described(alloc, name, about)
-        .arg(file_argument(alloc))?
-        .arg(fuel)?
-        .arg(nodes)?
-        .arg(seed)
+    let fuel = "How many prefixes a search may visit, from 1";
+    let nodes = "How many nodes there are, 1 to 16";
+    let searching = with_two(
+        described(alloc, name, about),
+        file_argument(alloc),
+        number_argument(alloc, "fuel", "1000", fuel),
+    )?;
+    with_two(
+        searching,
+        number_argument(alloc, "nodes", "4", nodes),
+        number_argument(alloc, "seed", "1", "The seed of what is drawn"),
+    )
 }
 
 fn simulate_command<'a>(alloc: Global) -> Result<Command<'a>, AllocError>
@@ -155,21 +161,13 @@ fn simulate_command<'a>(alloc: Global) -> Result<Command<'a>, AllocError>
 {
     let about =
         "Lets a world of nodes search the problem, by chance, and writes what it publishes. Statuses: as of alone";
-    let turns = number_argument(
-        alloc,
-        "turns",
-        "10000",
-        "How many turns are taken, up to 10000000",
-    );
-    let restarts = number_argument(
-        alloc,
-        "restarts",
-        "0",
-        "How many restarts are drawn, up to 100",
-    );
-    sites_command(alloc, "simulate", about)?
-        .arg(turns)?
-        .arg(restarts)
+    let turns = "How many turns are taken, up to 10000000";
+    let restarts = "How many restarts are drawn, up to 100";
+    with_two(
+        sites_command(alloc, "simulate", about)?,
+        number_argument(alloc, "turns", "10000", turns),
+        number_argument(alloc, "restarts", "0", restarts),
+    )
 }
 
 /// What threads search, how long they go on, how often a node is restarted, and how many workers there are.
@@ -179,43 +177,31 @@ fn threads_command<'a>(alloc: Global) -> Result<Command<'a>, AllocError>
 {
     let about =
         "Lets nodes with threads of their own search the problem over UDP on this machine, and writes what they publish. Statuses: as of alone";
-    let turns = number_argument(
-        alloc,
-        "turns",
-        "1000000",
-        "How many turns a thread takes, up to 10000000",
-    );
-    let restarts = number_argument(
-        alloc,
-        "restarts",
-        "0",
-        "How often node 1 is restarted, up to 100",
-    );
-    let workers = number_argument(alloc, "workers", "2", "How many workers a node has, 1 to 8");
-    sites_command(alloc, "solve", about)?
-        .arg(turns)?
-        .arg(restarts)?
-        .arg(workers)
+    let turns = "How many turns a thread takes, up to 10000000";
+    let restarts = "How often node 1 is restarted, up to 100";
+    let workers = "How many workers a node has, 1 to 8";
+    let limited = with_two(
+        sites_command(alloc, "solve", about)?,
+        number_argument(alloc, "turns", "1000000", turns),
+        number_argument(alloc, "restarts", "0", restarts),
+    )?;
+    limited.arg(number_argument(alloc, "workers", "2", workers))
 }
 
 fn solve_command<'a>(alloc: Global) -> Result<Command<'a>, AllocError>
     ensures app { IfOk result (λ command. app_of command ≡ solve_app) }
     ensures local { IfOk result (λ command. (out-Command command).has_globals ≡ false) }
 {
-    let audit = flag_argument(
-        alloc,
-        "audit",
-        "Whether the sites' books are one run is tested and written; status 6 where they are not found to be",
-    );
-    let seconds = limit_argument(
-        alloc,
-        "seconds",
-        "After how many seconds the run ends without an answer, 1 to 1000000; no limit if not given",
-    );
-    threads_command(alloc)?
-        .arg(audit)?
-        .arg(seconds)?
-        .arg(progress_argument(alloc))
+    let audit =
+        "Whether the sites' books are one run is tested and written; status 6 where they are not found to be";
+    let seconds =
+        "After how many seconds the run ends without an answer, 1 to 1000000; no limit if not given";
+    let audited = with_two(
+        threads_command(alloc)?,
+        flag_argument(alloc, "audit", audit),
+        limit_argument(alloc, "seconds", seconds),
+    )?;
+    audited.arg(progress_argument(alloc))
 }
 
 /// What one thread does.
@@ -242,6 +228,26 @@ pub fn solver_command<'a>(alloc: Global) -> Result<Command<'a>, AllocError>
         .subcommand(solve)
 }
 
+/// The subcommand of a mode.
+fn command_of<'a>(alloc: Global, mode: Mode) -> Result<Command<'a>, AllocError> {
+    match mode {
+        Mode::Alone => alone_command(alloc),
+        Mode::Check => check_command(alloc),
+        Mode::Simulate => simulate_command(alloc),
+        Mode::Solve => solve_command(alloc),
+    }
+}
+
+/// The word that asks for a mode.
+fn name_of(mode: Mode) -> &'static str {
+    match mode {
+        Mode::Alone => "alone",
+        Mode::Check => "check",
+        Mode::Simulate => "simulate",
+        Mode::Solve => "solve",
+    }
+}
+
 /// What clap reports of a subcommand's values, with the usage of the subcommand by the name that the program was called by.
 pub fn value_error(
     alloc: Global,
@@ -249,13 +255,7 @@ pub fn value_error(
     mode: Mode,
     message: &str,
 ) -> Result<Error, AllocError> {
-    let (name, command) = match mode {
-        Mode::Alone => ("alone", alone_command(alloc)?),
-        Mode::Check => ("check", check_command(alloc)?),
-        Mode::Simulate => ("simulate", simulate_command(alloc)?),
-        Mode::Solve => ("solve", solve_command(alloc)?),
-    };
-    let called = format!(in alloc; "{program} {name}")?;
-    let mut command = command.bin_name(&called)?;
+    let called = format!(in alloc; "{program} {}", name_of(mode))?;
+    let mut command = command_of(alloc, mode)?.bin_name(&called)?;
     command.error(ErrorKind::ValueValidation, message)
 }

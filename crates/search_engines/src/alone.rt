@@ -2,6 +2,7 @@
 
 ghost use Rattle.std.specs.Prelude.{◌≡◌, ◌≢◌, ◌-◌, ◌<◌, ◌≤◌, ◌^◌, false, IfSome};
 ghost use Rattle.std.specs.Io.KnownBytes.{IsAtEnd};
+ghost use Rattle.brancher.specs.Visit.{outcome_told};
 ghost use Rattle.cover_problem.specs.Search.{Covers};
 ghost use Rattle.search_engines.specs.Alone.{AloneSays, alone_said, outcome_said};
 ghost use Rattle.search_engines.specs.Engines.{IsEnded, refuses_none};
@@ -39,6 +40,26 @@ fn write_found<W: Sink>(
     write_solution(problem, &Answer::Cover(options), sink)
 }
 
+/// Writes the text of what a search came to, with the cover that it found, and answers the status.
+fn write_outcome<W: Sink>(
+    alloc: Global,
+    problem: &Problem,
+    outcome: Outcome,
+    found: &[u16],
+    sink: &mut W,
+) -> Result<u8, EngineFault>
+    requires { W.failed sink.old < 2 ^ 64 - 1 }
+    ensures output { IsOutput (outcome_said problem.now (outcome_told outcome found.now))
+        (W.contents sink.old) (W.contents sink.new) result }
+    ensures failed { result ≡ Err EngineFault.Write → W.failed sink.old < W.failed sink.new }
+{
+    match outcome {
+        Outcome::Cover => write_found(alloc, problem, found, sink),
+        Outcome::Barren => write_solution(problem, &Answer::NoCover, sink),
+        Outcome::Spent => write_line(b"no answer\n", 4, sink),
+    }
+}
+
 /// Searches the empty prefix under a watch, writes what comes of it, and answers the status.
 #[tactic(auto, unfolding(crate::specs::Alone::alone_said))]
 fn write_alone<V: Follows, W: Sink>(
@@ -63,11 +84,7 @@ fn write_alone<V: Follows, W: Sink>(
     };
     let outcome = searcher.search_watched(&[], fuel, watch);
     watch.end();
-    match outcome {
-        Outcome::Cover => write_found(alloc, problem, searcher.found(), sink),
-        Outcome::Barren => write_solution(problem, &Answer::NoCover, sink),
-        Outcome::Spent => write_line(b"no answer\n", 4, sink),
-    }
+    write_outcome(alloc, problem, outcome, searcher.found(), sink)
 }
 
 /// Reads a problem to its end, searches it with so many visits at most, and writes its first cover, with the options

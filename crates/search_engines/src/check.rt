@@ -1,7 +1,8 @@
 //! `check`: tests an answer to a file's problem.
 
-ghost use Rattle.std.specs.Prelude.{◌≡◌, ◌≢◌, ◌-◌, ◌<◌, ◌≤◌, ◌^◌, ◌⊎◌, [], length, IfOk, IfSome};
+ghost use Rattle.std.specs.Prelude.{◌≡◌, ◌≢◌, ◌-◌, ◌<◌, ◌≤◌, ◌^◌, ◌⊎◌, ℕ, List, [], length, IfOk, IfSome};
 ghost use Rattle.std.specs.Io.KnownBytes.{IsAtEnd};
+ghost use Rattle.brancher.specs.Visit.{outcome_told};
 ghost use Rattle.cover_problem.specs.Search.{outcome};
 ghost use Rattle.cover_problem.specs.Verdict.{verdict_of};
 ghost use Rattle.search_engines.specs.Check.{CheckRefuses, CheckSays, IsListed, IsListedAnswer, check_said, item_said, none_said, verdict_said};
@@ -81,6 +82,17 @@ fn write_verdict<W: Sink>(
     }
 }
 
+/// What the search of the empty prefix comes to; the only error is out of memory.
+fn searched(alloc: Global, problem: &Problem, fuel: u64) -> Result<Outcome, AllocError>
+    requires { 1 ≤ fuel }
+    ensures { IfOk result (λ came. (found : List ℕ)
+        × (outcome_told came found ≡ outcome problem.now [] fuel)) }
+{
+    let tables = Tables::build(alloc, problem)?;
+    let mut searcher = Searcher::over(alloc, &tables)?;
+    Ok(searcher.search(&[], fuel))
+}
+
 /// Searches the empty prefix for a cover, writes whether none is right, and answers the status.
 fn write_none<W: Sink>(
     alloc: Global,
@@ -94,16 +106,11 @@ fn write_none<W: Sink>(
         (W.contents sink.new) result }
     ensures failed { result ≡ Err EngineFault.Write → W.failed sink.old < W.failed sink.new }
 {
-    let Ok(tables) = Tables::build(alloc, problem) else {
-        return Err(EngineFault::Memory);
-    };
-    let Ok(mut searcher) = Searcher::over(alloc, &tables) else {
-        return Err(EngineFault::Memory);
-    };
-    match searcher.search(&[], fuel) {
-        Outcome::Cover => write_line(b"wrong: a cover exists\n", 1, sink),
-        Outcome::Barren => write_line(b"right\n", 0, sink),
-        Outcome::Spent => write_line(b"no answer\n", 4, sink),
+    match searched(alloc, problem, fuel) {
+        Ok(Outcome::Cover) => write_line(b"wrong: a cover exists\n", 1, sink),
+        Ok(Outcome::Barren) => write_line(b"right\n", 0, sink),
+        Ok(Outcome::Spent) => write_line(b"no answer\n", 4, sink),
+        Err(_) => Err(EngineFault::Memory),
     }
 }
 

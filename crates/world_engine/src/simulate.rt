@@ -2,6 +2,7 @@
 
 ghost use Rattle.std.specs.Prelude.{◌≡◌, ◌≢◌, ◌-◌, ◌<◌, ◌^◌, option_map, IfErr, IfOk, IfSome};
 ghost use Rattle.std.specs.Io.KnownBytes.{IsAtEnd};
+ghost use Rattle.cover_world.specs.Courses.{opening_core};
 ghost use Rattle.dlx_reader.specs.Writing.{IsWritable};
 ghost use Rattle.search_engines.specs.Engines.{IsEnded, refuses_none};
 ghost use Rattle.search_engines.specs.Output.{IsOutputOf};
@@ -34,6 +35,27 @@ fn copied(published: Option<&Answer>) -> Result<Option<Answer>, EngineFault>
     }
 }
 
+/// Lets a world that has just begun go on as the settings have it, and answers what it publishes then. The only fault is `Memory`.
+fn played_out(world: &mut World, settings: &Settings) -> Result<Option<Answer>, EngineFault>
+    requires { world.old ≡ opening_core world.old.problem settings.now.nodes }
+    ensures simulated { IfOk result (IsSimulated world.old.problem settings.now) }
+    ensures order { IfOk result (λ answer. IfSome answer (IsWritable world.old.problem)) }
+    ensures memory { IfErr result (λ fault. fault ≡ EngineFault.Memory) }
+{
+    let mut rng = Pcg32::seed_from_u64(settings.seed);
+    let ended = simulate(
+        world,
+        &mut rng,
+        settings.fuel,
+        settings.turns,
+        settings.restarts,
+    );
+    match ended {
+        Ok(()) => copied(world.published()),
+        Err(_) => Err(EngineFault::Memory),
+    }
+}
+
 /// Simulates a world that begins with the problem, as the settings have it, and answers what it publishes. The only fault is
 /// `Memory`.
 fn simulated(
@@ -45,19 +67,8 @@ fn simulated(
     ensures order { IfOk result (λ answer. IfSome answer (IsWritable problem.now)) }
     ensures memory { IfErr result (λ fault. fault ≡ EngineFault.Memory) }
 {
-    let Ok(mut world) = World::start(alloc, problem, settings.nodes) else {
-        return Err(EngineFault::Memory);
-    };
-    let mut rng = Pcg32::seed_from_u64(settings.seed);
-    let ended = simulate(
-        &mut world,
-        &mut rng,
-        settings.fuel,
-        settings.turns,
-        settings.restarts,
-    );
-    match ended {
-        Ok(()) => copied(world.published()),
+    match World::start(alloc, problem, settings.nodes) {
+        Ok(mut world) => played_out(&mut world, settings),
         Err(_) => Err(EngineFault::Memory),
     }
 }

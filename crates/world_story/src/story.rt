@@ -37,23 +37,9 @@ pub fn tell<W: Write>(alloc: Global, problem: &Problem, plan: Plan, out: &mut W)
     requires some { 1 ≤ plan.nodes }
     requires most { plan.nodes ≤ LAST_NODE }
 {
-    let mut story = Story {
-        world: World::start(alloc, problem, plan.nodes)?,
-        arrived: Vec::new(alloc),
-    };
-    let mut rng = Pcg32::seed_from_u64(plan.seed);
-    let mut restarts = plan.restarts;
-    for turn in 0..plan.turns {
-        if story.world.published().is_some() {
-            break;
-        }
-        let event = story.world.draw_event(&mut rng, plan.fuel, restarts);
-        if matches!(event, WorldEvent::Restart(..)) {
-            restarts = restarts.saturating_sub(1);
-        }
-        story.tell_event(turn, event, out)?;
-    }
-    story.tell_end(out)
+    let world = World::start(alloc, problem, plan.nodes)?;
+    let arrived = Vec::new(alloc);
+    Story { world, arrived }.tell_turns(plan, out)
 }
 
 /// How a search went.
@@ -72,7 +58,11 @@ pub fn measure(alloc: Global, problem: &Problem, plan: Plan) -> io::Result<Measu
     requires some { 1 ≤ plan.nodes }
     requires most { plan.nodes ≤ LAST_NODE }
 {
-    let mut world = World::start(alloc, problem, plan.nodes)?;
+    measure_turns(&mut World::start(alloc, problem, plan.nodes)?, plan)
+}
+
+/// Lets a search go on so, and measures it.
+fn measure_turns(world: &mut World<'_>, plan: Plan) -> io::Result<Measured> {
     let mut rng = Pcg32::seed_from_u64(plan.seed);
     let mut restarts = plan.restarts;
     let mut turns = 0;
@@ -97,6 +87,23 @@ pub fn measure(alloc: Global, problem: &Problem, plan: Plan) -> io::Result<Measu
 }
 
 impl Story<'_> {
+    /// Tells the turns of the search, and its end.
+    fn tell_turns<W: Write>(&mut self, plan: Plan, out: &mut W) -> io::Result<()> {
+        let mut rng = Pcg32::seed_from_u64(plan.seed);
+        let mut restarts = plan.restarts;
+        for turn in 0..plan.turns {
+            if self.world.published().is_some() {
+                break;
+            }
+            let event = self.world.draw_event(&mut rng, plan.fuel, restarts);
+            if matches!(event, WorldEvent::Restart(..)) {
+                restarts = restarts.saturating_sub(1);
+            }
+            self.tell_event(turn, event, out)?;
+        }
+        self.tell_end(out)
+    }
+
     /// Tells an event and what it comes to, unless it is refused or nothing comes of it.
     fn tell_event<W: Write>(
         &mut self,

@@ -49,20 +49,24 @@ fn members<R: Abort>(rt: &R, alloc: Global, node: u8) -> Packet {
     }
 }
 
+/// Copies of the arrivals of what the registry tells nodes.
+fn deliveries<R: Abort>(rt: &R, alloc: Global) {
+    let one = Event::Deliver(members(rt, alloc, 1));
+    tells_apart(rt, &one, &Event::Deliver(members(rt, alloc, 2)));
+}
+
+/// Copies of the posts of searches with other fuels.
+fn posts<R: Abort>(rt: &R, alloc: Global) {
+    let whole = Event::Post(JOB, found(rt, alloc, 9));
+    tells_apart(rt, &whole, &Event::Post(JOB, found(rt, alloc, 5)));
+}
+
 #[test]
 fn events(rt: HostRuntime) {
     let alloc = rt.alloc();
     tells_apart(&rt, &Event::Again, &Event::Greet);
-    tells_apart(
-        &rt,
-        &Event::Deliver(members(&rt, alloc, 1)),
-        &Event::Deliver(members(&rt, alloc, 2)),
-    );
-    tells_apart(
-        &rt,
-        &Event::Post(JOB, found(&rt, alloc, 9)),
-        &Event::Post(JOB, found(&rt, alloc, 5)),
-    );
+    deliveries(&rt, alloc);
+    posts(&rt, alloc);
     assert!(rt; found(&rt, alloc, 9).cover() == [3, 4, 0].as_slice());
 }
 

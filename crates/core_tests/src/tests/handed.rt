@@ -115,6 +115,14 @@ impl<'a> Stage<'a> {
         let out = self.packets.get(before..).expect(rt, "packets");
         has_come(&answer, comes) && are_sent(rt, self.alloc, from, out, sent)
     }
+
+    /// Plays a script; the first row that isn't as it says ends it.
+    fn play<R: Abort>(&mut self, rt: &R, rows: &[Row]) {
+        for (number, row) in rows.iter().enumerate() {
+            let right = self.plays(rt, *row);
+            assert!(rt; right, "row {number}");
+        }
+    }
 }
 
 /// The packet of this number arrives at the core.
@@ -157,9 +165,5 @@ static NONE_IS_FOUND: [Row; 9] = [
 fn a_search_from_core_to_core(rt: HostRuntime) {
     let alloc = rt.alloc();
     let read = read_problem(alloc, ONE_ITEM.as_bytes()).expect(&rt, "a problem");
-    let mut stage = Stage::new(&rt, alloc, &read.problem);
-    for (number, row) in NONE_IS_FOUND.iter().enumerate() {
-        let right = stage.plays(&rt, *row);
-        assert!(rt; right, "row {number}");
-    }
+    Stage::new(&rt, alloc, &read.problem).play(&rt, &NONE_IS_FOUND);
 }

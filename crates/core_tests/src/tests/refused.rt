@@ -106,8 +106,20 @@ fn play_at_nodes<R: Abort>(
     script: (&[node::Row], bool),
 ) {
     let mut tried = node::Stage::new(rt, alloc, problem, names_limit);
+    play_beside_node(rt, alloc, problem, names_limit, &mut tried, script);
+}
+
+/// Plays it at this node and its twin.
+fn play_beside_node<'a, R: Abort>(
+    rt: &R,
+    alloc: Global,
+    problem: &'a Problem,
+    names_limit: u32,
+    tried: &mut node::Stage<'a>,
+    script: (&[node::Row], bool),
+) {
     let mut twin = node::Stage::new(rt, alloc, problem, names_limit);
-    play(rt, alloc, &mut tried, &mut twin, script);
+    play(rt, alloc, tried, &mut twin, script);
 }
 
 /// The same at a registry of two nodes.
@@ -126,8 +138,19 @@ fn play_at_registries<R: Abort>(
     script: (&[registry::Row], bool),
 ) {
     let mut tried = registry::Stage::new(rt, alloc, problem);
+    play_beside_registry(rt, alloc, problem, &mut tried, script);
+}
+
+/// Plays it at this registry and its twin.
+fn play_beside_registry<'a, R: Abort>(
+    rt: &R,
+    alloc: Global,
+    problem: &'a Problem,
+    tried: &mut registry::Stage<'a>,
+    script: (&[registry::Row], bool),
+) {
     let mut twin = registry::Stage::new(rt, alloc, problem);
-    play(rt, alloc, &mut tried, &mut twin, script);
+    play(rt, alloc, tried, &mut twin, script);
 }
 
 #[test]

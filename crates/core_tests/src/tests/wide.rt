@@ -96,13 +96,17 @@ fn play<R: Abort>(rt: &R, alloc: Global, stage: &mut Stage<'_>, rows: &[Row]) {
     }
 }
 
+/// At this node all children but the last one are aborted.
+fn are_others_aborted<R: Abort>(rt: &R, alloc: Global, stage: &mut Stage<'_>) {
+    play(rt, alloc, stage, &WIDE);
+    are_aborted(rt, alloc, stage, 599);
+    assert!(rt; !is_aborted(rt, alloc, stage, 599));
+}
+
 #[test]
 fn a_frame_of_three_pages(rt: HostRuntime) {
     let alloc = rt.alloc();
     let text = one_item(&rt, alloc, 600);
     let read = read_problem(alloc, text.as_bytes()).expect(&rt, "a problem");
-    let mut stage = Stage::new(&rt, alloc, &read.problem, 600);
-    play(&rt, alloc, &mut stage, &WIDE);
-    are_aborted(&rt, alloc, &mut stage, 599);
-    assert!(rt; !is_aborted(&rt, alloc, &mut stage, 599));
+    are_others_aborted(&rt, alloc, &mut Stage::new(&rt, alloc, &read.problem, 600));
 }

@@ -1,6 +1,4 @@
 use Rattle.search_engines.proofs.check.write_none.Goals as goal
 
-pub returns-in-Cover-clause-output : goal.returns-in-Cover-clause-output
-returns-in-Cover-clause-output g c =
-    let came = rw (c.in-Ok-over.ensures, c.in-Ok.ensures) at c.in-Cover.ensures.outcome in
-    rw (← came) c.write_line.ensures.output
+pub returns-in-Ok-Cover-clause-output : goal.returns-in-Ok-Cover-clause-output
+returns-in-Ok-Cover-clause-output g c = rw (← c.in-Ok-Cover.ensures.1, c.in-Ok-Cover.field-0-is) c.write_line.ensures.output
