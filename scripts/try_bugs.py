@@ -9,6 +9,7 @@ crates below, so that only the bug's own crate is proved anew, once for all of i
 
     refused: LINE       a contract, an invariant or a call's requirement is broken, and at which line
     by its shape: LINE  refused only since a proof names what the bug took away, which says little of the contract
+    by a test: TEST     not tried, unless it is named: no contract refuses it, and scripts/try_found.py runs the test that finds it
     PROVED              the crate is proved with the bug in it: a hole in a contract
     no longer applies   its text doesn't stand exactly once in the file that it names, or can't be read then
 
@@ -23,9 +24,10 @@ import sys
 import tempfile
 
 from built import parser_of, stop, TOP, want_command
+from try_found import claims
 
 BUGS = os.path.join(TOP, "bugs")
-REFUSED, SHAPE, PROVED, STALE = "refused", "by its shape", "PROVED", "no longer applies"
+REFUSED, SHAPE, TEST, PROVED, STALE = "refused", "by its shape", "by a test", "PROVED", "no longer applies"
 
 
 def chosen_bugs(words):
@@ -40,6 +42,17 @@ def chosen_bugs(words):
             stop(f"there is no bug {word} in bugs/")
         chosen.setdefault(crate, []).extend(it for it in names if it not in chosen.get(crate, []))
     return chosen
+
+
+def left_to_tests(chosen, named):
+    """Takes out the bugs that tests find and that aren't named themselves, prints a line of each, and answers their kinds."""
+    kinds = []
+    for crate, bug, tests, test in claims():
+        if bug in chosen.get(crate, []) and f"{crate}/{bug}" not in named:
+            chosen[crate].remove(bug)
+            print(f"{crate}/{bug}: {TEST}: {tests}, {test}", flush=True)
+            kinds.append(TEST)
+    return kinds
 
 
 def below(crates):
@@ -139,13 +152,14 @@ def main():
     if given.short:
         return name_stale(chosen)
     want_command("rt")
-    kinds = []
+    kinds = left_to_tests(chosen, [word.removesuffix(".edit") for word in given.bugs])
+    chosen = {crate: names for crate, names in chosen.items() if names}
     with tempfile.TemporaryDirectory(prefix="try-bugs-") as room:
         top = os.path.join(room, "repository")
         copy_repository(top, chosen)
         for crate, names in chosen.items():
             kinds += try_crate(top, crate, names)
-    print(", ".join(f"{kinds.count(kind)} {kind}" for kind in (REFUSED, SHAPE, PROVED, STALE)))
+    print(", ".join(f"{kinds.count(kind)} {kind}" for kind in (REFUSED, SHAPE, TEST, PROVED, STALE)))
     return 1 if PROVED in kinds else 2 if STALE in kinds else 0
 
 
