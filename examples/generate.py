@@ -3,7 +3,7 @@
 
     python3 examples/generate.py KIND .. > FILE    writes a problem of this kind on the standard output
     python3 examples/generate.py                   writes the larger example files into this folder
-    --out FILE, behind all other words             writes the problem into FILE, and nothing where it is refused
+    --out FILE                                     writes the problem into FILE, and nothing where it is refused
 
     queens 12                      queens on a board of 12 by 12
     langford 8                     pairs of 1 to 8
@@ -33,12 +33,14 @@ program. The exit status is 0, or 2 for a fault of the command line, a file that
 where the standard output can't be written.
 """
 import argparse
+import contextlib
 import csv
 import io
 import itertools
 import math
 import os
 import re
+import shutil
 import sys
 from collections import Counter
 from dataclasses import dataclass
@@ -58,6 +60,12 @@ def stop(why):
     sys.exit(2)
 
 
+def check_count(count, most, what):
+    """Refuses what the program wouldn't read, best before it is made."""
+    if count > most:
+        stop(f"this would have {count:,} {what}, and the program reads at most {most:,}")
+
+
 def check_range(names, options):
     """Refuses what the program wouldn't read."""
     colours = list(dict.fromkeys(word.partition(":")[2] for option in options for word in option if ":" in word))
@@ -67,13 +75,32 @@ def check_range(names, options):
     for count, most, what in ((len(names), MOST_ITEMS, "items"), (len(options), MOST_OPTIONS, "options"),
                               (sum(map(len, options)), MOST_OCCURRENCES, "occurrences of items in options"),
                               (len(colours), MOST_COLOURS, "colours")):
-        if count > most:
-            stop(f"this would have {count:,} {what}, and the program reads at most {most:,}")
+        check_count(count, most, what)
     twice = [name for name in names if names.count(name) > 1] if len(set(names)) < len(names) else []
     if twice:
         stop(f"the name '{twice[0]}' would stand for two items")
     if not names:
         stop("nothing is left to cover")
+
+
+def put(path, text):
+    """Writes a file whole or not at all; what is no plain file, as a device or a pipe, is written as it stands."""
+    path = os.path.realpath(path)
+    if os.path.exists(path) and not os.path.isfile(path):
+        with open(path, "w", encoding="utf-8") as file:
+            file.write(text)
+        return
+    part = path + ".part"
+    try:
+        with open(part, "w", encoding="utf-8") as file:
+            file.write(text)
+        if os.path.exists(path):
+            shutil.copymode(path, part)
+        os.replace(part, path)
+    except OSError:
+        with contextlib.suppress(OSError):
+            os.remove(part)
+        raise
 
 
 def write(name, note, primary, secondary, options):
@@ -86,9 +113,7 @@ def write(name, note, primary, secondary, options):
         return
     path = OUT[0] if name == "-" else os.path.join(HERE, name)
     try:
-        with open(path + ".part", "w", encoding="utf-8") as file:
-            file.write(text)
-        os.replace(path + ".part", path)
+        put(path, text)
     except OSError as why:
         stop(f"{path} can't be written: {why.strerror}")
 
@@ -171,6 +196,7 @@ def dominoes(name, note, cells):
 
 
 def queens(name, note, n):
+    check_count(n * n, MOST_OPTIONS, "options")
     options = [[f"r{r}", f"c{c}", f"a{r + c}", f"b{r - c + n - 1}"] for r in range(n) for c in range(n)]
     lines = [f"{kind}{k}" for kind in "rc" for k in range(n)]
     diagonals = [f"{kind}{k}" for kind in "ab" for k in range(2 * n - 1)]
@@ -178,6 +204,7 @@ def queens(name, note, n):
 
 
 def langford(name, note, n):
+    check_count(3 * n, MOST_ITEMS, "items")
     options = [[str(d), f"s{k}", f"s{k + d + 1}"] for d in range(1, n + 1) for k in range(1, 2 * n - d)]
     write(name, note, [str(d) for d in range(1, n + 1)] + [f"s{k}" for k in range(1, 2 * n + 1)], [], options)
 
@@ -205,8 +232,7 @@ def coloring(name, note, borders, colors):
 
 
 def triples(name, note, n):
-    if math.comb(n, 3) > MOST_OPTIONS:  # (before they are made: of 3,000 points there would be 4.5 thousand million)
-        stop(f"this would have {math.comb(n, 3):,} options, and the program reads at most {MOST_OPTIONS:,}")
+    check_count(math.comb(n, 3), MOST_OPTIONS, "options")
     width = len(str(n))
     pairs = {pair: "".join(f"{point:0{width}}" for point in pair) for pair in itertools.combinations(range(1, n + 1), 2)}
     options = [[pairs[pair] for pair in itertools.combinations(t, 2)] for t in itertools.combinations(range(1, n + 1), 3)]
@@ -452,11 +478,17 @@ def read_lessons(path):
     twice = [name for name, count in Counter(lesson.lesson for lesson in lessons).items() if count > 1]
     if twice:
         stop(f"{path}: the lesson {twice[0]} stands there twice; a column hours says how often a lesson is given")
+    roles = {}
+    for lesson in lessons:
+        for role, who in [("teacher", lesson.teacher), ("class", lesson.group)] + [("room", room) for room in lesson.rooms]:
+            if roles.setdefault(who, role) != role:
+                stop(f"{path}: {who} would be a {roles[who]} and a {role}: these have names of their own")
     return lessons
 
 
 def board(given):
     cells = rectangle(*given.size)
+    check_count(len(cells) - len(set(given.without)), MOST_ITEMS, "items")
     for left_out in given.without:
         if left_out not in cells:
             stop("the cell {},{} isn't on the board, whose rows and columns begin with 0".format(*left_out))
@@ -476,7 +508,10 @@ def colored_map(given, note):
     for place in itertools.chain(*borders):
         if "-" in place or "=" in place:
             stop(f"'{place}' can't be a place here: '-' and '=' are in the names of borders")
-    coloring("-", note, list(dict.fromkeys(tuple(sorted(pair)) for pair in borders)), given.colors.split(","))
+    colors = [color.strip() for color in given.colors.split(",")]
+    if "" in colors or len(set(colors)) < len(colors):
+        stop(f"--colors takes different names with commas between, not '{given.colors}'")
+    coloring("-", note, list(dict.fromkeys(tuple(sorted(pair)) for pair in borders)), colors)
 
 
 def squares_on_board(given, note):
@@ -521,7 +556,7 @@ KINDS = {
 
 def make(given):
     """Writes the problem that the command line asks for; its comment tells how it was made."""
-    told = sys.argv[1:sys.argv.index("--out")] if "--out" in sys.argv else sys.argv[1:]
+    told = [word for before, word in zip([""] + sys.argv[1:], sys.argv[1:]) if "--out" not in (before, word.partition("=")[0])]
     words = [os.path.basename(word) if os.path.exists(word) else "".join(word.split()) for word in told]
     if given.kind == "sudoku":
         words[-1] = "".join(read_sudoku(given.given))

@@ -4,12 +4,13 @@ The program decides what a file says. This reader stands beside it: it goes on a
 """
 import os
 import re
+import signal
 import sys
 from collections import namedtuple
 
 BAR, COLON, ILLEGAL = b"|", b":", b"\0:|"
 WITHOUT_LINE = {"NoItems", "BadHead", "WrongCount"}
-# the greatest file that the limits below allow has some 15 MB; what is far above that is read no further
+# kept options take some 15 MB at the limits below; a file of far more, by comments and options that are ignored, is not read here
 LARGEST = 1 << 26
 MAX_NAME, MAX_ITEMS, MAX_OPTIONS, MAX_OCCURRENCES, MAX_COLOURS = 32, 1_000, 20_000, 200_000, 10_000
 
@@ -25,11 +26,15 @@ class Unreadable(Exception):
     """A file that can't be read; its text names the file and the cause."""
 
 
+class TooLarge(Unreadable):
+    """A file that is not read here, and that the program may read."""
+
+
 def all_bytes(opened, path):
-    """All bytes of an opened file; `Unreadable` where there are more than any file has that the program reads."""
+    """All bytes of an opened file; `TooLarge` where there are more than a script reads."""
     text = opened.read(LARGEST + 1)
     if len(text) > LARGEST:
-        raise Unreadable(f"{path} can't be read: it has more than {LARGEST:,} bytes, and the program reads no such file")
+        raise TooLarge(f"{path} has more than {LARGEST:,} bytes, and this script reads no more")
     return text
 
 
@@ -44,7 +49,10 @@ def standard_input():
 
 
 def read_bytes(path):
-    """All bytes of a file; `Unreadable` where it is missing, a folder, too large, or refused by the system."""
+    """All bytes of a file, or of the standard input, which is `-`; `Unreadable` where it is missing, a folder, too large, or refused
+    by the system."""
+    if path == "-":
+        return standard_input()
     if os.path.isdir(path):
         raise Unreadable(f"{path} can't be read: it is a folder")
     try:
@@ -285,6 +293,18 @@ def read_answer(text, problem):
     return Answer(lines_of(text), problem)
 
 
+def is_audit(words):
+    """Whether a line is the one in which `solve --audit` says what it found."""
+    return [word.text for word in words[:2]] in ([b"audit", b"clean"], [b"audit", b"unclean:"])
+
+
+def read_audited(text, problem):
+    """An answer, without the line of an audit if that is what is wrong with it."""
+    lines = lines_of(text)
+    answer = Answer(lines, problem)
+    return Answer(lines[:-1], problem) if answer.faults and is_audit(lines[-1] if lines else []) else answer
+
+
 def refusal(faults):
     """The first fault as the program tells it, without what stands before its name."""
     first = faults[0]
@@ -301,8 +321,9 @@ def run(main):
     """Runs a script's main function to its exit status.
 
     A reader that goes away, as `head` does, ends it quietly, with status 1. Where the standard output is closed or takes no more, or
-    memory runs out, standard error has a line, and the status is 3.
+    memory runs out, standard error has a line, and the status is 3. A signal that ends it also ends the program that it runs.
     """
+    signal.signal(signal.SIGTERM, lambda number, frame: sys.exit(128 + number))
     if sys.stdout is None:
         complain("the standard output can't be written: it is closed")
         sys.exit(3)
@@ -313,6 +334,9 @@ def run(main):
     except MemoryError:
         complain("out of memory")
         status = 3
+    except KeyboardInterrupt:
+        signal.signal(signal.SIGINT, signal.SIG_DFL)
+        os.kill(os.getpid(), signal.SIGINT)
     except OSError as why:
         # what is still buffered goes nowhere, so that the interpreter's own end doesn't fail once more
         os.dup2(os.open(os.devnull, os.O_WRONLY), sys.stdout.fileno())

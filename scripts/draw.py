@@ -8,7 +8,8 @@ The kind of picture follows from the names of the items: tilings (cells are name
 queens (r0 c0 and diagonals), sudokus (p00 r01 c01 b01), Langford pairs (1 s1 s3), timetables (ann-1), map colourings
 (A-B=red), perfect matchings of a graph (options of two items), lines through points (12 13 23); of problems with colours squares
 with coloured sides (12 h12:red v13:blue ..) and words that cross (12:b 13:e). What isn't known is written as a list. Of the answer
-`none` the empty board is drawn where there is one. Where OUT is `-` the SVG is written in place of the text.
+`none` the empty board is drawn where there is one; the line of an audit behind it is passed over. One of FILE and ANSWER may be `-`, the
+standard input. Where OUT is `-` the SVG is written in place of the text.
 
 The picture shows what the answer says; whether that is right is for the program to say (solve_cli check FILE ANSWER). The
 exit status is 0, 2 for a fault of the command line, 3 for a file or an answer that can't be read.
@@ -16,7 +17,7 @@ exit status is 0, 2 for a fault of the command line, 3 for a file or an answer t
 import argparse
 import sys
 
-from cover_files import Unreadable, read_answer, read_bytes, read_problem, refusal, run, shown, standard_input
+from cover_files import Unreadable, read_audited, read_bytes, read_problem, refusal, run, shown
 from picture_kinds import picture_of
 from svg_paper import Paper
 
@@ -39,13 +40,13 @@ def read_files(given):
     """The problem, its title, and the answer."""
     try:
         text = read_bytes(given.file)
-        answer_text = standard_input() if given.answer == "-" else read_bytes(given.answer)
+        answer_text = read_bytes(given.answer)
     except Unreadable as why:
         stop(str(why))
     problem = read_problem(text)
     if problem.faults:
         stop(f"{given.file} is refused: {refusal(problem.faults)}; scripts/explain.py {given.file} explains it")
-    answer = read_answer(answer_text, problem)
+    answer = read_audited(answer_text, problem)
     if answer.faults:
         stop(f"{given.answer} is refused: {refusal(answer.faults)}; scripts/explain.py {given.file} {given.answer} explains it")
     return problem, title_of(text, given.file), answer
@@ -64,10 +65,12 @@ def write_svg(path, svg):
 
 def main():
     parser = argparse.ArgumentParser(description=__doc__, formatter_class=argparse.RawDescriptionHelpFormatter)
-    parser.add_argument("file", metavar="FILE", help="the problem's file")
+    parser.add_argument("file", metavar="FILE", help="the problem's file, or - for the standard input")
     parser.add_argument("answer", metavar="ANSWER", help="the answer's file, or - for the standard input")
     parser.add_argument("--svg", metavar="OUT", help="where the picture is written, - for the standard output")
     given = parser.parse_args()
+    if given.file == given.answer == "-":
+        parser.error("- is the standard input, which can be read once")
     problem, title, answer = read_files(given)
     chosen = [problem.options[place] for _, place in answer.chosen]
     picture = picture_of(problem, chosen, answer.kind == "none")

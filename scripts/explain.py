@@ -3,7 +3,7 @@
 
     python3 scripts/explain.py FILE [ANSWER]
 
-The files' format is told in docs/FORMAT.md. Of a file that would be refused each fault is told with its line, its column
+The files' format is told in docs/FORMAT.md; one of the files may be `-`, the standard input. Of a file that would be refused each fault is told with its line, its column
 (in characters, from 1; a tab is one), the word, and what was expected, the first 200 of them; the first line says what the program tells of it. Of
 a file that is right the counts are told, the options that are ignored, and what may surprise: primary items in no option or
 in one alone, items that always go together, options that name the same items, items that have a colour in some options and none
@@ -15,7 +15,7 @@ status is 0 where nothing is wrong, 1 where something is, 2 for a fault of the c
 """
 import argparse
 
-from cover_files import MAX_COLOURS, MAX_ITEMS, MAX_OCCURRENCES, MAX_OPTIONS, Unreadable
+from cover_files import MAX_COLOURS, MAX_ITEMS, MAX_OCCURRENCES, MAX_OPTIONS, TooLarge, Unreadable
 from cover_files import is_comment, lines_of, Problem, read_answer, read_bytes, read_problem, refusal, run, shown
 from fault_words import answer_fault_words, fault_words, grouped, listed, plural, quoted
 
@@ -42,7 +42,7 @@ def first_word(lines):
 def repaired_text(text):
     """The text without what editors put in unseen, and a remark on each such thing."""
     remarks = []
-    if text[:2] in (b"\xff\xfe", b"\xfe\xff"):
+    if text[:2] in (b"\xff\xfe", b"\xfe\xff") and b"\0" in text:
         remarks.append("the file is written in UTF-16, two bytes a character: save it as UTF-8")
         text = text.decode("utf-16", "replace").encode("utf-8")
     if text.startswith(BYTE_ORDER_MARK):
@@ -296,12 +296,17 @@ def explain(text, answer_text=None):
 
 def main(words=None):
     parser = argparse.ArgumentParser(description=__doc__, formatter_class=argparse.RawDescriptionHelpFormatter)
-    parser.add_argument("file", metavar="FILE", help="the problem's file")
-    parser.add_argument("answer", metavar="ANSWER", nargs="?", help="an answer to it, as the program writes or checks it")
+    parser.add_argument("file", metavar="FILE", help="the problem's file, or - for the standard input")
+    parser.add_argument("answer", metavar="ANSWER", nargs="?", help="an answer to it, as the program writes or checks it, or -")
     given = parser.parse_args(words)
+    if given.file == given.answer == "-":
+        parser.error("- is the standard input, which can be read once")
     try:
         text = read_bytes(given.file)
         answer_text = None if given.answer is None else read_bytes(given.answer)
+    except TooLarge as why:
+        print(why)
+        return 3
     except Unreadable as why:
         print(f"{SAYS}cannot read\n{why}")
         return 3

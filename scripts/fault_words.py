@@ -1,11 +1,12 @@
 """What each fault of a problem file or of an answer means, in words, with what was expected and the nearest name there is."""
 import difflib
 
-from cover_files import MAX_COLOURS, MAX_ITEMS, MAX_NAME, MAX_OCCURRENCES, MAX_OPTIONS, option_of, parts_of, shown
+from cover_files import MAX_COLOURS, MAX_ITEMS, MAX_NAME, MAX_OCCURRENCES, MAX_OPTIONS, is_audit, option_of, parts_of, shown
 
 FEW = 12
 # faults that aren't told where the same word has an earlier one
 FOLLOWS = ("UnknownItem", "NameTooLong", "BadColour")
+AUDIT = "the line of an audit is no part of the answer: leave it out, as by grep -v '^audit '"
 
 
 # ---- plain English
@@ -181,6 +182,8 @@ def head_words(answer):
 
 
 def count_words(answer):
+    if is_audit(answer.rest[-1] if answer.rest else []):
+        return AUDIT
     if answer.kind == "none":
         return f"nothing stands behind 'none', but {plural(len(answer.rest), 'line')} here; did you mean 'cover {len(answer.rest)}'?"
     return f"the head says {plural(answer.count, 'line')}, but there {'is' if len(answer.rest) == 1 else 'are'} {len(answer.rest):,}"
@@ -195,6 +198,8 @@ def option_words(problem, answer, words):
     line = option_of(words)
     if line.words[0].startswith((b"|", b"#")):
         return "an answer has no comments"
+    if is_audit(words):
+        return AUDIT
     unknown = [name for name in line.names if name not in problem.items]
     if unknown:
         return "; ".join(f"no item is named {quoted(name)}; {instead(problem.names(), name)}" for name in dict.fromkeys(unknown))

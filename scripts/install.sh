@@ -10,17 +10,23 @@ set -eu
 top=$(cd "$(dirname "$0")/.." && pwd)
 program=$top/crates/solve_cli/out/solve_cli
 
-if [ $# -gt 1 ] || [ "${1#-}" != "${1-}" ]; then
+usage() {
     echo "usage: scripts/install.sh [PREFIX]" >&2
     exit 2
-fi
+}
+
+[ $# -le 1 ] || usage
+prefix=${1-/usr/local}
+case $prefix in
+"" | -*) usage ;;
+esac
 if [ ! -x "$program" ]; then
     echo "install.sh: the program isn't built; at the top of the repository this builds it:" >&2
     echo "    (cd crates/solve_cli && rt run -- alone data/letters.dlx)" >&2
     exit 2
 fi
 
-prefix=${DESTDIR-}${1:-/usr/local}
+prefix=${DESTDIR-}$prefix
 pages=$(mktemp -d)
 trap 'rm -rf "$pages"' EXIT
 python3 "$top/scripts/help_pages.py" "$pages"

@@ -13,6 +13,7 @@ failed, 2 for a fault of the command line or where there is no program.
 import os
 import random
 import re
+import stat
 import subprocess
 import sys
 import tempfile
@@ -269,6 +270,17 @@ def written(trial):
         ended = trial.python("examples/generate.py", *words, "--out", out)
         there = [name for name in os.listdir(trial.folder) if name.startswith(f"out-{status}")]
         trial.expect(f"{words} into a file", ended.returncode == status and len(there) == (status == 0) and not ended.stdout)
+    link, target, pipe = trial.path("link.dlx"), trial.path("target.dlx"), trial.path("pipe")
+    os.symlink(target, link)
+    trial.python("examples/generate.py", "queens", "--out", link, "4")
+    trial.expect("a link's file", os.path.islink(link) and b"(generate.py queens 4)" in content(target))
+    os.mkfifo(pipe)
+    reader = os.open(pipe, os.O_RDONLY | os.O_NONBLOCK)
+    trial.python("examples/generate.py", "queens", "4", "--out", pipe)
+    trial.expect("a pipe stays one", stat.S_ISFIFO(os.stat(pipe).st_mode) and os.read(reader, 1 << 16) == content(target))
+    os.close(reader)
+    ended = trial.python("examples/generate.py", "queens", "4", "--out", trial.folder)
+    trial.expect("a folder", ended.returncode == 2 and not os.path.exists(trial.folder + ".part"))
 
 
 def strange_names(trial):
@@ -301,6 +313,8 @@ def refusals(trial):
                   ["cubes", trial.path("five", b"a r g b w r\n")], ["crossword", trial.path("rows", b"..\n.\n"), trial.path("list", b"ab\n")],
                   ["crossword", trial.path("black", b"##\n##\n"), trial.path("list", b"ab\n")],
                   ["timetable", trial.path("head", b"lesson;teacher\na;b\n")],
+                  ["langford", "9999"], ["queens", "9999"], ["dominoes", "999x999"], ["coloring", trial.path("one", b"a b\n"), "--colors", "red,,blue"],
+                  ["timetable", trial.path("roles", b"lesson,teacher,class,rooms,periods\nart,bob,5a,bob,1\n")],
                   ["triples", "60"], ["matching", trial.path("edges", b"a b c\n")], ["coloring", trial.path("borders", b"a-b c\n")]):
         ended = trial.python("examples/generate.py", *words)
         is_plain = ended.stderr and b"Traceback" not in ended.stderr
@@ -310,6 +324,10 @@ def refusals(trial):
     for words in ([file, file], [letters_file, file], [letters_file, trial.folder], ["nothing", file]):
         ended = trial.python("scripts/draw.py", *words)
         trial.expect(f"draw.py {words} stops", ended.returncode == 3 and not ended.stdout and ended.stderr.startswith(b"draw: "))
+    cover = trial.path("cover", b"cover 3\nc e\na d f\nb g\n")
+    audited = trial.path("audited", content(cover) + b"audit clean\n")
+    texts = [trial.python("scripts/draw.py", letters_file, path).stdout for path in (cover, audited)]
+    trial.expect("an audit's line is passed over", texts[0] and texts[0] == texts[1])
     wrong = trial.path("wrong", b"cover 1\nc e\n")
     trial.expect("no exact cover", b"no exact cover" in trial.python("scripts/draw.py", letters_file, wrong).stderr)
 

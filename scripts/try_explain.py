@@ -162,6 +162,7 @@ def some_answer(draw, text, own):
 GOOD = b"a b c | x y\na b x\nb a x\na b c\ny\nx\n"
 LETTERS = b"a b c d e f g\nc e\na d g\nb c f\na d f\nb g\nd e g\n"
 COLOURS = b"p q r | x y\np q x y:A\np r x:A y\np x:B\nq x:A\nr y:B\n"
+AUDIT = "the line of an audit is no part of the answer: leave it out, as by grep -v '^audit '"
 ONE_WORD = "an item and its colour are one word, as in 'x:red'"
 # a file, an answer or none, and lines that have to be told
 TOLD = [
@@ -196,6 +197,8 @@ TOLD = [
         "line 3: UnknownOption: the file has this option once (line 2), and the answer has it already at line 2"]),
     (LETTERS, b"cover 1\na d f g\n", ["line 2: UnknownOption: no option of the file has these names; nearest: 'a d g' (line 3)"]),
     (LETTERS, b"cover 3\nc e\na d f\nb g\n", ["the program says: right"]),
+    (LETTERS, b"none\naudit clean\n", [f"line 1: WrongCount: {AUDIT}"]),
+    (LETTERS, b"cover 1\nc e\naudit unclean: MissingBook node 1 incarnation 1\n", [f"line 3: UnknownOption: {AUDIT}"]),
     (COLOURS, None, ["5 items (3 primary, 2 secondary), 5 options, 14 occurrences of items in them, 2 colours",
                      "in some options with a colour and in others without, which agree with none: "
                      "secondary items 'x' (line 2) and 'y' (line 3)",

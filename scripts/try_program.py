@@ -1,5 +1,5 @@
 #!/usr/bin/env python3
-"""Runs the built program on the examples, on bad input and on failing outputs, and compares what it tells.
+"""Runs the built program on the examples, on bad input, on failing outputs, installed and from Python, and compares what it tells.
 
     python3 scripts/try_program.py [PROGRAM]
 
@@ -141,6 +141,32 @@ def command_line():
         expect(f"words {words}", ended == status and (bool(out), bool(errors)) == (status == 0, status != 0))
 
 
+def installing(folder):
+    """What install.sh writes, with a prefix and without."""
+    script, files = os.path.join(TOP, "scripts", "install.sh"), ["bin/solve_cli", "share/man/man1/solve_cli.1",
+                                                                 "share/bash-completion/completions/solve_cli",
+                                                                 "share/zsh/site-functions/_solve_cli"]
+    for words, prefix in (([], "/usr/local"), (["/opt"], "/opt")):
+        ended = subprocess.run(["sh", script, *words], env={**os.environ, "DESTDIR": folder}, capture_output=True, text=True)
+        written = [f"{folder}{prefix}/{file}" for file in files]
+        expect(f"install.sh {words}", ended.returncode == 0 and ended.stdout.split() == written and all(map(os.path.isfile, written)))
+    for words in ([""], ["-h"], ["/opt", "/usr"]):
+        ended = subprocess.run(["sh", script, *words], env={**os.environ, "DESTDIR": folder}, capture_output=True)
+        expect(f"install.sh {words} is refused", ended.returncode == 2 and ended.stderr.startswith(b"usage: "))
+
+
+def from_python():
+    """The examples of zarfepoch.py, and problems in JSON."""
+    ended = subprocess.run([sys.executable, "-m", "doctest", "zarfepoch.py"], cwd=os.path.join(TOP, "scripts"), capture_output=True)
+    expect("the examples of zarfepoch.py", ended.returncode == 0 and not ended.stdout)
+    for text, answer, status in ((b'{"options": [["a", ["x", "red"]], ["x"]], "primary": ["a"], "secondary": ["x"]}', b"[0]\n", 0),
+                                 (b'{"options": [["a"]], "primary": ["a", "b"]}', b"null\n", 1), (b"[]", b"", 3), (b"{", b"", 3),
+                                 (b'{"options": [["b"]], "primary": ["a"]}', b"", 3), (b'{"options": ["a"], "primary": ["a"]}', b"", 3)):
+        ended = subprocess.run([sys.executable, os.path.join(TOP, "scripts", "zarfepoch.py"), "--json", "-"], input=text, capture_output=True)
+        is_plain = b"Traceback" not in ended.stderr and bool(ended.stderr) == (status == 3)
+        expect(f"JSON {text}", (ended.stdout, ended.returncode) == (answer, status) and is_plain)
+
+
 def main():
     global PROGRAM
     parser = parser_of(__doc__)
@@ -150,6 +176,8 @@ def main():
     with tempfile.TemporaryDirectory() as folder:
         examples(folder)
         bad_input(folder)
+        installing(os.path.join(folder, "dest"))
+    from_python()
     progress()
     command_line()
     print(f"{passed} passed, {failed} failed")

@@ -94,7 +94,8 @@ def reasons(problem, kept):
 def explain(problem, kept, asked):
     """All lines on the items that were found."""
     by_item = problem.options_by_item()
-    yield f"{plural(len(kept), 'primary item')} of {problem.primary:,} can't be covered together ({asked} searches):"
+    searches = f"{asked:,} {'search' if asked == 1 else 'searches'}"
+    yield f"{plural(len(kept), 'primary item')} of {problem.primary:,} can't be covered together ({searches}):"
     for name in kept:
         lines = [problem.options[place].line for place in by_item[name]]
         where = f"in {plural(len(lines), 'option')}, line{'s' * (len(lines) != 1)} {listed(lines, SHOWN)}" if lines else "in no option"
@@ -117,7 +118,7 @@ def read(path):
 
 def main():
     words = parser_of(__doc__)
-    words.add_argument("file", metavar="FILE", help="the problem's file")
+    words.add_argument("file", metavar="FILE", help="the problem's file, or - for the standard input")
     words.add_argument("--fuel", type=int, default=1_000_000, help="how many visits each search may take (default 1,000,000)")
     words.add_argument("--program", default=SOLVE_CLI, help="the built program (default crates/solve_cli/out/solve_cli)")
     given = words.parse_args()

@@ -21,9 +21,9 @@ An error is a ValueError that names the option and the item: an item that isn't 
 option or in the lists; a colour on a primary item; more than the program reads (docs/FORMAT.md). TimeoutError comes where there is
 no answer after so many seconds, MemoryError where memory ran out, and RuntimeError where there is no program, or it fails.
 
-As a command, python3 scripts/zarfepoch.py --json FILE reads an object with "options", "primary" and "secondary", in whose options a
-list of two is an item with its colour, and prints the answer as a list or null. FILE may be -. The exit status is 0 where there is a
-cover, 1 where there is none, 2 for a fault of the command line, and 3 where the problem is refused or there is no answer.
+As a command, python3 scripts/zarfepoch.py --json FILE [--seconds N] reads an object with "options", "primary" and "secondary", in whose
+options a list of two is an item with its colour, and prints the answer as a list or null. FILE may be -. The exit status is 0 where there
+is a cover, 1 where there is none, 2 for a fault of the command line, and 3 where the problem is refused or there is no answer.
 """
 import collections
 import json
@@ -69,7 +69,7 @@ def words_of(place, option, items, primary, colours):
 
 
 def problem_of(options, primary, secondary):
-    """The text of the problem's file, and the words of each option."""
+    """The text of the problem's file, and the words of each option. Options without a primary item are not written: no cover has them."""
     items, colours = numbered([*primary, *secondary], "items"), {}
     count = len(list(primary))
     if not count:
@@ -77,12 +77,14 @@ def problem_of(options, primary, secondary):
     lines = [words_of(place, option, items, count, colours) for place, option in enumerate(options)]
     names = list(map(str, range(len(items))))
     text = " ".join(names[:count]) + (" | " + " ".join(names[count:]) if len(items) > count else "") + "\n"
-    for number, most, what in ((len(items), MAX_ITEMS, "items"), (len(lines), MAX_OPTIONS, "options"),
-                               (sum(map(len, lines)), MAX_OCCURRENCES, "items in all options together"),
-                               (len(colours), MAX_COLOURS, "colours")):
+    kept = [line for line in lines if any(":" not in word and int(word) < count for word in line)]
+    used = {word.partition(":")[2] for line in kept for word in line if ":" in word}
+    for number, most, what in ((len(items), MAX_ITEMS, "items"), (len(kept), MAX_OPTIONS, "options"),
+                               (sum(map(len, kept)), MAX_OCCURRENCES, "items in all options together"),
+                               (len(used), MAX_COLOURS, "colours")):
         if number > most:
             raise ValueError(f"there are {number:,} {what}, and the program reads at most {most:,}")
-    return text + "".join(" ".join(line) + "\n" for line in lines), lines
+    return text + "".join(" ".join(line) + "\n" for line in kept), lines
 
 
 def chosen_of(answer, lines):
@@ -96,7 +98,7 @@ def chosen_of(answer, lines):
 def program():
     """The program's place: what the environment's ZARFEPOCH names, else what was built here."""
     found = os.environ.get("ZARFEPOCH", SOLVE_CLI)
-    if not os.access(found, os.X_OK):
+    if not (os.path.isfile(found) and os.access(found, os.X_OK)):
         raise RuntimeError(f"there is no program {found}; (cd crates/solve_cli && rt run) builds it")
     return found
 
@@ -119,23 +121,41 @@ def solve(options, primary, secondary=(), seconds=None):
     raise RuntimeError(f"the program ended with status {ran.returncode}: {ran.stderr.strip()}")
 
 
-def solve_json(text):
+def item_of(word, place):
+    """An item of an option that is given as JSON, in a list of two with its colour."""
+    parts = word if isinstance(word, list) else [word, None]
+    if len(parts) != 2 or any(isinstance(part, (list, dict)) for part in parts):
+        raise ValueError(f"option {place} has {json.dumps(word)}, which is neither an item nor an item with its colour")
+    return Colored(*parts)
+
+
+def solve_json(text, seconds=None):
     """The answer to a problem that is given as JSON."""
     try:
         given = json.loads(text)
-        options = [[Colored(*word) if isinstance(word, list) else word for word in option] for option in given["options"]]
-        return solve(options, given["primary"], given.get("secondary", []))
-    except (KeyError, TypeError, AttributeError, json.JSONDecodeError) as why:
-        raise ValueError(f"this is no problem in JSON: {why}") from None
+    except json.JSONDecodeError as why:
+        raise ValueError(f"this is no JSON: {why}") from None
+    lists = [given.get(what, default) for what, default in (("options", None), ("primary", None), ("secondary", []))] \
+        if isinstance(given, dict) else [None]
+    if not all(isinstance(one, list) for one in lists):
+        raise ValueError('an object with the lists "options" and "primary", and perhaps "secondary", is expected')
+    options, primary, secondary = lists
+    for place, option in enumerate(options):
+        if not isinstance(option, list):
+            raise ValueError(f"option {place} is no list")
+    if any(isinstance(item, (list, dict)) for item in primary + secondary):
+        raise ValueError("an item is a text, a number, true, false or null")
+    return solve([[item_of(word, place) for word in option] for place, option in enumerate(options)], primary, secondary, seconds)
 
 
 def main():
     words = parser_of(__doc__)
     words.add_argument("--json", metavar="FILE", required=True, help="the problem in JSON, or - for the standard input")
+    words.add_argument("--seconds", metavar="N", type=float, help="how long it may search (no limit where it isn't given)")
     given = words.parse_args()
     try:
         with open(0 if given.json == "-" else given.json, encoding="utf-8") as opened:
-            answer = solve_json(opened.read())
+            answer = solve_json(opened.read(), given.seconds)
     except (OSError, ValueError, RuntimeError, MemoryError) as why:
         print(f"zarfepoch: {why}", file=sys.stderr)
         return 3
