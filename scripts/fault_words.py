@@ -1,7 +1,7 @@
 """What each fault of a problem file or of an answer means, in words, with what was expected and the nearest name there is."""
 import difflib
 
-from cover_files import MAX_COLOURS, MAX_ITEMS, MAX_NAME, MAX_OCCURRENCES, MAX_OPTIONS, is_audit, option_of, parts_of, shown
+from cover_files import MAX_COLOURS, MAX_ITEMS, MAX_NAME, MAX_OCCURRENCES, MAX_OPTIONS, is_audit, name_part, option_of, parts_of, shown
 
 FEW = 12
 # faults that aren't told where the same word has an earlier one
@@ -97,7 +97,7 @@ def primary_words(problem, word):
 # ---- faults of a problem
 
 def earlier_column(problem, fault):
-    return problem.places[fault.word.text.lstrip(b"|")].column
+    return problem.places[name_part(fault.word.text)].column
 
 
 def no_items_words(problem):
@@ -112,7 +112,7 @@ def fault_words(problem, fault):
     if name == "UnknownItem":
         return unknown_words(problem, word)
     if name == "NameTooLong":
-        item = word.text.lstrip(b"|") if word.line == problem.item_line else parts_of(word.text)[0]
+        item = name_part(word.text) if word.line == problem.item_line else parts_of(word.text)[0]
         return f"a name has at most {MAX_NAME} bytes, this one has {len(item)}"
     if name == "BadColour":
         return bad_colour_words(word)

@@ -72,7 +72,7 @@ def spoil_word(draw, text):
     other = text[slice(*draw.choice(words))]
     new = draw.choice([word + b" " + word, word + b":red", word + b":", b":" + word, word + b":red:2", word + b":" + b"k" * 33, word * 33,
                        word + b"|", b"|" + word, b"| " + word, word.upper(), b"#" + word, other, word + b",", word + b"\0", b"",
-                       word + b"\n", b"zz", b"\xef\xbb\xbf" + word, b"|" + other + b" |" + word])
+                       word + b"\n", b"zz", b"\xef\xbb\xbf" + word, b"|" + other + b" |" + word, b"||" + word + b" ||" + word])
     return text[:begin] + new + text[end:]
 
 
@@ -235,6 +235,9 @@ TOLD = [
         "the program says: refused: IllegalByte line 1",
         "line 1, column 5, 'x:red': IllegalByte: no name has a ':'; the item line has names alone, and options give colours to "
         "secondary items, as in 'x:red'"]),
+    (b"a ||x ||x\na\n", None, [
+        "the program says: refused: IllegalByte line 1",
+        "line 1, column 7, '||x': DuplicateItem: the item line names it already, at column 3"]),
 ]
 
 
