@@ -317,6 +317,14 @@ def complain(why):
         print(f"{os.path.basename(sys.argv[0]).removesuffix('.py')}: {why}", file=sys.stderr)
 
 
+def status_of(main):
+    """The exit status of a main function, whether it returns it or ends the script."""
+    try:
+        return main()
+    except SystemExit as ended:
+        return ended.code
+
+
 def run(main):
     """Runs a script's main function to its exit status.
 
@@ -329,7 +337,7 @@ def run(main):
         sys.exit(3)
     sys.stdout.reconfigure(errors="backslashreplace")
     try:
-        status = main()
+        status = status_of(main)
         sys.stdout.flush()
     except MemoryError:
         complain("out of memory")

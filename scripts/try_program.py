@@ -167,6 +167,26 @@ def from_python():
         expect(f"JSON {text}", (ended.stdout, ended.returncode) == (answer, status) and is_plain)
 
 
+def help_on(output, *words):
+    """The status of a script that writes its help on this output, and its standard error; its output is buffered, as it is for users."""
+    buffered = {name: text for name, text in os.environ.items() if name != "PYTHONUNBUFFERED"}
+    ended = subprocess.run([sys.executable, *words, "--help"], stdout=output, stderr=subprocess.PIPE, env=buffered, text=True)
+    return ended.returncode, ended.stderr
+
+
+def failing_outputs():
+    """What scripts say where their output takes no more, or nobody reads it."""
+    for script in ("scripts/explain.py", "scripts/draw.py", "scripts/why_none.py", "scripts/zarfepoch.py", "examples/generate.py"):
+        name, path = os.path.basename(script).removesuffix(".py"), os.path.join(TOP, script)
+        with open("/dev/full", "wb") as full:
+            told = help_on(full, path)
+        expect(f"{script} on a full disk", told == (3, f"{name}: the standard output can't be written: No space left on device\n"))
+        reader, writer = os.pipe()
+        os.close(reader)
+        expect(f"{script} on a closed pipe", help_on(writer, path) == (1, ""))
+        os.close(writer)
+
+
 def main():
     global PROGRAM
     parser = parser_of(__doc__)
@@ -178,6 +198,7 @@ def main():
         bad_input(folder)
         installing(os.path.join(folder, "dest"))
     from_python()
+    failing_outputs()
     progress()
     command_line()
     print(f"{passed} passed, {failed} failed")
