@@ -48,16 +48,11 @@ from dataclasses import dataclass
 HERE = os.path.dirname(os.path.abspath(__file__))
 sys.path.insert(0, os.path.join(HERE, "..", "scripts"))
 import puzzles  # noqa: E402
-from cover_files import run  # noqa: E402
+from cover_files import run, stop  # noqa: E402
 
 # where the command line wants the problem, if not on the standard output
 OUT = []
 MOST_ITEMS, MOST_OPTIONS, MOST_OCCURRENCES, MOST_COLOURS, LONGEST_NAME = 1_000, 20_000, 200_000, 10_000, 32
-
-
-def stop(why):
-    print(f"generate: {why}", file=sys.stderr)
-    sys.exit(2)
 
 
 def check_count(count, most, what):

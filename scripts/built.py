@@ -2,7 +2,8 @@
 import argparse
 import os
 import shutil
-import sys
+
+from cover_files import stop
 
 TOP = os.path.dirname(os.path.dirname(os.path.abspath(__file__)))
 
@@ -19,12 +20,6 @@ TWO_SEARCHES = program_of("two_searches")
 def parser_of(text):
     """A command line whose help is this text as it stands."""
     return argparse.ArgumentParser(description=text, formatter_class=argparse.RawDescriptionHelpFormatter)
-
-
-def stop(why):
-    """Ends the script with status 2 and tells why."""
-    print(f"{os.path.basename(sys.argv[0]).removesuffix('.py')}: {why}", file=sys.stderr)
-    sys.exit(2)
 
 
 def want_program(program, crate="solve_cli"):

@@ -317,6 +317,12 @@ def complain(why):
         print(f"{os.path.basename(sys.argv[0]).removesuffix('.py')}: {why}", file=sys.stderr)
 
 
+def stop(why, status=2):
+    """Ends the script with this status and tells why."""
+    complain(why)
+    sys.exit(status)
+
+
 def status_of(main):
     """The exit status of a main function, whether it returns it or ends the script."""
     try:

@@ -17,7 +17,7 @@ exit status is 0, 2 for a fault of the command line, 3 for a file or an answer t
 import argparse
 import sys
 
-from cover_files import Unreadable, read_audited, read_bytes, read_problem, refusal, run, shown
+from cover_files import Unreadable, complain, read_audited, read_bytes, read_problem, refusal, run, shown, stop
 from picture_kinds import picture_of
 from svg_paper import Paper
 
@@ -31,24 +31,19 @@ def title_of(text, file):
     return file
 
 
-def stop(why):
-    print(f"draw: {why}", file=sys.stderr)
-    sys.exit(3)
-
-
 def read_files(given):
     """The problem, its title, and the answer."""
     try:
         text = read_bytes(given.file)
         answer_text = read_bytes(given.answer)
     except Unreadable as why:
-        stop(str(why))
+        stop(why, 3)
     problem = read_problem(text)
     if problem.faults:
-        stop(f"{given.file} is refused: {refusal(problem.faults)}; scripts/explain.py {given.file} explains it")
+        stop(f"{given.file} is refused: {refusal(problem.faults)}; scripts/explain.py {given.file} explains it", 3)
     answer = read_audited(answer_text, problem)
     if answer.faults:
-        stop(f"{given.answer} is refused: {refusal(answer.faults)}; scripts/explain.py {given.file} {given.answer} explains it")
+        stop(f"{given.answer} is refused: {refusal(answer.faults)}; scripts/explain.py {given.file} {given.answer} explains it", 3)
     return problem, title_of(text, given.file), answer
 
 
@@ -60,7 +55,7 @@ def write_svg(path, svg):
         with open(path, "w", encoding="utf-8", newline="\n") as opened:
             opened.write(svg)
     except OSError as why:
-        stop(f"{path} can't be written: {why.strerror}")
+        stop(f"{path} can't be written: {why.strerror}", 3)
 
 
 def main():
@@ -81,7 +76,7 @@ def main():
     if given.svg != "-":
         print("\n".join(picture.text()))
     if answer.kind == "cover" and (answer.uncovered(problem) or answer.covered_twice(problem)):
-        print(f"draw: this is no exact cover; scripts/explain.py {given.file} {given.answer} tells why", file=sys.stderr)
+        complain(f"this is no exact cover; scripts/explain.py {given.file} {given.answer} tells why")
     return 0
 
 

@@ -185,6 +185,11 @@ def failing_outputs():
         os.close(reader)
         expect(f"{script} on a closed pipe", help_on(writer, path) == (1, ""))
         os.close(writer)
+    unknown, refused = os.path.join(TOP, "nothing"), os.path.join(TOP, "README.md")
+    for words, status in ((["scripts/draw.py", unknown, unknown], 3), (["scripts/why_none.py", refused], 3),
+                          (["scripts/zarfepoch.py", "--json", unknown], 3), (["examples/generate.py", "queens", "999"], 2)):
+        ended = subprocess.run(["sh", "-c", 'exec "$@" 2>&-', "sh", sys.executable, os.path.join(TOP, words[0]), *words[1:]], capture_output=True)
+        expect(f"{words} without standard error", (ended.stdout, ended.returncode) == (b"", status))
 
 
 def main():

@@ -15,11 +15,10 @@ that can't be read or is refused.
 import itertools
 import os
 import subprocess
-import sys
 import tempfile
 
 from built import parser_of, SOLVE_CLI, want_program
-from cover_files import Unreadable, read_bytes, read_problem, refusal, run, shown
+from cover_files import Unreadable, read_bytes, read_problem, refusal, run, shown, stop
 from fault_words import listed, plural, quoted
 
 NONE, COVER, SPENT, OUT_OF_MEMORY = 1, 0, 4, 5
@@ -108,11 +107,9 @@ def read(path):
     try:
         problem = read_problem(read_bytes(path))
     except Unreadable as why:
-        print(f"why_none: {why}", file=sys.stderr)
-        sys.exit(3)
+        stop(why, 3)
     if problem.faults:
-        print(f"why_none: {path} is refused: {refusal(problem.faults)}; scripts/explain.py {path} explains it", file=sys.stderr)
-        sys.exit(3)
+        stop(f"{path} is refused: {refusal(problem.faults)}; scripts/explain.py {path} explains it", 3)
     return problem
 
 

@@ -29,11 +29,10 @@ import collections
 import json
 import os
 import subprocess
-import sys
 import tempfile
 
 from built import parser_of, SOLVE_CLI
-from cover_files import MAX_COLOURS, MAX_ITEMS, MAX_OCCURRENCES, MAX_OPTIONS, run
+from cover_files import MAX_COLOURS, MAX_ITEMS, MAX_OCCURRENCES, MAX_OPTIONS, run, stop
 
 Colored = collections.namedtuple("Colored", "item colour")
 
@@ -157,8 +156,7 @@ def main():
         with open(0 if given.json == "-" else given.json, encoding="utf-8") as opened:
             answer = solve_json(opened.read(), given.seconds)
     except (OSError, ValueError, RuntimeError, MemoryError) as why:
-        print(f"zarfepoch: {why}", file=sys.stderr)
-        return 3
+        stop(why, 3)
     print(json.dumps(answer))
     return 1 if answer is None else 0
 
