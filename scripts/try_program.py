@@ -165,6 +165,10 @@ def from_python():
         ended = subprocess.run([sys.executable, os.path.join(TOP, "scripts", "zarfepoch.py"), "--json", "-"], input=text, capture_output=True)
         is_plain = b"Traceback" not in ended.stderr and bool(ended.stderr) == (status == 3)
         expect(f"JSON {text}", (ended.stdout, ended.returncode) == (answer, status) and is_plain)
+    for seconds, answer, status in (("60", b"[0]\n", 0), ("1e9", b"[0]\n", 0), ("inf", b"[0]\n", 0), ("0", b"", 2), ("nan", b"", 2)):
+        ended = subprocess.run([sys.executable, os.path.join(TOP, "scripts", "zarfepoch.py"), "--json", "-", "--seconds", seconds],
+                               input=b'{"options": [["a"]], "primary": ["a"]}', capture_output=True)
+        expect(f"{seconds} seconds", (ended.stdout, ended.returncode) == (answer, status))
 
 
 def help_on(output, *words):

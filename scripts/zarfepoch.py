@@ -35,6 +35,8 @@ from built import parser_of, SOLVE_CLI
 from cover_files import MAX_COLOURS, MAX_ITEMS, MAX_OCCURRENCES, MAX_OPTIONS, run, stop
 
 Colored = collections.namedtuple("Colored", "item colour")
+# a limit of so many seconds is none: Python waits for a program 24 days at most
+LONGEST = 2_000_000
 
 
 def numbered(names, what):
@@ -109,8 +111,9 @@ def solve(options, primary, secondary=(), seconds=None):
     with tempfile.NamedTemporaryFile("w", suffix=".dlx") as file:
         file.write(text)
         file.flush()
+        limit = seconds if seconds is not None and seconds < LONGEST else None
         try:
-            ran = subprocess.run([program(), "alone", file.name], capture_output=True, text=True, timeout=seconds)
+            ran = subprocess.run([program(), "alone", file.name], capture_output=True, text=True, timeout=limit)
         except subprocess.TimeoutExpired:
             raise TimeoutError(f"no answer after {seconds} seconds") from None
     if ran.returncode in (0, 1):
@@ -147,10 +150,18 @@ def solve_json(text, seconds=None):
     return solve([[item_of(word, place) for word in option] for place, option in enumerate(options)], primary, secondary, seconds)
 
 
+def positive(text):
+    """A number above 0 on the command line."""
+    number = float(text)
+    if not number > 0:
+        raise ValueError
+    return number
+
+
 def main():
     words = parser_of(__doc__)
     words.add_argument("--json", metavar="FILE", required=True, help="the problem in JSON, or - for the standard input")
-    words.add_argument("--seconds", metavar="N", type=float, help="how long it may search (no limit where it isn't given)")
+    words.add_argument("--seconds", metavar="N", type=positive, help="how long it may search (no limit where it isn't given)")
     given = words.parse_args()
     try:
         with open(0 if given.json == "-" else given.json, encoding="utf-8") as opened:
