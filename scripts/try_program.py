@@ -169,6 +169,11 @@ def from_python():
         ended = subprocess.run([sys.executable, os.path.join(TOP, "scripts", "zarfepoch.py"), "--json", "-", "--seconds", seconds],
                                input=b'{"options": [["a"]], "primary": ["a"]}', capture_output=True)
         expect(f"{seconds} seconds", (ended.stdout, ended.returncode) == (answer, status))
+    folder, name = os.path.split(PROGRAM)
+    for program, answer, status in ((name, b"[0]\n", 0), ("/bin/true", b"", 3), ("/bin/false", b"", 3), ("/dev/null", b"", 3)):
+        ended = subprocess.run([sys.executable, os.path.join(TOP, "scripts", "zarfepoch.py"), "--json", "-"], cwd=folder,
+                               env={**os.environ, "ZARFEPOCH": program}, input=b'{"options": [["a"]], "primary": ["a"]}', capture_output=True)
+        expect(f"the program {program}", (ended.stdout, ended.returncode) == (answer, status))
 
 
 def help_on(output, *words):

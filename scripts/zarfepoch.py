@@ -19,7 +19,8 @@ Each primary item is in exactly one chosen option, each secondary item in at mos
 
 An error is a ValueError that names the option and the item: an item that isn't named as primary or secondary, or stands twice in an
 option or in the lists; a colour on a primary item; more than the program reads (docs/FORMAT.md). TimeoutError comes where there is
-no answer after so many seconds, MemoryError where memory ran out, and RuntimeError where there is no program, or it fails.
+no answer after so many seconds, MemoryError where memory ran out, and RuntimeError where there is no program, or it fails. The
+program is what was built here, or what ZARFEPOCH names in the environment.
 
 As a command, python3 scripts/zarfepoch.py --json FILE [--seconds N] reads an object with "options", "primary" and "secondary", in whose
 options a list of two is an item with its colour, and prints the answer as a list or null. FILE may be -. The exit status is 0 where there
@@ -89,16 +90,16 @@ def problem_of(options, primary, secondary):
 
 
 def chosen_of(answer, lines):
-    """The places of the options that an answer has; of equal options the first that is free."""
+    """The places of the options in the lines of an answer; of equal options the first that is free."""
     places = {}
     for place in reversed(range(len(lines))):
         places.setdefault(" ".join(lines[place]), []).append(place)
-    return sorted(places[line].pop() for line in answer.splitlines()[1:])
+    return sorted(places[line].pop() for line in answer)
 
 
 def program():
     """The program's place: what the environment's ZARFEPOCH names, else what was built here."""
-    found = os.environ.get("ZARFEPOCH", SOLVE_CLI)
+    found = os.path.abspath(os.environ.get("ZARFEPOCH") or SOLVE_CLI)
     if not (os.path.isfile(found) and os.access(found, os.X_OK)):
         raise RuntimeError(f"there is no program {found}; (cd crates/solve_cli && rt run) builds it")
     return found
@@ -116,8 +117,13 @@ def solve(options, primary, secondary=(), seconds=None):
             ran = subprocess.run([program(), "alone", file.name], capture_output=True, text=True, timeout=limit)
         except subprocess.TimeoutExpired:
             raise TimeoutError(f"no answer after {seconds} seconds") from None
-    if ran.returncode in (0, 1):
-        return chosen_of(ran.stdout, lines) if ran.returncode == 0 else None
+        except OSError as why:
+            raise RuntimeError(f"the program can't be run: {why}") from None
+    head, *answer = ran.stdout.splitlines() or [""]
+    if (ran.returncode, head) == (0, f"cover {len(answer)}"):
+        return chosen_of(answer, lines)
+    if (ran.returncode, head) == (1, "none"):
+        return None
     if ran.returncode == 5:
         raise MemoryError("the program ran out of memory")
     raise RuntimeError(f"the program ended with status {ran.returncode}: {ran.stderr.strip()}")
