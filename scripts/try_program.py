@@ -161,6 +161,9 @@ def from_python():
     expect("the examples of zarfepoch.py", ended.returncode == 0 and not ended.stdout)
     for text, answer, status in ((b'{"options": [["a", ["x", "red"]], ["x"]], "primary": ["a"], "secondary": ["x"]}', b"[0]\n", 0),
                                  (b'{"options": [["a"]], "primary": ["a", "b"]}', b"null\n", 1), (b"[]", b"", 3), (b"{", b"", 3),
+                                 (b'\xef\xbb\xbf{"options": [["\xc3\xa9"]], "primary": ["\xc3\xa9"]}', b"[0]\n", 0), (b'{"a\xff": 1}', b"", 3),
+                                 (b'{"options": [[true]], "primary": [1]}', b"", 3), (b'{"options": [["a"]], "primary": ["a", null]}', b"", 3),
+                                 (b'{"options": [["a", ["x", null]]], "primary": ["a"], "secondary": ["x"]}', b"", 3),
                                  (b'{"options": [["b"]], "primary": ["a"]}', b"", 3), (b'{"options": ["a"], "primary": ["a"]}', b"", 3)):
         ended = subprocess.run([sys.executable, os.path.join(TOP, "scripts", "zarfepoch.py"), "--json", "-"], input=text, capture_output=True)
         is_plain = b"Traceback" not in ended.stderr and bool(ended.stderr) == (status == 3)

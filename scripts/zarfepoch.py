@@ -23,8 +23,9 @@ no answer after so many seconds, MemoryError where memory ran out, and RuntimeEr
 program is what was built here, or what ZARFEPOCH names in the environment.
 
 As a command, python3 scripts/zarfepoch.py --json FILE [--seconds N] reads an object with "options", "primary" and "secondary", in whose
-options a list of two is an item with its colour, and prints the answer as a list or null. FILE may be -. The exit status is 0 where there
-is a cover, 1 where there is none, 2 for a fault of the command line, and 3 where the problem is refused or there is no answer.
+options a list of two is an item with its colour, and prints the answer as a list or null. Items and colours are texts or numbers. FILE may
+be -. The exit status is 0 where there is a cover, 1 where there is none, 2 for a fault of the command line, and 3 where the problem is
+refused or there is no answer.
 """
 import collections
 import json
@@ -33,7 +34,7 @@ import subprocess
 import tempfile
 
 from built import parser_of, SOLVE_CLI
-from cover_files import MAX_COLOURS, MAX_ITEMS, MAX_OCCURRENCES, MAX_OPTIONS, run, stop
+from cover_files import MAX_COLOURS, MAX_ITEMS, MAX_OCCURRENCES, MAX_OPTIONS, read_bytes, run, stop, Unreadable
 
 Colored = collections.namedtuple("Colored", "item colour")
 # a limit of so many seconds is none: Python waits for a program 24 days at most
@@ -129,19 +130,24 @@ def solve(options, primary, secondary=(), seconds=None):
     raise RuntimeError(f"the program ended with status {ran.returncode}: {ran.stderr.strip()}")
 
 
+def is_name(value):
+    """Whether a value of JSON may be an item or a colour; true and false would be equal to 1 and 0 here, and null to no colour."""
+    return isinstance(value, (str, int, float)) and not isinstance(value, bool)
+
+
 def item_of(word, place):
     """An item of an option that is given as JSON, in a list of two with its colour."""
-    parts = word if isinstance(word, list) else [word, None]
-    if len(parts) != 2 or any(isinstance(part, (list, dict)) for part in parts):
+    parts = word if isinstance(word, list) and len(word) == 2 else [word]
+    if not all(map(is_name, parts)):
         raise ValueError(f"option {place} has {json.dumps(word)}, which is neither an item nor an item with its colour")
-    return Colored(*parts)
+    return Colored(*parts) if len(parts) == 2 else word
 
 
 def solve_json(text, seconds=None):
     """The answer to a problem that is given as JSON."""
     try:
         given = json.loads(text)
-    except json.JSONDecodeError as why:
+    except ValueError as why:
         raise ValueError(f"this is no JSON: {why}") from None
     lists = [given.get(what, default) for what, default in (("options", None), ("primary", None), ("secondary", []))] \
         if isinstance(given, dict) else [None]
@@ -151,8 +157,8 @@ def solve_json(text, seconds=None):
     for place, option in enumerate(options):
         if not isinstance(option, list):
             raise ValueError(f"option {place} is no list")
-    if any(isinstance(item, (list, dict)) for item in primary + secondary):
-        raise ValueError("an item is a text, a number, true, false or null")
+    if not all(map(is_name, primary + secondary)):
+        raise ValueError("an item is a text or a number")
     return solve([[item_of(word, place) for word in option] for place, option in enumerate(options)], primary, secondary, seconds)
 
 
@@ -170,10 +176,11 @@ def main():
     words.add_argument("--seconds", metavar="N", type=positive, help="how long it may search (no limit where it isn't given)")
     given = words.parse_args()
     try:
-        with open(0 if given.json == "-" else given.json, encoding="utf-8") as opened:
-            answer = solve_json(opened.read(), given.seconds)
-    except (OSError, ValueError, RuntimeError, MemoryError) as why:
+        answer = solve_json(read_bytes(given.json), given.seconds)
+    except (Unreadable, OSError, ValueError, RuntimeError) as why:
         stop(why, 3)
+    except MemoryError as why:
+        stop(str(why) or "out of memory", 3)
     print(json.dumps(answer))
     return 1 if answer is None else 0
 
