@@ -48,7 +48,7 @@ from dataclasses import dataclass
 HERE = os.path.dirname(os.path.abspath(__file__))
 sys.path.insert(0, os.path.join(HERE, "..", "scripts"))
 import puzzles  # noqa: E402
-from cover_files import run, stop  # noqa: E402
+from cover_files import run, shown, stop  # noqa: E402
 
 # where the command line wants the problem, if not on the standard output
 OUT = []
@@ -65,8 +65,8 @@ def check_range(names, options):
     """Refuses what the program wouldn't read."""
     colours = list(dict.fromkeys(word.partition(":")[2] for option in options for word in option if ":" in word))
     for name in names + colours:
-        if not name or len(name.encode()) > LONGEST_NAME or re.search(r"[\s:|\0]", name):
-            stop(f"'{name}' can't be a name: 1 to {LONGEST_NAME} bytes, without white space, ':' and '|'")
+        if not name or len(os.fsencode(name)) > LONGEST_NAME or re.search(r"[\s:|\0\ud800-\udfff]", name):
+            stop(f"'{name}' can't be a name: 1 to {LONGEST_NAME} bytes of UTF-8, without white space, ':' and '|'")
     for count, most, what in ((len(names), MOST_ITEMS, "items"), (len(options), MOST_OPTIONS, "options"),
                               (sum(map(len, options)), MOST_OCCURRENCES, "occurrences of items in options"),
                               (len(colours), MOST_COLOURS, "colours")):
@@ -92,10 +92,9 @@ def put(path, text):
         if os.path.exists(path):
             shutil.copymode(path, part)
         os.replace(part, path)
-    except OSError:
+    finally:
         with contextlib.suppress(OSError):
             os.remove(part)
-        raise
 
 
 def write(name, note, primary, secondary, options):
@@ -553,6 +552,7 @@ def make(given):
     """Writes the problem that the command line asks for; its comment tells how it was made."""
     told = [word for before, word in zip([""] + sys.argv[1:], sys.argv[1:]) if "--out" not in (before, word.partition("=")[0])]
     words = [os.path.basename(word) if os.path.exists(word) else "".join(word.split()) for word in told]
+    words = [shown(os.fsencode(word)) for word in words]
     if given.kind == "sudoku":
         words[-1] = "".join(read_sudoku(given.given))
     KINDS["word-square" if given.kind == "words" else given.kind](given, lambda what: f"{what} (generate.py {' '.join(words)})")

@@ -270,6 +270,9 @@ def written(trial):
         ended = trial.python("examples/generate.py", *words, "--out", out)
         there = [name for name in os.listdir(trial.folder) if name.startswith(f"out-{status}")]
         trial.expect(f"{words} into a file", ended.returncode == status and len(there) == (status == 0) and not ended.stdout)
+    edges, out = trial.path("two\nlines \udce9", b"a b\nc d\n"), trial.path("out.dlx")
+    trial.python("examples/generate.py", "matching", edges, "--out", out)
+    trial.expect("a strange file's name in a comment", content(out).split(b"\n")[1:] == [b"a b c d", b"a b", b"c d", b""])
     link, target, pipe = trial.path("link.dlx"), trial.path("target.dlx"), trial.path("pipe")
     os.symlink(target, link)
     trial.python("examples/generate.py", "queens", "--out", link, "4")
@@ -314,6 +317,7 @@ def refusals(trial):
                   ["crossword", trial.path("black", b"##\n##\n"), trial.path("list", b"ab\n")],
                   ["timetable", trial.path("head", b"lesson;teacher\na;b\n")],
                   ["langford", "9999"], ["queens", "9999"], ["dominoes", "999x999"], ["coloring", trial.path("one", b"a b\n"), "--colors", "red,,blue"],
+                  ["coloring", trial.path("one"), "--colors", "red,\udce9"],
                   ["timetable", trial.path("roles", b"lesson,teacher,class,rooms,periods\nart,bob,5a,bob,1\n")],
                   ["triples", "60"], ["matching", trial.path("edges", b"a b c\n")], ["coloring", trial.path("borders", b"a-b c\n")]):
         ended = trial.python("examples/generate.py", *words)
