@@ -33,14 +33,12 @@ program. The exit status is 0, or 2 for a fault of the command line, a file that
 where the standard output can't be written.
 """
 import argparse
-import contextlib
 import csv
 import io
 import itertools
 import math
 import os
 import re
-import shutil
 import sys
 from collections import Counter
 from dataclasses import dataclass
@@ -48,7 +46,7 @@ from dataclasses import dataclass
 HERE = os.path.dirname(os.path.abspath(__file__))
 sys.path.insert(0, os.path.join(HERE, "..", "scripts"))
 import puzzles  # noqa: E402
-from cover_files import run, shown, stop  # noqa: E402
+from cover_files import put, run, shown, stop  # noqa: E402
 
 # where the command line wants the problem, if not on the standard output
 OUT = []
@@ -76,25 +74,6 @@ def check_range(names, options):
         stop(f"the name '{twice[0]}' would stand for two items")
     if not names:
         stop("nothing is left to cover")
-
-
-def put(path, text):
-    """Writes a file whole or not at all; what is no plain file, as a device or a pipe, is written as it stands."""
-    path = os.path.realpath(path)
-    if os.path.exists(path) and not os.path.isfile(path):
-        with open(path, "w", encoding="utf-8") as file:
-            file.write(text)
-        return
-    part = path + ".part"
-    try:
-        with open(part, "w", encoding="utf-8") as file:
-            file.write(text)
-        if os.path.exists(path):
-            shutil.copymode(path, part)
-        os.replace(part, path)
-    finally:
-        with contextlib.suppress(OSError):
-            os.remove(part)
 
 
 def write(name, note, primary, secondary, options):

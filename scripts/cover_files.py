@@ -2,8 +2,10 @@
 
 The program decides what a file says. This reader stands beside it: it goes on after a fault, so that all can be told.
 """
+import contextlib
 import os
 import re
+import shutil
 import signal
 import sys
 from collections import namedtuple
@@ -309,6 +311,25 @@ def refusal(faults):
     """The first fault as the program tells it, without what stands before its name."""
     first = faults[0]
     return first.name if first.name in WITHOUT_LINE else f"{first.name} line {first.line}"
+
+
+def put(path, text):
+    """Writes a file whole or not at all; what is no plain file, as a device or a pipe, is written as it stands."""
+    if os.path.exists(path) and not os.path.isfile(path):
+        with open(path, "w", encoding="utf-8") as file:
+            file.write(text)
+        return
+    path = os.path.realpath(path)
+    part = path + ".part"
+    try:
+        with open(part, "w", encoding="utf-8") as file:
+            file.write(text)
+        if os.path.exists(path):
+            shutil.copymode(path, part)
+        os.replace(part, path)
+    finally:
+        with contextlib.suppress(OSError):
+            os.remove(part)
 
 
 def complain(why):

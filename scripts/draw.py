@@ -17,7 +17,7 @@ exit status is 0, 2 for a fault of the command line, 3 for a file or an answer t
 import argparse
 import sys
 
-from cover_files import Unreadable, complain, read_audited, read_bytes, read_problem, refusal, run, shown, stop
+from cover_files import Unreadable, complain, put, read_audited, read_bytes, read_problem, refusal, run, shown, stop
 from picture_kinds import picture_of
 from svg_paper import Paper
 
@@ -52,8 +52,7 @@ def write_svg(path, svg):
         sys.stdout.write(svg)
         return
     try:
-        with open(path, "w", encoding="utf-8", newline="\n") as opened:
-            opened.write(svg)
+        put(path, svg)
     except OSError as why:
         stop(f"{path} can't be written: {why.strerror}", 3)
 

@@ -282,8 +282,18 @@ def written(trial):
     trial.python("examples/generate.py", "queens", "4", "--out", pipe)
     trial.expect("a pipe stays one", stat.S_ISFIFO(os.stat(pipe).st_mode) and os.read(reader, 1 << 16) == content(target))
     os.close(reader)
+    ended = trial.python("examples/generate.py", "queens", "4", "--out", "/dev/stdout")
+    trial.expect("the standard output by its name", ended.returncode == 0 and ended.stdout == content(target))
     ended = trial.python("examples/generate.py", "queens", "4", "--out", trial.folder)
     trial.expect("a folder", ended.returncode == 2 and not os.path.exists(trial.folder + ".part"))
+    old, cover = trial.path("old", b"old"), trial.path("cover", b"cover 3\nc e\na d f\nb g\n")
+    for words, status in ((["scripts/draw.py", os.path.join(EXAMPLES, "letters.dlx"), cover, "--svg", old], 3),
+                          (["examples/generate.py", "queens", "4", "--out", old], 2)):
+        script = ["sh", "-c", 'ulimit -f 0; exec "$@"', "sh", sys.executable, os.path.join(TOP, words[0])]
+        ended = subprocess.run([*script, *words[1:]], stdout=subprocess.PIPE, stderr=subprocess.PIPE)
+        is_plain = ended.stderr.endswith(b"old can't be written: File too large\n") and not ended.stdout
+        trial.expect(f"{words[0]} keeps the old file", ended.returncode == status and is_plain and content(old) == b"old")
+        trial.expect(f"{words[0]} leaves no part", not os.path.exists(old + ".part"))
 
 
 def strange_names(trial):
