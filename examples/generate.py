@@ -298,10 +298,22 @@ def read_text(path):
         return stop(f"{path} can't be read: {getattr(why, 'strerror', None) or 'it is no text in UTF-8'}")
 
 
+def rows_of(path):
+    """The lines from the first to the last one that isn't blank, each with its number and without blanks behind it."""
+    rows = [(number, line.rstrip()) for number, line in enumerate(read_text(path).splitlines(), 1)]
+    some = [place for place, (_, line) in enumerate(rows) if line]
+    return rows[some[0]:some[-1] + 1] if some else []
+
+
+def words_of(path):
+    """The words of each line that has any and isn't a comment, with the line's number."""
+    lines = [(number, line.split()) for number, line in rows_of(path)]
+    return [(number, words) for number, words in lines if words and not words[0].startswith(("|", "#"))]
+
+
 def read_pairs(path):
-    """The two names of each line that has any and isn't a comment."""
-    lines = [(number, line.split()) for number, line in enumerate(read_text(path).splitlines(), 1)]
-    lines = [(number, words) for number, words in lines if words and not words[0].startswith(("|", "#"))]
+    """The two names of each line."""
+    lines = words_of(path)
     for number, words in lines:
         if len(words) != 2 or words[0] == words[1]:
             stop(f"{path}, line {number}: two different names are expected")
@@ -311,7 +323,7 @@ def read_pairs(path):
 def sudoku_marks(text):
     """The 81 digits and dots of a sudoku; frames are passed over. In nine lines of at most nine characters a blank is a dot."""
     marks = re.sub(r"[^0-9._]", "", text).translate(str.maketrans("0_", ".."))
-    lines = text.removesuffix("\n").split("\n") if "\n" in text else re.findall(".{9}", text)
+    lines = text.splitlines() if "\n" in text else re.findall(".{9}", text)
     if len(marks) != 81 and len(lines) == 9 and all(re.fullmatch(r"[0-9._ ]{0,9}", line) for line in lines):
         marks = "".join(line.ljust(9) for line in lines).translate(str.maketrans("0_ ", "..."))
     return marks
@@ -336,8 +348,7 @@ def read_sudoku(given):
 
 def read_squares(path):
     """Squares by their names, each with its four colours."""
-    lines = [(number, line.split()) for number, line in enumerate(read_text(path).splitlines(), 1)]
-    lines = [(number, words) for number, words in lines if words and not words[0].startswith(("|", "#"))]
+    lines = words_of(path)
     for number, words in lines:
         if len(words) != 5:
             stop(f"{path}, line {number}: a name and four colours are expected")
@@ -368,23 +379,23 @@ def read_words(path):
 
 def read_grid(path):
     """The rows of a crossword's grid."""
-    rows = [line.rstrip() for line in read_text(path).strip("\n").splitlines()]
-    for number, row in enumerate(rows, 1):
-        if len(row) != len(rows[0]) or re.search(r"[\s\d:|\0]", row):
+    lines = rows_of(path)
+    for number, row in lines:
+        if len(row) != len(lines[0][1]) or re.search(r"[\s\d:|\0]", row):
             stop(f"{path}, line {number}: rows of one length are expected, of dots, letters and # for black cells")
-    return rows if rows and rows[0] else stop(f"{path} has no rows")
+    return [row for _, row in lines] or stop(f"{path} has no rows")
 
 
 def read_nonogram(path):
     """The lengths of the blocks of each row and of each column."""
-    lines, parts = read_text(path).strip("\n").splitlines(), [[], []]
-    behind = [number for number, line in enumerate(lines) if not line.strip()]
+    lines, parts = rows_of(path), [[], []]
+    behind = [number for number, line in lines if not line]
     if len(behind) != 1:
         stop(f"{path}: lines of numbers for the rows are expected, one empty line, and lines of numbers for the columns")
-    for number, line in enumerate(lines):
-        if line.strip() and not re.fullmatch(r"\s*\d{1,4}(\s+\d{1,4})*\s*", line):
-            stop(f"{path}, line {number + 1}: numbers are expected")
-        if line.strip():
+    for number, line in lines:
+        if line and not re.fullmatch(r"\s*\d{1,4}(\s+\d{1,4})*", line):
+            stop(f"{path}, line {number}: numbers are expected")
+        if line:
             parts[number > behind[0]].append([int(word) for word in line.split() if int(word)])
     rows, columns = parts
     if not rows or not columns or max(len(rows), len(columns)) > 999:
@@ -396,8 +407,7 @@ def read_nonogram(path):
 
 def read_cubes(path):
     """Cubes by their names, each with its six colours."""
-    lines = [(number, line.split()) for number, line in enumerate(read_text(path).splitlines(), 1)]
-    lines = [(number, words) for number, words in lines if words and not words[0].startswith(("|", "#"))]
+    lines = words_of(path)
     for number, words in lines:
         if len(words) != 7 or [other[0] for _, other in lines].count(words[0]) > 1 or re.match(r"(front|right|back|left)-", words[0]):
             stop(f"{path}, line {number}: a cube's own name and six colours are expected")

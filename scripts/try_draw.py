@@ -247,7 +247,8 @@ def boards_with_colours(trial):
 def puzzles(trial):
     rows, columns = generate.NONOGRAM
     text = "\n\n".join("\n".join(" ".join(map(str, line)) for line in lines) for lines in (rows, columns))
-    trial.expect("a nonogram", are_blocks(trial.made("nonogram", trial.path("blocks", text.encode())), rows, columns))
+    for name, file in (("a nonogram", text), ("a nonogram with Windows line ends", text.replace("\n", "\r\n") + "\r\n \r\n")):
+        trial.expect(name, are_blocks(trial.made("nonogram", trial.path("blocks", file.encode())), rows, columns))
     trial.expect("no black cell", trial.made("nonogram", trial.path("white", b"0\n0\n\n0\n0\n0\n")) == ["...", "..."])
     cubes = {line.split()[0]: line.split()[1:] for line in generate.CUBES}
     trial.expect("cubes", are_turned(trial.made("cubes", trial.path("cubes", "\n".join(generate.CUBES).encode())), cubes))
@@ -258,6 +259,14 @@ def puzzles(trial):
     blank = "\n".join(SUDOKU[k:k + 9].replace(".", " ").rstrip() for k in range(0, 81, 9))
     trial.expect("blanks", is_sudoku(trial.made("sudoku", trial.path("blank", blank.encode())), SUDOKU))
     trial.expect("underscores", is_sudoku(trial.made("sudoku", SUDOKU.replace(".", "_")), SUDOKU))
+    for name, text in (("blank", blank.encode()), ("nine", SUDOKU.encode())):
+        ended = trial.made("sudoku", trial.path(name, text.replace(b"\n", b"\r\n") + b"\r\n"))
+        trial.expect(f"{name} with Windows line ends", is_sudoku(ended, SUDOKU))
+    dos = trial.made("crossword", trial.path("grid", b"\r\n.a\r\n#.\r\n\r\n"), trial.path("two", b"ca at\r\nat\r\nta"))
+    trial.expect("a crossword with Windows line ends", dos == ["c a", "  t"])
+    for words, number in ((["crossword", trial.path("late", b"\n\n.a\n#.x\n"), trial.path("two")], 4),
+                          (["nonogram", trial.path("letter", b"\n1\nx\n\n1\n1\n")], 3)):
+        trial.expect(f"the line in {words[0]}", b", line %d: " % number in trial.python("examples/generate.py", *words).stderr)
     table = trial.path("week", b"lesson;teacher;class;rooms;periods;hours\nmaths;ann;5a;room;Mon1 Mon2 Tue1;2\nart;bob;5a;room hall;Mon1;1\n")
     week = [line.split() for line in trial.made("timetable", table)]
     trial.expect("named periods", [row[0] for row in week[2:]] == ["Mon1", "Mon2", "Tue1"] and sum(week, []).count("art") == 3)
