@@ -14,7 +14,7 @@
     triples 7                      lines of three points, any two of 7 points on one line
     coloring FILE                  a map's borders, two names a line; --colors red,green,blue
     matching FILE                  a graph's edges, two names a line
-    timetable FILE.csv             lesson,teacher,class,rooms,periods; several rooms or periods with spaces or ; between, periods numbered or
+    timetable FILE.csv             lesson,teacher,class,rooms,periods; several rooms or periods with spaces, ; or , between, periods numbered or
                                    named; a column hours, if there is one, says how often in a week a lesson is given; the table's
                                    own separator may be , or ;
     squares 3x3 FILE               squares with coloured sides, of which one lies in each cell, turned as one likes, so that sides that
@@ -221,7 +221,7 @@ def timetable(name, note, rows):
     options = [[row.lesson] + [f"{who}-{period}" for who in (row.teacher, row.group, room)]
                for row in rows for room in row.rooms for period in row.periods]
     periods = list(dict.fromkeys(period for row in rows for period in row.periods))
-    if all(period.isdigit() for period in periods):
+    if all(period.isdecimal() for period in periods):
         periods.sort(key=int)
     who = [row.teacher for row in rows] + [row.group for row in rows] + [room for row in rows for room in row.rooms]
     busy = [f"{one}-{period}" for one in dict.fromkeys(who) for period in periods]
@@ -433,12 +433,12 @@ class Lesson:
 
 
 def read_table(path):
-    """The rows of a table by its head, whose columns have commas, semicolons or tabs between."""
+    """The rows of a table by its head, whose columns have commas, semicolons or tabs between, each with the number of its line."""
     text = read_text(path)
     head = text.partition("\n")[0]
-    separator = max(",;\t", key=head.count)
+    reader = csv.DictReader(io.StringIO(text), delimiter=max(",;\t", key=head.count))
     try:
-        return list(csv.DictReader(io.StringIO(text), delimiter=separator))
+        return [(reader.line_num, row) for row in reader]
     except csv.Error as why:
         return stop(f"{path} can't be read as a table: {why}")
 
@@ -446,14 +446,16 @@ def read_table(path):
 def read_lessons(path):
     """The hours of all lessons. An hour of a lesson that has several is named by its number too."""
     lessons, wanted = [], ["lesson", "teacher", "class", "rooms", "periods"]
-    for number, row in enumerate(read_table(path), 2):
-        lacking = [column for column in wanted if not (row.get(column) or "").strip()]
+    for number, row in read_table(path):
+        if None in row:
+            stop(f"{path}, line {number}: it has more columns than the head; several rooms or periods have spaces between")
+        lacking = [column for column in wanted if not re.search(r"[^\s;,]", row.get(column) or "")]
         if lacking:
             stop(f"{path}, line {number}: {lacking[0]} is missing; the columns are {','.join(wanted)}, and hours if it is wanted")
         hours = (row.get("hours") or "1").strip()
         if not re.fullmatch(r"[1-9]\d?", hours):
             stop(f"{path}, line {number}: hours is a number from 1 to 99")
-        rooms, periods = (re.split(r"[\s;]+", row[column].strip(" ;")) for column in ("rooms", "periods"))
+        rooms, periods = (re.findall(r"[^\s;,]+", row[column]) for column in ("rooms", "periods"))
         if any("-" in period for period in periods):
             stop(f"{path}, line {number}: a period's name has no '-'")
         names = [row["lesson"].strip()] if hours == "1" else [f"{row['lesson'].strip()}.{hour}" for hour in range(1, int(hours) + 1)]

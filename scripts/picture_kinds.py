@@ -268,7 +268,7 @@ class Timetable(Kind):
             lesson = next(name for name in option if name in self.primary)
             busy.update((name, lesson) for name in option if name not in self.primary)
         periods = list(dict.fromkeys(period for _, period in split))
-        if all(map(str.isdigit, periods)):
+        if all(map(str.isdecimal, periods)):
             periods.sort(key=int)
         return [["period"] + who] + [[period] + [busy.get(f"{name}-{period}", "") for name in who] for period in periods]
 

@@ -270,6 +270,11 @@ def puzzles(trial):
     table = trial.path("week", b"lesson;teacher;class;rooms;periods;hours\nmaths;ann;5a;room;Mon1 Mon2 Tue1;2\nart;bob;5a;room hall;Mon1;1\n")
     week = [line.split() for line in trial.made("timetable", table)]
     trial.expect("named periods", [row[0] for row in week[2:]] == ["Mon1", "Mon2", "Tue1"] and sum(week, []).count("art") == 3)
+    table = trial.path("odd", 'lesson;teacher;class;rooms;periods\nart;bob;5a;"hall\t,";\u00b2,3\n'.encode())
+    odd = [line.split() for line in trial.made("timetable", table)]
+    trial.expect("commas and tabs", odd[0] == ["period", "bob", "5a", "hall"] and [row[0] for row in odd[2:]] == ["\u00b2", "3"])
+    late = trial.path("late", b"lesson,teacher,class,rooms,periods\n\nart,bob,5a,,1\n")
+    trial.expect("the line in a table", b", line 3: rooms is missing" in trial.python("examples/generate.py", "timetable", late).stderr)
 
 
 def written(trial):
@@ -335,6 +340,8 @@ def refusals(trial):
                   ["cubes", trial.path("five", b"a r g b w r\n")], ["crossword", trial.path("rows", b"..\n.\n"), trial.path("list", b"ab\n")],
                   ["crossword", trial.path("black", b"##\n##\n"), trial.path("list", b"ab\n")],
                   ["timetable", trial.path("head", b"lesson;teacher\na;b\n")],
+                  ["timetable", trial.path("more", b"lesson,teacher,class,rooms,periods\nart,bob,5a,room,1,2,3\n")],
+                  ["timetable", trial.path("blank", b"lesson,teacher,class,rooms,periods\nart,bob,5a,;,1\n")],
                   ["langford", "9999"], ["queens", "9999"], ["dominoes", "999x999"], ["coloring", trial.path("one", b"a b\n"), "--colors", "red,,blue"],
                   ["coloring", trial.path("one"), "--colors", "red,\udce9"],
                   ["timetable", trial.path("roles", b"lesson,teacher,class,rooms,periods\nart,bob,5a,bob,1\n")],
