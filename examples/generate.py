@@ -46,11 +46,10 @@ from dataclasses import dataclass
 HERE = os.path.dirname(os.path.abspath(__file__))
 sys.path.insert(0, os.path.join(HERE, "..", "scripts"))
 import puzzles  # noqa: E402
-from cover_files import put, run, shown, stop  # noqa: E402
+from cover_files import MAX_COLOURS, MAX_ITEMS, MAX_NAME, MAX_OCCURRENCES, MAX_OPTIONS, put, run, shown, stop  # noqa: E402
 
 # where the command line wants the problem, if not on the standard output
 OUT = []
-MOST_ITEMS, MOST_OPTIONS, MOST_OCCURRENCES, MOST_COLOURS, LONGEST_NAME = 1_000, 20_000, 200_000, 10_000, 32
 
 
 def check_count(count, most, what):
@@ -63,11 +62,11 @@ def check_range(names, options):
     """Refuses what the program wouldn't read."""
     colours = list(dict.fromkeys(word.partition(":")[2] for option in options for word in option if ":" in word))
     for name in names + colours:
-        if not name or len(os.fsencode(name)) > LONGEST_NAME or re.search(r"[\s:|\0\ud800-\udfff]", name):
-            stop(f"'{name}' can't be a name: 1 to {LONGEST_NAME} bytes of UTF-8, without white space, ':' and '|'")
-    for count, most, what in ((len(names), MOST_ITEMS, "items"), (len(options), MOST_OPTIONS, "options"),
-                              (sum(map(len, options)), MOST_OCCURRENCES, "occurrences of items in options"),
-                              (len(colours), MOST_COLOURS, "colours")):
+        if not name or len(os.fsencode(name)) > MAX_NAME or re.search(r"[\s:|\0\ud800-\udfff]", name):
+            stop(f"'{name}' can't be a name: 1 to {MAX_NAME} bytes of UTF-8, without white space, ':' and '|'")
+    for count, most, what in ((len(names), MAX_ITEMS, "items"), (len(options), MAX_OPTIONS, "options"),
+                              (sum(map(len, options)), MAX_OCCURRENCES, "occurrences of items in options"),
+                              (len(colours), MAX_COLOURS, "colours")):
         check_count(count, most, what)
     twice = [name for name in names if names.count(name) > 1] if len(set(names)) < len(names) else []
     if twice:
@@ -169,7 +168,7 @@ def dominoes(name, note, cells):
 
 
 def queens(name, note, n):
-    check_count(n * n, MOST_OPTIONS, "options")
+    check_count(n * n, MAX_OPTIONS, "options")
     options = [[f"r{r}", f"c{c}", f"a{r + c}", f"b{r - c + n - 1}"] for r in range(n) for c in range(n)]
     lines = [f"{kind}{k}" for kind in "rc" for k in range(n)]
     diagonals = [f"{kind}{k}" for kind in "ab" for k in range(2 * n - 1)]
@@ -177,7 +176,7 @@ def queens(name, note, n):
 
 
 def langford(name, note, n):
-    check_count(3 * n, MOST_ITEMS, "items")
+    check_count(3 * n, MAX_ITEMS, "items")
     options = [[str(d), f"s{k}", f"s{k + d + 1}"] for d in range(1, n + 1) for k in range(1, 2 * n - d)]
     write(name, note, [str(d) for d in range(1, n + 1)] + [f"s{k}" for k in range(1, 2 * n + 1)], [], options)
 
@@ -205,7 +204,7 @@ def coloring(name, note, borders, colors):
 
 
 def triples(name, note, n):
-    check_count(math.comb(n, 3), MOST_OPTIONS, "options")
+    check_count(math.comb(n, 3), MAX_OPTIONS, "options")
     width = len(str(n))
     pairs = {pair: "".join(f"{point:0{width}}" for point in pair) for pair in itertools.combinations(range(1, n + 1), 2)}
     options = [[pairs[pair] for pair in itertools.combinations(t, 2)] for t in itertools.combinations(range(1, n + 1), 3)]
@@ -473,7 +472,7 @@ def read_lessons(path):
 
 def board(given):
     cells = rectangle(*given.size)
-    check_count(len(cells) - len(set(given.without)), MOST_ITEMS, "items")
+    check_count(len(cells) - len(set(given.without)), MAX_ITEMS, "items")
     for left_out in given.without:
         if left_out not in cells:
             stop("the cell {},{} isn't on the board, whose rows and columns begin with 0".format(*left_out))
