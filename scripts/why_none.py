@@ -9,8 +9,8 @@ visits, 1,000,000 where no number is given, its items stay, so there may be more
 the options that name them, and why, where that is plain: an item in no option, or two items any two options of which clash.
 
 It wants the program: (cd crates/solve_cli && rt run) builds it. The exit status is 0 where there is no cover and items were found, 1
-where there is a cover or the search wasn't finished, 2 for a fault of the command line or where there is no program, 3 for a file
-that can't be read or is refused.
+where there is a cover or the search wasn't finished, 2 for a fault of the command line or where the program can't be run, 3 for a
+file that can't be read or is refused.
 """
 import itertools
 import os
@@ -21,7 +21,8 @@ from built import parser_of, SOLVE_CLI, want_program
 from cover_files import Unreadable, read_bytes, read_problem, refusal, run, shown, stop
 from fault_words import listed, plural, quoted
 
-NONE, COVER, SPENT, OUT_OF_MEMORY = 1, 0, 4, 5
+# the exit status and the first word of each answer
+NONE, COVER, SPENT, OUT_OF_MEMORY = (1, b"none"), (0, b"cover"), (4, b"no"), (5, b"")
 SHOWN = 12
 
 
@@ -40,16 +41,20 @@ class Questions:
     def __init__(self, problem, program, fuel):
         self.problem, self.program, self.fuel, self.asked = problem, program, str(fuel), 0
 
-    def status(self, kept):
-        """The exit status of the search with these primary items."""
+    def answer(self, kept):
+        """The exit status of the search with these primary items, and the first word of its answer."""
         self.asked += 1
-        with tempfile.NamedTemporaryFile(suffix=".dlx") as file:
-            file.write(text_without(self.problem, kept))
-            file.flush()
-            return subprocess.run([self.program, "alone", file.name, "--fuel", self.fuel], capture_output=True).returncode
+        try:
+            with tempfile.NamedTemporaryFile(suffix=".dlx") as file:
+                file.write(text_without(self.problem, kept))
+                file.flush()
+                ran = subprocess.run([self.program, "alone", file.name, "--fuel", self.fuel], capture_output=True)
+                return ran.returncode, ran.stdout.partition(b" ")[0].strip()
+        except OSError as why:
+            return stop(f"the program can't be run on a temporary file: {why}")
 
     def is_none(self, kept):
-        return bool(kept) and self.status(kept) == NONE
+        return bool(kept) and self.answer(kept) == NONE
 
 
 def least(kept, is_none):
@@ -73,10 +78,11 @@ def clash(one, other):
     return any(name in colours and (colour is None or colours[name] != colour) for name, colour in zip(other.names, other.colours))
 
 
-def clash_always(problem, one, other):
+def clash_always(problem, by_item, one, other):
     """Whether any two options that name these items clash, and no option names both."""
-    by = [[option for option in problem.options if name in option.names] for name in (one, other)]
-    return not any(one in option.names for option in by[1]) and all(clash(a, b) for a in by[0] for b in by[1])
+    places = by_item[one], by_item[other]
+    return set(places[0]).isdisjoint(places[1]) and all(
+        clash(problem.options[a], problem.options[b]) for a in places[0] for b in places[1])
 
 
 def reasons(problem, kept):
@@ -86,7 +92,7 @@ def reasons(problem, kept):
         if not by_item[name]:
             yield f"no option names {quoted(name)}"
     for one, other in itertools.combinations([name for name in kept if by_item[name]], 2):
-        if clash_always(problem, one, other):
+        if clash_always(problem, by_item, one, other):
             yield f"each option that names {quoted(one)} clashes with each that names {quoted(other)}"
 
 
@@ -117,17 +123,17 @@ def main():
     words = parser_of(__doc__)
     words.add_argument("file", metavar="FILE", help="the problem's file, or - for the standard input")
     words.add_argument("--fuel", type=int, default=1_000_000, help="how many visits each search may take (default 1,000,000)")
-    words.add_argument("--program", default=SOLVE_CLI, help="the built program (default crates/solve_cli/out/solve_cli)")
+    words.add_argument("--program", type=os.path.abspath, default=SOLVE_CLI, help="the built program (default crates/solve_cli/out/solve_cli)")
     given = words.parse_args()
     if not 1 <= given.fuel < 1 << 64:
         words.error("--fuel takes 1 to 18446744073709551615")
     problem = read(given.file)
-    want_program(os.path.abspath(given.program))
-    questions = Questions(problem, os.path.abspath(given.program), given.fuel)
-    status = questions.status(problem.primary_names())
-    if status != NONE:
+    want_program(given.program)
+    questions = Questions(problem, given.program, given.fuel)
+    answer = questions.answer(problem.primary_names())
+    if answer != NONE:
         print({COVER: "there is a cover", SPENT: f"no answer within {given.fuel:,} visits; --fuel allows more",
-               OUT_OF_MEMORY: "the program ran out of memory"}.get(status, f"the program ended with status {status}"))
+               OUT_OF_MEMORY: "the program ran out of memory"}.get(answer, f"the program ended with status {answer[0]}"))
         return 1
     kept = least(problem.primary_names(), questions.is_none)
     print("\n".join(explain(problem, kept, questions.asked)))
