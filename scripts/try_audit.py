@@ -10,8 +10,8 @@ that delivers nothing or a packet that was put out, and ends where a round takes
 
 The table has a row for each kind of change, of a delivery and of an event of the site's own: how many were tried, how many left the
 book as it was, how many were found clean and unclean, and in how many both audits differ. A clean one is lawful: a network may lose, repeat and
-reorder packets, and a site may choose what to do next. The exit status is 0 where both audits always agree and the unchanged books are
-clean, else 1, and 2 for a fault of the command line or where there is no program.
+reorder packets, and a site may choose what to do next. The exit status is 0 where both audits always agree, changes were tried and the
+unchanged books are clean, else 1, and 2 for a fault of the command line or where there is no program.
 """
 import collections
 import os
@@ -147,7 +147,8 @@ def main():
             row = table[kind, is_delivery]
             if row["tried"]:
                 print(f"{kind:<12} {'delivery' if is_delivery else 'own event':<10}", *[f"{row[word]:>8}" for word in columns])
-    sys.exit(0 if all(good) and not any(row["differ"] for row in table.values()) else 1)
+    tried, differ = (sum(row[word] for row in table.values()) for word in ("tried", "differ"))
+    sys.exit(0 if all(good) and not differ and (tried or not given.changes) else 1)
 
 
 main()

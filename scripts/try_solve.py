@@ -12,7 +12,8 @@ Where no file is named, the two small problems and three of the examples are sol
 first node, and with so few turns that restarts fall into the runs.
 
 It wants the program: (cd crates/solve_cli && rt run) builds it. The exit status is 0 where no run was wrong (one without an
-answer is none), 1 where one was or took longer than the limit, 2 for a fault of the command line or where there is no program.
+answer is none), 1 where one was or took longer than the limit, or where a problem was never answered without restarts, 2 for a fault
+of the command line or where there is no program.
 """
 import glob
 import os
@@ -97,6 +98,9 @@ def tell(name, file, given, expected, answer_file, more=()):
     wrong = sum(bad for _, _, bad in runs)
     spread = " | ".join(f"{seconds:.3f}" for seconds in (min(times), statistics.median(times), max(times)))
     print(f"| {name} | {len(runs)} | {answered} | {wrong} | {spread} |", flush=True)
+    if not answered and not more:
+        print(f"wrong: {name} was never answered")
+        wrong += 1
     return wrong
 
 

@@ -12,8 +12,9 @@ middle and the greatest time in seconds; the first line is of runs that nobody a
 is audited, and those whose audit is unclean are a column of their own: a program that hears strangers is tried so.
 
 It wants the program: (cd crates/solve_cli && rt run) builds it. The exit status is 0 where no run was wrong or given up, 1 where one was,
-2 for a fault of the command line or where there is no program.
+where an attack sent nothing, or where no run that nobody attacks was right, 2 for a fault of the command line or where there is no program.
 """
+import collections
 import os
 import random
 import socket
@@ -98,8 +99,8 @@ def ports(pid):
     return [int(row[1].split(":")[1], 16) for row in rows if row[9] in inodes]
 
 
-def attack(run, seconds, attack_of, pause):
-    """Sends the attack's packets to all ports of the run, for so many seconds or until it ends."""
+def attack(sent, run, seconds, attack_of, pause):
+    """Sends the attack's packets to all ports of the run, for so many seconds or until it ends, and counts them in `sent`."""
     own = socket.socket(socket.AF_INET, socket.SOCK_DGRAM)
     targets = []
     end = time.monotonic() + seconds
@@ -110,6 +111,7 @@ def attack(run, seconds, attack_of, pause):
             for port in targets:
                 try:
                     own.sendto(datagram, ("127.0.0.1", port))
+                    sent["packets"] += 1
                 except OSError:
                     pass
         if pause:
@@ -118,21 +120,21 @@ def attack(run, seconds, attack_of, pause):
 
 
 def one_run(given, name, seed):
-    """The seconds that a run took, and its output; none where it was given up."""
-    begun = time.monotonic()
+    """The seconds that a run took, its output, which is none where it was given up, and how many packets strangers sent."""
+    begun, sent = time.monotonic(), collections.Counter()
     words = [given.program, "solve", given.problem, "--nodes", str(NODES), "--workers", "2", "--seed", str(seed)]
     if given.audit:
         words.append("--audit")
     run = subprocess.Popen(words, stdout=subprocess.PIPE, stderr=subprocess.DEVNULL, text=True)
     if name:
-        threading.Thread(target=attack, args=(run, given.length, *ATTACKS[name]), daemon=True).start()
+        threading.Thread(target=attack, args=(sent, run, given.length, *ATTACKS[name]), daemon=True).start()
     try:
         text = run.communicate(timeout=given.limit)[0]
     except subprocess.TimeoutExpired:
         run.kill()
         run.communicate()
         text = None
-    return time.monotonic() - begun, text
+    return time.monotonic() - begun, text, sent["packets"]
 
 
 def judged(given, text, answer_file):
@@ -143,7 +145,7 @@ def judged(given, text, answer_file):
         if verdict.startswith("audit unclean"):
             return "unclean"
         text = "".join(lines)
-    if text in ("", "no answer\n"):
+    if text == "no answer\n":
         return "no answer"
     with open(answer_file, "w") as answer:
         answer.write(text)
@@ -158,16 +160,19 @@ def columns(given):
 
 
 def row(given, name, answer_file):
-    """Runs all times under one attack, prints its row, and answers whether none was wrong or given up."""
+    """Runs all times under one attack, prints its row, and answers whether none was wrong or given up, and some were as they had to be."""
     counts = dict.fromkeys(columns(given), 0)
-    seconds = []
+    seconds, sent = [], 0
     for seed in range(given.times):
-        took, text = one_run(given, name, seed)
+        took, text, packets = one_run(given, name, seed)
         counts[judged(given, text, answer_file)] += 1
         seconds.append(took)
+        sent += packets
     times = f"{min(seconds):8.2f} {statistics.median(seconds):8.2f} {max(seconds):8.2f}"
     print(f"{name or 'nobody':<22}", *[f"{count:>10}" for count in counts.values()], times, flush=True)
-    return counts["wrong"] == counts["given up"] == 0
+    if name and not sent:
+        print(f"{name}: no packet was sent", flush=True)
+    return counts["wrong"] == counts["given up"] == 0 and (sent if name else counts["right"]) > 0
 
 
 def main():
