@@ -24,9 +24,9 @@ import sys
 import tempfile
 
 from built import parser_of, stop, TOP, want_command
+from edits import BUGS, name_stale
 from try_found import claims
 
-BUGS = os.path.join(TOP, "bugs")
 REFUSED, SHAPE, TEST, PROVED, STALE = "refused", "by its shape", "by a test", "PROVED", "no longer applies"
 
 
@@ -112,37 +112,6 @@ def try_crate(top, crate, names):
     return kinds
 
 
-def applies(crate, name):
-    """Whether each old text of a bug stands exactly once in its file, where the earlier ones are replaced."""
-    with open(os.path.join(BUGS, crate, name + ".edit"), encoding="utf-8") as opened:
-        pairs = [line.partition(": ")[::2] for line in opened.read().splitlines()]
-    text = old = ""
-    for word, rest in pairs:
-        if word == "file":
-            path = os.path.join(TOP, "crates", crate, rest)
-            if not os.path.isfile(path):
-                return False
-            with open(path, encoding="utf-8") as opened:
-                text = opened.read()
-        elif word == "old":
-            old = rest
-            if text.count(old) != 1:
-                return False
-        elif word == "new":
-            text = text.replace(old, rest)
-    return True
-
-
-def name_stale(chosen):
-    """Names the bugs that no longer apply, and answers the exit status."""
-    names = [(crate, name) for crate, of_crate in chosen.items() for name in of_crate]
-    stale = [f"{crate}/{name}" for crate, name in names if not applies(crate, name)]
-    for name in stale:
-        print(f"{name}: {STALE}")
-    print(f"{len(names) - len(stale)} bugs apply, {len(stale)} no longer")
-    return 2 if stale else 0
-
-
 def main():
     parser = parser_of(__doc__)
     parser.add_argument("--short", action="store_true", help="prove nothing: only name the bugs that no longer apply")
@@ -150,7 +119,7 @@ def main():
     given = parser.parse_args()
     chosen = chosen_bugs(given.bugs)
     if given.short:
-        return name_stale(chosen)
+        return name_stale([(crate, name) for crate, names in chosen.items() for name in names])
     want_command("rt")
     kinds = left_to_tests(chosen, [word.removesuffix(".edit") for word in given.bugs])
     chosen = {crate: names for crate, names in chosen.items() if names}

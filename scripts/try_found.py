@@ -23,6 +23,7 @@ import sys
 import tempfile
 
 from built import parser_of, stop, TOP, want_command
+from edits import edited, name_stale
 
 FOUND, MISSED, UNTRIED = "found", "NOT FOUND", "not tried"
 CLAIM = re.compile(r"Of the bugs of `(\w+)` that are kept outside the gate, (.*?\.)(?:\s|$)")
@@ -42,41 +43,12 @@ def claims():
 
 
 def put(top, crate, bug):
-    """Puts a bug into a copy of the repository; whether its text stands there once."""
-    with open(os.path.join(TOP, "bugs", crate, bug + ".edit"), encoding="utf-8") as opened:
-        pairs = [line.partition(": ")[::2] for line in opened.read().splitlines()]
-    file = old = ""
-    for word, rest in pairs:
-        if word == "file":
-            file = os.path.join(top, "crates", crate, rest)
-        elif word == "old":
-            old = rest
-        elif word == "new":
-            with open(file, encoding="utf-8") as opened:
-                text = opened.read()
-            if text.count(old) != 1:
-                return False
-            with open(file, "w", encoding="utf-8") as opened:
-                opened.write(text.replace(old, rest))
-    return True
-
-
-def applies(claim):
-    """Whether a bug's text stands once in the code."""
-    crate, bug, _, _ = claim
-    with tempfile.TemporaryDirectory(prefix="try-found-") as room:
-        top = os.path.join(room, "copy")
-        shutil.copytree(os.path.join(TOP, "crates", crate), os.path.join(top, "crates", crate), ignore=shutil.ignore_patterns("out"))
-        return os.path.isfile(os.path.join(TOP, "bugs", crate, bug + ".edit")) and put(top, crate, bug)
-
-
-def name_stale(chosen):
-    """Names the bugs that no longer apply, and answers the exit status."""
-    stale = [f"{claim[0]}/{claim[1]}" for claim in chosen if not applies(claim)]
-    for name in stale:
-        print(f"{name}: no longer applies")
-    print(f"{len(chosen) - len(stale)} bugs apply, {len(stale)} no longer")
-    return 2 if stale else 0
+    """Puts a bug into a copy of the repository; whether it still applies."""
+    texts = edited(crate, bug)
+    for path, text in (texts or {}).items():
+        with open(os.path.join(top, path), "w", encoding="utf-8") as opened:
+            opened.write(text)
+    return texts is not None
 
 
 def tried(claim):
@@ -101,14 +73,14 @@ def main():
     parser.add_argument("--at-once", type=int, default=1, metavar="N", help="how many are tried at once (default 1)")
     parser.add_argument("bugs", nargs="*", metavar="CRATE/BUG", help="the bugs to try; all that a test finds where none is named")
     given = parser.parse_args()
-    known = list(claims())
+    known = list(claims()) or stop("no test says which bugs it finds")
     names = [f"{crate}/{bug}" for crate, bug, _, _ in known]
     for bug in given.bugs:
         if bug not in names:
             stop(f"no test is said to find {bug}")
     chosen = [claim for name, claim in zip(names, known) if not given.bugs or name in given.bugs]
     if given.short:
-        return name_stale(chosen)
+        return name_stale([claim[:2] for claim in chosen])
     want_command("rt")
     kinds = []
     with concurrent.futures.ThreadPoolExecutor(max(given.at_once, 1)) as pool:
