@@ -14,17 +14,18 @@ Words of capitals alone are places that a reader fills in. The code is what is i
 bugs and the comments of Rattle; names of files count too.
 
 The target of each link exists, and its heading. Outside of code no page uses a word of REFUSED, and none is longer than LIMITS says.
-The options in the tables of README, SOLVE and SIMULATE are those of the program's help.
+The options in the tables of README, SOLVE and SIMULATE are those of the program's help, and README has a row for each command.
 
-Each mistake is printed with its page and line, and a last line counts them. The exit status is 1 if there is any, else 0.
+Each mistake is printed with its page and line, and a last line counts them. The exit status is 1 if there is any, else 0, or 2 for a
+fault of the command line.
 """
-import argparse
 import glob
 import os
 import re
 import sys
 
-TOP = os.path.dirname(os.path.dirname(os.path.abspath(__file__)))
+from built import TOP, parser_of, stop
+
 CODE = ("crates", "scripts", "bench", "examples")
 PASSED = {".git", "out", "__pycache__"}
 ENDINGS = (".md", ".rt", ".antt", ".py", ".dlx", ".edit", ".csv", ".svg", ".c", ".txt")
@@ -231,6 +232,12 @@ def options_in_help():
     return {name[:-8]: options_of(name, bodies) for name in bodies if name.endswith("_command")}
 
 
+def commands():
+    """The subcommands, as the code names them."""
+    with open(os.path.join(TOP, COMMANDS), encoding="utf-8") as file:
+        return set(re.findall(r'Mode::\w+ => "(\w+)"', file.read()))
+
+
 def options_in_page(page, name):
     """The options of each subcommand in the tables of a page, with the number of the line."""
     with open(page, encoding="utf-8") as file:
@@ -244,10 +251,13 @@ def options_in_page(page, name):
 
 def options_wrong_in(page, name):
     """Options in a page's tables that the help lacks, or the other way round."""
-    helped = options_in_help()
-    for number, command, options in options_in_page(page, name):
+    helped, rows = options_in_help(), list(options_in_page(page, name))
+    for number, command, options in rows:
         for option in sorted(options ^ helped.get(command, set())):
             yield number, f"--{option} of {command} is not in the {'help' if option in options else 'table'}"
+    if name == "README.md":
+        for command in sorted(commands() - {command for _, command, _ in rows}):
+            yield 1, f"{command} is not in the table"
 
 
 def mistakes_in(page, repository):
@@ -260,9 +270,12 @@ def mistakes_in(page, repository):
 
 
 def main():
-    parser = argparse.ArgumentParser(description=__doc__, formatter_class=argparse.RawDescriptionHelpFormatter)
+    parser = parser_of(__doc__)
     parser.add_argument("pages", nargs="*", metavar="PAGE", help="a page to read, in place of all")
     given = parser.parse_args().pages
+    for page in given:
+        if not os.path.isfile(page):
+            stop(f"there is no page {page}")
     repository = Repository()
     pages = given or [os.path.join(TOP, path) for path in sorted(repository.paths) if path.endswith(".md")]
     missing, wrong = 0, 0
@@ -271,6 +284,9 @@ def main():
         for number, what in sorted(names + others):
             print(f"{os.path.relpath(page, TOP)}:{number}: {what}")
         missing, wrong = missing + len(names), wrong + len(others)
+    for name in () if given else sorted(LIMITS.keys() - set(repository.paths)):
+        print(f"{name}: there is no such page")
+        wrong += 1
     together = sum(map(length_of, glob.glob(os.path.join(TOP, "crates", "*", "README.md"))))
     if together > CRATES_LIMIT and not given:
         print(f"crates/*/README.md: {together} words, more than {CRATES_LIMIT}")
