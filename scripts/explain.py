@@ -3,12 +3,12 @@
 
     python3 scripts/explain.py FILE [ANSWER]
 
-The files' format is told in docs/FORMAT.md; one of the files may be `-`, the standard input. Of a file that would be refused each fault is told with its line, its column
-(in characters, from 1; a tab is one), the word, and what was expected, the first 200 of them; the first line says what the program tells of it. Of
-a file that is right the counts are told, the options that are ignored, and what may surprise: primary items in no option or
-in one alone, items that always go together, options that name the same items, items that have a colour in some options and none
-in others, colours that no two options give. Of an answer each uncovered item is told, and for each item that is covered twice the
-options that do it, with the colours that they give it.
+The files' format is told in docs/FORMAT.md; one of the files may be `-`, the standard input. Of a file that would be refused each fault
+is told with its line, its column (in characters, from 1; a tab is one), the word, and what was expected, the first 200 of them; the
+first line says what the program tells of it. Of a file that is right the counts are told, the options that are ignored, and what may
+surprise: primary items in no option or in one alone, items that always go together, options that name the same items, items that
+have a colour in some options and none in others, colours that no two options give. Of an answer its first 200 faults are told, each
+uncovered item, and for each item that is covered twice the options that do it, with the colours that they give it.
 
 It explains and decides nothing: whether an answer is right, and above all `none`, is for the program to say. The exit
 status is 0 where nothing is wrong, 1 where something is, 2 for a fault of the command line, 3 for a file that can't be read.
@@ -246,9 +246,11 @@ def verdict(problem, answer):
 
 
 def explain_answer(problem, answer):
-    for fault in answer.faults:
+    for fault in answer.faults[:MOST]:
         place = f"line {fault.line}" if fault.line else "the answer"
         yield f"{place}: {fault.name}: {answer_fault_words(problem, answer, fault)}"
+    if len(answer.faults) > MOST:
+        yield f"and {len(answer.faults) - MOST:,} more faults"
     if answer.kind == "none":
         if verdict(problem, answer) is None:
             yield BY_SEARCH + ": solve_cli check FILE ANSWER"

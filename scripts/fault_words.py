@@ -200,9 +200,10 @@ def option_words(problem, answer, words):
         return "an answer has no comments"
     if is_audit(words):
         return AUDIT
-    unknown = [name for name in line.names if name not in problem.items]
+    unknown = list(dict.fromkeys(name for name in line.names if name not in problem.items))
     if unknown:
-        return "; ".join(f"no item is named {quoted(name)}; {instead(problem.names(), name)}" for name in dict.fromkeys(unknown))
+        more = [f"and {len(unknown) - FEW:,} more"] if len(unknown) > FEW else []
+        return "; ".join([f"no item is named {quoted(name)}; {instead(problem.names(), name)}" for name in unknown[:FEW]] + more)
     same = lines_where(problem.options, lambda option: option.words == line.words)
     if same:
         earlier = [words[0].line for words, place in answer.chosen if problem.options[place].words == line.words]
@@ -210,7 +211,8 @@ def option_words(problem, answer, words):
                 f"{listed(same, FEW)}), and the answer has it already at line{'s' * (len(earlier) > 1)} {listed(earlier, FEW)}")
     if lines_where(problem.ignored, lambda option: set(option.words) == set(line.words)):
         return "the file's option with these names is ignored, since it names no primary item; no answer has it"
-    turned = [option for option in problem.options if sorted(option.words) == sorted(line.words)]
+    words_of_line = set(line.words)  # (those of an option are all different)
+    turned = [option for option in problem.options if len(option.words) == len(line.words) and words_of_line.issuperset(option.words)]
     if turned:
         return f"names stand in the order of the file: write '{told(turned[0])}' (line {turned[0].line})"
     return near_option_words(problem, line)
@@ -222,12 +224,13 @@ def told(option):
 
 def near_option_words(problem, line):
     """The option that has most of these words and fewest others, where names count before colours."""
-    def distance(option):
-        return len(set(option.names) ^ set(line.names)), len(set(option.words) ^ set(line.words))
-
-    near = min(problem.options, key=distance, default=None)
-    if near is None or distance(near)[0] >= len(line.names):
+    names, words = set(line.names), set(line.words)
+    others = [len(names.symmetric_difference(option.names)) for option in problem.options]
+    fewest = min(others, default=len(line.names))
+    if fewest >= len(line.names):
         return "no option of the file has these names"
+    nearest_options = (option for option, count in zip(problem.options, others) if count == fewest)
+    near = min(nearest_options, key=lambda option: len(words.symmetric_difference(option.words)))
     what = "these names in these colours" if near.names == line.names else "these names"
     return f"no option of the file has {what}; nearest: '{told(near)}' (line {near.line})"
 

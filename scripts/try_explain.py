@@ -196,6 +196,10 @@ TOLD = [
     (LETTERS, b"cover 2\nc e\nc e\n", [
         "line 3: UnknownOption: the file has this option once (line 2), and the answer has it already at line 2"]),
     (LETTERS, b"cover 1\na d f g\n", ["line 2: UnknownOption: no option of the file has these names; nearest: 'a d g' (line 3)"]),
+    (LETTERS, b"cover 300\n" + b"a\n" * 300, [
+        "line 201: UnknownOption: no option of the file has these names", "and 100 more faults"]),
+    (b"a b\na b\n", b"cover 1\n" + b" ".join(b"n%d" % k for k in range(13)), ["line 2: UnknownOption: " + "; ".join(
+        [f"no item is named 'n{k}'; the items are 'a' and 'b'" for k in range(12)] + ["and 1 more"])]),
     (LETTERS, b"cover 3\nc e\na d f\nb g\n", ["the program says: right"]),
     (LETTERS, b"none\naudit clean\n", [f"line 1: WrongCount: {AUDIT}"]),
     (LETTERS, b"cover 1\nc e\naudit unclean: MissingBook node 1 incarnation 1\n", [f"line 3: UnknownOption: {AUDIT}"]),
