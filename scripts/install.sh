@@ -6,6 +6,7 @@
 # PREFIX is /usr/local if it is not given; DESTDIR, if it is set, stands before it. All pages are made before the first file is
 # written. The exit status is 0; 1 where a file can't be written; 2 for a fault of the command line or where the program isn't built.
 set -eu
+unset CDPATH
 
 top=$(cd "$(dirname "$0")/.." && pwd)
 program=$top/crates/solve_cli/out/solve_cli
@@ -29,6 +30,7 @@ fi
 prefix=${DESTDIR-}$prefix
 pages=$(mktemp -d)
 trap 'rm -rf "$pages"' EXIT
+trap 'exit 1' HUP INT TERM
 python3 "$top/scripts/help_pages.py" "$pages"
 
 put() {

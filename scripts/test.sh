@@ -4,8 +4,13 @@
 #     scripts/test.sh
 #
 # Where all went well the last line is the gate's own, 'N passed, M failed', and the status is 0. Else the last line names what failed, and
-# the status is 1. It wants the toolchain's command rt, cc and Python; the gate builds the programs.
+# the status is 1, or 2 where it is given words. It wants the toolchain's command rt, cc and Python; the gate builds the programs.
 set -o pipefail
+unset CDPATH
+if [ $# -gt 0 ]; then
+    echo "usage: scripts/test.sh" >&2
+    exit 2
+fi
 cd "$(dirname "$0")/.." || exit 2
 
 # The words of a script's short form; none where it takes seconds anyway.
@@ -15,6 +20,7 @@ short_form() {
     try_explain.py) echo --files 200 ;;
     try_bugs.py | try_found.py | try_memory.py | try_shortage.py) echo --short ;;
     try_search.py) echo 100 ;;
+    try_why_none.py) echo 30 ;;
     try_simulate.py) echo 1 ;;
     try_solve.py | try_strangers.py) echo --times 1 ;;
     esac

@@ -150,6 +150,16 @@ def installing(folder):
         ended = subprocess.run(["sh", script, *words], env={**os.environ, "DESTDIR": folder}, capture_output=True, text=True)
         written = [f"{folder}{prefix}/{file}" for file in files]
         expect(f"install.sh {words}", ended.returncode == 0 and ended.stdout.split() == written and all(map(os.path.isfile, written)))
+    room, stopped = os.path.join(folder, "room"), os.path.join(folder, "python3")
+    os.makedirs(room)
+    with open(stopped, "w", encoding="ascii") as file:
+        file.write("#!/bin/sh\nkill -TERM $PPID\n")
+    os.chmod(stopped, 0o755)
+    path = folder + os.pathsep + os.environ["PATH"]
+    ended = subprocess.run(["sh", script], env={**os.environ, "DESTDIR": folder, "PATH": path, "TMPDIR": room}, capture_output=True)
+    expect("install.sh leaves nothing when it is stopped", ended.returncode == 1 and not os.listdir(room))
+    ended = subprocess.run(["sh", "scripts/install.sh", "/path"], cwd=TOP, env={**os.environ, "DESTDIR": folder, "CDPATH": TOP}, capture_output=True)
+    expect("install.sh with CDPATH", ended.returncode == 0 and os.path.isfile(os.path.join(folder, "path", files[0])))
     for words in ([""], ["-h"], ["/opt", "/usr"]):
         ended = subprocess.run(["sh", script, *words], env={**os.environ, "DESTDIR": folder}, capture_output=True)
         expect(f"install.sh {words} is refused", ended.returncode == 2 and ended.stderr.startswith(b"usage: "))
