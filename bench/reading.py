@@ -19,7 +19,7 @@ import tempfile
 
 HERE = os.path.dirname(os.path.abspath(__file__))
 sys.path.insert(0, os.path.join(HERE, "..", "scripts"))
-from built import parser_of, SOLVE_CLI, want_program  # noqa: E402
+from built import number_from_one, parser_of, SOLVE_CLI, want_program  # noqa: E402
 
 ITEMS, OPTIONS, EACH = 1000, 20000, 10
 LETTERS = string.ascii_lowercase + string.digits
@@ -57,7 +57,7 @@ def measured(file):
 
 def main():
     parser = parser_of(__doc__)
-    parser.add_argument("--times", metavar="N", type=int, default=9, help="how often each file is read (default 9)")
+    parser.add_argument("--times", metavar="N", type=number_from_one, default=9, help="how often each file is read (default 9)")
     times = parser.parse_args().times
     want_program(SOLVE_CLI)
     draw = random.Random(1)

@@ -24,7 +24,7 @@ import tempfile
 
 HERE = os.path.dirname(os.path.abspath(__file__))
 sys.path.insert(0, os.path.join(HERE, "..", "scripts"))
-from built import parser_of, SOLVE_CLI, stop, want_command, want_program  # noqa: E402
+from built import number_from_one, parser_of, SOLVE_CLI, stop, want_command, want_program  # noqa: E402
 
 HEADER = "dancing_links_c.h"
 INSTALLED = "/usr/lib/python3/dist-packages/sage/combinat/matrices"
@@ -71,7 +71,7 @@ def build(folder, sage):
 def given_words():
     words = parser_of(__doc__)
     words.add_argument("files", nargs="*", metavar="FILE", help="problem files, which the program reads")
-    words.add_argument("--times", type=int, default=3, metavar="N", help="how often each is run (default 3)")
+    words.add_argument("--times", type=number_from_one, default=3, metavar="N", help="how often each is run (default 3)")
     words.add_argument("--sage", metavar="FOLDER", help="the folder of SageMath's dancing_links_c.h")
     given = words.parse_args()
     want_program(SOLVE_CLI)

@@ -25,7 +25,7 @@ import tempfile
 HERE = os.path.dirname(os.path.abspath(__file__))
 sys.path[:0] = [os.path.join(HERE, "..", folder) for folder in ("examples", "scripts")]
 import generate  # noqa: E402
-from built import TWO_SEARCHES, parser_of, stop, want_program  # noqa: E402
+from built import TWO_SEARCHES, number_from_one, parser_of, stop, want_program  # noqa: E402
 
 KINDS = ["links", "sets"]
 
@@ -85,8 +85,8 @@ def row(file, times, fuel):
 
 def main():
     words = parser_of(__doc__)
-    words.add_argument("--times", metavar="N", type=int, default=5, help="how often each is timed (default 5)")
-    words.add_argument("--fuel", metavar="N", type=int, default=100000, help="how many visits a search makes at most (default 100000)")
+    words.add_argument("--times", metavar="N", type=number_from_one, default=5, help="how often each is timed (default 5)")
+    words.add_argument("--fuel", metavar="N", type=number_from_one, default=100000, help="how many visits a search makes at most (default 100000)")
     words.add_argument("names", nargs="*", metavar="NAME", help="instances, without their ending")
     given = words.parse_args()
     want_program(TWO_SEARCHES, "two_searches")

@@ -23,7 +23,7 @@ import time
 HERE = os.path.dirname(os.path.abspath(__file__))
 sys.path[:0] = [os.path.join(HERE, "..", folder) for folder in ("examples", "scripts")]
 import generate  # noqa: E402
-from built import parser_of, SOLVE_CLI, stop, want_program  # noqa: E402
+from built import number_from_one, parser_of, SOLVE_CLI, stop, want_program  # noqa: E402
 
 NAMES = ["langford-13", "langford-13-long", "torus-queens-15", "skewed", "skewed-long", "diamond", "pentominoes-3x20", "sudoku-hard", "mutilated-chessboard"]
 # nodes, workers
@@ -96,7 +96,7 @@ def row(file, times, folder):
 
 def main():
     words = parser_of(__doc__)
-    words.add_argument("--times", metavar="N", type=int, default=3, help="how often each is run (default 3)")
+    words.add_argument("--times", metavar="N", type=number_from_one, default=3, help="how often each is run (default 3)")
     words.add_argument("names", nargs="*", metavar="NAME", help="instances, as those that are written by bench/instances.py")
     given = words.parse_args()
     want_program(SOLVE_CLI)

@@ -1,6 +1,7 @@
 """Where the built programs stand, and what a script tells where one is missing. For the scripts and benches that run them."""
 import argparse
 import os
+import re
 import shutil
 
 from cover_files import stop
@@ -20,6 +21,13 @@ TWO_SEARCHES = program_of("two_searches")
 def parser_of(text):
     """A command line whose help is this text as it stands."""
     return argparse.ArgumentParser(description=text, formatter_class=argparse.RawDescriptionHelpFormatter)
+
+
+def number_from_one(text):
+    """A number from 1 on the command line."""
+    if not re.fullmatch("[1-9][0-9]*", text):
+        raise argparse.ArgumentTypeError(f"'{text}' is no number from 1")
+    return int(text)
 
 
 def want_program(program, crate="solve_cli"):

@@ -19,7 +19,7 @@ import re
 import subprocess
 import sys
 
-from built import TOP, parser_of, program_of, want_program
+from built import TOP, number_from_one, parser_of, program_of, want_program
 
 FILES = ["letters", "queens-8", "langford-4", "langford-5", "tetrominoes-4x5"]
 KINDS = ["Dropped", "Repeated", "Swapped", "Altered", "Exchanged"]
@@ -130,10 +130,10 @@ def try_run(given, file, seed, table):
 
 def main():
     parser = parser_of(__doc__)
-    parser.add_argument("--changes", type=int, default=100, help="how many changes are tried in each run (default 100)")
-    parser.add_argument("--runs", type=int, default=2, help="how many runs of each file (default 2)")
+    parser.add_argument("--changes", type=number_from_one, default=100, help="how many changes are tried in each run (default 100)")
+    parser.add_argument("--runs", type=number_from_one, default=2, help="how many runs of each file (default 2)")
     parser.add_argument("--seed", type=int, default=1, help="the seed of the first run (default 1)")
-    parser.add_argument("--program", default=program_of("audit_trials"), help="the program, in place of the built one")
+    parser.add_argument("--program", type=os.path.abspath, default=program_of("audit_trials"), help="the program, in place of the built one")
     parser.add_argument("files", metavar="FILE", nargs="*", help="problems (default: five examples)")
     given = parser.parse_args()
     want_program(given.program, "audit_trials")
@@ -148,7 +148,7 @@ def main():
             if row["tried"]:
                 print(f"{kind:<12} {'delivery' if is_delivery else 'own event':<10}", *[f"{row[word]:>8}" for word in columns])
     tried, differ = (sum(row[word] for row in table.values()) for word in ("tried", "differ"))
-    sys.exit(0 if all(good) and not differ and (tried or not given.changes) else 1)
+    sys.exit(0 if all(good) and not differ and tried else 1)
 
 
 main()

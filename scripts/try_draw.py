@@ -364,7 +364,7 @@ def refusals(trial):
 
 def main():
     parser = parser_of(__doc__)
-    parser.add_argument("--program", default=SOLVE_CLI, help="the built program (default crates/solve_cli/out/solve_cli)")
+    parser.add_argument("--program", type=os.path.abspath, default=SOLVE_CLI, help="the built program (default crates/solve_cli/out/solve_cli)")
     given = parser.parse_args()
     want_program(given.program)
     with tempfile.TemporaryDirectory(prefix="try-draw-") as folder:

@@ -337,7 +337,7 @@ def main():
     parser = parser_of(__doc__)
     parser.add_argument("--files", type=int, default=1000, help="how many random files are tried (default 1000)")
     parser.add_argument("--seed", type=int, default=1, help="the seed of what is drawn (default 1)")
-    parser.add_argument("--program", default=SOLVE_CLI, help="the built program (default crates/solve_cli/out/solve_cli)")
+    parser.add_argument("--program", type=os.path.abspath, default=SOLVE_CLI, help="the built program (default crates/solve_cli/out/solve_cli)")
     given = parser.parse_args()
     want_program(given.program)
     draw = random.Random(given.seed)

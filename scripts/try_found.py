@@ -22,7 +22,7 @@ import subprocess
 import sys
 import tempfile
 
-from built import parser_of, stop, TOP, want_command
+from built import number_from_one, parser_of, stop, TOP, want_command
 from edits import edited, name_stale
 
 FOUND, MISSED, UNTRIED = "found", "NOT FOUND", "not tried"
@@ -70,7 +70,7 @@ def tried(claim):
 def main():
     parser = parser_of(__doc__)
     parser.add_argument("--short", action="store_true", help="run nothing: only name the bugs that no longer apply")
-    parser.add_argument("--at-once", type=int, default=1, metavar="N", help="how many are tried at once (default 1)")
+    parser.add_argument("--at-once", type=number_from_one, default=1, metavar="N", help="how many are tried at once (default 1)")
     parser.add_argument("bugs", nargs="*", metavar="CRATE/BUG", help="the bugs to try; all that a test finds where none is named")
     given = parser.parse_args()
     known = list(claims()) or stop("no test says which bugs it finds")
@@ -83,7 +83,7 @@ def main():
         return name_stale([claim[:2] for claim in chosen])
     want_command("rt")
     kinds = []
-    with concurrent.futures.ThreadPoolExecutor(max(given.at_once, 1)) as pool:
+    with concurrent.futures.ThreadPoolExecutor(given.at_once) as pool:
         for (crate, bug, tests, test), kind in zip(chosen, pool.map(tried, chosen)):
             print(f"{crate}/{bug}: {kind}: {tests}, {test}", flush=True)
             kinds.append(kind)

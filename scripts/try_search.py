@@ -13,7 +13,7 @@ import subprocess
 import sys
 import tempfile
 
-from built import SOLVE_CLI, parser_of, want_program
+from built import SOLVE_CLI, number_from_one, parser_of, want_program
 from plain_search import read, search
 
 
@@ -57,7 +57,7 @@ def agrees(path, text):
 
 def main():
     parser = parser_of(__doc__)
-    parser.add_argument("count", metavar="COUNT", type=int, nargs="?", default=600, help="how many problems (default 600)")
+    parser.add_argument("count", metavar="COUNT", type=number_from_one, nargs="?", default=600, help="how many problems (default 600)")
     count = parser.parse_args().count
     want_program(SOLVE_CLI)
     draw = random.Random(7221)

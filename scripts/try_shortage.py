@@ -21,7 +21,7 @@ import sys
 import tempfile
 import time
 
-from built import SOLVE_CLI, TOP, parser_of, want_command, want_program
+from built import SOLVE_CLI, TOP, number_from_one, parser_of, want_command, want_program
 
 LETTERS = "a b c d e f g\nc e\na d g\nb c f\na d f\nb g\nd e g\n"
 ANSWER = "cover 3\nc e\na d f\nb g\n"
@@ -104,7 +104,7 @@ def growths(trial, name, words, what, count):
 def main():
     words = parser_of(__doc__)
     words.add_argument("--short", action="store_true", help="fewer runs")
-    words.add_argument("--growths", metavar="N", type=int, default=100)
+    words.add_argument("--growths", metavar="N", type=number_from_one, default=100)
     words.add_argument("--limit", metavar="SECONDS", type=float, default=60)
     given = words.parse_args()
     want_program(SOLVE_CLI)

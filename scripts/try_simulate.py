@@ -18,7 +18,7 @@ import subprocess
 import sys
 import tempfile
 
-from built import parser_of, SOLVE_CLI, TOP, want_program, WORLD_STORY
+from built import number_from_one, parser_of, SOLVE_CLI, TOP, want_program, WORLD_STORY
 
 NODES, TURNS = 4, 10_000
 
@@ -46,7 +46,7 @@ def measured(file, seed, fuel, restarts):
 
 def main():
     parser = parser_of(__doc__)
-    parser.add_argument("seeds", nargs="?", metavar="SEEDS", type=int, default=20, help="how many seeds are tried, from 1 (default 20)")
+    parser.add_argument("seeds", nargs="?", metavar="SEEDS", type=number_from_one, default=20, help="how many seeds are tried, from 1 (default 20)")
     seeds = parser.parse_args().seeds
     want_program(SOLVE_CLI)
     want_program(WORLD_STORY, "world_story")

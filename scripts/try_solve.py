@@ -23,7 +23,7 @@ import sys
 import tempfile
 import time
 
-from built import parser_of, SOLVE_CLI, TOP, want_program
+from built import number_from_one, parser_of, SOLVE_CLI, TOP, want_program
 
 LETTERS = "a b c d e f g\nc e\na d g\nb c f\na d f\nb g\nd e g\n"
 SMALL = [
@@ -38,7 +38,7 @@ FEW_TURNS = "5000"
 
 def words():
     parser = parser_of(__doc__)
-    parser.add_argument("--times", type=int, default=20, help="how often each problem is solved (default 20)")
+    parser.add_argument("--times", type=number_from_one, default=20, help="how often each problem is solved (default 20)")
     parser.add_argument("--nodes", default="4", help="how many nodes there are (default 4)")
     parser.add_argument("--workers", default="2", help="how many workers a node has (default 2)")
     parser.add_argument("--fuel", default="1000", help="how many prefixes a search may visit at first (default 1000)")

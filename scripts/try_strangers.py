@@ -26,7 +26,7 @@ import tempfile
 import threading
 import time
 
-from built import parser_of, SOLVE_CLI, TOP, want_program
+from built import number_from_one, parser_of, SOLVE_CLI, TOP, want_program
 
 NODES = 4
 GREATEST = 2**32 - 1
@@ -177,10 +177,10 @@ def row(given, name, answer_file):
 
 def main():
     parser = parser_of(__doc__)
-    parser.add_argument("--times", type=int, default=20, help="how often each attack is tried (default 20)")
+    parser.add_argument("--times", type=number_from_one, default=20, help="how often each attack is tried (default 20)")
     parser.add_argument("--limit", type=float, default=20, help="after how many seconds a run is given up (default 20)")
     parser.add_argument("--length", type=float, default=1, help="for how many seconds a run is attacked (default 1)")
-    parser.add_argument("--program", default=SOLVE_CLI, help="the program, in place of the built one")
+    parser.add_argument("--program", type=os.path.abspath, default=SOLVE_CLI, help="the program, in place of the built one")
     default = os.path.join(TOP, "examples", "pentominoes-6x10.dlx")
     parser.add_argument("--problem", default=default, help="a file with a cover (default pentominoes-6x10.dlx)")
     parser.add_argument("--only", choices=ATTACKS, help="this attack alone")

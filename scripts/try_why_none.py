@@ -18,7 +18,7 @@ import subprocess
 import sys
 import tempfile
 
-from built import parser_of, SOLVE_CLI, TOP, want_program
+from built import number_from_one, parser_of, SOLVE_CLI, TOP, want_program
 from plain_search import clash, read, search
 from try_search import random_text
 
@@ -106,7 +106,7 @@ def odd_words(folder):
 
 def main():
     parser = parser_of(__doc__)
-    parser.add_argument("count", metavar="COUNT", type=int, nargs="?", default=100, help="how many problems (default 100)")
+    parser.add_argument("count", metavar="COUNT", type=number_from_one, nargs="?", default=100, help="how many problems (default 100)")
     count = parser.parse_args().count
     want_program(SOLVE_CLI)
     random_problems(count)
