@@ -7,6 +7,7 @@ It wants the program, which is crates/solve_cli/out/solve_cli where none is name
 Each cover of an example is given back to `check`, and counted here once more. The last line is 'N passed, M failed'. The exit
 status is 0 where all passed, 1 where something failed, 2 for a fault of the command line or where there is no program.
 """
+import doctest
 import os
 import pty
 import re
@@ -14,6 +15,7 @@ import subprocess
 import sys
 import tempfile
 
+import zarfepoch
 from built import parser_of, SOLVE_CLI, TOP, want_program
 
 PROGRAM = SOLVE_CLI
@@ -165,28 +167,31 @@ def installing(folder):
         expect(f"install.sh {words} is refused", ended.returncode == 2 and ended.stderr.startswith(b"usage: "))
 
 
+def by_json(text, *words, **how):
+    """What zarfepoch.py prints of a problem in JSON, and its status."""
+    script = os.path.join(TOP, "scripts", "zarfepoch.py")
+    ended = subprocess.run([sys.executable, script, "--json", "-", *words], input=text, capture_output=True, **how)
+    expect(f"JSON {text} {words}: {ended.stderr}", b"Traceback" not in ended.stderr and bool(ended.stderr) == (ended.returncode > 1))
+    return ended.stdout, ended.returncode
+
+
 def from_python():
     """The examples of zarfepoch.py, and problems in JSON."""
-    ended = subprocess.run([sys.executable, "-m", "doctest", "zarfepoch.py"], cwd=os.path.join(TOP, "scripts"), capture_output=True)
-    expect("the examples of zarfepoch.py", ended.returncode == 0 and not ended.stdout)
+    found = doctest.testmod(zarfepoch)
+    expect("the examples of zarfepoch.py", found.attempted and not found.failed)
     for text, answer, status in ((b'{"options": [["a", ["x", "red"]], ["x"]], "primary": ["a"], "secondary": ["x"]}', b"[0]\n", 0),
                                  (b'{"options": [["a"]], "primary": ["a", "b"]}', b"null\n", 1), (b"[]", b"", 3), (b"{", b"", 3),
                                  (b'\xef\xbb\xbf{"options": [["\xc3\xa9"]], "primary": ["\xc3\xa9"]}', b"[0]\n", 0), (b'{"a\xff": 1}', b"", 3),
                                  (b'{"options": [[true]], "primary": [1]}', b"", 3), (b'{"options": [["a"]], "primary": ["a", null]}', b"", 3),
                                  (b'{"options": [["a", ["x", null]]], "primary": ["a"], "secondary": ["x"]}', b"", 3),
                                  (b'{"options": [["b"]], "primary": ["a"]}', b"", 3), (b'{"options": ["a"], "primary": ["a"]}', b"", 3)):
-        ended = subprocess.run([sys.executable, os.path.join(TOP, "scripts", "zarfepoch.py"), "--json", "-"], input=text, capture_output=True)
-        is_plain = b"Traceback" not in ended.stderr and bool(ended.stderr) == (status == 3)
-        expect(f"JSON {text}", (ended.stdout, ended.returncode) == (answer, status) and is_plain)
+        expect(f"JSON {text}", by_json(text) == (answer, status))
+    small = b'{"options": [["a"]], "primary": ["a"]}'
     for seconds, answer, status in (("60", b"[0]\n", 0), ("1e9", b"[0]\n", 0), ("inf", b"[0]\n", 0), ("0", b"", 2), ("nan", b"", 2)):
-        ended = subprocess.run([sys.executable, os.path.join(TOP, "scripts", "zarfepoch.py"), "--json", "-", "--seconds", seconds],
-                               input=b'{"options": [["a"]], "primary": ["a"]}', capture_output=True)
-        expect(f"{seconds} seconds", (ended.stdout, ended.returncode) == (answer, status))
+        expect(f"{seconds} seconds", by_json(small, "--seconds", seconds) == (answer, status))
     folder, name = os.path.split(PROGRAM)
     for program, answer, status in ((name, b"[0]\n", 0), ("/bin/true", b"", 3), ("/bin/false", b"", 3), ("/dev/null", b"", 3)):
-        ended = subprocess.run([sys.executable, os.path.join(TOP, "scripts", "zarfepoch.py"), "--json", "-"], cwd=folder,
-                               env={**os.environ, "ZARFEPOCH": program}, input=b'{"options": [["a"]], "primary": ["a"]}', capture_output=True)
-        expect(f"the program {program}", (ended.stdout, ended.returncode) == (answer, status))
+        expect(f"the program {program}", by_json(small, cwd=folder, env={**os.environ, "ZARFEPOCH": program}) == (answer, status))
 
 
 def help_on(output, *words):
@@ -220,6 +225,7 @@ def main():
     parser.add_argument("program", nargs="?", metavar="PROGRAM", default=SOLVE_CLI, help="the built program")
     PROGRAM = os.path.abspath(parser.parse_args().program)
     want_program(PROGRAM)
+    os.environ["ZARFEPOCH"] = PROGRAM
     with tempfile.TemporaryDirectory() as folder:
         examples(folder)
         bad_input(folder)
