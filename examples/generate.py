@@ -556,7 +556,8 @@ def parse():
     for kind in ("pentominoes", "tetrominoes", "dominoes", "squares"):
         tiles = kinds.add_parser(kind)
         tiles.add_argument("size", metavar="ROWSxCOLUMNS", type=size, help="as in 5x12")
-        tiles.add_argument("--without", metavar="ROW,COLUMN", type=cell, nargs="+", default=[], help="cells that are left out, from 0,0")
+        tiles.add_argument("--without", metavar="ROW,COLUMN", type=cell, nargs="+", action="extend", default=[],
+                           help="cells that are left out, from 0,0")
     kinds.add_parser("sudoku").add_argument("given", metavar="FILE-or-81-characters", help="digits, and dots or zeros for empty cells")
     for kind, what in (("coloring", "borders, two names a line"), ("matching", "edges, two names a line"),
                        ("timetable", "lessons, as CSV"), ("word-square", "words of one length"), ("nonogram", "lines of numbers"),

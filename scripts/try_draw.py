@@ -216,6 +216,8 @@ def kinds(trial):
     trial.expect("no tetrominoes", trial.made("tetrominoes", "4x4")[0].startswith("none"))
     # of the walls that the cells of 4 by 6 might have, 28 across and 28 down, each domino of 12 lacks one
     trial.expect("dominoes", sum(walls(trial.made("dominoes", "4x6"))) == 4 * 7 + 5 * 6 - 12)
+    twice = trial.made("dominoes", "4x4", "--without", "0,0", "--without", "3,3")
+    trial.expect("cells left out by two options", twice == trial.made("dominoes", "4x4", "--without", "0,0", "3,3"))
     for n in (7, 9, 13):
         trial.expect(f"triples {n}", join_all(trial.made("triples", str(n)), n))
 
