@@ -12,7 +12,7 @@ with coloured sides (12 h12:red v13:blue ..) and words that cross (12:b 13:e). W
 standard input. Where OUT is `-` the SVG is written in place of the text.
 
 The picture shows what the answer says; whether that is right is for the program to say (solve_cli check FILE ANSWER). The
-exit status is 0, 2 for a fault of the command line, 3 for a file or an answer that can't be read.
+exit status is 0, 2 for a fault of the command line, 3 for a file or an answer that can't be read, or a picture that can't be written.
 """
 import argparse
 import sys
