@@ -114,7 +114,7 @@ def attack(sent, run, seconds, attack_of, pause):
                     sent["packets"] += 1
                 except OSError:
                     pass
-        if pause:
+        if pause and len(targets) > NODES:
             time.sleep(pause)
     own.close()
 
