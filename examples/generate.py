@@ -250,6 +250,8 @@ def squares(name, note, cells, pieces, border=None):
                 sides = ["h" + grid[r, c], "v" + grid[r, c + 1], "h" + grid[r + 1, c], "v" + grid[r, c]]
                 if all(map(fits, turned, outwards[r, c])):
                     options.append([piece, names[r, c]] + [f"{side}:{colour}" for side, colour in zip(sides, turned)])
+        if len(options) > MAX_OPTIONS:
+            stop(f"the squares can lie in more than {MAX_OPTIONS:,} ways, and the program reads at most so many options")
     sides = sorted({word.partition(":")[0] for option in options for word in option[2:]})
     write(name, note, list(pieces) + list(names.values()), sides, options)
 
@@ -262,6 +264,7 @@ def word_squares(name, note, words, marks=("",), repeat=False):
     for mark in marks:
         slots.update((f"{mark}across{r}", [mark + names[r, c] for c in range(n)]) for r in range(n))
         slots.update((f"{mark}down{c}", [mark + names[r, c] for r in range(n)]) for c in range(n))
+    check_count(len(slots) * len(words), MAX_OPTIONS, "options")
     options = [[slot] + ([] if repeat else [word]) + [f"{cell}:{letter}" for cell, letter in zip(cells, word)]
                for slot, cells in slots.items() for word in words]
     write(name, note, list(slots), [mark + cell for mark in marks for cell in names.values()] + ([] if repeat else words), options)

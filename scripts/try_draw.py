@@ -351,6 +351,9 @@ def refusals(trial):
         ended = trial.python("examples/generate.py", *words)
         is_plain = ended.stderr and b"Traceback" not in ended.stderr
         trial.expect(f"{words} is refused", ended.returncode == 2 and not ended.stdout and is_plain)
+    many = trial.path("many", b"".join(b"q%d a b c d\n" % number for number in range(961)))
+    ended = trial.python("examples/generate.py", "squares", "31x31", many)
+    trial.expect("many squares are refused before they are laid", ended.returncode == 2 and b"in more than 20,000 ways" in ended.stderr)
     file = trial.path("bad.dlx", b"a b\na c\n")
     letters_file = os.path.join(EXAMPLES, "letters.dlx")
     for words in ([file, file], [letters_file, file], [letters_file, trial.folder], ["nothing", file]):
