@@ -110,7 +110,7 @@ def bash_completion(top, commands):
     cases = "\n".join(f'        {name}) options="{" ".join(longs(help))}" ;;' for name, help in commands.items())
     valued = "|".join(sorted({name for help in commands.values() for option in help.options if option.value for name in option.names}))
     return f"""_{NAME}() {{
-    local word="${{COMP_WORDS[COMP_CWORD]}}" before="${{COMP_WORDS[COMP_CWORD - 1]}}" options="" known
+    local word="${{COMP_WORDS[COMP_CWORD]}}" before="${{COMP_WORDS[COMP_CWORD - 1]}}" options=""
     if [ "$COMP_CWORD" -eq 1 ]; then
         COMPREPLY=($(compgen -W "{' '.join([*commands, *longs(top)])}" -- "$word"))
         return
@@ -121,7 +121,7 @@ def bash_completion(top, commands):
     esac
     case "$word" in
         -*) COMPREPLY=($(compgen -W "$options" -- "$word")) ;;
-        *) known=$(compgen -f -- "$word"); local IFS=$'\\n'; COMPREPLY=($known) ;;
+        *) mapfile -t COMPREPLY < <(compgen -f -- "$word") ;;
     esac
 }}
 complete -o filenames -F _{NAME} {NAME}

@@ -160,6 +160,11 @@ def installing(folder):
     path = folder + os.pathsep + os.environ["PATH"]
     ended = subprocess.run(["sh", script], env={**os.environ, "DESTDIR": folder, "PATH": path, "TMPDIR": room}, capture_output=True)
     expect("install.sh leaves nothing when it is stopped", ended.returncode == 1 and not os.listdir(room))
+    for name in ("a b", "a*c", "axc"):
+        open(os.path.join(room, name), "w", encoding="ascii").close()
+    complete = 'source "$0"; COMP_WORDS=(solve_cli alone a); COMP_CWORD=2; _solve_cli; printf "%s\\n" "${COMPREPLY[@]}"'
+    ended = subprocess.run(["bash", "-c", complete, f"{folder}/opt/{files[2]}"], cwd=room, capture_output=True, text=True)
+    expect("files are completed", sorted(ended.stdout.splitlines()) == ["a b", "a*c", "axc"])
     ended = subprocess.run(["sh", "scripts/install.sh", "/path"], cwd=TOP, env={**os.environ, "DESTDIR": folder, "CDPATH": TOP}, capture_output=True)
     expect("install.sh with CDPATH", ended.returncode == 0 and os.path.isfile(os.path.join(folder, "path", files[0])))
     for words in ([""], ["-h"], ["/opt", "/usr"]):
