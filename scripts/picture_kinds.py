@@ -230,10 +230,15 @@ class Langford(Kind):
 
         return self.all_match(r"s?\d{1,3}") and bool(self.options) and all(map(is_pair, self.options))
 
+    def places(self):
+        """The places from the first, which is 1 unless there is a place 0, to the last."""
+        named = [int(item[1:]) for item in self.items if item[0] == "s"]
+        return range(min(1, *named), max(named) + 1)
+
     def row(self):
-        """The number at each place, or a dot, from the first place to the last."""
+        """The number at each place, or a dot."""
         at = {int(name[1:]): option[0] for option in self.chosen for name in option[1:]}
-        return [at.get(place, ".") for place in range(1, max(int(item[1:]) for item in self.items if item[0] == "s") + 1)]
+        return [at.get(place, ".") for place in self.places()]
 
     def lines(self):
         return [" ".join(self.row())]
@@ -244,7 +249,7 @@ class Langford(Kind):
             paper.box(k * CELL, 0, CELL, CELL, fill, INK, 1.2)
             paper.text((k + 0.5) * CELL, CELL / 2, "" if mark == "." else mark, 17)
         for option in self.chosen:
-            begin, end = (int(name[1:]) - 0.5 for name in option[1:])
+            begin, end = (int(name[1:]) - self.places()[0] + 0.5 for name in option[1:])
             paper.arc(begin * CELL, end * CELL, 0, ACCENT)
         self.caption(paper)
 

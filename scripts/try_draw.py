@@ -256,6 +256,8 @@ def puzzles(trial):
     trial.expect("cubes", are_turned(trial.made("cubes", trial.path("cubes", "\n".join(generate.CUBES).encode())), cubes))
     sheet = trial.drawn(trial.path("sheet.dlx", b"A1 B1 A2 B2\nA1 B1\nA2 B2\n"), trial.path("sheet.svg"))
     trial.expect("cells as in a spreadsheet", [line for line in sheet if line.startswith("+")] == ["+---+---+"] * 3)
+    pair = trial.drawn(trial.path("pair.dlx", b"1 s0 s2\n1 s0 s2\n"), trial.path("pair.svg"))
+    trial.expect("places from 0", pair == ["1 . 1"])
     listed = trial.drawn(trial.path("list.dlx", b"x y z\nx y\nz\n"), trial.path("list.svg"))
     trial.expect("a list with its head", listed == ["cover 2", "x y", "z"])
     blank = "\n".join(SUDOKU[k:k + 9].replace(".", " ").rstrip() for k in range(0, 81, 9))
