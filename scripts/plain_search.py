@@ -6,8 +6,8 @@
 prints the outcome, the visits and the first cover of the empty prefix, by numbers of options from 0. It filters all options
 at each visit, as the definition says, and keeps no links. Two options clash where both name an item, and it is primary or they
 give it no equal colour (exact covering with colours, TAOCP 7.2.2.1). It reads the same files as the program, but trusts them:
-no refusal is made here. It wants no built program. The exit status is 0, or 2 for a fault of the command line or a file that
-can't be read.
+no refusal is made here but of a file without items or with others in its options. It wants no built program. The exit status is 0,
+or 2 for a fault of the command line, or a file that can't be read or is refused.
 """
 import sys
 
@@ -84,7 +84,10 @@ def main():
             text = file.read()
     except OSError as why:
         stop(f"{path} can't be read: {why.strerror}")
-    names, primary, options, ignored = read(text)
+    try:
+        names, primary, options, ignored = read(text)
+    except (IndexError, ValueError):
+        stop(f"{path} is refused; scripts/explain.py {path} explains it")
     first, visits = search(primary, options, [])
     print("cover" if first is not None else "none", "visits", visits, "first", first, "ignored", ignored)
 
