@@ -26,7 +26,7 @@ import time
 HERE = os.path.dirname(os.path.abspath(__file__))
 sys.path.insert(0, os.path.join(HERE, "..", "scripts"))
 from built import parser_of, RUN_TALLY, stop, want_command, want_program  # noqa: E402
-from solve import behind, skewed  # noqa: E402
+from solve import behind  # noqa: E402
 
 NAMES = ["langford-13", "skewed", "torus-queens-15", "torus-queens-16"]
 # nodes, workers
@@ -95,7 +95,7 @@ def main():
         baseline = os.path.join(folder, "baseline")
         subprocess.run(["gcc", "-O3", "-o", baseline, os.path.join(HERE, "baseline.c")], check=True)
         subprocess.run([sys.executable, os.path.join(HERE, "instances.py"), folder], check=True)
-        skewed(folder)
+        behind(folder, "skewed", [], True)
         print("| Instance | Nodes x workers | Seconds | Processors | Answer | Visits made twice | Searches | Fullest book "
               "| Most names | Most turns | Most waits |")
         print("|---|---|---|---|---|---|---|---|---|---|---|")

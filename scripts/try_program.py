@@ -8,6 +8,7 @@ Each cover of an example is given back to `check`, and counted here once more. T
 status is 0 where all passed, 1 where something failed, 2 for a fault of the command line or where there is no program.
 """
 import doctest
+import glob
 import os
 import pty
 import re
@@ -206,6 +207,14 @@ def help_on(output, *words):
     return ended.returncode, ended.stderr
 
 
+def helps():
+    """Each script that can be run writes its help, so that all it imports is there."""
+    paths = [path for folder in ("scripts", "examples", "bench") for path in sorted(glob.glob(os.path.join(TOP, folder, "*.py")))]
+    for path in filter(lambda path: os.access(path, os.X_OK), paths):
+        ended = subprocess.run([sys.executable, path, "--help"], capture_output=True, text=True)
+        expect(f"the help of {path}: {ended.stderr}", ended.returncode == 0 and ended.stdout.startswith("usage: "))
+
+
 def failing_outputs():
     """What scripts say where their output takes no more, or nobody reads it."""
     for script in ("scripts/explain.py", "scripts/draw.py", "scripts/why_none.py", "scripts/zarfepoch.py", "examples/generate.py"):
@@ -236,6 +245,7 @@ def main():
         bad_input(folder)
         installing(os.path.join(folder, "dest"))
     from_python()
+    helps()
     failing_outputs()
     progress()
     command_line()
