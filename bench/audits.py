@@ -9,7 +9,7 @@ the audit, the megabytes of the run with its books, and those that the audit add
 that of one without.
 
 It wants the program: (cd crates/audit_trials && rt run) builds it. The exit status is 0, 1 where an audit is unclean, or 2 for a
-fault of the command line or where the program is missing.
+mistake on the command line or where the program is missing.
 """
 import os
 import subprocess

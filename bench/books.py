@@ -4,15 +4,15 @@
     python3 bench/books.py [NAME ..]
     python3 bench/books.py --long
 
-Sites with threads search each instance that is named, or four of them, over links in memory. The table tells how long the run
+Sites with threads search each instance that is named, or four of them, over links in memory. The table says how long the run
 took, how many processors it used on average from its start to its end, the visits that were made by searches which were spent
 (those are made again) as a part of the visits that a plain search makes, how many searches were posted, the entries of the
 fullest book, how many names a node used at most, how many turns a thread took that took the most, and in how many one waited.
 
 `--long` lets one node of four workers search Langford pairs of 13 behind choices that make the work 960 times as much, which
-takes some eleven minutes on four processors, and tells a line each minute: how many processors were used in it.
+takes some fifteen minutes on four processors, and prints a line each minute: how many processors were used in it.
 
-It wants gcc, and the program: (cd crates/run_tally && rt run) builds it. The exit status is 0, or 2 for a fault of the command
+It wants gcc, and the program: (cd crates/run_tally && rt run) builds it. The exit status is 0, or 2 for a mistake on the command
 line or where one of these is missing.
 """
 import math

@@ -7,7 +7,7 @@ A cell is a core with its history under one lock. One, two, four and eight threa
 beside it one thread lets a core without a lock and history do the same. Each is run three times, by turns; the least time that
 passed counts. The figures mean something where nothing else runs.
 
-It wants the program: (cd crates/workbench && rt run) builds it. The exit status is 0, or 2 for a fault of the command line or
+It wants the program: (cd crates/workbench && rt run) builds it. The exit status is 0, or 2 for a mistake on the command line or
 where there is no program.
 """
 import os

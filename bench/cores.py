@@ -9,7 +9,7 @@ to a node that begins, and a redo of each child. The others are packets that are
 plain loop only copies the same packets. Both run by turns, three times each, and the least user time of the whole process
 counts.
 
-It wants the program: (cd crates/workbench && rt run) builds it. The exit status is 0, or 2 for a fault of the command line or
+It wants the program: (cd crates/workbench && rt run) builds it. The exit status is 0, or 2 for a mistake on the command line or
 where there is no program.
 """
 import os

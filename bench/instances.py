@@ -3,7 +3,7 @@
 
     python3 bench/instances.py FOLDER
 
-It wants no built program. The exit status is 0, or 2 for a fault of the command line or a folder that can't be written.
+It wants no built program. The exit status is 0, or 2 for a mistake on the command line or a folder that can't be written.
 """
 import itertools
 import os

@@ -1,5 +1,5 @@
 #!/usr/bin/env python3
-"""Times how the greatest file in range is read, with names of three kinds.
+"""Times how files of the most items, options and nodes are read, with names of three kinds.
 
     python3 bench/reading.py [--times N]
 
@@ -8,8 +8,8 @@ or of 32 bytes of which the first 30 are the same, the worst for a comparison by
 by turns over the files; the least user time of the whole process counts. The ratio is to the time of random names of the same
 length.
 
-It wants the program: (cd crates/solve_cli && rt run) builds it. The exit status is 0, 1 where a run ends otherwise than without
-an answer, 2 for a fault of the command line or where there is no program.
+It wants the program: (cd crates/solve_cli && rt run -- --version) builds it. The exit status is 0, 1 where a run ends otherwise than without
+an answer, 2 for a mistake on the command line or where there is no program.
 """
 import os
 import random

@@ -10,7 +10,7 @@ instructions are told too, without those of a search of one visit: reading and b
 that the program takes to the time of the other.
 
 It wants the program: (cd crates/two_searches && rt run) builds it. The exit status is 0, 1 where the two come to other outcomes, 2 for
-a fault of the command line or where there is no program.
+a mistake on the command line or where there is no program.
 """
 import math
 import os

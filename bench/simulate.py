@@ -8,8 +8,8 @@ packets sent, and the most memory of the process. `letters` and `queens-8` are p
 chessboard has no cover and a search too long for these turns. On the last rows one node splits Langford pairs of 13 at each
 visit, so its table grows: to 26,000 children in 400,000 turns.
 
-It wants the program: (cd crates/world_story && rt run) builds it. The exit status is 0, 1 where the program failed, 2 for a fault
-of the command line or where there is no program.
+It wants the program: (cd crates/world_story && rt run) builds it. The exit status is 0, 1 where the program failed, 2 for a mistake
+on the command line or where there is no program.
 """
 import os
 import resource

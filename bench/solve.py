@@ -10,8 +10,8 @@ by `check`. A dash stands where `solve` gave no answer each time. The column `4 
 processes of `alone` run at once, and the figure is four times the time of one over the time until all have ended. The figures
 mean something on a machine with four processors and nothing else to do.
 
-It wants the program: (cd crates/solve_cli && rt run) builds it. The exit status is 0, 1 where an answer is wrong, 2 for a fault
-of the command line or where there is no program.
+It wants the program: (cd crates/solve_cli && rt run -- --version) builds it. The exit status is 0, 1 where an answer is wrong, 2 for a mistake
+on the command line or where there is no program.
 """
 import math
 import os

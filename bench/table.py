@@ -10,7 +10,7 @@ behind their frame. Then 20 guests that were split into ten are refused, which a
 nothing new. Then ten thousand guests are admitted in order, taken up, end, and settle. Each row has the
 microseconds that a call took on the average of its calls, the least of three runs.
 
-It wants the program: (cd crates/workbench && rt run) builds it. The exit status is 0, or 2 for a fault of the command line or
+It wants the program: (cd crates/workbench && rt run) builds it. The exit status is 0, or 2 for a mistake on the command line or
 where there is no program.
 """
 import os

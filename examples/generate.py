@@ -29,7 +29,7 @@
 
 The first line of each file is a comment that tells what it is and how it was made. A problem beyond 1,000 items, 20,000 options,
 200,000 occurrences of items in them or 10,000 colours is refused, since the program reads no such file. It wants no built
-program. The exit status is 0, or 2 for a fault of the command line, a file that can't be read or written, or a problem that is refused,
+program. The exit status is 0, or 2 for a mistake on the command line, a file that can't be read or written, or a problem that is refused,
 or 3 where the standard output can't be written.
 """
 import argparse

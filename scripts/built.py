@@ -1,4 +1,4 @@
-"""Where the built programs stand, and what a script tells where one is missing. For the scripts and benches that run them."""
+"""Where the built programs are, and what a script prints if one is missing. For the scripts and benches that run them."""
 import argparse
 import os
 import re
@@ -33,7 +33,8 @@ def number_from_one(text):
 def want_program(program, crate="solve_cli"):
     """Goes on only where there is a program at this place; else tells what builds that of the crate."""
     if not (os.path.isfile(program) and os.access(program, os.X_OK)):
-        stop(f"there is no program {os.path.relpath(program)}; at the top of the repository (cd crates/{crate} && rt run) builds it")
+        words = " -- --version" if crate == "solve_cli" else ""
+        stop(f"there is no program {os.path.relpath(program)}; at the top of the repository (cd crates/{crate} && rt run{words}) builds it")
 
 
 def want_command(name):

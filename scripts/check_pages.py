@@ -17,7 +17,7 @@ The target of each link exists, and its heading. Outside of code no page uses a 
 The options in the tables of README, SOLVE and SIMULATE are those of the program's help, and README has a row for each command.
 
 Each mistake is printed with its page and line, and a last line counts them. The exit status is 1 if there is any, else 0, or 2 for a
-fault of the command line.
+mistake on the command line.
 """
 import glob
 import os

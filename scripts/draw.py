@@ -4,15 +4,15 @@
     python3 scripts/draw.py FILE ANSWER [--svg OUT]
     crates/solve_cli/out/solve_cli alone FILE | python3 scripts/draw.py FILE -
 
-The kind of picture follows from the names of the items: tilings (cells are named by row and column, as 07, 0011 or 3-12),
-queens (r0 c0 and diagonals), sudokus (p00 r01 c01 b01), Langford pairs (1 s1 s3), timetables (ann-1), map colourings
-(A-B=red), perfect matchings of a graph (options of two items), lines through points (12 13 23); of problems with colours squares
-with coloured sides (12 h12:red v13:blue ..) and words that cross (12:b 13:e). What isn't known is written as a list. Of the answer
-`none` the empty board is drawn where there is one; the line of an audit behind it is passed over. One of FILE and ANSWER may be `-`, the
-standard input. Where OUT is `-` the SVG is written in place of the text.
+The kind of picture follows from the names of the items: tilings (cells are named by row and column, as 07, 0011 or 3-12), queens (r0 c0 and
+diagonals), sudokus (p00 r01 c01 b01), Langford pairs (1 s1 s3), timetables (ann-1), map colourings (A-B=red), perfect matchings of a graph
+(options of two items), lines through points (12 13 23); of problems with colours squares with coloured sides (12 h12:red v13:blue ..) and
+words that cross (12:b 13:e); nonograms, and cubes in a row. What isn't known is written as a list. Of the answer `none` the empty board is
+drawn where there is one; the line of an audit behind it is passed over. One of FILE and ANSWER may be `-`, the standard input. Where OUT is
+`-` the SVG is written in place of the text.
 
 The picture shows what the answer says; whether that is right is for the program to say (solve_cli check FILE ANSWER). The
-exit status is 0, 2 for a fault of the command line, 3 for a file or an answer that can't be read, or a picture that can't be written.
+exit status is 0, 2 for a mistake on the command line, 3 for a file or an answer that can't be read, or a picture that can't be written.
 """
 import argparse
 import sys

@@ -1,17 +1,17 @@
 #!/usr/bin/env python3
-"""Explains a problem file, and an answer to it: all that is wrong, or what stands in it.
+"""Explains a problem file, and an answer to it: lists the mistakes, or what the file has.
 
     python3 scripts/explain.py FILE [ANSWER]
 
-The files' format is told in docs/FORMAT.md; one of the files may be `-`, the standard input. Of a file that would be refused each fault
-is told with its line, its column (in characters, from 1; a tab is one), the word, and what was expected, the first 200 of them; the
-first line says what the program tells of it. Of a file that is right the counts are told, the options that are ignored, and what may
-surprise: primary items in no option or in one alone, items that always go together, options that name the same items, items that
-have a colour in some options and none in others, colours that no two options give. Of an answer its first 200 faults are told, each
-uncovered item, and for each item that is covered twice the options that do it, with the colours that they give it.
+docs/FORMAT.md has the format; one of the files may be `-`, the standard input. For a file that the program refuses it lists the first
+200 mistakes, each with its line, its column (in characters, from 1; a tab is one), the word, and what was expected; the first line is
+what the program says of it. For a right file it prints the counts, the options that are ignored, and what may surprise: primary items
+in no option or in only one, items that always go together, options that name the same items, items that have a colour in some options
+and none in others, colours that no two options give. For an answer it lists the first 200 mistakes, each uncovered item, and for each
+item that is covered twice the options that do it, with the colours that they give it.
 
-It explains and decides nothing: whether an answer is right, and above all `none`, is for the program to say. The exit
-status is 0 where nothing is wrong, 1 where something is, 2 for a fault of the command line, 3 for a file that can't be read.
+It explains and decides nothing: whether an answer is right, and above all `none`, only the program can say. The exit status is 0 if
+nothing is wrong, 1 if something is, 2 for a mistake on the command line, 3 for a file that can't be read.
 """
 import argparse
 

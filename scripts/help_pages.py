@@ -6,7 +6,7 @@
 FOLDER gets `solve_cli.1`, `solve_cli.bash` and `_solve_cli`. Each option, argument and sentence in them comes from what the
 built program prints for `--help`, so they can't differ from it. scripts/install.sh puts them where they belong.
 
-It wants the program: (cd crates/solve_cli && rt run) builds it. The exit status is 0, or 2 for a fault of the command line,
+It wants the program: (cd crates/solve_cli && rt run -- --version) builds it. The exit status is 0, or 2 for a mistake on the command line,
 where there is no program, or where its help doesn't read as expected.
 """
 import os

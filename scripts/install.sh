@@ -4,7 +4,7 @@
 #     scripts/install.sh [PREFIX]
 #
 # PREFIX is /usr/local if it is not given; DESTDIR, if it is set, stands before it. All pages are made before the first file is
-# written. The exit status is 0; 1 where a file can't be written; 2 for a fault of the command line or where the program isn't built.
+# written. The exit status is 0; 1 where a file can't be written; 2 for a mistake on the command line or where the program isn't built.
 set -eu
 unset CDPATH
 

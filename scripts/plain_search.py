@@ -7,7 +7,7 @@ prints the outcome, the visits and the first cover of the empty prefix, by numbe
 at each visit, as the definition says, and keeps no links. Two options clash where both name an item, and it is primary or they
 give it no equal colour (exact covering with colours, TAOCP 7.2.2.1). It reads the same files as the program, but trusts them:
 no refusal is made here but of a file without items or with others in its options. It wants no built program. The exit status is 0,
-or 2 for a fault of the command line, or a file that can't be read or is refused.
+or 2 for a mistake on the command line, or a file that can't be read or is refused.
 """
 import sys
 

@@ -11,7 +11,7 @@ that delivers nothing or a packet that was put out, and ends where a round takes
 The table has a row for each kind of change, of a delivery and of an event of the site's own: how many were tried, how many left the
 book as it was, how many were found clean and unclean, and in how many both audits differ. A clean one is lawful: a network may lose, repeat and
 reorder packets, and a site may choose what to do next. The exit status is 0 where both audits always agree, changes were tried and the
-unchanged books are clean, else 1, and 2 for a fault of the command line or where there is no program.
+unchanged books are clean, else 1, and 2 for a mistake on the command line or where there is no program.
 """
 import collections
 import os

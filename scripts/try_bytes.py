@@ -8,7 +8,7 @@ how many are read, and how many have each fault. Of what is read it adds up some
 problems and answers, and `first_fault` here reads packets. The rows have to be in the tables of wire_tests and file_tests, which count the
 same by the code; --print prints them.
 
-It wants no program. The exit status is 0, 1 where a row isn't in its table, 2 for a fault of the command line.
+It wants no program. The exit status is 0, 1 where a row isn't in its table, 2 for a mistake on the command line.
 """
 import os
 import re

@@ -7,8 +7,8 @@ The examples must be written again byte for byte, and the pictures in examples/p
 and of several sizes the drawn text is tested by the kind's own rules: queens that attack nobody, digits once in each row, and
 so on. Each SVG must be well formed, with all its shapes on the sheet. The last line is 'N passed, M failed'.
 
-It wants the program: (cd crates/solve_cli && rt run) builds it. The exit status is 0 where all passed, 1 where something
-failed, 2 for a fault of the command line or where there is no program.
+It wants the program: (cd crates/solve_cli && rt run -- --version) builds it. The exit status is 0 where all passed, 1 where something
+failed, 2 for a mistake on the command line or where there is no program.
 """
 import os
 import random

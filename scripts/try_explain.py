@@ -1,5 +1,5 @@
 #!/usr/bin/env python3
-"""Compares what explain.py tells with what the built program tells.
+"""Compares what explain.py says with what the built program says.
 
     python3 scripts/try_explain.py [--files N] [--seed N] [--program PROGRAM]
 
@@ -7,10 +7,10 @@ All examples, some outside cases, and a thousand random files, most of them spoi
 can be read once more with an answer: the program's own, a spoilt one, or a random choice of options. For each it compares
 the program's standard error (and the verdict of `check`) with the lines of explain.py that say what the program says, and
 the name and the line of the fault with those of the first fault that explain.py explains. Each kind of fault must have been
-met. What else is told is tested by a table of files with lines that were worked out by hand. The last line counts.
+met. What else it says is tested by a table of files with lines that were worked out by hand. The last line counts.
 
-It wants the program: (cd crates/solve_cli && rt run) builds it. The exit status is 0 where all agree, 1 where one differs, a
-line is missing or a kind of fault was never met, 2 for a fault of the command line or where there is no program.
+It wants the program: (cd crates/solve_cli && rt run -- --version) builds it. The exit status is 0 where all agree, 1 where one differs, a
+line is missing or a kind of fault was never met, 2 for a mistake on the command line or where there is no program.
 """
 import collections
 import contextlib

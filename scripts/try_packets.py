@@ -9,7 +9,7 @@ from the same moment on. What comes of it is one character: how many packets are
 ignored, and for a refusal `s` OtherSite, `o` Over, `n` NamesSpent, `c` BadCover, `p` BadPrefix. A row has those of all packets, and the
 moment from which on it is so. The table of core_tests, which does the same by the code, has to have these rows; --print prints them.
 
-It wants no program. The exit status is 0, 1 where a row isn't in the table or a run ends otherwise, 2 for a fault of the command line.
+It wants no program. The exit status is 0, 1 where a row isn't in the table or a run ends otherwise, 2 for a mistake on the command line.
 """
 import copy
 import os

@@ -1,11 +1,11 @@
 #!/usr/bin/env python3
-"""Runs the built program on the examples, on bad input, on failing outputs, installed and from Python, and compares what it tells.
+"""Runs the built program on the examples, on bad input, on failing outputs, installed and from Python, and compares what it writes.
 
     python3 scripts/try_program.py [PROGRAM]
 
-It wants the program, which is crates/solve_cli/out/solve_cli where none is named: (cd crates/solve_cli && rt run) builds that.
+It wants the program, which is crates/solve_cli/out/solve_cli where none is named: (cd crates/solve_cli && rt run -- --version) builds that.
 Each cover of an example is given back to `check`, and counted here once more. The last line is 'N passed, M failed'. The exit
-status is 0 where all passed, 1 where something failed, 2 for a fault of the command line or where there is no program.
+status is 0 where all passed, 1 where something failed, 2 for a mistake on the command line or where there is no program.
 """
 import doctest
 import glob

@@ -5,8 +5,8 @@
 
 For each of so many problems (default 600) the answer has to be the plain search's first cover, or that there is none. With as much
 fuel as the plain search has visits it has to be the same, and with one less `no answer`. It wants the program:
-(cd crates/solve_cli && rt run) builds it. The last line counts the problems, by outcome; the exit status is 0, 1 where a problem
-differs, or 2 for a fault of the command line or where the program is missing.
+(cd crates/solve_cli && rt run -- --version) builds it. The last line counts the problems, by outcome; the exit status is 0, 1 where a problem
+differs, or 2 for a mistake on the command line or where the program is missing.
 """
 import random
 import subprocess

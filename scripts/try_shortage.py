@@ -11,7 +11,7 @@ end within the limit (60 seconds). Where memory ran out and there is no answer, 
 a thread whose growth is refused at its start is one that can't be started, and then status 4 is right, too.
 
 --short refuses 25 growths where else it would be each or a hundred, and three numbers of threads. It wants cc and the program:
-(cd crates/solve_cli && rt run) builds it. The exit status is 0, 1 where a run went wrong, 2 for a fault of the command line or where
+(cd crates/solve_cli && rt run -- --version) builds it. The exit status is 0, 1 where a run went wrong, 2 for a mistake on the command line or where
 something is missing.
 """
 import collections

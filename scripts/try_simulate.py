@@ -8,8 +8,8 @@ of 1, 10 and 1,000 visits, without restarts and with five. Every answer is given
 tells, file by file, in how many of the runs an answer was published within 10,000 turns, without the closing phase, and the
 turns and packets that the middle one of these took.
 
-It wants two programs: (cd crates/solve_cli && rt run) and (cd crates/world_story && rt run) build them. The exit status is 0
-where every answer is right, 1 where one is wrong, 2 for a fault of the command line or where a program is missing.
+It wants two programs: (cd crates/solve_cli && rt run -- --version) and (cd crates/world_story && rt run) build them. The exit status is 0
+where every answer is right, 1 where one is wrong, 2 for a mistake on the command line or where a program is missing.
 """
 import glob
 import os

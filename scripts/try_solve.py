@@ -11,9 +11,9 @@ problem by problem, how many runs answered, how many were wrong, and the least, 
 Where no file is named, the two small problems and three of the examples are solved once more with 0, 1, 3 and 100 restarts of the
 first node, and with so few turns that restarts fall into the runs.
 
-It wants the program: (cd crates/solve_cli && rt run) builds it. The exit status is 0 where no run was wrong (one without an
-answer is none), 1 where one was or took longer than the limit, or where a problem was never answered without restarts, 2 for a fault
-of the command line or where there is no program.
+It wants the program: (cd crates/solve_cli && rt run -- --version) builds it. The exit status is 0 where no run was wrong (one without an
+answer is none), 1 where one was or took longer than the limit, or where a problem was never answered without restarts, 2 for a mistake
+on the command line or where there is no program.
 """
 import glob
 import os

@@ -1,18 +1,19 @@
 #!/usr/bin/env python3
-"""Attacks a running `solve` from sockets that are none of its own, and tells whether its answers stay right.
+"""Attacks a running `solve` from sockets that are none of its own, and says whether its answers stay right.
 
     python3 scripts/try_strangers.py [--times N] [--limit SECONDS] [--length SECONDS] [--program PATH] [--problem FILE] [--only NAME] [--audit]
 
-The ports of a run stand in /proc/net/udp, which every process of the machine may read. To each of them each attack sends its packets,
-well formed and with the names that sites of a run have, for a second from the run's begin, or until its end: that a node asks for work and found the root
-without a cover (`steal and return`), that the search is over (`over`), that the root is given up (`abort`), that sites have begun
-anew with the greatest incarnation (`hello`, `members`), one byte as fast as it goes (`flood of bytes`), and packets of random bytes
+The ports of a run are in /proc/net/udp, which every process of the machine may read. To each of them each attack sends its packets, well
+formed and with the names that sites of a run have, for a second from the run's begin, or until its end: that a node asks for work and found
+the root without a cover (`steal and return`), that the search is over (`over`), that the root is given up (`abort`), that sites have
+restarted with the greatest incarnation (`hello`, `members`), one byte as fast as it goes (`flood of bytes`), and packets of random bytes
 (`flood of noise`). A table tells, attack by attack, how many runs were right, without an answer, wrong, or given up, and the least, the
-middle and the greatest time in seconds; the first line is of runs that nobody attacks. With --audit each run
-is audited, and those whose audit is unclean are a column of their own: a program that hears strangers is tried so.
+middle and the greatest time in seconds; the first line is of runs that nobody attacks. With --audit each run is audited, and those whose
+audit is unclean are a column of their own: a program that hears strangers is tried so.
 
-It wants the program: (cd crates/solve_cli && rt run) builds it. The exit status is 0 where no run was wrong or given up, 1 where one was,
-where an attack sent nothing, or where no run that nobody attacks was right, 2 for a fault of the command line or where there is no program.
+It wants the program: (cd crates/solve_cli && rt run -- --version) builds it. The exit status is 0 where no run was wrong or given up, 1
+where one was, where an attack sent nothing, or where no run that nobody attacks was right, 2 for a mistake on the command line or where
+there is no program.
 """
 import collections
 import os

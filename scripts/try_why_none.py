@@ -7,8 +7,8 @@ Of so many random problems without a cover (default 100) the items have to be on
 without any one of them, and what is said of them has to be so. Then comes a path of 201 items, of which none can be left out, and odd
 words: a problem with a cover, refused files, and programs that are none.
 
-It wants the program: (cd crates/solve_cli && rt run) builds it. The last line is 'N passed, M failed'. The exit status is 0 where all
-passed, 1 where something failed, 2 for a fault of the command line or where there is no program.
+It wants the program: (cd crates/solve_cli && rt run -- --version) builds it. The last line is 'N passed, M failed'. The exit status is 0 where all
+passed, 1 where something failed, 2 for a mistake on the command line or where there is no program.
 """
 import itertools
 import os

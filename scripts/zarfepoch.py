@@ -24,7 +24,7 @@ program is what was built here, or what ZARFEPOCH names in the environment.
 
 As a command, python3 scripts/zarfepoch.py --json FILE [--seconds N] reads an object with "options", "primary" and "secondary", in whose
 options a list of two is an item with its colour, and prints the answer as a list or null. Items and colours are texts or numbers. FILE may
-be -. The exit status is 0 where there is a cover, 1 where there is none, 2 for a fault of the command line, and 3 where the problem is
+be -. The exit status is 0 where there is a cover, 1 where there is none, 2 for a mistake on the command line, and 3 where the problem is
 refused or there is no answer.
 """
 import collections
@@ -102,7 +102,7 @@ def program():
     """The program's place: what the environment's ZARFEPOCH names, else what was built here."""
     found = os.path.abspath(os.environ.get("ZARFEPOCH") or SOLVE_CLI)
     if not (os.path.isfile(found) and os.access(found, os.X_OK)):
-        raise RuntimeError(f"there is no program {found}; (cd crates/solve_cli && rt run) builds it")
+        raise RuntimeError(f"there is no program {found}; (cd crates/solve_cli && rt run -- --version) builds it")
     return found
 
 
