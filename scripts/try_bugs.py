@@ -1,20 +1,22 @@
 #!/usr/bin/env python3
-"""Puts the bugs of the folder bugs into the code, and tells of each whether the check refuses it.
+"""Puts the bugs of the folder bugs into the code, and says of each whether the check refuses it.
 
     python3 scripts/try_bugs.py [--short] [CRATE | CRATE/BUG ..]
 
 Without words it tries every bugs/CRATE/BUG.edit, else those of the crates or the single ones that are named. A bug is
 tried as the gate tries those of must-fail/: in a copy of the repository, with what earlier checks have kept of the
-crates below, so that only the bug's own crate is proved anew, once for all of its bugs. Of each bug one line tells
+crates below, so that only the bug's own crate is proved again, once for all of its bugs. Of each bug one line says
 
     refused: LINE       a contract, an invariant or a call's requirement is broken, and at which line
     by its shape: LINE  refused only since a proof names what the bug took away, which says little of the contract
     by a test: TEST     not tried, unless it is named: no contract refuses it, and scripts/try_found.py runs the test that finds it
+    by refused memory: TESTS  not tried, unless it is named: scripts/try_found.py --memory refuses these tests memory, which finds it
     PROVED              the crate is proved with the bug in it: a hole in a contract
-    no longer applies   its text doesn't stand exactly once in the file that it names, or can't be read then
+    no longer applies   its text isn't exactly once in the file that it names, or can't be read then
 
-and a last line counts them. With --short nothing is proved: only those that no longer apply are named. Else it wants the toolchain's command `rt` on the path, and builds no program. The exit status is 1
-if any was proved, else 2 if any no longer applies or couldn't be tried, else 0.
+and a last line counts them. With --short nothing is proved: only those that no longer apply are named. Else it wants the toolchain's
+command `rt` on the path, and builds no program. The exit status is 1 if any was proved, else 2 if any no longer applies or couldn't be
+tried, else 0.
 """
 import os
 import re
@@ -26,8 +28,10 @@ import tempfile
 from built import parser_of, stop, TOP, want_command
 from edits import BUGS, name_stale
 from try_found import claims
+from try_memory import BUGS as STARVED
 
 REFUSED, SHAPE, TEST, PROVED, STALE = "refused", "by its shape", "by a test", "PROVED", "no longer applies"
+MEMORY = "by refused memory"
 
 
 def chosen_bugs(words):
@@ -46,12 +50,15 @@ def chosen_bugs(words):
 
 def left_to_tests(chosen, named):
     """Takes out the bugs that tests find and that aren't named themselves, prints a line of each, and answers their kinds."""
+    found = [(f"{crate}/{bug}", TEST, f"{tests}, {test}") for crate, bug, tests, test in claims()]
+    found += [(name, MEMORY, tests) for name, tests in STARVED.items()]
     kinds = []
-    for crate, bug, tests, test in claims():
-        if bug in chosen.get(crate, []) and f"{crate}/{bug}" not in named:
+    for name, kind, by in found:
+        crate, _, bug = name.partition("/")
+        if bug in chosen.get(crate, []) and name not in named:
             chosen[crate].remove(bug)
-            print(f"{crate}/{bug}: {TEST}: {tests}, {test}", flush=True)
-            kinds.append(TEST)
+            print(f"{name}: {kind}: {by}", flush=True)
+            kinds.append(kind)
     return kinds
 
 
@@ -128,7 +135,7 @@ def main():
         copy_repository(top, chosen)
         for crate, names in chosen.items():
             kinds += try_crate(top, crate, names)
-    print(", ".join(f"{kinds.count(kind)} {kind}" for kind in (REFUSED, SHAPE, TEST, PROVED, STALE)))
+    print(", ".join(f"{kinds.count(kind)} {kind}" for kind in (REFUSED, SHAPE, TEST, MEMORY, PROVED, STALE)))
     return 1 if PROVED in kinds else 2 if STALE in kinds else 0
 
 

@@ -1,7 +1,7 @@
 #!/usr/bin/env python3
 """Puts the bugs into the code that a test finds and no contract refuses, and says of each whether that test fails.
 
-    python3 scripts/try_found.py [--short] [--at-once N] [CRATE/BUG ..]
+    python3 scripts/try_found.py [--short | --memory] [--at-once N] [CRATE/BUG ..]
 
 The first lines of a test's file say "Of the bugs of `CRATE` that are kept outside the gate, `TEST` finds `BUG`". Without words all
 of these bugs are tried, each in a copy of the repository and without proofs: it takes two minutes each. Of each bug one line says
@@ -10,8 +10,10 @@ of these bugs are tried, each in a copy of the repository and without proofs: it
     NOT FOUND: TEST    the test passes with the bug in the code
     not tried: TEST    the bug no longer applies, or the test did not end
 
-and a last line counts them. With --short nothing is run: only those that no longer apply are named. Else it wants the toolchain's
-command `rt` on the path. The exit status is 1 if any was not found, else 2 if any could not be tried, else 0.
+and a last line counts them. With --memory the bugs are those that only `try_memory.py` finds: the tests are proved and built with each
+bug, which takes five to fifteen minutes, and then refused memory. With --short nothing is run: only those that no longer apply are named.
+Else it wants the toolchain's command `rt` on the path, and with --memory cc. The exit status is 1 if any was not found, else 2 if any
+could not be tried, else 0.
 """
 import concurrent.futures
 import glob
@@ -24,6 +26,7 @@ import tempfile
 
 from built import number_from_one, parser_of, stop, TOP, want_command
 from edits import edited, name_stale
+from try_memory import BUGS as STARVED
 
 FOUND, MISSED, UNTRIED = "found", "NOT FOUND", "not tried"
 CLAIM = re.compile(r"Of the bugs of `(\w+)` that are kept outside the gate, (.*?\.)(?:\s|$)")
@@ -67,13 +70,33 @@ def tried(claim):
     return MISSED if lines[0].endswith("... ok") else FOUND
 
 
+def tried_without_memory(claim):
+    """What came of a bug, by tests that are refused memory. They pass where they aren't, so they are proved and built."""
+    crate, bug, tests, _ = claim
+    with tempfile.TemporaryDirectory(prefix="try-found-") as room:
+        top = os.path.join(room, "copy")
+        shutil.copytree(TOP, top, ignore=shutil.ignore_patterns("incremental", ".git"))
+        if not put(top, crate, bug):
+            return UNTRIED
+        built = subprocess.run(["rt", "test"], cwd=os.path.join(top, "crates", tests), capture_output=True)
+        if built.returncode:
+            return UNTRIED
+        ended = subprocess.run([sys.executable, os.path.join(top, "scripts", "try_memory.py"), tests], capture_output=True)
+    return {0: MISSED, 1: FOUND}.get(ended.returncode, UNTRIED)
+
+
 def main():
     parser = parser_of(__doc__)
-    parser.add_argument("--short", action="store_true", help="run nothing: only name the bugs that no longer apply")
+    how = parser.add_mutually_exclusive_group()
+    how.add_argument("--short", action="store_true", help="run nothing: only name the bugs that no longer apply")
+    how.add_argument("--memory", action="store_true", help="try the bugs that are found where memory is refused")
     parser.add_argument("--at-once", type=number_from_one, default=1, metavar="N", help="how many are tried at once (default 1)")
     parser.add_argument("bugs", nargs="*", metavar="CRATE/BUG", help="the bugs to try; all that a test finds where none is named")
     given = parser.parse_args()
     known = list(claims()) or stop("no test says which bugs it finds")
+    try_one = tried_without_memory if given.memory else tried
+    if given.memory:
+        known = [(*name.split("/"), tests, "refused memory") for name, tests in STARVED.items()]
     names = [f"{crate}/{bug}" for crate, bug, _, _ in known]
     for bug in given.bugs:
         if bug not in names:
@@ -84,7 +107,7 @@ def main():
     want_command("rt")
     kinds = []
     with concurrent.futures.ThreadPoolExecutor(given.at_once) as pool:
-        for (crate, bug, tests, test), kind in zip(chosen, pool.map(tried, chosen)):
+        for (crate, bug, tests, test), kind in zip(chosen, pool.map(try_one, chosen)):
             print(f"{crate}/{bug}: {kind}: {tests}, {test}", flush=True)
             kinds.append(kind)
     print(", ".join(f"{kinds.count(kind)} {kind}" for kind in (FOUND, MISSED, UNTRIED)))
