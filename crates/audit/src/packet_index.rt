@@ -66,11 +66,21 @@ impl PacketIndex {
     /// Enters the packets of a book, each where it is not there yet.
     fn enter(&mut self, book: usize, entries: &[Entry]) -> Result<(), AllocError> {
         for place in 0..entries.len() {
-            let packets = entries[place].packets();
-            for among in 0..packets.len() {
-                if let Some(spot) = Spot::new(book, place, among) {
-                    self.spots.entry(digest(&packets[among]))?.or_insert(spot);
-                }
+            self.enter_packets(book, place, entries[place].packets())?;
+        }
+        Ok(())
+    }
+
+    /// Enters the packets of an entry.
+    fn enter_packets(
+        &mut self,
+        book: usize,
+        place: usize,
+        packets: &[Packet],
+    ) -> Result<(), AllocError> {
+        for among in 0..packets.len() {
+            if let Some(spot) = Spot::new(book, place, among) {
+                self.spots.entry(digest(&packets[among]))?.or_insert(spot);
             }
         }
         Ok(())

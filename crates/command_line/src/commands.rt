@@ -15,11 +15,11 @@ const VERSION: &str = "0.1.0";
 
 /// The exit statuses of a search, as help tells them.
 const SEARCH_STATUSES: &str =
-    "Statuses: 0 a cover, 1 none, 2 a fault of the command line, 3 a refused file or a failed device, 4 no answer, 5 out of memory";
+    "Statuses: 0 a cover, 1 none, 2 a mistake on the command line, 3 a refused file or a failed device, 4 no answer, 5 out of memory";
 
 /// The exit statuses of a check, as help tells them.
 const CHECK_STATUSES: &str =
-    "Statuses: 0 right, 1 wrong, 2 a fault of the command line, 3 a refused file or a failed device, 4 no answer, 5 out of memory";
+    "Statuses: 0 right, 1 wrong, 2 a mistake on the command line, 3 a refused file or a failed device, 4 no answer, 5 out of memory";
 
 fn file_argument<'a>(alloc: Global) -> Arg<'a>
     ensures rule { rule_of result ≡ file_rule (codes "file") }
@@ -56,7 +56,7 @@ fn progress_argument<'a>(alloc: Global) -> Arg<'a>
     flag_argument(
         alloc,
         "progress",
-        "Writes to standard error, each second from the second one on, how far the search has come",
+        "Writes each second to standard error how far the search has come",
     )
 }
 
@@ -193,7 +193,7 @@ fn solve_command<'a>(alloc: Global) -> Result<Command<'a>, AllocError>
     ensures local { IfOk result (λ command. (out-Command command).has_globals ≡ false) }
 {
     let audit =
-        "Whether the sites' books are one run is tested and written; status 6 where they are not found to be";
+        "Tests whether the sites' books are one run, and writes a line that says so; status 6 where they are not found to be";
     let seconds =
         "After how many seconds the run ends without an answer, 1 to 1000000; no limit if not given";
     let audited = with_two(

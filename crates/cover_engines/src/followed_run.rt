@@ -106,10 +106,12 @@ impl<'a, E: Sink, R: Wait + Clock> FollowedRun<'a, E, R> {
 }
 
 impl<'a, E: Sink> State<'a, E> {
-    /// A worker has searched a prefix.
+    /// A worker has searched a prefix. How many prefixes a search visited that found a cover isn't told, so that none are counted then.
     fn note(&mut self, finding: &Finding, visits: u64) {
         self.jobs = self.jobs.saturating_sub(1);
-        self.visits = self.visits.saturating_add(visits);
+        if finding.outcome() != Outcome::Cover {
+            self.visits = self.visits.saturating_add(visits);
+        }
         if finding.outcome() == Outcome::Barren {
             let part = self.gauge.part(finding.prefix());
             self.share = self.share.saturating_add(part).min(Gauge::WHOLE);

@@ -7,7 +7,7 @@ ghost use Rattle.spawn_frame.specs.declared.site.TheConstants.{LAST_NODE};
 
 mod sites;
 
-use crate::sites::run_over_memory;
+use crate::sites::{Tally, run_over_memory};
 use dlx_reader::read_problem;
 use std::env;
 use std::fs::File;
@@ -16,7 +16,7 @@ use std::process::ExitCode;
 use std::sync::Wait;
 use std::thread::Threads;
 use std::time::Clock;
-use udp_node::Plan;
+use udp_node::{Plan, SiteEnd};
 
 /// After how many receives in a row without a datagram a site gives up: a receive in memory takes a fraction of a millisecond.
 const QUIET: u64 = 1_000_000;
@@ -56,14 +56,25 @@ fn tell_sites<R: Threads + Wait + Clock + Sync>(
     };
     let end = run_over_memory(threads, rt.alloc(), &read.problem, plan)?;
     println!(rt; "{}", end.is_published)?;
-    for site in &end.sites {
-        let taken = site.taken;
+    tell_ends(rt, &end.sites)?;
+    tell_tallies(rt, &end.tallies)
+}
+
+/// Tells how each site ended, with its losses, and its turns and waits.
+fn tell_ends(rt: &HostRuntime, ends: &[SiteEnd]) -> io::Result<()> {
+    for end in ends {
+        let taken = end.taken;
         println!(rt;
             "{:?} {} {} {}",
-            site.cause, site.losses, taken.turns, taken.waits
+            end.cause, end.losses, taken.turns, taken.waits
         )?;
     }
-    for tally in &end.tallies {
+    Ok(())
+}
+
+/// Tells what each book holds: its entries, searches, visits of spent searches, and names.
+fn tell_tallies(rt: &HostRuntime, tallies: &[Tally]) -> io::Result<()> {
+    for tally in tallies {
         let (entries, searches) = (tally.entries, tally.searches);
         println!(rt; "{entries} {searches} {} {}", tally.spent, tally.names)?;
     }

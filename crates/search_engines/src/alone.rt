@@ -119,8 +119,8 @@ pub fn alone_engine<R: Source, W: Sink>(
     })
 }
 
-/// Does what `alone_engine` does, and meanwhile writes to the log each second how far the search has come, from the second one on. The
-/// log changes no answer: a fault of its sink is passed over. Memory is taken for what the log needs, too.
+/// Does what `alone_engine` does, and meanwhile writes to the log each second how far the search has come. The log changes no answer: a
+/// fault of its sink is passed over. Memory is taken for what the log needs, too.
 pub fn alone_with_progress<R: Source, W: Sink, E: Sink, C: Clock>(
     clock: &C,
     alloc: Global,

@@ -7,7 +7,7 @@ pub enum Cause {
     BookFull,
     /// A hundred receives in a row failed.
     Faults,
-    /// Memory ran out outside the core.
+    /// Memory ran out.
     Memory,
     /// Its turns are over, nothing came for long, or the site's other threads have ended.
     Turns,

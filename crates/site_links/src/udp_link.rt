@@ -13,9 +13,8 @@ use std::time::Duration;
 /// How long a receive waits at most, in milliseconds.
 const PATIENCE: u64 = 4;
 
-/// A socket on 127.0.0.1 with a port of the system's choice, whose receives wait 4 to 8 milliseconds at most, by the
-/// system's clock. The errors are
-/// the system's.
+/// A socket on 127.0.0.1 with a port of the system's choice, whose receives wait 4 to 8 milliseconds at most, by the system's clock. The
+/// errors are the system's.
 pub fn bound<R: Net>(rt: &R) -> io::Result<UdpSocket> {
     let here = SocketAddrV4::new(Ipv4Addr::LOCALHOST, 0);
     let socket = UdpSocket::bind(rt, SocketAddr::V4(here))?;

@@ -196,7 +196,7 @@ fn limit_of(request: &Request<'_>) -> Option<Duration> {
     Some(Duration::from_secs(u64::from(seconds)))
 }
 
-/// Runs what a command line asks for, and answers the exit status: 2 for a fault of the command line, 0 for help.
+/// Runs what a command line asks for, and answers the exit status: 2 for a mistake on the command line, 0 for help.
 fn run_words<R: Threads + Wait + Clock + Net + Sync>(
     rt: &HostRuntime,
     threads: &R,

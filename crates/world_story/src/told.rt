@@ -2,7 +2,7 @@
 
 use cover_problem::Numbers;
 use packet_wire::Body;
-use spawn_frame::{Cause, ChildResult, Sibling, Site, Status, Unit};
+use spawn_frame::{Attempt, Cause, ChildResult, Sibling, Site, Status, Unit};
 use std::fmt;
 
 /// A run of a node.
@@ -90,6 +90,17 @@ fn write_siblings<W: fmt::Write>(f: &mut fmt::Formatter<W>, siblings: &[Sibling]
     Ok(())
 }
 
+/// Writes what a packet of this kind says of a child.
+fn write_child<W: fmt::Write, T: fmt::Display>(
+    f: &mut fmt::Formatter<W>,
+    kind: &str,
+    serial: u32,
+    attempt: Attempt,
+    told: &T,
+) -> fmt::Result {
+    write!(f, "{kind} {serial}, attempt {attempt}, {told}")
+}
+
 /// What a packet says.
 #[derive(Clone, Copy)]
 pub struct BodyText<'a>(pub &'a Body);
@@ -106,11 +117,7 @@ impl fmt::Display for BodyText<'_> {
                 serial,
                 attempt,
                 prefix,
-            } => write!(
-                f,
-                "Give {serial}, attempt {attempt}, {}",
-                OptionsText(prefix)
-            ),
+            } => write_child(f, "Give", *serial, *attempt, &OptionsText(prefix)),
             Body::GiveMany { prefix, siblings } => {
                 write!(f, "GiveMany below {}", OptionsText(prefix))?;
                 write_siblings(f, siblings.as_slice())
@@ -119,29 +126,17 @@ impl fmt::Display for BodyText<'_> {
                 serial,
                 attempt,
                 result,
-            } => write!(
-                f,
-                "Return {serial}, attempt {attempt}, {}",
-                ResultText(result)
-            ),
+            } => write_child(f, "Return", *serial, *attempt, &ResultText(result)),
             Body::Accept {
                 serial,
                 attempt,
                 result,
-            } => write!(
-                f,
-                "Accept {serial}, attempt {attempt}, {}",
-                ResultText(result)
-            ),
+            } => write_child(f, "Accept", *serial, *attempt, &ResultText(result)),
             Body::Refuse {
                 serial,
                 attempt,
                 cause,
-            } => write!(
-                f,
-                "Refuse {serial}, attempt {attempt}, {}",
-                CauseText(*cause)
-            ),
+            } => write_child(f, "Refuse", *serial, *attempt, &CauseText(*cause)),
             Body::Abort { serial, attempt } => write!(f, "Abort {serial}, attempt {attempt}"),
         }
     }
