@@ -25,6 +25,7 @@ EXAMPLES = os.path.join(TOP, "examples")
 sys.path.insert(0, EXAMPLES)
 import generate  # noqa: E402
 from cover_files import read_problem  # noqa: E402
+from expected import Trial  # noqa: E402
 from picture_kinds import picture_of  # noqa: E402
 from svg_paper import Paper  # noqa: E402
 
@@ -51,14 +52,10 @@ FOUR = b"p e a c f\nq e f d a\nr c b e f\ns d e f b\n"
 MAP = "anna berta\nberta clara\nclara dora\ndora anna\nanna clara\nemil frieda\nemil anna\nfrieda dora\n"
 
 
-class Trial:
+class Drawing(Trial):
     def __init__(self, program, folder):
-        self.program, self.folder, self.passed, self.failed = program, folder, 0, 0
-
-    def expect(self, what, is_so):
-        self.passed, self.failed = self.passed + bool(is_so), self.failed + (not is_so)
-        if not is_so:
-            print("failed:", what)
+        super().__init__()
+        self.program, self.folder = program, folder
 
     def path(self, name, text=None):
         path = os.path.join(self.folder, name)
@@ -375,11 +372,10 @@ def main():
     given = parser.parse_args()
     want_program(given.program)
     with tempfile.TemporaryDirectory(prefix="try-draw-") as folder:
-        trial = Trial(given.program, folder)
+        trial = Drawing(given.program, folder)
         for tests in (examples, beginnings, kinds, tables_and_graphs, boards_with_colours, puzzles, written, strange_names, refusals):
             tests(trial)
-    print(f"{trial.passed} passed, {trial.failed} failed")
-    return 1 if trial.failed else 0
+    return trial.end()
 
 
 if __name__ == "__main__":

@@ -18,18 +18,13 @@ import tempfile
 
 import zarfepoch
 from built import parser_of, SOLVE_CLI, TOP, want_program
+from expected import Trial
 
 PROGRAM = SOLVE_CLI
 LINE = re.compile(r"\d+ s: \d+ visits, +\d+\.\d{4} % of the tree, \d+ jobs out")
 NONE = {"langford-5.dlx", "tetrominoes-4x5.dlx", "mutilated-chessboard.dlx"}
-passed = failed = 0
-
-
-def expect(what, is_so):
-    global passed, failed
-    passed, failed = passed + bool(is_so), failed + (not is_so)
-    if not is_so:
-        print("failed:", what)
+trial = Trial()
+expect = trial.expect
 
 
 def run(*words, stdin=None, stdout=subprocess.PIPE):
@@ -249,8 +244,7 @@ def main():
     failing_outputs()
     progress()
     command_line()
-    print(f"{passed} passed, {failed} failed")
-    return 1 if failed else 0
+    return trial.end()
 
 
 if __name__ == "__main__":

@@ -6,10 +6,13 @@
 The ports of a run are in /proc/net/udp, which every process of the machine may read. To each of them each attack sends its packets, well
 formed and with the names that sites of a run have, for a second from the run's begin, or until its end: that a node asks for work and found
 the root without a cover (`steal and return`), that the search is over (`over`), that the root is given up (`abort`), that sites have
-restarted with the greatest incarnation (`hello`, `members`), one byte as fast as it goes (`flood of bytes`), and packets of random bytes
-(`flood of noise`). A table tells, attack by attack, how many runs were right, without an answer, wrong, or given up, and the least, the
-middle and the greatest time in seconds; the first line is of runs that nobody attacks. With --audit each run is audited, and those whose
-audit is unclean are a column of their own: a program that hears strangers is tried so.
+restarted with the greatest incarnation (`hello`, `members`), one byte (`a byte now and then`), the same as fast as it goes (`flood of
+bytes`), and packets of random bytes (`flood of noise`). Where no problem is named, it is one with a cover that takes tenths of a second to
+find, so that there is time for an attack.
+
+A table tells, attack by attack, how many runs were right, without an answer, wrong, or given up, the least, the middle and the greatest time
+in seconds, and how many packets strangers sent in all; the first line is of runs that nobody attacks. With --audit each run is audited, and
+those whose audit is unclean are a column of their own: a program that hears strangers is tried so.
 
 It wants the program: (cd crates/solve_cli && rt run -- --version) builds it. The exit status is 0 where no run was wrong or given up, 1
 where one was, where an attack sent nothing, or where no run that nobody attacks was right, 2 for a mistake on the command line or where
@@ -27,7 +30,7 @@ import tempfile
 import threading
 import time
 
-from built import number_from_one, parser_of, SOLVE_CLI, TOP, want_program
+from built import number_from_one, parser_of, SOLVE_CLI, want_program
 
 NODES = 4
 GREATEST = 2**32 - 1
@@ -37,6 +40,16 @@ HELLO, MEMBERS, STEAL, RETURN, ABORT, OVER = 1, 2, 3, 6, 9, 10
 def packet(kind, sender, receiver, body=b""):
     """A packet of the run's form, from one site to another, each a node and an incarnation."""
     return struct.pack(">HBBBIBI", 0x434E, 1, kind, *sender, *receiver) + body
+
+
+def planted():
+    """The text of a problem: 55 triples that cover 165 items, among 505 random ones."""
+    draw = random.Random(3)
+    items = [f"i{number}" for number in range(165)]
+    cover = draw.sample(items, len(items))
+    triples = [cover[place:place + 3] for place in range(0, len(cover), 3)] + [draw.sample(items, 3) for _ in range(505)]
+    draw.shuffle(triples)
+    return "".join(" ".join(words) + "\n" for words in [items, *triples])
 
 
 def nodes():
@@ -170,7 +183,7 @@ def row(given, name, answer_file):
         seconds.append(took)
         sent += packets
     times = f"{min(seconds):8.2f} {statistics.median(seconds):8.2f} {max(seconds):8.2f}"
-    print(f"{name or 'nobody':<22}", *[f"{count:>10}" for count in counts.values()], times, flush=True)
+    print(f"{name or 'nobody':<22}", *[f"{count:>10}" for count in counts.values()], times, f"{sent:>9}", flush=True)
     if name and not sent:
         print(f"{name}: no packet was sent", flush=True)
     return counts["wrong"] == counts["given up"] == 0 and (sent if name else counts["right"]) > 0
@@ -182,15 +195,18 @@ def main():
     parser.add_argument("--limit", type=float, default=20, help="after how many seconds a run is given up (default 20)")
     parser.add_argument("--length", type=float, default=1, help="for how many seconds a run is attacked (default 1)")
     parser.add_argument("--program", type=os.path.abspath, default=SOLVE_CLI, help="the program, in place of the built one")
-    default = os.path.join(TOP, "examples", "pentominoes-6x10.dlx")
-    parser.add_argument("--problem", default=default, help="a file with a cover (default pentominoes-6x10.dlx)")
+    parser.add_argument("--problem", help="a file with a cover (default: one of 165 items)")
     parser.add_argument("--only", choices=ATTACKS, help="this attack alone")
     parser.add_argument("--audit", action="store_true", help="audit each run")
     given = parser.parse_args()
     want_program(given.program)
-    print(f"{'attack':<22}", *[f"{word:>10}" for word in columns(given)], "   least   middle greatest")
+    print(f"{'attack':<22}", *[f"{word:>10}" for word in columns(given)], "   least   middle greatest   packets")
     names = [given.only] if given.only else [None, *ATTACKS]
     with tempfile.TemporaryDirectory() as folder:
+        if not given.problem:
+            given.problem = os.path.join(folder, "planted.dlx")
+            with open(given.problem, "w") as opened:
+                opened.write(planted())
         good = [row(given, name, os.path.join(folder, "answer")) for name in names]
     sys.exit(0 if all(good) else 1)
 

@@ -19,19 +19,14 @@ import sys
 import tempfile
 
 from built import number_from_one, parser_of, SOLVE_CLI, TOP, want_program
+from expected import Trial
 from plain_search import clash, read, search
 from try_search import random_text
 
 LETTERS = os.path.join(TOP, "examples", "letters.dlx")
 PATH = 201
-passed = failed = 0
-
-
-def expect(what, is_so):
-    global passed, failed
-    passed, failed = passed + bool(is_so), failed + (not is_so)
-    if not is_so:
-        print("failed:", what)
+trial = Trial()
+expect = trial.expect
 
 
 def run(*words, text=None):
@@ -113,8 +108,7 @@ def main():
     path()
     with tempfile.TemporaryDirectory() as folder:
         odd_words(folder)
-    print(f"{passed} passed, {failed} failed")
-    return 1 if failed else 0
+    return trial.end()
 
 
 if __name__ == "__main__":
