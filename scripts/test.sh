@@ -1,5 +1,5 @@
 #!/bin/bash
-# Runs all tests: the gate, then each scripts/try_*.py in a short form.
+# Runs all tests: the gate, then each scripts/try_*.py in a short form, and scripts/check_pages.py.
 #
 #     scripts/test.sh
 #
@@ -40,6 +40,8 @@ for path in scripts/try_*.py; do
     # shellcheck disable=SC2046
     python3 "$path" $(short_form "$script") || failed="$failed $script"
 done
+echo "== check_pages.py"
+python3 scripts/check_pages.py || failed="$failed check_pages.py"
 if [ -n "$failed" ]; then
     echo "test.sh: failed:$failed"
     exit 1
