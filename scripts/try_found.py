@@ -16,6 +16,7 @@ Else it wants the toolchain's command `rt` on the path, and with --memory cc. Th
 could not be tried, else 0.
 """
 import concurrent.futures
+import contextlib
 import glob
 import os
 import re
@@ -54,13 +55,20 @@ def put(top, crate, bug):
     return texts is not None
 
 
+@contextlib.contextmanager
+def copy_with(crate, bug, left_out):
+    """A copy of the repository with a bug in it, without the folders of a name; None if the bug no longer applies."""
+    with tempfile.TemporaryDirectory(prefix="try-found-") as room:
+        top = os.path.join(room, "copy")
+        shutil.copytree(TOP, top, ignore=shutil.ignore_patterns(left_out, ".git"))
+        yield top if put(top, crate, bug) else None
+
+
 def tried(claim):
     """What came of a bug, by its test."""
     crate, bug, tests, test = claim
-    with tempfile.TemporaryDirectory(prefix="try-found-") as room:
-        top = os.path.join(room, "copy")
-        shutil.copytree(TOP, top, ignore=shutil.ignore_patterns("out", ".git"))
-        if not put(top, crate, bug):
+    with copy_with(crate, bug, "out") as top:
+        if not top:
             return UNTRIED
         words = ["rt", "try", "--test", "--seconds", "300", "--", test]
         ended = subprocess.run(words, cwd=os.path.join(top, "crates", tests), capture_output=True, text=True)
@@ -73,10 +81,8 @@ def tried(claim):
 def tried_without_memory(claim):
     """What came of a bug, by tests that are refused memory. They pass where they aren't, so they are proved and built."""
     crate, bug, tests, _ = claim
-    with tempfile.TemporaryDirectory(prefix="try-found-") as room:
-        top = os.path.join(room, "copy")
-        shutil.copytree(TOP, top, ignore=shutil.ignore_patterns("incremental", ".git"))
-        if not put(top, crate, bug):
+    with copy_with(crate, bug, "incremental") as top:
+        if not top:
             return UNTRIED
         built = subprocess.run(["rt", "test"], cwd=os.path.join(top, "crates", tests), capture_output=True)
         if built.returncode:

@@ -7,8 +7,8 @@ The ports of a run are in /proc/net/udp, which every process of the machine may 
 formed and with the names that sites of a run have, for a second from the run's begin, or until its end: that a node asks for work and found
 the root without a cover (`steal and return`), that the search is over (`over`), that the root is given up (`abort`), that sites have
 restarted with the greatest incarnation (`hello`, `members`), one byte (`a byte now and then`), the same as fast as it goes (`flood of
-bytes`), and packets of random bytes (`flood of noise`). Where no problem is named, it is one with a cover that takes tenths of a second to
-find, so that there is time for an attack.
+bytes`), and packets of random bytes (`flood of noise`). Where no problem is named, it is one with a cover that takes hundredths to tenths of a
+second to find, so that there is time for an attack.
 
 A table tells, attack by attack, how many runs were right, without an answer, wrong, or given up, the least, the middle and the greatest time
 in seconds, and how many packets strangers sent in all; the first line is of runs that nobody attacks. With --audit each run is audited, and
