@@ -67,11 +67,11 @@ def diamond():
     return {(r, c) for r in range(10) for c in range(10) if abs(2 * r - 9) + abs(2 * c - 9) <= 10}
 
 
-def torus_queens(name, n):
-    """Queens that attack nobody on a board whose edges meet; all of rows, columns and diagonals are covered exactly."""
+def torus_queens(name, n, kinds_primary=2):
+    """Queens that attack nobody on a board whose edges meet. Rows and columns are primary, or diagonals too: n queens use each of them."""
     kinds = [("r", lambda r, c: r), ("c", lambda r, c: c), ("a", lambda r, c: (r + c) % n), ("b", lambda r, c: (r - c) % n)]
     options = [[kind + str(line(r, c)) for kind, line in kinds] for r in range(n) for c in range(n)]
-    primary, secondary = ([kind + str(k) for kind, _ in some for k in range(n)] for some in (kinds[:2], kinds[2:]))
+    primary, secondary = ([kind + str(k) for kind, _ in some for k in range(n)] for some in (kinds[:kinds_primary], kinds[kinds_primary:]))
     write(name, primary, secondary, options)
 
 
@@ -110,6 +110,7 @@ def instances():
     scattered("triples-22.dlx", 22, 3, 250, 1)
     for n in (14, 15, 16):
         torus_queens(f"torus-queens-{n}.dlx", n)
+        torus_queens(f"torus-queens-{n}-all.dlx", n, 4)
     generate.squares("macmahon-4x6.dlx", "MacMahon's squares, one colour all round", rectangle(4, 6), three_coloured(), "a")
     generate.word_squares("word-squares-4.dlx", "two squares of sixteen different words", WORDS.split(), ("a", "b"))
     generate.sudoku("sudoku-hard.dlx", "few givens, many visits", [

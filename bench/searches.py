@@ -53,7 +53,7 @@ def sparse_instances(folder):
 def told(file, kind, fuel):
     """What the program writes of a search, in words, and its processor seconds."""
     before = resource.getrusage(resource.RUSAGE_CHILDREN)
-    text = subprocess.run([TWO_SEARCHES, file, kind, str(fuel)], capture_output=True, text=True).stdout
+    text = subprocess.run([TWO_SEARCHES, file, kind, "plain", str(fuel)], capture_output=True, text=True).stdout
     after = resource.getrusage(resource.RUSAGE_CHILDREN)
     return text.split(), after.ru_utime + after.ru_stime - before.ru_utime - before.ru_stime
 
@@ -64,7 +64,7 @@ def instructions(file, kind, fuel):
         return None
     counts = []
     for visits in (fuel, 1):
-        words = ["valgrind", "--tool=callgrind", "--callgrind-out-file=/dev/null", TWO_SEARCHES, file, kind, str(visits)]
+        words = ["valgrind", "--tool=callgrind", "--callgrind-out-file=/dev/null", TWO_SEARCHES, file, kind, "plain", str(visits)]
         errors = subprocess.run(words, capture_output=True, text=True).stderr
         counts.append(int(re.search(r"refs:\s+([\d,]+)", errors)[1].replace(",", "")))
     return counts[0] - counts[1]

@@ -10,52 +10,67 @@
     pentominoes 5x12               pieces on a rectangle; --without 3,3 3,4 leaves cells out
     tetrominoes 4x4                the same of four cells each
     dominoes 8x8                   dominoes on a rectangle; --without 0,0 7,7 leaves two corners out
-    sudoku 8........ .. or FILE    81 digits and dots, or a file that has them; _ and 0 are dots too, and so are blanks in nine lines of nine
+    board BOARD --pieces FILE      a board of x and dots, or of a size as 5x12 or 3x3x3, filled by pieces; layers stand side by side, or with
+                                   empty lines between. A piece is a line with its name and perhaps the number of copies, and rows of x and
+                                   dots; in place of FILE names, as 'F 3*L4', pentominoes or soma. --no-flips: turned, but not turned over
+    sudoku FILE or 8........ ..    digits and dots of 4, 6, 8, 9, 10, 12, 15, 16 or 25 rows, with or without frames; _ and 0 are dots too, and
+                                   so are blanks in nine lines of nine; above nine 1-9 and A-G, or numbers with blanks between. --diagonals
+    jigsaw FILE                    the same with regions: digits and dots, an empty line, a letter for each cell
+    killer FILE                    cages with sums: a letter for each cell, an empty line, sums as a=12 b=7; perhaps given digits behind
+    kakuro FILE                    rows of . for white cells, # for black ones, and 16\\24 for a black one with the sum 16 below, 24 on its right
+    stars FILE --stars 2           stars in each row, column and region, none of which touch: a letter of its region for each cell
     triples 7                      lines of three points, any two of 7 points on one line
     coloring FILE                  a map's borders, two names a line; --colors red,green,blue
     matching FILE                  a graph's edges, two names a line
-    timetable FILE.csv             lesson,teacher,class,rooms,periods; several rooms or periods with spaces, ; or , between, periods numbered or
-                                   named; a column hours, if there is one, says how often in a week a lesson is given; the table's
-                                   own separator may be , or ;
+    timetable FILE.csv             lesson,teacher,class,rooms,periods; several rooms or periods with spaces, ; or , between, several teachers or
+                                   classes that share a lesson with ; or +, and - for none. Periods are numbered (1-30) or have their day
+                                   (Mon1-6). A column hours, if there is one, says how often in a week a lesson is given, a column length in
+                                   how many periods running on one day; the table's own separator may be , or ; or a tab
     squares 3x3 FILE               squares with coloured sides, of which one lies in each cell, turned as one likes, so that sides that
                                    meet have one colour: in each line a name and four colours, from the top on clockwise;
                                    --border grey wants this colour all round
     word-square FILE               different words of one length, in a square to be read across and down; --repeat lets words come again
     crossword GRID WORDS           words of a list in a grid of rows of dots, given letters, and # for black cells; --repeat as above
     nonogram FILE                  black cells by the lengths of their blocks: a line of numbers for each row, an empty line, a line of
-                                   numbers for each column; a line without black cells is 0
+                                   numbers for each column, with blanks or commas between; a line without black cells is 0
     cubes FILE                     cubes in a row, turned so that no side of the row shows a colour twice (instant insanity): in each line a
                                    name and six colours, front right back left top bottom
 
-The first line of each file is a comment that tells what it is and how it was made. A problem beyond 1,000 items, 20,000 options,
-200,000 occurrences of items in them or 10,000 colours is refused, since the program reads no such file. It wants no built
-program. The exit status is 0, or 2 for a mistake on the command line, a file that can't be read or written, or a problem that is refused,
-or 3 where the standard output can't be written.
+FILE may be -, the standard input. The first line of each problem is a comment that tells what it is and how it was made. A problem beyond
+1,000 items, 20,000 options, 200,000 occurrences of items in them or 10,000 colours is refused, since the program reads no such file. It
+wants no built program. The exit status is 0; 1 where counting shows that there is no cover, as of more lessons than periods; 2 for a
+mistake on the command line, a folder or file that can't be written, or a problem of a kind without a FILE that is refused; 3 for a FILE
+that can't be read or meant or makes too large a problem, or where the standard output can't be written.
 """
 import argparse
-import csv
-import io
 import itertools
 import math
 import os
 import re
 import sys
-from collections import Counter
-from dataclasses import dataclass
 
 HERE = os.path.dirname(os.path.abspath(__file__))
 sys.path.insert(0, os.path.join(HERE, "..", "scripts"))
+import grids  # noqa: E402
 import puzzles  # noqa: E402
+import sudokus  # noqa: E402
+import timetables  # noqa: E402
 from cover_files import MAX_COLOURS, MAX_ITEMS, MAX_NAME, MAX_OCCURRENCES, MAX_OPTIONS, put, run, shown, stop  # noqa: E402
+from pieces import filled, named_pieces, read_board, read_pieces  # noqa: E402
+from puzzle_texts import blocks_of, no_cover, read_text, refuse, rows_of, UNREADABLE, words_of  # noqa: E402
 
+# where the texts are that examples are made from
+TEXTS = HERE
 # where the command line wants the problem, if not on the standard output
 OUT = []
+# the exit status for a problem that is refused: 3 where it was made of a file
+STATUS = [2]
 
 
 def check_count(count, most, what):
     """Refuses what the program wouldn't read, best before it is made."""
     if count > most:
-        stop(f"this would have {count:,} {what}, and the program reads at most {most:,}")
+        stop(f"this would have {count:,} {what}, and the program reads at most {most:,}", STATUS[0])
 
 
 def check_range(names, options):
@@ -63,23 +78,24 @@ def check_range(names, options):
     colours = list(dict.fromkeys(word.partition(":")[2] for option in options for word in option if ":" in word))
     for name in names + colours:
         if not name or len(os.fsencode(name)) > MAX_NAME or re.search(r"[\s:|\0\ud800-\udfff]", name):
-            stop(f"'{name}' can't be a name: 1 to {MAX_NAME} bytes of UTF-8, without white space, ':' and '|'")
+            stop(f"'{name}' can't be a name: 1 to {MAX_NAME} bytes of UTF-8, without white space, ':' and '|'", STATUS[0])
     for count, most, what in ((len(names), MAX_ITEMS, "items"), (len(options), MAX_OPTIONS, "options"),
                               (sum(map(len, options)), MAX_OCCURRENCES, "occurrences of items in options"),
                               (len(colours), MAX_COLOURS, "colours")):
         check_count(count, most, what)
     twice = [name for name in names if names.count(name) > 1] if len(set(names)) < len(names) else []
     if twice:
-        stop(f"the name '{twice[0]}' would stand for two items")
+        stop(f"the name '{twice[0]}' would stand for two items", STATUS[0])
     if not names:
-        stop("nothing is left to cover")
+        stop("nothing is left to cover", STATUS[0])
 
 
-def write(name, note, primary, secondary, options):
+def write(name, note, primary, secondary, options, comments=()):
     """Writes a problem into a file of this folder, or where the command line wants it if the name is `-`."""
     check_range(primary + secondary, options)
     line = " ".join(primary) + (" | " + " ".join(secondary) if secondary else "")
-    text = "".join([f"| {note}\n{line}\n"] + [" ".join(option) + "\n" for option in options])
+    told = "".join(f"| {comment}\n" for comment in [note, *comments])
+    text = "".join([f"{told}{line}\n"] + [" ".join(option) + "\n" for option in options])
     if name == "-" and not OUT:
         sys.stdout.write(text)
         return
@@ -125,6 +141,13 @@ WORDS = "ace bad den ice net pet rat rid tap tin"
 CROSSWORD = ["....#", ".#...", ".....", "...#.", "#...."]
 CROSSWORD_WORDS = ("ant arm ate bay car cat ear egg fan hat hen ice jam key tar ten top wax arch boat cold desk door easy fish hand lamp moon "
                    "nest rain rest ship wash wise beach chair party stone store tiger")
+# examples that are made from texts of this folder, by the words of their command lines
+FROM_TEXTS = {
+    "timetable.dlx": ["timetable", "timetable.csv"], "school.dlx": ["timetable", "school.csv"], "jigsaw.dlx": ["jigsaw", "jigsaw.txt"],
+    "diagonals.dlx": ["sudoku", "diagonals.txt", "--diagonals"], "sudoku-16.dlx": ["sudoku", "sudoku-16.txt"],
+    "killer.dlx": ["killer", "killer.txt"], "kakuro.dlx": ["kakuro", "kakuro.txt"], "stars.dlx": ["stars", "stars.txt"],
+    "board.dlx": ["board", "board.txt", "--pieces", "pieces.txt"], "soma.dlx": ["board", "3x3x3", "--pieces", "soma"],
+}
 # the blocks of nine rows and of ten columns
 NONOGRAM = ([[1], [2], [3, 1], [4, 2], [5, 3], [1], [10], [8], [6]],
             [[1, 1], [2, 2], [3, 3], [4, 3], [9], [3], [3, 3], [2, 3], [1, 2], [1]])
@@ -182,25 +205,28 @@ def langford(name, note, n):
 
 
 def sudoku(name, note, rows):
-    given = {(r, c): int(mark) for r, row in enumerate(rows) for c, mark in enumerate(row) if mark != "."}
+    put_down(note, sudokus.Sudoku([[int(mark) if mark != "." else 0 for mark in row] for row in rows]).puzzle(), name)
 
-    def option(r, c, d):
-        return [f"p{r}{c}", f"r{r}{d}", f"c{c}{d}", f"b{r // 3 * 3 + c // 3}{d}"]
 
-    gone = {item for (r, c), d in given.items() for item in option(r, c, d)}
-    every = [option(r, c, d) for r in range(9) for c in range(9) for d in range(1, 10)]
-    items = sorted({item for o in every for item in o} - gone)
-    write(name, note, items, [], [o for o in every if gone.isdisjoint(o)])
+def numbered(places, colors):
+    """Numbers for the places whose names would make those of borders too long."""
+    most = (MAX_NAME - 2 - max(len(os.fsencode(color)) for color in colors)) // 2
+    long = [place for place in places if len(os.fsencode(place)) > most]
+    free = (str(number) for number in itertools.count(1) if str(number) not in places)
+    return dict(zip(long, free))
 
 
 def coloring(name, note, borders, colors):
+    numbers = numbered(sorted({place for border in borders for place in border}), colors)
+    borders = [tuple(numbers.get(place, place) for place in border) for border in borders]
     places = sorted({place for border in borders for place in border})
     edges = ["-".join(sorted(border)) for border in borders]
     options = []
     for place in places:
         for color in colors:
             options.append([place] + [f"{edge}={color}" for edge in edges if place in edge.split("-")])
-    write(name, note, places, [f"{edge}={color}" for edge in edges for color in colors], options)
+    told = [f"name {number}: {place}" for place, number in numbers.items()]
+    write(name, note, places, [f"{edge}={color}" for edge in edges for color in colors], options, told)
 
 
 def triples(name, note, n):
@@ -213,18 +239,6 @@ def triples(name, note, n):
 
 def matching(name, note, edges):
     write(name, note, list(dict.fromkeys(itertools.chain(*edges))), [], [list(edge) for edge in edges])
-
-
-def timetable(name, note, rows):
-    """One option for each lesson, period and room; people, classes and rooms are secondary, once for each period."""
-    options = [[row.lesson] + [f"{who}-{period}" for who in (row.teacher, row.group, room)]
-               for row in rows for room in row.rooms for period in row.periods]
-    periods = list(dict.fromkeys(period for row in rows for period in row.periods))
-    if all(period.isdecimal() for period in periods):
-        periods.sort(key=int)
-    who = [row.teacher for row in rows] + [row.group for row in rows] + [room for row in rows for room in row.rooms]
-    busy = [f"{one}-{period}" for one in dict.fromkeys(who) for period in periods]
-    write(name, note, [row.lesson for row in rows], busy, options)
 
 
 def looks_outwards(cells, cell):
@@ -292,60 +306,13 @@ def cell(text):
     return int(found[1]), int(found[2])
 
 
-def read_text(path):
-    try:
-        with open(path, encoding="utf-8-sig", newline="") as opened:
-            return opened.read()
-    except (OSError, UnicodeDecodeError) as why:
-        return stop(f"{path} can't be read: {getattr(why, 'strerror', None) or 'it is no text in UTF-8'}")
-
-
-def rows_of(path):
-    """The lines from the first to the last one that isn't blank, each with its number and without blanks behind it."""
-    rows = [(number, line.rstrip()) for number, line in enumerate(read_text(path).splitlines(), 1)]
-    some = [place for place, (_, line) in enumerate(rows) if line]
-    return rows[some[0]:some[-1] + 1] if some else []
-
-
-def words_of(path):
-    """The words of each line that has any and isn't a comment, with the line's number."""
-    lines = [(number, line.split()) for number, line in rows_of(path)]
-    return [(number, words) for number, words in lines if words and not words[0].startswith(("|", "#"))]
-
-
 def read_pairs(path):
     """The two names of each line."""
     lines = words_of(path)
     for number, words in lines:
         if len(words) != 2 or words[0] == words[1]:
-            stop(f"{path}, line {number}: two different names are expected")
+            refuse(path, number, f"two different names are expected")
     return list(dict.fromkeys(tuple(words) for _, words in lines))
-
-
-def sudoku_marks(text):
-    """The 81 digits and dots of a sudoku; frames are passed over. In nine lines of at most nine characters a blank is a dot."""
-    marks = re.sub(r"[^0-9._]", "", text).translate(str.maketrans("0_", ".."))
-    lines = text.splitlines() if "\n" in text else re.findall(".{9}", text)
-    if len(marks) != 81 and len(lines) == 9 and all(re.fullmatch(r"[0-9._ ]{0,9}", line) for line in lines):
-        marks = "".join(line.ljust(9) for line in lines).translate(str.maketrans("0_ ", "..."))
-    return marks
-
-
-def read_sudoku(given):
-    """Nine rows of a sudoku, from 81 characters or from a file with them."""
-    is_sudoku = re.fullmatch(r"[0-9._\s]+", given) and not os.path.exists(given)
-    marks = sudoku_marks(given if is_sudoku else read_text(given))
-    if len(marks) != 81:
-        stop(f"a sudoku has 81 digits and dots, here are {len(marks)}")
-    rows = [marks[k:k + 9] for k in range(0, 81, 9)]
-    columns = ["".join(column) for column in zip(*rows)]
-    boxes = ["".join(rows[r][c:c + 3] for r in range(top, top + 3)) for top in (0, 3, 6) for c in (0, 3, 6)]
-    for what, houses in (("row", rows), ("column", columns), ("box", boxes)):
-        for k, house in enumerate(houses, 1):
-            twice = [digit for digit in "123456789" if house.count(digit) > 1]
-            if twice:
-                stop(f"{what} {k} has the digit {twice[0]} twice")
-    return rows
 
 
 def read_squares(path):
@@ -353,20 +320,20 @@ def read_squares(path):
     lines = words_of(path)
     for number, words in lines:
         if len(words) != 5:
-            stop(f"{path}, line {number}: a name and four colours are expected")
+            refuse(path, number, f"a name and four colours are expected")
     names = [words[0] for _, words in lines]
     for name in names:
         if names.count(name) > 1 or re.fullmatch(r"\d+", name):
-            stop(f"{path}: '{name}' " + ("would stand for two squares" if names.count(name) > 1 else "would be the name of a cell"))
+            refuse(path, None, f"'{name}' " + ("would stand for two squares" if names.count(name) > 1 else "would be the name of a cell"))
     return {words[0]: words[1:] for _, words in lines}
 
 
 def read_word_list(path):
     """Different words."""
-    words = list(dict.fromkeys(read_text(path).split())) or stop(f"{path} has no words")
+    words = list(dict.fromkeys(read_text(path).split())) or refuse(path, None, "there are no words")
     for word in words:
         if re.search(r"[\d:|\0]", word):
-            stop(f"{path}: '{word}' has a digit, ':' or '|', which no word may have here")
+            refuse(path, None, f"'{word}' has a digit, ':' or '|', which no word may have here")
     return words
 
 
@@ -375,35 +342,50 @@ def read_words(path):
     words = read_word_list(path)
     for word in words:
         if len(word) != len(words[0]):
-            stop(f"{path}: words of one length are expected, and '{word}' isn't as long as '{words[0]}'")
+            refuse(path, None, f"words of one length are expected, and '{word}' isn't as long as '{words[0]}'")
     return words
 
 
 def read_grid(path):
-    """The rows of a crossword's grid."""
+    """The rows of a crossword's grid, and the numbers of their lines."""
     lines = rows_of(path)
     for number, row in lines:
         if len(row) != len(lines[0][1]) or re.search(r"[\s\d:|\0]", row):
-            stop(f"{path}, line {number}: rows of one length are expected, of dots, letters and # for black cells")
-    return [row for _, row in lines] or stop(f"{path} has no rows")
+            refuse(path, number, "rows of one length are expected, of dots, letters and # for black cells")
+    return [row for _, row in lines] or refuse(path, None, "there are no rows"), [number for number, _ in lines]
+
+
+def crossword(given, note):
+    rows, numbers = read_grid(given.grid)
+    try:
+        problem = puzzles.crossword(rows, read_word_list(given.file), given.repeat)
+    except puzzles.NoSolution as why:
+        no_cover(f"{given.grid}, line {numbers[why.row]}: {why}")
+    except puzzles.Refused as why:
+        stop(str(why), UNREADABLE)
+    write("-", note, *problem, [f"grid: {' '.join(rows)}"])
+
+
+def numbers_of(path, number, line, width):
+    """The lengths of a line's blocks, which fit into so many cells."""
+    if not re.fullmatch(r"\s*\d{1,4}([\s,]+\d{1,4})*,?", line):
+        refuse(path, number, "numbers are expected, with blanks or commas between")
+    blocks = [int(word) for word in re.findall(r"\d+", line) if int(word)]
+    if sum(blocks) + max(0, len(blocks) - 1) > width:
+        no_cover(f"{path}, line {number}: blocks of {', '.join(map(str, blocks))} need {sum(blocks) + len(blocks) - 1} cells, and there are {width}")
+    return blocks
 
 
 def read_nonogram(path):
     """The lengths of the blocks of each row and of each column."""
-    lines, parts = rows_of(path), [[], []]
-    behind = [number for number, line in lines if not line]
-    if len(behind) != 1:
-        stop(f"{path}: lines of numbers for the rows are expected, one empty line, and lines of numbers for the columns")
-    for number, line in lines:
-        if line and not re.fullmatch(r"\s*\d{1,4}(\s+\d{1,4})*", line):
-            stop(f"{path}, line {number}: numbers are expected")
-        if line:
-            parts[number > behind[0]].append([int(word) for word in line.split() if int(word)])
-    rows, columns = parts
-    if not rows or not columns or max(len(rows), len(columns)) > 999:
-        stop(f"{path}: 1 to 999 rows and columns are expected")
+    parts = blocks_of(path)
+    if len(parts) != 2:
+        refuse(path, None, "lines of numbers for the rows are expected, one empty line, and lines of numbers for the columns")
+    if max(map(len, parts)) > 999:
+        refuse(path, None, "1 to 999 rows and columns are expected")
+    rows, columns = ([numbers_of(path, number, line, len(other)) for number, line in part] for part, other in zip(parts, reversed(parts)))
     if sum(map(sum, rows)) != sum(map(sum, columns)):
-        stop(f"{path}: the rows have {sum(map(sum, rows))} black cells and the columns {sum(map(sum, columns))}")
+        no_cover(f"{path}: the rows have {sum(map(sum, rows))} black cells and the columns {sum(map(sum, columns))}")
     return rows, columns
 
 
@@ -412,8 +394,12 @@ def read_cubes(path):
     lines = words_of(path)
     for number, words in lines:
         if len(words) != 7 or [other[0] for _, other in lines].count(words[0]) > 1 or re.match(r"(front|right|back|left)-", words[0]):
-            stop(f"{path}, line {number}: a cube's own name and six colours are expected")
+            refuse(path, number, f"a cube's own name and six colours are expected")
     return {words[0]: words[1:] for _, words in lines}
+
+
+def put_down(note, puzzle, name="-"):
+    write(name, note, puzzle.primary, puzzle.secondary, puzzle.options, puzzle.comments)
 
 
 def made_by(kind, *given, **options):
@@ -421,56 +407,7 @@ def made_by(kind, *given, **options):
     try:
         return kind(*given, **options)
     except puzzles.Refused as why:
-        return stop(str(why))
-
-
-@dataclass
-class Lesson:
-    """An hour of a lesson: who gives it to which class, and the rooms and periods that it may have."""
-    lesson: str
-    teacher: str
-    group: str
-    rooms: list
-    periods: list
-
-
-def read_table(path):
-    """The rows of a table by its head, whose columns have commas, semicolons or tabs between, each with the number of its line."""
-    text = read_text(path)
-    head = text.partition("\n")[0]
-    reader = csv.DictReader(io.StringIO(text), delimiter=max(",;\t", key=head.count))
-    try:
-        return [(reader.line_num, row) for row in reader]
-    except csv.Error as why:
-        return stop(f"{path} can't be read as a table: {why}")
-
-
-def read_lessons(path):
-    """The hours of all lessons. An hour of a lesson that has several is named by its number too."""
-    lessons, wanted = [], ["lesson", "teacher", "class", "rooms", "periods"]
-    for number, row in read_table(path):
-        if None in row:
-            stop(f"{path}, line {number}: it has more columns than the head; several rooms or periods have spaces between")
-        lacking = [column for column in wanted if not re.search(r"[^\s;,]", row.get(column) or "")]
-        if lacking:
-            stop(f"{path}, line {number}: {lacking[0]} is missing; the columns are {','.join(wanted)}, and hours if it is wanted")
-        hours = (row.get("hours") or "1").strip()
-        if not re.fullmatch(r"[1-9]\d?", hours):
-            stop(f"{path}, line {number}: hours is a number from 1 to 99")
-        rooms, periods = (re.findall(r"[^\s;,]+", row[column]) for column in ("rooms", "periods"))
-        if any("-" in period for period in periods):
-            stop(f"{path}, line {number}: a period's name has no '-'")
-        names = [row["lesson"].strip()] if hours == "1" else [f"{row['lesson'].strip()}.{hour}" for hour in range(1, int(hours) + 1)]
-        lessons += [Lesson(name, row["teacher"].strip(), row["class"].strip(), rooms, periods) for name in names]
-    twice = [name for name, count in Counter(lesson.lesson for lesson in lessons).items() if count > 1]
-    if twice:
-        stop(f"{path}: the lesson {twice[0]} stands there twice; a column hours says how often a lesson is given")
-    roles = {}
-    for lesson in lessons:
-        for role, who in [("teacher", lesson.teacher), ("class", lesson.group)] + [("room", room) for room in lesson.rooms]:
-            if roles.setdefault(who, role) != role:
-                stop(f"{path}: {who} would be a {roles[who]} and a {role}: these have names of their own")
-    return lessons
+        return stop(str(why), UNREADABLE)
 
 
 def board(given):
@@ -488,6 +425,11 @@ def pieces_on_board(given, pieces, note):
         stop(f"{len(pieces)} pieces of {each} cells can't fill {len(cells)} cells: that is more than {each * len(pieces)}, "
              f"or no multiple of {each}")
     tiling("-", note, pieces, cells)
+
+
+def filled_board(given):
+    found = read_pieces(given.pieces) if given.pieces == "-" or os.path.exists(given.pieces) else named_pieces(given.pieces)
+    return filled(read_board(given.file), found, not given.no_flips)
 
 
 def colored_map(given, note):
@@ -508,9 +450,14 @@ def squares_on_board(given, note):
     squares("-", note("squares with coloured sides: where two meet, their sides have one colour"), cells, found, given.border)
 
 
-def pieces(given, note):
+def polyominoes(given, note):
     what, shapes = given.kind, PENTOMINOES if given.kind == "pentominoes" else TETROMINOES
     pieces_on_board(given, shapes, note(f"{what}, each at most once, fill a board"))
+
+
+def is_typed(given):
+    """Whether a sudoku is on the command line itself, and not in a file."""
+    return bool(re.fullmatch(r"[0-9._\s]+|[0-9A-Pa-p._\s]{16,}", given)) and given != "-" and not os.path.exists(given)
 
 
 # how each kind is written, from what the command line gives and a note on what it is
@@ -519,21 +466,33 @@ KINDS = {
         "-", note(f"{given.n} queens that attack nobody: rows and columns are primary, diagonals secondary"), given.n),
     "langford": lambda given, note: langford("-", note(f"Langford pairs of 1 to {given.n}: two d's stand d places apart"), given.n),
     "triples": lambda given, note: triples("-", note(f"lines of three points, any two of {given.n} points on one line"), given.n),
-    "pentominoes": pieces,
-    "tetrominoes": pieces,
+    "pentominoes": polyominoes,
+    "tetrominoes": polyominoes,
+    "board": lambda given, note: put_down(note("pieces fill a board"), filled_board(given)),
     "dominoes": lambda given, note: dominoes("-", note("dominoes fill a board"), board(given)),
-    "sudoku": lambda given, note: sudoku(
-        "-", note("a sudoku: its empty cells, and what rows, columns and boxes still lack"), read_sudoku(given.given)),
+    "sudoku": lambda given, note: put_down(
+        note("a sudoku: its empty cells, and what rows, columns and boxes still lack"),
+        sudokus.read_sudoku(given.given, is_typed(given.given), given.diagonals).puzzle()),
+    "jigsaw": lambda given, note: put_down(
+        note("a jigsaw sudoku: its empty cells, and what rows, columns and regions still lack"),
+        sudokus.read_jigsaw(given.file, given.diagonals).puzzle()),
+    "killer": lambda given, note: put_down(
+        note("a killer sudoku: cells, rows, columns and boxes, and of each cage its digits"),
+        sudokus.read_killer(given.file, given.diagonals).puzzle()),
+    "kakuro": lambda given, note: put_down(
+        note("a kakuro: a digit in each white cell, and in each run different ones with its sum"), grids.kakuro(given.file)),
+    "stars": lambda given, note: put_down(
+        note(f"a star battle: in each row, column and region {given.stars} of the stars, none of which touch"),
+        grids.star_battle(given.file, given.stars)),
     "coloring": lambda given, note: colored_map(given, note("a colour for each place, and no two neighbours alike")),
     "matching": lambda given, note: matching("-", note("a perfect matching: items are vertices, options edges"), read_pairs(given.file)),
-    "timetable": lambda given, note: timetable(
-        "-", note("each lesson once, and no teacher, class or room twice at a time"), read_lessons(given.file)),
+    "timetable": lambda given, note: put_down(
+        note("each lesson once, and no teacher, class or room twice at a time"), timetables.timetable(given.file, given.seed)),
     "squares": squares_on_board,
     "word-square": lambda given, note: word_squares(
         "-", note(f"{'' if given.repeat else 'different '}words in a square, across and down"), read_words(given.file), repeat=given.repeat),
-    "crossword": lambda given, note: write(
-        "-", note(f"{'' if given.repeat else 'different '}words in a grid, across and down"),
-        *made_by(puzzles.crossword, read_grid(given.grid), read_word_list(given.file), given.repeat)),
+    "crossword": lambda given, note: crossword(
+        given, note(f"{'' if given.repeat else 'different '}words in a grid, across and down")),
     "nonogram": lambda given, note: write(
         "-", note("black cells in rows and columns, by the lengths of their blocks"), *made_by(puzzles.nonogram, *read_nonogram(given.file))),
     "cubes": lambda given, note: write(
@@ -541,17 +500,21 @@ KINDS = {
 }
 
 
-def make(given):
-    """Writes the problem that the command line asks for; its comment tells how it was made."""
-    told = [word for before, word in zip([""] + sys.argv[1:], sys.argv[1:]) if "--out" not in (before, word.partition("=")[0])]
-    words = [os.path.basename(word) if os.path.exists(word) else "".join(word.split()) for word in told]
+def told_word(word):
+    """A word of the command line as a comment has it: a sudoku without its blanks, others in quotes if they have any."""
+    parts = word.split()
+    return "".join(parts) if is_typed(word) else f"'{' '.join(parts)}'" if len(parts) > 1 else "".join(parts)
+
+
+def make(given, given_words):
+    """Writes the problem that these words of a command line ask for; its comment tells how it was made."""
+    told = [word for before, word in zip(["", *given_words], given_words) if "--out" not in (before, word.partition("=")[0])]
+    words = [os.path.basename(word) if os.path.exists(word) else told_word(word) for word in told]
     words = [shown(os.fsencode(word)) for word in words]
-    if given.kind == "sudoku":
-        words[-1] = "".join(read_sudoku(given.given))
     KINDS["word-square" if given.kind == "words" else given.kind](given, lambda what: f"{what} (generate.py {' '.join(words)})")
 
 
-def parse():
+def command_line():
     parser = argparse.ArgumentParser(description=__doc__, formatter_class=argparse.RawDescriptionHelpFormatter)
     kinds = parser.add_subparsers(dest="kind", metavar="KIND")
     for kind, what in (("queens", "rows and columns"), ("langford", "the greatest number"), ("triples", "the number of points")):
@@ -561,22 +524,34 @@ def parse():
         tiles.add_argument("size", metavar="ROWSxCOLUMNS", type=size, help="as in 5x12")
         tiles.add_argument("--without", metavar="ROW,COLUMN", type=cell, nargs="+", action="extend", default=[],
                            help="cells that are left out, from 0,0")
-    kinds.add_parser("sudoku").add_argument("given", metavar="FILE-or-81-characters", help="digits, and dots or zeros for empty cells")
+    tiles = kinds.add_parser("board")
+    tiles.add_argument("file", metavar="BOARD", help="a file of x and dots, or a size as 5x12 or 3x3x3")
+    tiles.add_argument("--pieces", metavar="FILE-or-NAMES", default="pentominoes",
+                       help="a file of names and rows of x and dots, or names as 'F 3*L4', pentominoes, tetrominoes, trominoes, dominoes, soma")
+    tiles.add_argument("--no-flips", action="store_true", help="flat pieces are turned, but not turned over")
+    kinds.add_parser("sudoku").add_argument("given", metavar="FILE-or-characters", help="digits, and dots or zeros for empty cells")
     for kind, what in (("coloring", "borders, two names a line"), ("matching", "edges, two names a line"),
                        ("timetable", "lessons, as CSV"), ("word-square", "words of one length"), ("nonogram", "lines of numbers"),
+                       ("kakuro", "rows of . # and sums as 16\\24"), ("stars", "letters of regions"),
+                       ("jigsaw", "digits and dots, an empty line, letters of regions"), ("killer", "letters of cages, an empty line, sums"),
                        ("cubes", "a name and six colours a line")):
         kinds.add_parser(kind, aliases=["words"] if kind == "word-square" else []).add_argument("file", metavar="FILE", help=what)
     crossword = kinds.add_parser("crossword")
     crossword.add_argument("grid", metavar="GRID", help="rows of dots, letters and #")
     crossword.add_argument("file", metavar="WORDS", help="words of any length")
+    for kind in ("sudoku", "jigsaw", "killer"):
+        kinds.choices[kind].add_argument("--diagonals", action="store_true", help="both diagonals have each digit too")
+    kinds.choices["stars"].add_argument("--stars", metavar="N", type=whole_number, default=1, help="how many in each row (default 1)")
     for kind in ("word-square", "crossword"):
         kinds.choices[kind].add_argument("--repeat", action="store_true", help="a word may come more than once")
     kinds.choices["coloring"].add_argument("--colors", default="red,green,blue", help="the colours, with commas (default red,green,blue)")
     kinds.choices["squares"].add_argument("file", metavar="FILE", help="a name and four colours a line")
     kinds.choices["squares"].add_argument("--border", metavar="COLOUR", help="the colour of all sides that look outwards")
+    kinds.choices["timetable"].add_argument("--seed", metavar="N", type=whole_number,
+                                            help="draws the order of the options by lot: where a search doesn't end, another N may help")
     for kind in dict.fromkeys(kinds.choices.values()):
         kind.add_argument("--out", metavar="FILE", help="where the problem is written, in place of the standard output")
-    return parser.parse_args()
+    return parser
 
 
 def examples():
@@ -597,17 +572,25 @@ def examples():
             {line[0]: line.split()[1:] for line in SQUARES}, "grey")
     word_squares("word-square.dlx", "six words across and down, from a list of ten", WORDS.split())
     write("crossword.dlx", "ten words across and down in a grid of 5 by 5, from a list of forty",
-          *puzzles.crossword(CROSSWORD, CROSSWORD_WORDS.split()))
+          *puzzles.crossword(CROSSWORD, CROSSWORD_WORDS.split()), [f"grid: {' '.join(CROSSWORD)}"])
     write("nonogram.dlx", "a picture of black cells, by the lengths of their blocks in rows and columns", *puzzles.nonogram(*NONOGRAM))
     write("instant-insanity.dlx", "four cubes in a row, turned so that no side of the row shows a colour twice",
           *puzzles.cubes({line.split()[0]: line.split()[1:] for line in CUBES}))
 
 
+    for name, words in FROM_TEXTS.items():
+        words = [os.path.join(TEXTS, word) if word.endswith((".txt", ".csv")) else word for word in words]
+        OUT[:] = [os.path.join(HERE, name)]
+        make(command_line().parse_args(words), words)
+    OUT.clear()
+
+
 def main():
-    given = parse()
+    given = command_line().parse_args()
     if given.kind:
         OUT[:] = [given.out] if given.out else []
-        make(given)
+        STATUS[0] = UNREADABLE if hasattr(given, "file") or given.kind == "sudoku" else 2
+        make(given, sys.argv[1:])
     else:
         examples()
     return 0

@@ -1,12 +1,23 @@
 """Crosswords, nonograms and cubes with coloured faces, as exact covers: each function gives the primary items, the secondary items and
 the options of a problem. `generate.py` reads the puzzles and writes the problems."""
 import itertools
+import math
+import re
+from collections import Counter
 
-MOST_WAYS = 20_000
+from cover_files import MAX_ITEMS, MAX_OPTIONS
 
 
 class Refused(Exception):
     """Why a puzzle can't be made into a problem."""
+
+
+class NoSolution(Exception):
+    """Why a puzzle plainly has no solution, and the row in which this is seen."""
+
+    def __init__(self, why, row):
+        super().__init__(why)
+        self.row = row
 
 
 def cell_names(rows, columns):
@@ -40,47 +51,127 @@ def fits(word, run, grid):
 
 
 def crossword(grid, words, repeat=False):
-    """A word of the list in each place; a cell's colour is its letter. No word comes twice, unless `repeat` allows it."""
+    """A word of the list in each place; a cell's colour is its letter. No word comes twice, unless `repeat` allows it: a word that fits into
+    two places has an item for this."""
     slots, names = slots_of(grid), cell_names(len(grid), len(grid[0]))
     if not slots:
         raise Refused("the grid has no two open cells side by side")
-    options = []
+    fitting = {slot: [word for word in words if fits(word, run, grid)] for slot, run in slots.items()}
     for slot, run in slots.items():
-        for word in words:
-            if fits(word, run, grid):
-                options.append([slot] + ([] if repeat else [word]) + [f"{names[cell]}:{letter}" for cell, letter in zip(run, word)])
-    used = {name for option in options for name in option}
+        if not fitting[slot]:
+            way, number = re.fullmatch(r"(\D+)(\d+)", slot).groups()
+            raise NoSolution(f"no word of the list fits {number} {way}, '{''.join(grid[r][c] for r, c in run)}'", run[0][0])
+    places = Counter(word for some in fitting.values() for word in some)
+    twice = {word for word, count in places.items() if count > 1 and not repeat}
+    options = [[slot] + ([word] if word in twice else []) + [f"{names[cell]}:{letter}" for cell, letter in zip(run, word)]
+               for slot, run in slots.items() for word in fitting[slot]]
     cells = sorted({names[cell] for run in slots.values() for cell in run})
-    return list(slots), cells + ([] if repeat else [word for word in words if word in used]), options
+    want_room(len(slots) + len(cells), len(twice), len(options))
+    return list(slots), cells + [word for word in words if word in twice], options
+
+
+def want_room(places, words, options):
+    """Refuses a crossword beyond what the program reads, and tells what would fit."""
+    if places + words > MAX_ITEMS:
+        room = f"with --repeat, so that a word may come twice, it has {places:,}" if places <= MAX_ITEMS else "so large a grid never fits"
+        most = f", and with at most {MAX_ITEMS - places:,} words it fits too" if places < MAX_ITEMS else ""
+        raise Refused(f"this would have {places + words:,} items, and the program reads at most {MAX_ITEMS:,}: {room}{most}")
+    if options > MAX_OPTIONS:
+        raise Refused(f"this would have {options:,} options, words at their places, and the program reads at most {MAX_OPTIONS:,}: a list with "
+                      f"{MAX_OPTIONS / options:.0%} of these words fits")
 
 
 # ---- nonograms
 
-def line_ways(blocks, width):
-    """The ways to lay blocks of black cells, in this order and apart, into a line; True is black."""
-    spare = width - sum(blocks) - max(0, len(blocks) - 1)
-    if spare < 0:
-        return
-    for gaps in itertools.combinations(range(spare + len(blocks)), len(blocks)):
-        line = [False] * width
-        for number, (gap, block) in enumerate(zip(gaps, blocks)):
-            place = gap + sum(blocks[:number])
-            line[place:place + block] = [True] * block
-        yield line
+class Line:
+    """A row or column of a nonogram: the lengths of its blocks, and of each cell whether it is black, None where that isn't settled."""
+
+    def __init__(self, blocks, width):
+        self.blocks, self.known = blocks, [None] * width
+
+    def fits_block(self, place, length):
+        """Whether a block can lie here, with a white cell or the end behind it."""
+        cells = self.known[place:place + length]
+        behind = self.known[place + length:place + length + 1]
+        return len(cells) == length and False not in cells and True not in behind
+
+    def rests(self):
+        """For each cell and block, whether the cells from here on can have the blocks from this one on."""
+        width, count = len(self.known), len(self.blocks)
+        rest = [[False] * (count + 1) for _ in range(width + 2)]
+        rest[width][count] = rest[width + 1][count] = True
+        for place in reversed(range(width)):
+            for k in range(count + 1):
+                white = self.known[place] is not True and rest[place + 1][k]
+                black = k < count and self.fits_block(place, self.blocks[k]) and rest[place + self.blocks[k] + 1][k + 1]
+                rest[place][k] = bool(white or black)
+        return rest
+
+    def ways(self):
+        """The ways to fill it that agree with the settled cells; True is black."""
+        rest, width = self.rests(), len(self.known)
+        begun = [((), 0)] if rest[0][0] else []
+        while begun:
+            line, k = begun.pop()
+            place = len(line)
+            if place >= width:
+                yield line[:width]
+                continue
+            if self.known[place] is not True and rest[place + 1][k]:
+                begun.append((line + (False,), k))
+            if k < len(self.blocks) and self.fits_block(place, self.blocks[k]) and rest[place + self.blocks[k] + 1][k + 1]:
+                begun.append((line + (True,) * self.blocks[k] + (False,), k + 1))
+
+    def settle(self):
+        """Settles the cells that have one colour in all ways, and says whether there were any new ones."""
+        before = list(self.known)
+        for place, known in enumerate(before):
+            for colour in (True, False):
+                self.known[place] = colour
+                if known is None and not self.rests()[0][0]:
+                    self.known[place] = not colour
+                    break
+                self.known[place] = known
+        return self.known != before
+
+
+def settle_all(rows, columns):
+    """Settles cells by one line alone, in rows and columns by turns, as long as any is new."""
+    changed = True
+    while changed:
+        changed = False
+        for lines, others in ((rows, columns), (columns, rows)):
+            for k, line in enumerate(lines):
+                changed |= line.settle()
+                for place, colour in enumerate(line.known):
+                    others[place].known[k] = colour
+
+
+def line_names(rows, columns):
+    return [f"row{r}" for r in range(len(rows))] + [f"column{c}" for c in range(len(columns))]
+
+
+def way_count(line):
+    """In how many ways a line can be filled, if no cell is settled."""
+    spare = len(line.known) - sum(line.blocks) - max(0, len(line.blocks) - 1)
+    return math.comb(spare + len(line.blocks), len(line.blocks))
 
 
 def nonogram(rows, columns):
-    """Each row and each column is filled in one of its ways; a cell's colour is black or white, and both its lines agree on it."""
+    """Each row and each column is filled in one of its ways; a cell's colour is black or white, and both its lines agree on it. Where these
+    ways are too many, those are left out that a cell contradicts which one line alone settles."""
     names = cell_names(len(rows), len(columns))
-    lines = {f"row{r}": (blocks, [names[r, c] for c in range(len(columns))]) for r, blocks in enumerate(rows)}
-    lines.update({f"column{c}": (blocks, [names[r, c] for r in range(len(rows))]) for c, blocks in enumerate(columns)})
+    across, down = [Line(blocks, len(columns)) for blocks in rows], [Line(blocks, len(rows)) for blocks in columns]
+    if sum(map(way_count, across + down)) > MAX_OPTIONS:
+        settle_all(across, down)
+    cells = [[names[r, c] for c in range(len(columns))] for r in range(len(rows))]
     options = []
-    for line, (blocks, cells) in lines.items():
-        for way in line_ways(blocks, len(cells)):
-            options.append([line] + [f"{cell}:{'black' if is_black else 'white'}" for cell, is_black in zip(cells, way)])
-            if len(options) > MOST_WAYS:
-                raise Refused(f"its lines can be filled in more than {MOST_WAYS:,} ways")
-    return list(lines), list(names.values()), options
+    for name, line, its_cells in zip(line_names(rows, columns), across + down, cells + list(map(list, zip(*cells)))):
+        for way in line.ways():
+            options.append([name] + [f"{cell}:{'black' if is_black else 'white'}" for cell, is_black in zip(its_cells, way)])
+            if len(options) > MAX_OPTIONS:
+                raise Refused(f"its lines can be filled in more than {MAX_OPTIONS:,} ways, and the program reads no more options")
+    return line_names(rows, columns), list(names.values()), options
 
 
 # ---- cubes in a row

@@ -35,12 +35,12 @@ KNOWN = {"/dev/stdin"}
 REFUSED = ("tells", "stands", "anew", "want of memory", "of which no clause speaks", "comes to", "told by")
 # how many words a page may have, and the pages of all crates together
 LIMITS = {
-    "README.md": 850, "CONTRIBUTING.md": 900,
-    "docs/PROMISES.md": 800, "docs/PROTOCOL.md": 2300, "docs/SOLVE.md": 1150, "docs/DEFINITIONS.md": 450, "docs/GATE.md": 250,
-    "docs/DECISIONS.md": 1750, "docs/FORMAT.md": 1150, "docs/SIMULATE.md": 750,
-    "bench/README.md": 850, "bench/TRIED.md": 350, "examples/README.md": 1500,
+    "README.md": 1000, "CONTRIBUTING.md": 1000,
+    "docs/PROMISES.md": 1000, "docs/PROTOCOL.md": 2400, "docs/SOLVE.md": 1400, "docs/DEFINITIONS.md": 600, "docs/GATE.md": 400,
+    "docs/DECISIONS.md": 2200, "docs/FORMAT.md": 1300, "docs/SIMULATE.md": 800,
+    "bench/README.md": 1200, "bench/TRIED.md": 600, "examples/README.md": 2600,
 }
-CRATE_LIMIT, CRATES_LIMIT = 500, 5850
+CRATE_LIMIT, CRATES_LIMIT = 750, 8000
 # the command whose options a page's table lists, and the file that has the help
 TABLES = {"docs/SOLVE.md": "solve", "docs/SIMULATE.md": "simulate"}
 COMMANDS = "crates/command_line/src/commands.rt"

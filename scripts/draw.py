@@ -1,15 +1,24 @@
 #!/usr/bin/env python3
 """Draws an answer to a problem file: as text in the terminal, and as a picture in SVG.
 
-    python3 scripts/draw.py FILE ANSWER [--svg OUT]
+    python3 scripts/draw.py FILE ANSWER [--svg OUT] [--plan NAME ..]
     crates/solve_cli/out/solve_cli alone FILE | python3 scripts/draw.py FILE -
 
-The kind of picture follows from the names of the items: tilings (cells are named by row and column, as 07, 0011 or 3-12), queens (r0 c0 and
-diagonals), sudokus (p00 r01 c01 b01), Langford pairs (1 s1 s3), timetables (ann-1), map colourings (A-B=red), perfect matchings of a graph
-(options of two items), lines through points (12 13 23); of problems with colours squares with coloured sides (12 h12:red v13:blue ..) and
-words that cross (12:b 13:e); nonograms, and cubes in a row. What isn't known is written as a list. Of the answer `none` the empty board is
-drawn where there is one; the line of an audit behind it is passed over. One of FILE and ANSWER may be `-`, the standard input. Where OUT is
-`-` the SVG is written in place of the text.
+The kind of picture follows from the names of the items: tilings (cells are named by row and column, as 07, 0011 or 3-12) and solids (by layer,
+row and column, as 0-1-2), queens (r0 c0 and diagonals), sudokus (p00 r01 c01 b01, with regions of any shape, diagonals x1 y1, cages k0.1),
+kakuros (12 a5.8 d2.8), Langford pairs (1 s1 s3), timetables (ann-1), map colourings (A-B=red), perfect matchings of a graph (options of two
+items), lines through points (12 13 23); of problems with colours squares with coloured sides (12 h12:red v13:blue ..), words that cross
+(12:b 13:e), nonograms and star battles (row0 00:black ..), and cubes in a row. What isn't known is written as a list. Of the answer `none` the
+empty board is drawn where there is one; the line of an audit behind it is passed over. One of FILE and ANSWER may be `-`, the standard input.
+Where OUT is `-` the SVG is written in place of the text.
+
+Of a timetable whose periods have their days (Mon1) a plan is drawn for each class, or for those whom --plan names: names of classes, teachers
+or rooms, or classes, teachers, rooms or all. A week begins with Monday, and a sheet is at most 1,200 pixels wide.
+
+Comments of the file that generate.py writes say what items can't: the given digits of a sudoku, its regions and the marks for its digits
+(`| given: 4.3. ..`, `| regions: 1122 ..`, `| digits: 0123..`), the grid of a crossword (`| grid: ..#.. ..`), the size of a kakuro, who is a
+teacher, a class or a room (`| teachers: ann bob`), who takes part in a lesson without an item (`| also maths: hall`), and the names that
+numbers mean (`| name 7: Mathematics for beginners`). Where a comment contradicts the items it is passed over.
 
 The picture shows what the answer says; whether that is right is for the program to say (solve_cli check FILE ANSWER). The
 exit status is 0, 2 for a mistake on the command line, 3 for a file or an answer that can't be read, or a picture that can't be written.
@@ -20,6 +29,7 @@ import sys
 from cover_files import Unreadable, complain, put, read_audited, read_bytes, read_problem, refusal, run, shown, stop
 from picture_kinds import picture_of
 from svg_paper import Paper
+from timetable_pictures import Timetable
 
 
 def title_of(text, file):
@@ -57,17 +67,31 @@ def write_svg(path, svg):
         stop(f"{path} can't be written: {why.strerror}", 3)
 
 
+def planned(picture, words):
+    """The picture with the plans that are wanted; ends the script where it has none of these."""
+    if words and not isinstance(picture, Timetable):
+        stop("--plan is for timetables, and this is none")
+    if words:
+        picture.plans = words
+        if picture.unknown_plans():
+            names = [picture.full(name) for name in picture.everybody()]
+            stop(f"--plan takes classes, teachers, rooms, all, or a name of {', '.join(names)}; '{picture.unknown_plans()[0]}' is none of these")
+    return picture
+
+
 def main():
     parser = argparse.ArgumentParser(description=__doc__, formatter_class=argparse.RawDescriptionHelpFormatter)
     parser.add_argument("file", metavar="FILE", help="the problem's file, or - for the standard input")
     parser.add_argument("answer", metavar="ANSWER", help="the answer's file, or - for the standard input")
     parser.add_argument("--svg", metavar="OUT", help="where the picture is written, - for the standard output")
+    parser.add_argument("--plan", metavar="NAME", nargs="+", action="extend", default=[],
+                        help="of a timetable, whose plans are drawn: names, or classes, teachers, rooms or all")
     given = parser.parse_args()
     if given.file == given.answer == "-":
         parser.error("- is the standard input, which can be read once")
     problem, title, answer = read_files(given)
     chosen = [problem.options[place] for _, place in answer.chosen]
-    picture = picture_of(problem, chosen, answer.kind == "none")
+    picture = planned(picture_of(problem, chosen, answer.kind == "none"), given.plan)
     if given.svg:
         paper = Paper(title)
         picture.draw(paper)

@@ -6,7 +6,8 @@
 docs/FORMAT.md has the format; one of the files may be `-`, the standard input. For a file that the program refuses it lists the first
 200 mistakes, each with its line, its column (in characters, from 1; a tab is one), the word, and what was expected; the first line is
 what the program says of it. For a right file it prints the counts, the options that are ignored, and what may surprise: primary items
-in no option or in only one, items that always go together, options that name the same items, items that have a colour in some options
+in no option or in only one, forced options that clash and what both need, too little room (as 25 lessons for 24 periods, where the
+program is built and finds it), items that always go together, options that name the same items, items that have a colour in some options
 and none in others, colours that no two options give. For an answer it lists the first 200 mistakes, each uncovered item, and for each
 item that is covered twice the options that do it, with the colours that they give it.
 
@@ -14,10 +15,14 @@ It explains and decides nothing: whether an answer is right, and above all `none
 nothing is wrong, 1 if something is, 2 for a mistake on the command line, 3 for a file that can't be read.
 """
 import argparse
+import os
 
+from built import SOLVE_CLI
 from cover_files import MAX_COLOURS, MAX_ITEMS, MAX_OCCURRENCES, MAX_OPTIONS, TooLarge, Unreadable
 from cover_files import is_comment, lines_of, Problem, read_answer, read_bytes, read_problem, refusal, run, shown
+from cover_reason import found_reason
 from fault_words import answer_fault_words, fault_words, grouped, listed, plural, quoted
+from full_names import named_numbers
 
 SAYS = "the program says: "
 BY_SEARCH = "that there is no cover is decided by the program's search alone"
@@ -133,6 +138,28 @@ def rare_items(problem, by_item):
         yield f"in no option, and without effect: secondary {plural(len(idle), 'item', False)} {listed(idle, MANY)}"
 
 
+def forced_clashes(problem, by_item):
+    """Lines on items that two options need, each the only one of some primary item."""
+    needed = {}
+    for name in problem.primary_names():
+        if len(by_item[name]) == 1:
+            option = problem.options[by_item[name][0]]
+            for item, colour in zip(option.names, option.colours):
+                needed.setdefault(item, {})[option.line] = name, colour
+    for item, users in list(needed.items()):
+        colours = {colour for _, colour in users.values()}
+        if len(users) > 1 and (len(colours) > 1 or None in colours):
+            each = [f"{quoted(name)} (line {line})" for line, (name, _) in users.items()]
+            yield f"{listed(each, MANY)} are each in one option alone, and these options clash in {quoted(item)}, so there is no cover"
+
+
+def room_words(problem, text):
+    """Lines on primary items that need more than there is room for, where the program finds such."""
+    reason = found_reason(SOLVE_CLI, text) if os.access(SOLVE_CLI, os.X_OK) else None
+    if reason and not reason.modulus and reason.rooms and reason.holds(problem):
+        yield from reason.words(problem)
+
+
 def items_together(by_item):
     """Lines on items that the same options name."""
     groups = {}
@@ -196,7 +223,7 @@ def strange_names(problem):
         yield f"characters that can't be seen stand in the {plural(len(unseen), 'name', False)} {listed(unseen, MANY)}"
 
 
-def explain_good(problem):
+def explain_good(problem, text):
     by_item = problem.options_by_item()
     yield counts(problem)
     yield from near_limits(problem)
@@ -204,6 +231,8 @@ def explain_good(problem):
         lines = listed([option.line for option in problem.ignored], MANY)
         yield f"{plural(len(problem.ignored), 'option')} ignored for naming no primary item: line{'s' * (len(problem.ignored) > 1)} {lines}"
     yield from rare_items(problem, by_item)
+    yield from forced_clashes(problem, by_item)
+    yield from room_words(problem, text)
     yield from items_together(by_item)
     yield from equal_options(problem)
     yield from colour_habits(problem)
@@ -290,9 +319,10 @@ def explain(text, answer_text=None):
         if answer_text is not None:
             lines.append("the answer is tested once the file can be read")
         return lines, False
-    lines += remarks + list(explain_good(problem))
+    lines += remarks + list(explain_good(problem, text))
     if answer:
         lines += list(explain_answer(problem, answer))
+    lines += named_numbers(list(map(shown, problem.comments)), list(map(shown, problem.items)), lines)
     return lines, not (answer and (answer.faults or (verdict(problem, answer) or "right") != "right"))
 
 

@@ -1,128 +1,20 @@
 """The kinds of pictures: each is known by the names of a problem's items, and draws an answer as text and on a sheet."""
-import functools
 import itertools
 import math
 import re
 
-from cover_files import shown
-from svg_paper import ACCENT, BACKGROUND, Board, draw_table, FAINT, FILLS, INK, on_circle, table_text, text_width
-
-CELL, LARGEST = 40, 1_000
-NONE = "none: the answer is that there is no cover"
-KNOWN_COLOURS = {"red": "#f0a39a", "green": "#b3d9b1", "blue": "#a5c4ee", "yellow": "#f5e08c", "orange": "#f7c08a", "purple": "#cdb3e6",
-                 "white": "#ffffff", "grey": "#cccccc", "gray": "#cccccc", "brown": "#cfae8e", "pink": "#f3bfd3"}
-
-
-def names_of(option):
-    return tuple(map(shown, option.names))
+from board_pictures import Layers, Tiling
+from full_names import full_names
+from grid_pictures import Kakuro, Nonogram, Stars, Words
+from picture_base import CELL, cell_of, draw_lines, Kind, KNOWN_COLOURS
+from planar import places
+from sudoku_pictures import Sudoku
+from svg_paper import ACCENT, BACKGROUND, FAINT, FILLS, INK, on_circle, table_text, text_width, WIDEST
+from timetable_pictures import Timetable
 
 
-def colours_of(option):
-    """The colour of each name that has one."""
-    return {shown(name): shown(colour) for name, colour in zip(option.names, option.colours) if colour}
-
-
-class Kind:
-    """An answer to a problem of a kind: the chosen options, and whether the answer is `none`.
-
-    Options are tuples of names; `option_colours` and `chosen_colours` have beside each option the colours that it gives.
-    """
-
-    # whether the kind is one of problems with colours, or else of those without
-    with_colours = False
-
-    def __init__(self, problem, chosen, is_none):
-        self.items = [shown(name) for name in problem.items]
-        self.primary = set(self.items[:problem.primary])
-        self.options, self.chosen = ([names_of(option) for option in some] for some in (problem.options, chosen))
-        self.option_colours, self.chosen_colours = ([colours_of(option) for option in some] for some in (problem.options, chosen))
-        self.comments = [shown(comment) for comment in problem.comments]
-        self.is_none = is_none
-
-    def is_known(self):
-        """Whether the problem is of this kind, by its names."""
-        raise NotImplementedError
-
-    def all_match(self, pattern, items=None):
-        return all(re.fullmatch(pattern, item) for item in (self.items if items is None else items))
-
-    def secondary(self):
-        return [item for item in self.items if item not in self.primary]
-
-    def text(self):
-        return ([NONE] if self.is_none else []) + self.lines()
-
-    def caption(self, paper):
-        """Under the picture of an answer without a cover, that there is none."""
-        if self.is_none:
-            paper.text((paper.left + paper.right) / 2, paper.bottom + 22, "none: there is no cover", 15)
-
-
-# ---- boards
-
-def cell_of(name):
-    """The row and the column that a name tells, as 07, 0011 or 3-12; None where it tells none."""
-    if re.fullmatch(r"\d+", name) and len(name) % 2 == 0:
-        return int(name[:len(name) // 2]), int(name[len(name) // 2:])
-    found = re.fullmatch(r"(\d+)-(\d+)", name)
-    return (int(found[1]), int(found[2])) if found else None
-
-
-def sheet_cell_of(name):
-    """The same of a name as A1 or C12, whose letter is the column and whose number the row, as in a spreadsheet."""
-    found = re.fullmatch(r"([A-Z])([1-9]\d{0,2})", name)
-    return (int(found[2]) - 1, ord(found[1]) - ord("A")) if found else None
-
-
-def is_connected(cells):
-    """Whether the cells hang together by their edges."""
-    left, reached = set(cells), []
-    while left and (reached or len(left) == len(set(cells))):
-        r, c = reached.pop() if reached else left.pop()
-        near = {(r + a, c + b) for a, b in ((0, 1), (1, 0), (0, -1), (-1, 0))} & left
-        left -= near
-        reached += near
-    return not left
-
-
-class Tiling(Kind):
-    """Pieces that fill cells; at most one name of an option is that of its piece."""
-
-    @functools.cached_property
-    def cell_of(self):
-        """How names of cells are read: as in a spreadsheet where the problem names none by numbers."""
-        return cell_of if any(map(cell_of, self.items)) else sheet_cell_of
-
-    def is_known(self):
-        cells = [[self.cell_of(name) for name in option] for option in self.options]
-        rows, columns = ({place[k] for place in map(self.cell_of, self.items) if place} for k in (0, 1))
-        return bool(cells) and max(rows | columns, default=LARGEST) < LARGEST and all(found.count(None) <= 1 and len(found) > found.count(None) and
-                                   is_connected([cell for cell in found if cell]) for found in cells)
-
-    def board(self):
-        areas = {self.cell_of(name): 0 for name in self.items if self.cell_of(name)}
-        labels = {}
-        for k, option in enumerate(self.chosen, 1):
-            piece = next((name for name in option if self.cell_of(name) is None), "")
-            areas.update((self.cell_of(name), k) for name in option if self.cell_of(name))
-            labels.update((self.cell_of(name), piece) for name in option if self.cell_of(name))
-        return Board(labels, areas)
-
-    def lines(self):
-        return self.board().text()
-
-    def draw(self, paper):
-        board = self.board()
-
-        def fill(cell):
-            if self.is_none:
-                return "#e3dccd" if sum(cell) % 2 else "#fffdf8"
-            return FILLS[(board.areas[cell] - 1) % len(FILLS)]
-
-        board.draw(paper, CELL, fill)
-        self.caption(paper)
-
-
+# a map of more places, or one that needs a larger radius, is drawn as a list
+MOST_PLACES, WIDEST_RADIUS = 60, 420
 CROWN = [(0.24, 0.74), (0.18, 0.36), (0.34, 0.52), (0.5, 0.26), (0.66, 0.52), (0.82, 0.36), (0.76, 0.74)]
 
 
@@ -151,72 +43,6 @@ class Queens(Kind):
                 if (r, c) in queens:
                     paper.shape([((c + x) * CELL, (r + y) * CELL) for x, y in CROWN], ACCENT, INK, 1.2)
         paper.box(columns[0] * CELL, rows[0] * CELL, len(columns) * CELL, len(rows) * CELL, "none", INK, 2.2)
-        self.caption(paper)
-
-
-NINE = range(9)
-
-
-class Sudoku(Kind):
-    """A sudoku of nine by nine, whose given digits stand in a comment, or are those that rows, columns and boxes don't lack."""
-
-    def is_known(self):
-        return self.all_match(r"p[0-8][0-8]|[rcb][0-8][1-9]") and all(
-            [name[0] for name in option] == ["p", "r", "c", "b"] for option in self.options)
-
-    def givens(self):
-        """The digits of the cells that aren't items."""
-        cells = [(r, c) for r in NINE for c in NINE if f"p{r}{c}" not in self.items]
-        return self.commented(cells) or self.derived(cells)
-
-    def commented(self, cells):
-        """Those that a comment tells by 81 digits and dots, if it tells just these cells."""
-        for marks in re.findall(r"(?<![1-9.])[1-9.]{81}(?![1-9.])", " ".join(self.comments)):
-            given = {(k // 9, k % 9): mark for k, mark in enumerate(marks) if mark != "."}
-            if list(given) == cells:
-                return given
-        return None
-
-    def derived(self, cells):
-        """Those that follow from what rows, columns and boxes lack; an empty text where one doesn't follow."""
-        lacking = set(self.items)
-        houses = {cell: [f"r{cell[0]}", f"c{cell[1]}", f"b{cell[0] // 3 * 3 + cell[1] // 3}"] for cell in cells}
-        digits = {cell: {d for d in "123456789" if not any(house + d in lacking for house in houses[cell])} for cell in cells}
-        changed = True
-        while changed:
-            before = sum(map(len, digits.values()))
-            for cell in cells:
-                self.narrow(digits, houses, cell)
-            changed = sum(map(len, digits.values())) < before
-        return {cell: "".join(found) if len(found) == 1 else "" for cell, found in digits.items()}
-
-    @staticmethod
-    def narrow(digits, houses, cell):
-        """Takes from a cell's digits those of its fellows, and leaves one that no fellow in a house can have."""
-        for k in range(3):
-            fellows = [other for other in digits if other != cell and houses[other][k] == houses[cell][k]]
-            digits[cell] -= {d for other in fellows if len(digits[other]) == 1 for d in digits[other]} if len(digits[cell]) > 1 else set()
-            alone = digits[cell] - set().union(*(digits[other] for other in fellows)) if fellows else set(digits[cell])
-            digits[cell] = alone if len(alone) == 1 else digits[cell]
-
-    def labels(self):
-        """The given digits, and those that were found."""
-        return self.givens(), {(int(option[0][1]), int(option[0][2])): option[1][2] for option in self.chosen}
-
-    def lines(self):
-        given, found = self.labels()
-        rows = []
-        for r in NINE:
-            digits = [found.get((r, c)) or given.get((r, c), ".") or "?" for c in NINE]
-            rows += ["------+-------+------"] * (r in (3, 6)) + [" | ".join(" ".join(digits[k:k + 3]) for k in (0, 3, 6))]
-        return rows
-
-    def draw(self, paper):
-        given, found = self.labels()
-        areas = {(r, c): r // 3 * 3 + c // 3 for r in NINE for c in NINE}
-        board = Board({**given, **found}, areas)
-        board.draw(paper, CELL, lambda cell: "#ebe6da" if cell in given else "#fffdf8", CELL * 0.5,
-                   lambda cell: {"bold": True} if cell in given else {"fill": ACCENT})
         self.caption(paper)
 
 
@@ -256,36 +82,6 @@ class Langford(Kind):
 
 # ---- tables, graphs and lists
 
-class Timetable(Kind):
-    """Lessons, each with people, classes and rooms at one period: a table of who and what is busy when."""
-
-    def is_known(self):
-        if not self.secondary() or not self.all_match(r".+-[^-=]+", self.secondary()):
-            return False
-        return all(len({name.rsplit("-", 1)[1] for name in option if name not in self.primary}) == 1 and
-                   sum(name in self.primary for name in option) == 1 for option in self.options)
-
-    def rows(self):
-        split = [item.rsplit("-", 1) for item in self.secondary()]
-        who = list(dict.fromkeys(name for name, _ in split))
-        busy = {}
-        for option in self.chosen:
-            lesson = next(name for name in option if name in self.primary)
-            busy.update((name, lesson) for name in option if name not in self.primary)
-        periods = list(dict.fromkeys(period for _, period in split))
-        if all(map(str.isdecimal, periods)):
-            periods.sort(key=int)
-        return [["period"] + who] + [[period] + [busy.get(f"{name}-{period}", "") for name in who] for period in periods]
-
-    def lines(self):
-        return table_text(self.rows())
-
-    def draw(self, paper):
-        lessons = [item for item in self.items if item in self.primary]
-        draw_table(paper, self.rows(), lambda lesson: FILLS[lessons.index(lesson) % len(FILLS)])
-        self.caption(paper)
-
-
 class Colouring(Kind):
     """Places, each with a colour that none of its neighbours has."""
 
@@ -298,26 +94,49 @@ class Colouring(Kind):
         return {option[0]: option[1].rsplit("=", 1)[1] for option in self.chosen if len(option) > 1}
 
     def lines(self):
-        wide = max(len(item) for item in self.primary)
-        return [f"{place.ljust(wide)}  {colour}" for place, colour in self.colours().items()]
+        names = full_names(self.comments)
+        wide = max(len(names.get(item, item)) for item in self.primary)
+        return [f"{names.get(place, place).ljust(wide)}  {colour}" for place, colour in self.colours().items()]
+
+    def borders(self):
+        """The pairs of places that have a border, so far as both are items."""
+        names = self.primary
+        pairs = (border.partition("-")[::2] for border in dict.fromkeys(item.rsplit("=", 1)[0] for item in self.secondary()))
+        return [pair for pair in pairs if set(pair) <= names and len(set(pair)) == 2]
+
+    def fill_of(self, colour):
+        names = sorted({item.rsplit("=", 1)[1] for item in self.secondary()})
+        return KNOWN_COLOURS.get(colour) or (FILLS[names.index(colour) % len(FILLS)] if colour in names else BACKGROUND)
 
     def draw(self, paper):
-        places, colours = [item for item in self.items if item in self.primary], self.colours()
-        names = sorted({item.rsplit("=", 1)[1] for item in self.secondary()})
-        size = max(20, max(text_width(place, 14) for place in places) / 2 + 4)
-        radius = max(90, len(places) * size * 0.55)
-        at = {place: on_circle(len(places), radius, k) for k, place in enumerate(places)}
-        for border in sorted({item.rsplit("=", 1)[0] for item in self.secondary()}):
-            one, _, other = border.partition("-")
-            if one in at and other in at:
-                paper.line(*at[one], *at[other], INK, 1.5)
-        for place, (x, y) in at.items():
-            colour = colours.get(place)
-            fill = KNOWN_COLOURS.get(colour) or (FILLS[names.index(colour) % len(FILLS)] if colour in names else BACKGROUND)
-            paper.circle(x, y, size, fill, INK, 1.5)
-            paper.text(x, y, place)
-        for k, (place, colour) in enumerate(colours.items()):
-            paper.text(radius + size + 24, (k - len(colours) / 2 + 0.5) * 22, f"{place}: {colour}", 14, "start")
+        names, colours, full = [item for item in self.items if item in self.primary], self.colours(), full_names(self.comments)
+        found = places(names, self.borders()) if len(names) <= MOST_PLACES else None
+        texts = [full.get(name, name) for name in names], [str(k) for k in range(1, len(names) + 1)]
+        sizes = [max(20, max(text_width(text, 14) for text in some) / 2 + 4) for some in texts]
+        radii = [max(90, (size + 8) / found[1]) if found and found[1] > 0 else WIDEST for size in sizes]
+        if radii[1] > WIDEST_RADIUS:
+            self.draw_list(paper, names, texts[0])
+            return
+        some = 0 if radii[0] <= WIDEST_RADIUS else 1
+        marks, size, radius = texts[some], sizes[some], radii[some]
+        at = {name: (radius * x, radius * y) for name, (x, y) in found[0].items()}
+        for one, other in self.borders():
+            paper.line(*at[one], *at[other], INK, 1.5)
+        for name, mark in zip(names, marks):
+            paper.circle(*at[name], size, self.fill_of(colours.get(name)), INK, 1.5)
+            paper.text(*at[name], mark)
+        right, middle = max(x for x, _ in at.values()) + size + 24, sum(y for _, y in at.values()) / len(at)
+        for k, (name, text, mark) in enumerate(zip(names, texts[0], marks)):
+            told = f"{text}: {colours.get(name, '')}" if mark == text else f"{mark} {text}: {colours.get(name, '')}"
+            paper.text(right, middle + (k - len(names) / 2 + 0.5) * 22, told, 14, "start")
+        self.caption(paper)
+
+    def draw_list(self, paper, names, texts):
+        """A list of places, where the map isn't planar or doesn't fit on a sheet."""
+        colours = self.colours()
+        for k, (name, text) in enumerate(zip(names, texts)):
+            paper.box(0, k * 26, 40, 20, self.fill_of(colours.get(name)), INK, 1)
+            paper.text(52, k * 26 + 10, f"{text}: {colours.get(name, '')}", 14, "start")
         self.caption(paper)
 
 
@@ -403,12 +222,6 @@ class Triples(Kind):
             paper.text(size * x, size * y, point, 15)
 
 
-def draw_lines(paper, lines, size=14):
-    """Plain lines of text; an empty picture says so."""
-    for k, line in enumerate(lines or ["no option is chosen"]):
-        paper.text(0, k * size * 1.6, line, size, "start")
-
-
 class Plain(Kind):
     """Anything else: the chosen options, one on a line."""
 
@@ -484,57 +297,6 @@ class Squares(Kind):
         self.caption(paper)
 
 
-class Words(Kind):
-    """Words that cross: each lies over cells, to which it gives its letters as colours."""
-
-    with_colours = True
-
-    def is_known(self):
-        greatest = max((max(cell) for cell in map(cell_of, self.items) if cell), default=LARGEST)
-        return greatest < LARGEST and all(
-            cell_of(name) and len(letter) == 1 for colours in self.option_colours for name, letter in colours.items())
-
-    def board(self):
-        cells = {cell_of(name) for colours in self.option_colours for name in colours}
-        letters = {cell_of(name): letter for colours in self.chosen_colours for name, letter in colours.items()}
-        return Board(letters, {cell: cell for cell in cells})
-
-    def lines(self):
-        board = self.board()
-        rows = (" ".join(board.labels.get((r, c), ".") if (r, c) in board.areas else " " for c in board.columns) for r in board.rows)
-        return [row.rstrip() for row in rows]
-
-    def draw(self, paper):
-        self.board().draw(paper, CELL, lambda cell: "#fffdf8", CELL * 0.5)
-        self.caption(paper)
-
-
-class Nonogram(Kind):
-    """Rows and columns of black and white cells."""
-
-    with_colours = True
-
-    def is_known(self):
-        are_lines = self.all_match(r"(row|column)\d+", self.primary)
-        cells = [cell_of(item) for item in self.secondary()]
-        return are_lines and bool(cells) and all(cells) and max(map(max, cells)) < LARGEST and all(
-            colour in ("black", "white") for colours in self.option_colours for colour in colours.values())
-
-    def lines(self):
-        black, cells = self.black(), {cell_of(item) for item in self.secondary()}
-        rows, columns = (range(max(cell[k] for cell in cells) + 1) for k in (0, 1))
-        return ["".join("#" if (r, c) in black else "." for c in columns) for r in rows]
-
-    def black(self):
-        return {cell_of(name) for colours in self.chosen_colours for name, colour in colours.items() if colour == "black"}
-
-    def draw(self, paper):
-        cells = {cell_of(item) for item in self.secondary()}
-        black = self.black()
-        Board({}, {cell: cell for cell in cells}).draw(paper, CELL * 0.6, lambda cell: INK if cell in black else "#fffdf8")
-        self.caption(paper)
-
-
 class Cubes(Kind):
     """Cubes in a row: each option has a cube and the colour that it shows on each of four sides."""
 
@@ -566,7 +328,7 @@ class Cubes(Kind):
         self.caption(paper)
 
 
-KINDS = [Sudoku, Queens, Langford, Triples, Cubes, Tiling, Timetable, Colouring, Matching, Squares, Nonogram, Words]
+KINDS = [Sudoku, Queens, Langford, Kakuro, Triples, Cubes, Layers, Tiling, Timetable, Colouring, Matching, Squares, Nonogram, Stars, Words]
 
 
 def picture_of(problem, chosen, is_none):

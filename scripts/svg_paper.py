@@ -4,6 +4,8 @@ import math
 BACKGROUND, INK, FAINT, ACCENT = "#fbfaf7", "#23272e", "#9aa0a8", "#1f5fa8"
 FILLS = ["#f4c7ab", "#b8d8ba", "#c9cbe8", "#f3e2a0", "#a9d6e5", "#e6b8cf", "#d3c1a5", "#c4e3d3", "#efb0a1", "#bcd0f0", "#dce3a4", "#d9c2e9"]
 MARGIN = 16
+# a wider sheet is shown smaller
+WIDEST = 1_200
 
 
 class Paper:
@@ -28,9 +30,11 @@ class Paper:
         self.add("rect", [(x, y), (x + wide, y + high)], x=number(x), y=number(y), width=number(wide), height=number(high),
                  fill=fill, stroke=stroke, stroke_width=number(thick))
 
-    def line(self, x, y, to_x, to_y, stroke=INK, thick=1.0):
+    def line(self, x, y, to_x, to_y, stroke=INK, thick=1.0, dashes=""):
+        """A line; with dashes, as "3 3", a broken one."""
+        broken = {"stroke_dasharray": dashes} if dashes else {}
         self.add("line", [(x, y), (to_x, to_y)], x1=number(x), y1=number(y), x2=number(to_x), y2=number(to_y), stroke=stroke,
-                 stroke_width=number(thick), stroke_linecap="round")
+                 stroke_width=number(thick), stroke_linecap="round", **broken)
 
     def circle(self, x, y, radius, fill="none", stroke=INK, thick=1.0):
         self.add("circle", [(x - radius, y - radius), (x + radius, y + radius)], cx=number(x), cy=number(y), r=number(radius), fill=fill,
@@ -56,10 +60,11 @@ class Paper:
     def svg(self):
         left, top = self.left - MARGIN, self.top - MARGIN
         wide, high = self.right - self.left + 2 * MARGIN, self.bottom - self.top + 2 * MARGIN
+        scale = min(1.0, WIDEST / wide)
         frame = f'x="{number(left)}" y="{number(top)}" width="{number(wide)}" height="{number(high)}"'
         return "\n".join([
             f'<svg xmlns="http://www.w3.org/2000/svg" viewBox="{number(left)} {number(top)} {number(wide)} {number(high)}" '
-            f'width="{number(wide)}" height="{number(high)}" font-family="DejaVu Sans, Verdana, Arial, sans-serif" role="img">',
+            f'width="{number(scale * wide)}" height="{number(scale * high)}" font-family="DejaVu Sans, Verdana, Arial, sans-serif" role="img">',
             f"<title>{escaped(self.title)}</title>", f'<rect {frame} fill="{BACKGROUND}"/>', *self.shapes, "</svg>"]) + "\n"
 
 
@@ -137,6 +142,18 @@ class Board:
 
 
 # ---- tables
+
+def folded(text, wide, size):
+    """A text in lines that fit; a word that doesn't fit is cut in pieces."""
+    most = max(4, int(wide / (size * 0.68)))
+    lines = [""] if text else []
+    for word in text.split():
+        for piece in (word[k:k + most] for k in range(0, len(word), most)):
+            if lines[-1] and len(lines[-1]) + 1 + len(piece) > most:
+                lines.append("")
+            lines[-1] += (" " if lines[-1] else "") + piece
+    return lines
+
 
 def table_text(rows):
     """Lines of a table whose first row is its head."""

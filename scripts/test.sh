@@ -20,9 +20,11 @@ short_form() {
     try_explain.py) echo --files 200 ;;
     try_bugs.py | try_found.py | try_memory.py | try_shortage.py) echo --short ;;
     try_search.py) echo 100 ;;
+    try_states.py) echo --problems 4000 ;;
     try_why_none.py) echo 30 ;;
     try_simulate.py) echo 1 ;;
-    try_solve.py | try_strangers.py) echo --times 1 ;;
+    try_solve.py) echo --times 1 --audit ;;
+    try_strangers.py) echo --times 1 ;;
     esac
 }
 

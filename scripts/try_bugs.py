@@ -11,6 +11,7 @@ crates below, so that only the bug's own crate is proved again, once for all of 
     by its shape: LINE  refused only since a proof names what the bug took away, which says little of the contract
     by a test: TEST     not tried, unless it is named: no contract refuses it, and scripts/try_found.py runs the test that finds it
     by refused memory: TESTS  not tried, unless it is named: scripts/try_found.py --memory refuses these tests memory, which finds it
+    by a bench: BENCH   not tried, unless it is named: it costs time or memory alone, which the bench's figures show
     PROVED              the crate is proved with the bug in it: a hole in a contract
     no longer applies   its text isn't exactly once in the file that it names, or can't be read then
 
@@ -27,11 +28,11 @@ import tempfile
 
 from built import parser_of, stop, TOP, want_command
 from edits import BUGS, name_stale
-from try_found import claims
+from try_found import SLOW as BY_BENCH, claims
 from try_memory import BUGS as STARVED
 
 REFUSED, SHAPE, TEST, PROVED, STALE = "refused", "by its shape", "by a test", "PROVED", "no longer applies"
-MEMORY = "by refused memory"
+MEMORY, BENCH = "by refused memory", "by a bench"
 
 
 def chosen_bugs(words):
@@ -52,6 +53,7 @@ def left_to_tests(chosen, named):
     """Takes out the bugs that tests find and that aren't named themselves, prints a line of each, and answers their kinds."""
     found = [(f"{crate}/{bug}", TEST, f"{tests}, {test}") for crate, bug, tests, test in claims()]
     found += [(name, MEMORY, tests) for name, tests in STARVED.items()]
+    found += [(name, BENCH, bench) for name, bench in BY_BENCH.items()]
     kinds = []
     for name, kind, by in found:
         crate, _, bug = name.partition("/")
@@ -135,7 +137,7 @@ def main():
         copy_repository(top, chosen)
         for crate, names in chosen.items():
             kinds += try_crate(top, crate, names)
-    print(", ".join(f"{kinds.count(kind)} {kind}" for kind in (REFUSED, SHAPE, TEST, MEMORY, PROVED, STALE)))
+    print(", ".join(f"{kinds.count(kind)} {kind}" for kind in (REFUSED, SHAPE, TEST, MEMORY, BENCH, PROVED, STALE)))
     return 1 if PROVED in kinds else 2 if STALE in kinds else 0
 
 

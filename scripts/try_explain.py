@@ -235,6 +235,11 @@ TOLD = [
         "line 7, column 3, ':': BadColour: a ':' stands alone; " + ONE_WORD,
         "line 8, column 3, 'y:red': UnknownItem: no item is named 'y', as stands before the ':'; the items are 'a' and 'x'",
         "line 9, column 3, 'x:" + "k" * 33 + "': BadColour: a colour has at most 32 bytes, this one has 33"]),
+    (b"a b c | x\na x\nb x\nc\nc x\n", None, [
+        "'a' (line 2) and 'b' (line 3) are each in one option alone, and these options clash in 'x', so there is no cover",
+        "too little room: 2 places needed, and there are 1", "  each of these needs one: a and b", "  this one has room for one: x"]),
+    (b"a b | x y\na x:1 y:2\nb x:1 y:3\n", None, [
+        "'a' (line 2) and 'b' (line 3) are each in one option alone, and these options clash in 'y', so there is no cover"]),
     (b"a | x:red\na x:red\n", None, [
         "the program says: refused: IllegalByte line 1",
         "line 1, column 5, 'x:red': IllegalByte: no name has a ':'; the item line has names alone, and options give colours to "

@@ -30,6 +30,13 @@ from edits import edited, name_stale
 from try_memory import BUGS as STARVED
 
 FOUND, MISSED, UNTRIED = "found", "NOT FOUND", "not tried"
+# The bugs outside the gate that cost time or memory alone, so that no contract refuses them and no test finds them: each with the bench
+# whose figures show it.
+SLOW = {
+    "audit/the_digest_is_constant": "bench/audits.py",
+    "audit/the_path_forgets": "bench/audits.py",
+    "run_book/idle_steps_are_never_shared": "bench/audits.py",
+}
 CLAIM = re.compile(r"Of the bugs of `(\w+)` that are kept outside the gate, (.*?\.)(?:\s|$)")
 PAIR = re.compile(r"`(\w+)`\s+finds\s+((?:`\w+`(?!\s+finds)(?:, | and )?)+)")
 

@@ -128,7 +128,7 @@ def progress():
     expect("a limit", (out, status) == (b"no answer\n", 4) and lines[-1] == "ended: the time is over")
     expect("a line each second", lines[:-1] and all(LINE.fullmatch(line) for line in lines[:-1]))
     text, status = on_terminal("solve", long, "--fuel", "1", "--seconds", "2", "--progress")
-    expect("one line on a terminal", status == 4 and re.fullmatch(rb"(\r\d+ s: [^\r\n]*)+\r\nno answer\r\nended: the time is over\r\n", text))
+    expect("one line on a terminal", status == 4 and re.fullmatch(rb"(\r\d+ s: [^\r\n]*)+\r\nended: the time is over\r\nno answer\r\n", text))
 
 
 def command_line():
@@ -202,6 +202,22 @@ def help_on(output, *words):
     return ended.returncode, ended.stderr
 
 
+def many_visits(folder):
+    """A search of 10^15 visits ends, since few of its states differ, and its count is exact: with one visit less there is
+    no answer. A count in C gave the visits, state by state."""
+    cells = [(row, column) for row in range(12) for column in range(12) if (row, column) not in ((0, 0), (11, 11))]
+    names = {cell: f"r{cell[0]}c{cell[1]}" for cell in cells}
+    pairs = [((row, column), other) for row, column in cells for other in ((row, column + 1), (row + 1, column)) if other in names]
+    path = os.path.join(folder, "dominoes.dlx")
+    with open(path, "w", encoding="ascii") as file:
+        print(*names.values(), file=file)
+        print(*(f"{names[one]} {names[other]}" for one, other in pairs), sep="\n", file=file)
+    visits = 1_455_115_025_598_703
+    expect("as many visits as it takes", run("alone", path, "--fuel", str(visits)) == (b"none\n", b"", 1))
+    expect("one visit less", run("alone", path, "--fuel", str(visits - 1)) == (b"no answer\n", b"", 4))
+    expect("no limit", run("alone", path, "--unlimited") == (b"none\n", b"", 1))
+
+
 def helps():
     """Each script that can be run writes its help, so that all it imports is there."""
     paths = [path for folder in ("scripts", "examples", "bench") for path in sorted(glob.glob(os.path.join(TOP, folder, "*.py")))]
@@ -238,6 +254,7 @@ def main():
     with tempfile.TemporaryDirectory() as folder:
         examples(folder)
         bad_input(folder)
+        many_visits(folder)
         installing(os.path.join(folder, "dest"))
     from_python()
     helps()

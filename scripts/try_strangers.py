@@ -7,8 +7,10 @@ The ports of a run are in /proc/net/udp, which every process of the machine may 
 formed and with the names that sites of a run have, for a second from the run's begin, or until its end: that a node asks for work and found
 the root without a cover (`steal and return`), that the search is over (`over`), that the root is given up (`abort`), that sites have
 restarted with the greatest incarnation (`hello`, `members`), one byte (`a byte now and then`), the same as fast as it goes (`flood of
-bytes`), and packets of random bytes (`flood of noise`). Where no problem is named, it is one with a cover that takes hundredths to tenths of a
-second to find, so that there is time for an attack.
+bytes`), and packets of random bytes (`flood of noise`). Two more send what `steal and return` does: from 127.0.0.2, by the port of a site
+(`from another host`), and before the run has all its sockets, from ports that it binds a moment later (`before all are bound`): that one is in a
+network namespace with eight ports, and left out where no such namespace can be had. Where no problem is named, it is one with a cover that
+takes hundredths to tenths of a second to find, so that there is time for an attack.
 
 A table tells, attack by attack, how many runs were right, without an answer, wrong, or given up, the least, the middle and the greatest time
 in seconds, and how many packets strangers sent in all; the first line is of runs that nobody attacks. With --audit each run is audited, and
@@ -18,7 +20,10 @@ It wants the program: (cd crates/solve_cli && rt run -- --version) builds it. Th
 where one was, where an attack sent nothing, or where no run that nobody attacks was right, 2 for a mistake on the command line or where
 there is no program.
 """
+import argparse
 import collections
+import fcntl
+import multiprocessing
 import os
 import random
 import socket
@@ -33,6 +38,10 @@ import time
 from built import number_from_one, parser_of, SOLVE_CLI, want_program
 
 NODES = 4
+HERE, OTHER_HOST = "127.0.0.1", "127.0.0.2"
+EARLY = "before all are bound"
+# the ports of a namespace, and how many strangers there bind one after the other: a run needs the five that are left
+FEW_PORTS, KNOCKERS = range(40000, 40008), 3
 GREATEST = 2**32 - 1
 HELLO, MEMBERS, STEAL, RETURN, ABORT, OVER = 1, 2, 3, 6, 9, 10
 
@@ -95,6 +104,7 @@ ATTACKS = {
     "a byte now and then": (lambda: [b"x"], 0.03),
     "flood of bytes": (lambda: [b"x"], 0),
     "flood of noise": (noise, 0),
+    "from another host": (steal_and_return, 0.001, OTHER_HOST),
 }
 
 
@@ -113,24 +123,87 @@ def ports(pid):
     return [int(row[1].split(":")[1], 16) for row in rows if row[9] in inodes]
 
 
-def attack(sent, run, seconds, attack_of, pause):
-    """Sends the attack's packets to all ports of the run, for so many seconds or until it ends, and counts them in `sent`."""
+def attack(sent, run, seconds, attack_of, pause, host=HERE):
+    """Sends the attack's packets to all ports of the run, for so many seconds or until it ends, and counts them in `sent`; from another host
+    by the port of one of its sites."""
     own = socket.socket(socket.AF_INET, socket.SOCK_DGRAM)
     targets = []
     end = time.monotonic() + seconds
     while run.poll() is None and time.monotonic() < end:
         if len(targets) <= NODES:
             targets = ports(run.pid)
+            if host != HERE and len(targets) <= NODES:
+                continue
+            if host != HERE:
+                own.bind((host, targets[-1]))
         for datagram in attack_of():
             for port in targets:
                 try:
-                    own.sendto(datagram, ("127.0.0.1", port))
+                    own.sendto(datagram, (HERE, port))
                     sent["packets"] += 1
                 except OSError:
                     pass
         if pause and len(targets) > NODES:
             time.sleep(pause)
     own.close()
+
+
+def knock(end, sent):
+    """Binds one of the few ports after another, and sends from it to all others what a site of the run might: until the end is set."""
+    datagrams, own_ports = list(steal_and_return())[:2], list(FEW_PORTS)
+    while not end.is_set():
+        random.shuffle(own_ports)
+        for port in own_ports:
+            with socket.socket(socket.AF_INET, socket.SOCK_DGRAM) as own:
+                try:
+                    own.bind((HERE, port))
+                    for target in FEW_PORTS:
+                        for datagram in datagrams:
+                            own.sendto(datagram, (HERE, target))
+                except OSError:
+                    continue
+                sent.value += len(FEW_PORTS) * len(datagrams)
+
+
+def one_early_run(given, seed):
+    """What `one_run` tells, of a run to which strangers send before it has all its sockets."""
+    end, sent = multiprocessing.Event(), multiprocessing.Value("q", 0)
+    knockers = [multiprocessing.Process(target=knock, args=(end, sent)) for _ in range(KNOCKERS)]
+    for knocker in knockers:
+        knocker.start()
+    time.sleep(0.1)
+    told = one_run(given, None, seed)
+    end.set()
+    for knocker in knockers:
+        knocker.join()
+    return *told[:2], sent.value
+
+
+def narrow():
+    """Leaves the few ports to the network namespace that this process is in, and brings its loopback up."""
+    with open("/proc/sys/net/ipv4/ip_local_port_range", "w") as ports_of_system:
+        ports_of_system.write(f"{FEW_PORTS[0]} {FEW_PORTS[-1]}")
+    with socket.socket(socket.AF_INET, socket.SOCK_DGRAM) as any_socket:
+        get_flags, set_flags, is_up = 0x8913, 0x8914, 1
+        flags = struct.unpack("16sh", fcntl.ioctl(any_socket, get_flags, struct.pack("16sh14x", b"lo", 0))[:18])[1]
+        fcntl.ioctl(any_socket, set_flags, struct.pack("16sh14x", b"lo", flags | is_up))
+
+
+def in_namespace(given):
+    """Runs this script in a network namespace of its own for the early attack alone, and answers whether none of its runs was bad; so it does
+    where there can be no namespace."""
+    unshare = ["unshare", "--user", "--map-root-user", "--net"]
+    try:
+        possible = subprocess.run([*unshare, "true"], capture_output=True).returncode == 0
+    except OSError:
+        possible = False
+    if not possible:
+        print(f"{EARLY}: not tried, there can be no network namespace", flush=True)
+        return True
+    words = ["--inside", "--times", str(given.times), "--limit", str(given.limit), "--program", given.program, "--problem", given.problem]
+    if given.audit:
+        words.append("--audit")
+    return subprocess.run([*unshare, sys.executable, os.path.abspath(__file__), *words]).returncode == 0
 
 
 def one_run(given, name, seed):
@@ -159,7 +232,7 @@ def judged(given, text, answer_file):
         if verdict.startswith("audit unclean"):
             return "unclean"
         text = "".join(lines)
-    if text == "no answer\n":
+    if text in ("no answer\n", ""):
         return "no answer"
     with open(answer_file, "w") as answer:
         answer.write(text)
@@ -178,7 +251,7 @@ def row(given, name, answer_file):
     counts = dict.fromkeys(columns(given), 0)
     seconds, sent = [], 0
     for seed in range(given.times):
-        took, text, packets = one_run(given, name, seed)
+        took, text, packets = one_early_run(given, seed) if name == EARLY else one_run(given, name, seed)
         counts[judged(given, text, answer_file)] += 1
         seconds.append(took)
         sent += packets
@@ -196,18 +269,24 @@ def main():
     parser.add_argument("--length", type=float, default=1, help="for how many seconds a run is attacked (default 1)")
     parser.add_argument("--program", type=os.path.abspath, default=SOLVE_CLI, help="the program, in place of the built one")
     parser.add_argument("--problem", help="a file with a cover (default: one of 165 items)")
-    parser.add_argument("--only", choices=ATTACKS, help="this attack alone")
+    parser.add_argument("--only", choices=[*ATTACKS, EARLY], help="this attack alone")
+    parser.add_argument("--inside", action="store_true", help=argparse.SUPPRESS)
     parser.add_argument("--audit", action="store_true", help="audit each run")
     given = parser.parse_args()
     want_program(given.program)
-    print(f"{'attack':<22}", *[f"{word:>10}" for word in columns(given)], "   least   middle greatest   packets")
-    names = [given.only] if given.only else [None, *ATTACKS]
+    if given.inside:
+        narrow()
+        with tempfile.TemporaryDirectory() as folder:
+            sys.exit(0 if row(given, EARLY, os.path.join(folder, "answer")) else 1)
+    print(f"{'attack':<22}", *[f"{word:>10}" for word in columns(given)], "   least   middle greatest   packets", flush=True)
+    names = [given.only] if given.only else [None, *ATTACKS, EARLY]
     with tempfile.TemporaryDirectory() as folder:
         if not given.problem:
             given.problem = os.path.join(folder, "planted.dlx")
             with open(given.problem, "w") as opened:
                 opened.write(planted())
-        good = [row(given, name, os.path.join(folder, "answer")) for name in names]
+        answer = os.path.join(folder, "answer")
+        good = [in_namespace(given) if name == EARLY else row(given, name, answer) for name in names]
     sys.exit(0 if all(good) else 1)
 
 

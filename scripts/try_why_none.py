@@ -1,11 +1,12 @@
 #!/usr/bin/env python3
-"""Compares the items that why_none.py finds with the plain search of `plain_search.py`.
+"""Tries what why_none.py says: its items beside the plain search of `plain_search.py`, and the words and pictures of reasons.
 
     python3 scripts/try_why_none.py [COUNT]
 
 Of so many random problems without a cover (default 100) the items have to be ones that the plain search can't cover together, and can
-without any one of them, and what is said of them has to be so. Then comes a path of 201 items, of which none can be left out, and odd
-words: a problem with a cover, refused files, and programs that are none.
+without any one of them, and what is said of them has to be so. Then comes a path of 201 items, of which none can be left out;
+problems whose reason is known, with their words and pictures, and the pictures in examples/reasons, which are drawn again; and odd words:
+a problem with a cover, refused files, programs that are none, and one whose reason doesn't hold.
 
 It wants the program: (cd crates/solve_cli && rt run -- --version) builds it. The last line is 'N passed, M failed'. The exit status is 0 where all
 passed, 1 where something failed, 2 for a mistake on the command line or where there is no program.
@@ -17,6 +18,7 @@ import re
 import subprocess
 import sys
 import tempfile
+from xml.etree import ElementTree
 
 from built import number_from_one, parser_of, SOLVE_CLI, TOP, want_program
 from expected import Trial
@@ -59,7 +61,7 @@ def reasons(problem, kept):
 def is_right(text):
     """Whether what is said of a problem without a cover is so."""
     problem = read(text.encode())
-    status, (head, *lines), errors = run("-", text=text)
+    status, (head, *lines), errors = run("-", "--search", text=text)
     count = int(re.match(r"(\d+) primary items? of ", head)[1])
     kept = [problem[0].index(re.match(r"  (\S+): in ", line)[1].encode()) for line in lines[:count]]
     least = not is_covered(problem, kept) and all(is_covered(problem, [other for other in kept if other != item]) for item in kept)
@@ -80,8 +82,59 @@ def path():
     """Items in a row, an odd number of them, and options of two neighbours."""
     names = [f"i{k}" for k in range(PATH)]
     lines = [" ".join(names)] + [f"{one} {other}" for one, other in zip(names, names[1:])]
-    status, lines, _ = run("-", text="\n".join(lines))
+    status, lines, _ = run("-", "--search", text="\n".join(lines))
     expect("a path", status == 0 and len(lines) == 1 + PATH and lines[0].startswith(f"{PATH} primary items of {PATH} "))
+
+
+# problems whose reason is known, what is said of them, and texts of their pictures
+REASONS = [
+    ("a b\na\n", ["no option names 'b'"], ["b", "1 needs 1"]),
+    ("a b | x y\na x y\nb x\n",
+     ["too little room: 2 places needed, and there are 1", "  each of these needs one: a and b", "  this one has room for one: x"],
+     ["2 need 1 each", "1 has room for 1", "2 needed, and room for 1: there is no cover"]),
+    ("p q r | 1 2 3 4 5\n" + "".join(f"{name} {k} {j}\n" for name in "pqr" for k in range(1, 6) for j in range(1, k)),
+     ["too little room: 6 places needed, and there are 5", "  each of these needs 2: p, q and r",
+      "  each of these has room for one: 1, 2, 3, 4 and 5"], ["3 need 2 each"]),
+    ("a b c\na b\na c\nb c\n", ["each option names an even number of these items, and there are 3:", "  a, b and c"],
+     ["3 weigh +1 each", "each option weighs a multiple of 2, all items together 3: there is no cover"]),
+    ("a b c d\na b c\na b d\na c d\nb c d\n", ["each option names a multiple of 3 of these items, and there are 4:", "  a, b, c and d"],
+     ["4 weigh +1 each"]),
+    ("00 01 02 10 11 12 20 21 22\n" + "".join(f"{r}{c} {r}{c + 1}\n{c}{r} {c + 1}{r}\n" for r in range(3) for c in range(2)),
+     ["too little room: 5 places needed, and there are 4", "  each of these needs one: 00, 02, 11, 20 and 22",
+      "  each of these has room for one: 01, 10, 12 and 21"], ["5 need 1 each", "4 have room for 1 each"]),
+]
+
+
+def texts_of(svg):
+    """The texts of a picture."""
+    return [text.text for text in ElementTree.fromstring(svg).iter("{http://www.w3.org/2000/svg}text")]
+
+
+def content(path):
+    with open(path, encoding="utf-8") as opened:
+        return opened.read()
+
+
+def known_reasons(folder):
+    picture = os.path.join(folder, "picture.svg")
+    for text, words, drawn in REASONS:
+        expect(f"{words[0]}: {run('-', text=text)}", run("-", text=text) == (0, words, []))
+        expect(f"the picture's words of {words[0]}", run("-", "--svg", picture, text=text) == (0, words, []))
+        told = texts_of(content(picture))
+        expect(f"{told} of {words[0]}", set(drawn) <= set(told))
+        status, lines, errors = run("-", "--svg", "-", text=text)
+        expect(f"the picture alone of {words[0]}", (status, errors) == (0, []) and texts_of("\n".join(lines)) == told)
+    for name in sorted(os.listdir(os.path.join(TOP, "examples", "reasons"))):
+        run(os.path.join(TOP, "examples", name.replace(".svg", ".dlx")), "--svg", picture)
+        expect(f"the picture {name} as it stands", content(picture) == content(os.path.join(TOP, "examples", "reasons", name)))
+    status, lines, errors = run("-", "--svg", os.path.join(folder, "none", "x.svg"), text=REASONS[0][0])
+    expect("a picture that can't be written", status == 3 and len(errors) == 1)
+    wrong = os.path.join(folder, "wrong")
+    with open(wrong, "w", encoding="ascii") as opened:
+        opened.write("#!/bin/sh\necho none; echo weights modulo 3; echo weigh 1 a; exit 1\n")
+    os.chmod(wrong, 0o755)
+    status, lines, errors = run("-", "--program", wrong, text=REASONS[0][0])
+    expect("a reason that doesn't hold", (status, lines) == (2, []) and "doesn't hold" in errors[-1])
 
 
 def odd_words(folder):
@@ -107,6 +160,7 @@ def main():
     random_problems(count)
     path()
     with tempfile.TemporaryDirectory() as folder:
+        known_reasons(folder)
         odd_words(folder)
     return trial.end()
 

@@ -1,16 +1,21 @@
 #!/usr/bin/env python3
-"""Finds a few primary items that can't be covered together, for a problem file without a cover.
+"""Says why a problem file has no cover, in words that can be checked by hand, and draws it.
 
-    python3 scripts/why_none.py FILE [--fuel N]
+    python3 scripts/why_none.py FILE [--svg OUT] [--search] [--fuel N]
 
-Where the program answers `none`, this takes primary items away as long as it still does: half of those that are left at a time, then
-one by one. What is left can't be covered, and would be without any one of its items. (Where a question isn't answered within N
-visits, 1,000,000 where no number is given, its items stay, so there may be more of them than are needed.) It prints these items with
-the options that name them, and why, where that is plain: an item in no option, or two items any two options of which clash.
+First it asks the program for a reason (solve_cli why FILE): an item in no option; too little room, as 25 lessons for the 24 periods
+of their teacher; or weights that each option adds up to 0 modulo some number, and all items together don't, as the colours of a
+chessboard. That takes no search. It adds the reason up again by itself, and --svg draws it: the board in the colours of the weights,
+where the items are cells of one, else the items beside what they weigh, need or have room for.
 
-It wants the program: (cd crates/solve_cli && rt run -- --version) builds it. The exit status is 0 where there is no cover and items were found, 1
-where there is a cover or the search wasn't finished, 2 for a mistake on the command line or where the program can't be run, 3 for a
-file that can't be read or is refused.
+Where the program finds no reason, or with --search, and answers `none`, this takes primary items away as long as it still does: half of
+those that are left at a time, then one by one. What is left can't be covered, and would be without any one of its items. (Where a
+question isn't answered within N visits, 1,000,000 where no number is given, its items stay, so there may be more of them than are
+needed.) It prints these items with the options that name them, and why, where that is plain: two items any two options of which clash.
+
+It wants the program: (cd crates/solve_cli && rt run -- --version) builds it. The exit status is 0 where there is no cover and a reason or items
+were found, 1 where there is a cover or the search wasn't finished, 2 for a mistake on the command line or where the program can't be
+run, 3 for a file that can't be read or is refused, or a picture that can't be written.
 """
 import itertools
 import os
@@ -18,8 +23,11 @@ import subprocess
 import tempfile
 
 from built import parser_of, SOLVE_CLI, want_program
-from cover_files import Unreadable, read_bytes, read_problem, refusal, run, shown, stop
+from cover_files import Unreadable, put, read_bytes, read_problem, refusal, run, shown, stop
+from cover_reason import found_reason
+from draw_reason import reason_svg
 from fault_words import listed, plural, quoted
+from full_names import named_numbers
 
 # the exit status and the first word of each answer
 NONE, COVER, SPENT, OUT_OF_MEMORY = (1, b"none"), (0, b"cover"), (4, b"no"), (5, b"")
@@ -108,36 +116,75 @@ def explain(problem, kept, asked):
     yield from reasons(problem, kept)
 
 
+def put_lines(problem, lines):
+    """Prints these lines, and behind them what numbers in them mean."""
+    print("\n".join(lines + named_numbers(list(map(shown, problem.comments)), list(map(shown, problem.items)), lines)))
+
+
 def read(path):
-    """The problem of a file; ends the script where it can't be read or is refused."""
+    """The bytes and the problem of a file; ends the script where it can't be read or is refused."""
     try:
-        problem = read_problem(read_bytes(path))
+        text = read_bytes(path)
     except Unreadable as why:
         stop(why, 3)
+    problem = read_problem(text)
     if problem.faults:
         stop(f"{path} is refused: {refusal(problem.faults)}; scripts/explain.py {path} explains it", 3)
-    return problem
+    return text, problem
+
+
+def draw(path, problem, reason):
+    """Writes the picture of a reason."""
+    svg = reason_svg(problem, reason)
+    if path == "-":
+        print(svg, end="")
+        return
+    try:
+        put(path, svg)
+    except OSError as why:
+        stop(f"{path} can't be written: {why.strerror}", 3)
+
+
+def explain_reason(problem, reason, path):
+    """Prints why there is no cover, and draws it; the exit status."""
+    if not reason.holds(problem):
+        stop("the program's reason doesn't hold: added up again, its numbers don't show that there is no cover")
+    if path != "-":
+        put_lines(problem, reason.words(problem))
+    if path:
+        draw(path, problem, reason)
+    return 0
+
+
+def explain_by_search(problem, program, fuel):
+    """Prints a few items that can't be covered together; the exit status."""
+    questions = Questions(problem, program, fuel)
+    answer = questions.answer(problem.primary_names())
+    if answer != NONE:
+        print({COVER: "there is a cover", SPENT: f"no answer within {fuel:,} visits; --fuel allows more",
+               OUT_OF_MEMORY: "the program ran out of memory"}.get(answer, f"the program ended with status {answer[0]}"))
+        return 1
+    kept = least(problem.primary_names(), questions.is_none)
+    put_lines(problem, list(explain(problem, kept, questions.asked)))
+    return 0
 
 
 def main():
     words = parser_of(__doc__)
     words.add_argument("file", metavar="FILE", help="the problem's file, or - for the standard input")
+    words.add_argument("--svg", metavar="OUT", help="where a picture of the reason is written, - for the standard output")
+    words.add_argument("--search", action="store_true", help="don't ask for a reason: search alone")
     words.add_argument("--fuel", type=int, default=1_000_000, help="how many visits each search may take (default 1,000,000)")
     words.add_argument("--program", type=os.path.abspath, default=SOLVE_CLI, help="the built program (default crates/solve_cli/out/solve_cli)")
     given = words.parse_args()
     if not 1 <= given.fuel < 1 << 64:
         words.error("--fuel takes 1 to 18446744073709551615")
-    problem = read(given.file)
+    text, problem = read(given.file)
     want_program(given.program)
-    questions = Questions(problem, given.program, given.fuel)
-    answer = questions.answer(problem.primary_names())
-    if answer != NONE:
-        print({COVER: "there is a cover", SPENT: f"no answer within {given.fuel:,} visits; --fuel allows more",
-               OUT_OF_MEMORY: "the program ran out of memory"}.get(answer, f"the program ended with status {answer[0]}"))
-        return 1
-    kept = least(problem.primary_names(), questions.is_none)
-    print("\n".join(explain(problem, kept, questions.asked)))
-    return 0
+    reason = None if given.search else found_reason(given.program, text)
+    if reason:
+        return explain_reason(problem, reason, given.svg)
+    return explain_by_search(problem, given.program, given.fuel)
 
 
 if __name__ == "__main__":

@@ -7,7 +7,7 @@ use Rattle.cover_problem.specs.Onward.{live_options_from}
 use Rattle.cover_problem.specs.Search.{first, visits}
 use Rattle.choices.specs.Choices.{Choices, IsChild, IsNextChoice, with_child, with_child_if}
 use Rattle.brancher.specs.Reach.{IsSoFar, IsReached, at_root, at_child, IsBarrenAt, IsEnded}
-use Rattle.brancher.proofs.Visits.{so_far_start, so_far_found, so_far_spent, so_far_barren, so_far_next, so_far_end}
+use Rattle.brancher.proofs.Visits.{so_far_start, so_far_found, so_far_spent, so_far_stopped, so_far_barren, so_far_next, so_far_end}
 
 -- ---- what it tells of the root
 
@@ -21,7 +21,7 @@ reached_items root fuel now left at_root = omega arith
 reached_items root fuel now left (at_child before item option earlier left' reached is far) =
     omega (arith, reached_items root fuel before earlier reached, length-append before.chosen (option ∷ []), length-append before.branches (item ∷ []))
 
-reached_long : (root : Choices) (fuel : ℕ) (now : Choices) (left : ℕ) → IsReached root fuel now left → length root.chosen ≤ length now.chosen
+pub reached_long : (root : Choices) (fuel : ℕ) (now : Choices) (left : ℕ) → IsReached root fuel now left → length root.chosen ≤ length now.chosen
 reached_long root fuel now left at_root = omega arith
 reached_long root fuel now left (at_child before item option earlier left' reached is far) =
     omega (arith, reached_long root fuel before earlier reached, length-append before.chosen (option ∷ []))
@@ -37,6 +37,12 @@ pub reached_spent : (root : Choices) (fuel : ℕ) (now : Choices) (left : ℕ) �
 reached_spent root fuel now left at_root many = many
 reached_spent root fuel now left (at_child before item option earlier left' reached is far) many =
     reached_spent root fuel before earlier reached (so_far_spent before.problem before.chosen item option earlier left is many far)
+
+-- a visit that stops has made fewer than there are
+pub reached_stopped : (root : Choices) (fuel : ℕ) (now : Choices) (left made : ℕ) → IsReached root fuel now left → made < visits now.problem now.chosen → fuel + made < visits root.problem root.chosen + left
+reached_stopped root fuel now left made at_root many = omega (arith, many)
+reached_stopped root fuel now left made (at_child before item option earlier left' reached is far) many =
+    omega (arith, far.less, reached_stopped root fuel before earlier (made + (earlier - left')) reached (so_far_stopped before.problem before.chosen item option earlier left' made is many far))
 
 -- ---- what comes next
 

@@ -49,6 +49,7 @@ so_far_start p xs i fuel fueled e =
     record {
       found = ap (first_among p p.primary xs) all ∙ ap (λ d. first_among p d xs (live_options p xs i)) (sym one) ∙ sym came.found ∙ same.found;
       visits = omega (arith, ap (visits_among p p.primary xs) all, ap (λ d. visits_among p d xs (live_options p xs i)) one, came.visits, same.visits, fueled);
+      less = omega arith;
     }
 
 pub so_far_found : (p : Problem) (xs cover : List ℕ) (i o fuel left : ℕ) → IsChild p xs i o → visits p (xs ++ o ∷ []) ≤ left → first p (xs ++ o ∷ []) ≡ Some cover
@@ -62,11 +63,17 @@ pub so_far_spent : (p : Problem) (xs : List ℕ) (i o fuel left : ℕ) → IsChi
 so_far_spent p xs i o fuel left is many far =
     omega (arith, far.visits, left_spent p p.primary xs i o is.inside (child_choice p xs i o is), many)
 
+-- with more visits below a child than a number, below the prefix there are more than it and those that were made before
+pub so_far_stopped : (p : Problem) (xs : List ℕ) (i o fuel left made : ℕ) → IsChild p xs i o → made < visits p (xs ++ o ∷ [])
+    → IsSoFar p xs fuel left (live_options_from p xs i o) → made + (fuel - left) < visits p xs
+so_far_stopped p xs i o fuel left made is many far =
+    omega (arith, far.visits, far.less, left_spent p p.primary xs i o is.inside (child_choice p xs i o is), many)
+
 pub so_far_barren : (p : Problem) (xs : List ℕ) (i o fuel left rest : ℕ) → IsChild p xs i o → visits p (xs ++ o ∷ []) + rest ≡ left → first p (xs ++ o ∷ []) ≡ None
     → IsSoFar p xs fuel left (live_options_from p xs i o) → IsSoFar p xs fuel rest (live_options_from p xs i (o + 1))
 so_far_barren p xs i o fuel left rest is visits none far =
     let here = left_barren p p.primary xs i o is.inside (child_choice p xs i o is) none in
-    record { found = sym here.found ∙ far.found; visits = omega (arith, far.visits, here.visits, visits) }
+    record { found = sym here.found ∙ far.found; visits = omega (arith, far.visits, here.visits, visits); less = omega (arith, visits, far.less) }
 
 -- the same of the next option as of all that are left
 pub so_far_next : (p : Problem) (xs : List ℕ) (i start fuel left : ℕ) (next : Option ℕ) → next ≡ slice_get (live_options_from p xs i start) 0

@@ -1,5 +1,5 @@
 -- How far a visit of a prefix has come, while options are chosen and taken back below it.
-use Rattle.std.specs.Prelude.{◌≡◌, ℕ, ◌+◌, List, Bool, true, false, None}
+use Rattle.std.specs.Prelude.{◌≡◌, ℕ, ◌+◌, ◌≤◌, List, Bool, true, false, None}
 use Rattle.cover_problem.specs.Onward.{live_options_from, first_among, visits_among}
 use Rattle.cover_problem.specs.Problem.{Problem}
 use Rattle.cover_problem.specs.Search.{first, visits}
@@ -9,6 +9,7 @@ use Rattle.choices.specs.Choices.{Choices, IsChild, with_child}
 pub record IsSoFar (problem : Problem) (prefix : List ℕ) (fuel left : ℕ) (options : List ℕ) : Type 0 where
   pub found : first_among problem problem.primary prefix options ≡ first problem prefix
   pub visits : visits_among problem problem.primary prefix options + fuel ≡ visits problem prefix + left
+  pub less : left ≤ fuel
 
 -- A visit of the root that began with so much fuel has come to these choices, with so much left. At the root all is left; to a child it
 -- has come if it had come to what the child is of, and is done with the children before this one.

@@ -1,12 +1,15 @@
 //! What a searcher asks of its kernel: each call goes on to whichever it is.
 
-ghost use Rattle.std.specs.Prelude.{◌≡◌, true, IfOk};
+ghost use Rattle.std.specs.Prelude.{◌≡◌, ◌≤◌, ℕ, true, IfOk};
 ghost use Rattle.cover_problem.specs.Prefix.{is_prefix};
 ghost use Rattle.cover_problem.specs.Problem.{IsProblem};
 ghost use Rattle.cover_problem.specs.Search.{first, visits};
-ghost use Rattle.brancher.specs.Kernels.{choices_in};
+ghost use Rattle.brancher.specs.Keeping.{AreKept};
+ghost use Rattle.brancher.specs.Kernels.{choices_in, kind_in};
 ghost use Rattle.brancher.specs.Visit.{IsVisit};
 
+use crate::keeping::visit_below_keeping;
+use crate::kept::Kept;
 use crate::kernel::Kernel;
 use crate::tables::Tables;
 use crate::visit::{Visit, visit_below};
@@ -66,11 +69,46 @@ impl<'a> Kernel<'a> {
         ensures visit { IsVisit (first (choices_in self.old).problem prefix.now)
             (visits (choices_in self.old).problem prefix.now) fuel prefix.now
             (choices_in self.new).chosen result }
-        ensures stopped { result ≡ Visit.Stopped → W.may_stop ≡ true }
+        ensures stopped { (left : ℕ) → result ≡ Visit.Stopped left → W.may_stop ≡ true }
     {
         match self {
             Kernel::Links(links) => visit_below(links, prefix, fuel, watch),
             Kernel::Rows(rows) => visit_below(rows, prefix, fuel, watch),
+        }
+    }
+
+    /// Visits as `visit` does; states that are kept are not visited again.
+    pub(crate) fn visit_keeping<W: Watch>(
+        &mut self,
+        prefix: &[u16],
+        fuel: u64,
+        watch: &mut W,
+        kept: &mut Kept,
+    ) -> Visit
+        requires prefix { is_prefix (choices_in self.old).problem prefix.now ≡ true }
+        requires kept { AreKept (kind_in self.old) (choices_in self.old).problem kept.old }
+        ensures problem { (choices_in self.new).problem ≡ (choices_in self.old).problem }
+        ensures kind { kind_in self.new ≡ kind_in self.old }
+        ensures lawful { IsProblem (choices_in self.old).problem }
+        ensures visit { IsVisit (first (choices_in self.old).problem prefix.now)
+            (visits (choices_in self.old).problem prefix.now) fuel prefix.now
+            (choices_in self.new).chosen result }
+        ensures stopped { (left : ℕ) → result ≡ Visit.Stopped left → W.may_stop ≡ true }
+        ensures kept { AreKept (kind_in self.old) (choices_in self.old).problem kept.new }
+    {
+        match self {
+            Kernel::Links(links) => visit_below_keeping(links, prefix, fuel, watch, kept),
+            Kernel::Rows(rows) => visit_below_keeping(rows, prefix, fuel, watch, kept),
+        }
+    }
+
+    /// How many words a key has; 0 where there are no keys.
+    pub(crate) fn key_words(&self) -> usize
+        ensures { result ≤ 1024 }
+    {
+        match self {
+            Kernel::Links(links) => links.key_words(),
+            Kernel::Rows(rows) => rows.key_words(),
         }
     }
 }

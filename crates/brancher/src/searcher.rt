@@ -5,6 +5,7 @@ ghost use Rattle.cover_problem.specs.Search.{Covers, first, outcome, visits};
 ghost use Rattle.cover_problem.specs.declared.limits.TheConstants.{MOST_ITEMS};
 
 use crate::finding::Finding;
+use crate::kept::Kept;
 use crate::kernel::Kernel;
 use crate::outcome::Outcome;
 use crate::tables::Tables;
@@ -14,15 +15,22 @@ use cover_problem::Problem;
 use std::alloc::{AllocError, Global};
 use std::marker::Model;
 
+/// The room for states that suits a search by one thread, in bytes.
+pub const ROOM: u64 = 64 << 20;
+
 /// A search over one problem, by dancing links or over sets of live options.
 #[derive(Drop)]
 pub struct Searcher<'a> {
     kernel: Kernel<'a>,
+    /// What is kept of states that have no cover; none where nothing is.
+    kept: Option<Kept>,
     alloc: Global,
 }
 
 impl<'a> Model for Searcher<'a> {
-    ghost use Rattle.brancher.specs.Kernels.{choices_in};
+    ghost use Rattle.std.specs.Prelude.{IfSome};
+    ghost use Rattle.brancher.specs.Keeping.{AreKept};
+    ghost use Rattle.brancher.specs.Kernels.{choices_in, kind_in};
     ghost use Rattle.brancher.specs.Searching.{Searcher as SearcherValue};
 
     ghost Value = { SearcherValue };
@@ -31,6 +39,8 @@ impl<'a> Model for Searcher<'a> {
       problem = (choices_in s.kernel).problem;
       found = (choices_in s.kernel).chosen;
     } };
+
+    ghost invariant = { λ s. IfSome s.kept (AreKept (kind_in s.kernel) (choices_in s.kernel).problem) };
 }
 
 impl<'a> Searcher<'a> {
@@ -42,7 +52,11 @@ impl<'a> Searcher<'a> {
         ensures { IfOk result (λ s. s.problem ≡ problem.now) }
     {
         let kernel = Kernel::linked(alloc, problem)?;
-        Ok(Searcher { kernel, alloc })
+        Ok(Searcher {
+            kernel,
+            kept: None,
+            alloc,
+        })
     }
 
     /// A search over the tables of a problem, which several searches may share; the only error is out of memory.
@@ -50,7 +64,42 @@ impl<'a> Searcher<'a> {
         ensures { IfOk result (λ s. s.problem ≡ tables.now) }
     {
         let kernel = Kernel::over(alloc, tables)?;
-        Ok(Searcher { kernel, alloc })
+        Ok(Searcher {
+            kernel,
+            kept: None,
+            alloc,
+        })
+    }
+
+    /// A search as `over` makes it that keeps states which it found to have no cover, and goes past them when it meets them again. They take
+    /// at most so many bytes; where these are refused they take fewer, or it keeps none. The only error is out of memory.
+    pub fn keeping(
+        alloc: Global,
+        tables: &'a Tables<'a>,
+        room: u64,
+    ) -> Result<Searcher<'a>, AllocError>
+        ensures { IfOk result (λ s. s.problem ≡ tables.now) }
+    {
+        let kernel = Kernel::over(alloc, tables)?;
+        let words = kernel.key_words();
+        let kept = if words > 0 {
+            Kept::build(alloc, tables.problem(), words, room).ok()
+        } else {
+            None
+        };
+        Ok(Searcher {
+            kernel,
+            kept,
+            alloc,
+        })
+    }
+
+    /// The problem.
+    pub fn problem(&self) -> &Problem
+        ensures problem { result.now ≡ self.now.problem }
+        ensures lawful { IsProblem self.now.problem }
+    {
+        self.kernel.problem()
     }
 
     /// Searches for the first cover below a prefix, with at most so many visits.
@@ -85,7 +134,7 @@ impl<'a> Searcher<'a> {
             Visit::Found => Outcome::Cover,
             Visit::Barren(_) => Outcome::Barren,
             Visit::Spent => Outcome::Spent,
-            Visit::Stopped => unreachable!(),
+            Visit::Stopped(_) => unreachable!(),
         }
     }
 
@@ -97,9 +146,12 @@ impl<'a> Searcher<'a> {
         ensures lawful { IsProblem self.old.problem }
         ensures visit { IsVisit (first self.old.problem prefix.now)
             (visits self.old.problem prefix.now) fuel prefix.now self.new.found result }
-        ensures stopped { result ≡ Visit.Stopped → W.may_stop ≡ true }
+        ensures stopped { (left : ℕ) → result ≡ Visit.Stopped left → W.may_stop ≡ true }
     {
-        self.kernel.visit(prefix, fuel, watch)
+        match &mut self.kept {
+            Some(kept) => self.kernel.visit_keeping(prefix, fuel, watch, kept),
+            None => self.kernel.visit(prefix, fuel, watch),
+        }
     }
 
     /// Searches as `search` does, and copies out what it came to; `found` is the cover then, too. It takes the room for a
@@ -162,7 +214,7 @@ impl<'a> Searcher<'a> {
             Visit::Found => (Outcome::Cover, fuel),
             Visit::Barren(left) => (Outcome::Barren, fuel - left),
             Visit::Spent => (Outcome::Spent, fuel),
-            Visit::Stopped => return Ok(None),
+            Visit::Stopped(_) => return Ok(None),
         };
         Ok(Some((self.copied_into(room, prefix, fuel, outcome), made)))
     }

@@ -72,7 +72,7 @@ impl<'a> Tables<'a> {
     }
 
     /// The sets of the problem's options, for searches over them.
-    pub(crate) fn sets(&self) -> Option<&OptionSets<'a>>
+    pub fn sets(&self) -> Option<&OptionSets<'a>>
         ensures { IfSome result (λ sets. sets.now ≡ self.now) }
     {
         self.sets.as_ref()

@@ -1,9 +1,9 @@
-ghost use Rattle.std.specs.Prelude.{◌≡◌, ◌+◌, ◌≤◌, ℕ, length, true};
+ghost use Rattle.std.specs.Prelude.{◌≡◌, ◌+◌, ◌≤◌, ◌⊎◌, ℕ, length, true};
 ghost use Rattle.cover_problem.specs.Prefix.{is_prefix};
 ghost use Rattle.cover_problem.specs.Problem.{IsProblem};
 ghost use Rattle.cover_problem.specs.Search.{first, visits};
 ghost use Rattle.choices.specs.Choices.{Choices};
-ghost use Rattle.brancher.specs.Reach.{IsBarrenAt, IsOnward};
+ghost use Rattle.brancher.specs.Reach.{IsBarrenAt, IsOnward, IsReached};
 ghost use Rattle.brancher.specs.Visit.{IsVisit};
 
 use crate::branching::put_prefix;
@@ -22,8 +22,8 @@ pub enum Visit {
     Barren(u64),
     /// The fuel was spent.
     Spent,
-    /// It was stopped.
-    Stopped,
+    /// It was stopped, and so much fuel is left: it takes more visits than were made.
+    Stopped(u64),
 }
 
 /// Puts a prefix in place of what is chosen, and visits it and what is below it.
@@ -39,28 +39,37 @@ pub fn visit_below<B: Branching, W: Watch>(
     ensures visit { IsVisit (first (B.choices state.old).problem prefix.now)
         (visits (B.choices state.old).problem prefix.now) fuel prefix.now
         (B.choices state.new).chosen result }
-    ensures stopped { result ≡ Visit.Stopped → W.may_stop ≡ true }
+    ensures stopped { (left : ℕ) → result ≡ Visit.Stopped left → W.may_stop ≡ true }
 {
     state.problem();
     put_prefix(state, prefix);
-    visit_prefix(state, fuel, watch)
+    visit_prefix(state, fuel, 0, watch)
 }
 
-/// Visits the prefix that is chosen, and what is below it. The chosen options come back, or are the first cover.
-fn visit_prefix<B: Branching, W: Watch>(state: &mut B, fuel: u64, watch: &mut W) -> Visit
+/// Visits the prefix that is chosen, and what is below it. The chosen options come back, or are the first cover. It also stops, after at
+/// most 1,023 more visits, where no more than `pause` is left: then another visit may go on at what is chosen.
+pub(crate) fn visit_prefix<B: Branching, W: Watch>(
+    state: &mut B,
+    fuel: u64,
+    pause: u64,
+    watch: &mut W,
+) -> Visit
     ensures problem { (B.choices state.new).problem ≡ (B.choices state.old).problem }
     ensures visit { IsVisit (first (B.choices state.old).problem (B.choices state.old).chosen)
         (visits (B.choices state.old).problem (B.choices state.old).chosen) fuel
         (B.choices state.old).chosen (B.choices state.new).chosen result }
     ensures back { (rest : ℕ) → result ≡ Visit.Barren rest →
         B.choices state.new ≡ B.choices state.old }
-    ensures stopped { result ≡ Visit.Stopped → W.may_stop ≡ true }
+    ensures stopped { (left : ℕ) → result ≡ Visit.Stopped left →
+        (W.may_stop ≡ true) ⊎ (left ≤ pause) }
+    ensures reached { (left : ℕ) → result ≡ Visit.Stopped left → (1 ≤ left)
+        × IsReached (B.choices state.old) fuel (B.choices state.new) left }
 {
     let base = state.chosen().len();
     let mut left = fuel;
     while left > 0 {
-        if left % LOOK == 0 && watch.look(state.chosen(), left) {
-            return Visit::Stopped;
+        if left % LOOK == 0 && (left <= pause || watch.look(state.chosen(), left)) {
+            return Visit::Stopped(left);
         }
         let Some(item) = state.branch_item() else {
             return Visit::Found;

@@ -1,1 +1,2 @@
 pub mod Choices
+pub mod Keys

@@ -1,10 +1,11 @@
 //! Options that are chosen one after the other, and taken back.
 
-ghost use Rattle.std.specs.Prelude.{◌≡◌, ℕ, ◌<◌, length, true, false, IfSome, slice_get};
+ghost use Rattle.std.specs.Prelude.{◌≡◌, ℕ, ◌<◌, ◌≤◌, length, true, false, IfSome, IsTrue, slice_get};
 ghost use Rattle.cover_problem.specs.Branching.{branch_item, IsOpen};
 ghost use Rattle.cover_problem.specs.Onward.{live_options_from};
 ghost use Rattle.cover_problem.specs.Prefix.{is_covered, is_live, is_prefix};
 ghost use Rattle.cover_problem.specs.Problem.{IsProblem};
+ghost use Rattle.choices.specs.Keys.{IsKey, KeyKind};
 ghost use Rattle.choices.specs.Choices.{Choices, with_child, with_child_if, with_choice, IsChild, IsNextChoice};
 
 use cover_problem::Problem;
@@ -14,6 +15,9 @@ use cover_problem::Problem;
 pub trait Branching: Drop {
     /// The problem, the chosen options, and the item by which each was chosen.
     ghost choices: { Self → Choices };
+
+    /// What the bits of a key are.
+    ghost kind: { KeyKind };
 
     /// The problem.
     fn problem(&self) -> &Problem
@@ -32,6 +36,16 @@ pub trait Branching: Drop {
             (IsOpen (choices self.now).problem (choices self.now).chosen) }
         ensures named { IfSome result
             (λ item. item < length (choices self.now).problem.names) };
+
+    /// How many words a key has: at most 1,024; 0 where there are no keys.
+    fn key_words(&self) -> usize
+        ensures { result ≤ 1024 };
+
+    /// Writes the key of the chosen options into the words, if there are as many as a key has and the branch item, if there is one, has
+    /// a live option. Answers whether it did. Below prefixes with equal keys the search is the same.
+    fn write_key(&self, words: &mut [u64]) -> bool
+        ensures { IsTrue result → IsKey kind (choices self.now).problem
+            (choices self.now).chosen words.new };
 
     /// Chooses a live option, by its first primary item.
     fn choose(&mut self, option: u16)

@@ -26,7 +26,7 @@ limit_rule id = record (new_rule id) { long = Some id }
 abbrev pub flag_rule : Text → Rule
 flag_rule id = record (new_rule id) { long = Some id; action = Some SetTrue }
 
--- the fuel, which is the greatest number where it is not given
+-- the fuel, which is the greatest number where it is not given or there is no such option
 abbrev pub greatest_fuel_rule : Rule
 greatest_fuel_rule = number_rule (codes "fuel") (codes "18446744073709551615")
 
@@ -34,13 +34,19 @@ greatest_fuel_rule = number_rule (codes "fuel") (codes "18446744073709551615")
 abbrev pub versioned : App → App
 versioned app = record app { top = record app.top { has_version = true } }
 
--- what one thread searches, and whether it writes how far it has come
+-- what one thread searches, whether it writes how far it has come, and whether it has no limit
 abbrev pub alone_app : App
-alone_app = with_rule (with_rule (with_rule (versioned (new_app (codes "alone"))) (file_rule (codes "file"))) greatest_fuel_rule) (flag_rule (codes "progress"))
+alone_app =
+    with_rule (with_rule (with_rule (with_rule (versioned (new_app (codes "alone"))) (file_rule (codes "file"))) greatest_fuel_rule) (flag_rule (codes "progress"))) (flag_rule (codes "unlimited"))
 
--- which answer is tested against which file
+-- which answer is tested against which file, and whether without a limit
 abbrev pub check_app : App
-check_app = with_rule (with_rule (with_rule (versioned (new_app (codes "check"))) (file_rule (codes "file"))) (file_rule (codes "answer"))) greatest_fuel_rule
+check_app =
+    with_rule (with_rule (with_rule (with_rule (versioned (new_app (codes "check"))) (file_rule (codes "file"))) (file_rule (codes "answer"))) greatest_fuel_rule) (flag_rule (codes "unlimited"))
+
+-- of which file a reason is looked for
+abbrev pub why_app : App
+why_app = with_rule (versioned (new_app (codes "why"))) (file_rule (codes "file"))
 
 -- what sites search, how many nodes there are, and the seed of what is drawn
 abbrev pub sites_app : Text → App
@@ -65,18 +71,23 @@ solve_app = with_rule (with_rule (with_rule threads_app (flag_rule (codes "audit
 abbrev pub wanting_subcommand : App → App
 wanting_subcommand app = record app { top = record app.top { subcommand_required = true } }
 
--- what one thread does
+-- what one thread searches and tests
 abbrev pub one_thread_app : App
 one_thread_app = with_subcommand (with_subcommand (wanting_subcommand (versioned (new_app (codes "solve_cli")))) alone_app.top) check_app.top
 
--- what sites do
+-- all that one thread does
+abbrev pub reasoning_app : App
+reasoning_app = with_subcommand one_thread_app why_app.top
+
+-- with what sites do
 abbrev pub solver_app : App
-solver_app = with_subcommand (with_subcommand one_thread_app simulate_app.top) solve_app.top
+solver_app = with_subcommand (with_subcommand reasoning_app simulate_app.top) solve_app.top
 
 -- the word of the command line that asks for it
 abbrev pub mode_word : Mode → Text
 mode_word modes.Alone = codes "alone"
 mode_word modes.Check = codes "check"
+mode_word modes.Why = codes "why"
 mode_word modes.Simulate = codes "simulate"
 mode_word modes.Solve = codes "solve"
 
@@ -84,10 +95,6 @@ mode_word modes.Solve = codes "solve"
 pub record Spells (text : Text) (number : ℕ) : Type 0 where
   pub digits : IsNumeral 10 text
   pub value : number ≡ digits_value 10 text
-
--- the option is given and spells a number of visits, at least one
-abbrev pub SpellsFuel : Option Text → ℕ → Type 0
-SpellsFuel given fuel = (text : Text) × (given ≡ Some text) × Spells text fuel × (1 ≤ fuel)
 
 -- the number that an option spells; a subcommand that lacks the option has its default
 abbrev pub SpellsOr : ℕ → Option Text → ℕ → Type 0
@@ -114,7 +121,7 @@ pub record AreSpelled (name : Text) (given : Text → Option Text) (settings : S
   pub mode_named : mode_word settings.mode ≡ name
   pub file_given : given (codes "file") ≡ Some settings.file.now
   pub answer_given : IsAnswerFile settings.mode (option_map (λ answer. answer.now) settings.answer) (given (codes "answer"))
-  pub fuel_given : SpellsFuel (given (codes "fuel")) settings.fuel
+  pub fuel_given : SpellsOr 18446744073709551615 (given (codes "fuel")) settings.fuel
   pub fuel_fits : settings.fuel < 2 ^ 64
   pub nodes_given : SpellsOr 4 (given (codes "nodes")) settings.nodes
   pub seed_given : SpellsOr 1 (given (codes "seed")) settings.seed
@@ -129,11 +136,17 @@ pub record IsSpelled (name : Text) (given : Text → Option Text) (request : Req
   pub settings : AreSpelled name given request.settings
   pub seconds_given : SpellsIf (given (codes "seconds")) request.seconds
   pub progress_given : IsFlag (given (codes "progress")) request.progress
+  pub unlimited_given : IsFlag (given (codes "unlimited")) request.unlimited
 
 -- The problem and the answer are both to be read from standard input.
 pub record ReadsInputTwice (settings : Settings) : Type 0 where
   pub file : settings.file.now ≡ codes "-"
   pub answer : option_map (λ answer. answer.now) settings.answer ≡ Some (codes "-")
+
+-- There is no limit of visits, and there is one.
+pub record IsLimitedTwice (request : Request) : Type 0 where
+  pub unlimited : request.unlimited ≡ true
+  pub limited : request.settings.fuel ≢ 18446744073709551615
 
 -- They are spelled by the subcommand that clap's definition of a simple command's matches gives for the words, with its values.
 pub record AreMet (met : Option (Text × List Row)) (settings : Settings) : Type 0 where

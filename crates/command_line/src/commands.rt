@@ -3,7 +3,7 @@
 ghost use Rattle.std.specs.Prelude.{◌≡◌, false, IfOk, codes};
 ghost use Rattle.clap.specs.Words.{app_of, new_app, rule_of, with_rule};
 ghost use Rattle.clap.specs.declared.builder.command.Command.TheViews.{out-Command};
-ghost use Rattle.command_line.specs.CommandLine.{alone_app, check_app, file_rule, flag_rule, greatest_fuel_rule, limit_rule, number_rule, one_thread_app, simulate_app, sites_app, solve_app, solver_app, threads_app, versioned};
+ghost use Rattle.command_line.specs.CommandLine.{alone_app, check_app, file_rule, flag_rule, greatest_fuel_rule, limit_rule, number_rule, one_thread_app, reasoning_app, simulate_app, sites_app, solve_app, solver_app, threads_app, versioned, why_app};
 
 use clap::error::ErrorKind;
 use clap::{Arg, ArgAction, Command, Error};
@@ -20,6 +20,10 @@ const SEARCH_STATUSES: &str =
 /// The exit statuses of a check, as help tells them.
 const CHECK_STATUSES: &str =
     "Statuses: 0 right, 1 wrong, 2 a mistake on the command line, 3 a refused file or a failed device, 4 no answer, 5 out of memory";
+
+/// The exit statuses of the search for a reason, as help tells them.
+const WHY_STATUSES: &str =
+    "Statuses: 1 none, 2 a mistake on the command line, 3 a refused file or a failed device, 4 no reason found, 5 out of memory";
 
 fn file_argument<'a>(alloc: Global) -> Arg<'a>
     ensures rule { rule_of result ≡ file_rule (codes "file") }
@@ -57,6 +61,17 @@ fn progress_argument<'a>(alloc: Global) -> Arg<'a>
         alloc,
         "progress",
         "Writes each second to standard error how far the search has come",
+    )
+}
+
+fn unlimited_argument<'a>(alloc: Global) -> Arg<'a>
+    ensures rule { rule_of result ≡ flag_rule (codes "unlimited") }
+    ensures own { result.global ≡ false }
+{
+    flag_argument(
+        alloc,
+        "unlimited",
+        "Searches until it is decided, whatever number of prefixes that takes; not with --fuel",
     )
 }
 
@@ -120,7 +135,8 @@ fn alone_command<'a>(alloc: Global) -> Result<Command<'a>, AllocError>
 {
     let about = "Searches the problem on one thread and writes its first exact cover, or none";
     let command = described(alloc, "alone", about).after_help(SEARCH_STATUSES);
-    with_two(command, file_argument(alloc), fuel_argument(alloc))?.arg(progress_argument(alloc))
+    let command = with_two(command, file_argument(alloc), fuel_argument(alloc))?;
+    with_two(command, progress_argument(alloc), unlimited_argument(alloc))
 }
 
 fn check_command<'a>(alloc: Global) -> Result<Command<'a>, AllocError>
@@ -129,7 +145,19 @@ fn check_command<'a>(alloc: Global) -> Result<Command<'a>, AllocError>
 {
     let about = "Tests whether an answer to the problem is right";
     let command = described(alloc, "check", about).after_help(CHECK_STATUSES);
-    with_two(command, file_argument(alloc), answer_argument(alloc))?.arg(fuel_argument(alloc))
+    let command = with_two(command, file_argument(alloc), answer_argument(alloc))?;
+    with_two(command, fuel_argument(alloc), unlimited_argument(alloc))
+}
+
+fn why_command<'a>(alloc: Global) -> Result<Command<'a>, AllocError>
+    ensures app { IfOk result (λ command. app_of command ≡ why_app) }
+    ensures local { IfOk result (λ command. (out-Command command).has_globals ≡ false) }
+{
+    let about =
+        "Looks for a reason why the problem has no exact cover that can be added up by hand, and writes it; it may find none";
+    described(alloc, "why", about)
+        .after_help(WHY_STATUSES)
+        .arg(file_argument(alloc))
 }
 
 /// What sites search, how many nodes there are, and the seed of what is drawn.
@@ -204,7 +232,7 @@ fn solve_command<'a>(alloc: Global) -> Result<Command<'a>, AllocError>
     audited.arg(progress_argument(alloc))
 }
 
-/// What one thread does.
+/// What one thread searches and tests.
 fn one_thread_command<'a>(alloc: Global) -> Result<Command<'a>, AllocError>
     ensures { IfOk result (λ command. app_of command ≡ one_thread_app) }
 {
@@ -218,12 +246,20 @@ fn one_thread_command<'a>(alloc: Global) -> Result<Command<'a>, AllocError>
         .subcommand(check)
 }
 
+/// All that one thread does.
+fn reasoning_command<'a>(alloc: Global) -> Result<Command<'a>, AllocError>
+    ensures { IfOk result (λ command. app_of command ≡ reasoning_app) }
+{
+    let why = why_command(alloc)?;
+    one_thread_command(alloc)?.subcommand(why)
+}
+
 pub fn solver_command<'a>(alloc: Global) -> Result<Command<'a>, AllocError>
     ensures { IfOk result (λ command. app_of command ≡ solver_app) }
 {
     let simulate = simulate_command(alloc)?;
     let solve = solve_command(alloc)?;
-    one_thread_command(alloc)?
+    reasoning_command(alloc)?
         .subcommand(simulate)?
         .subcommand(solve)
 }
@@ -233,6 +269,7 @@ fn command_of<'a>(alloc: Global, mode: Mode) -> Result<Command<'a>, AllocError> 
     match mode {
         Mode::Alone => alone_command(alloc),
         Mode::Check => check_command(alloc),
+        Mode::Why => why_command(alloc),
         Mode::Simulate => simulate_command(alloc),
         Mode::Solve => solve_command(alloc),
     }
@@ -243,6 +280,7 @@ fn name_of(mode: Mode) -> &'static str {
     match mode {
         Mode::Alone => "alone",
         Mode::Check => "check",
+        Mode::Why => "why",
         Mode::Simulate => "simulate",
         Mode::Solve => "solve",
     }

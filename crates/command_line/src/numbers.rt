@@ -4,7 +4,7 @@ ghost use Rattle.std.specs.Prelude.{ℕ, Option, ◌≡◌, ◌≤◌, ◌<◌, 
 ghost use Rattle.std.specs.Option.{ForSome};
 ghost use Rattle.std.specs.Str.Parse.{IsNumeral, digits_value};
 ghost use Rattle.clap.specs.Words.{first_value, found_of};
-ghost use Rattle.command_line.specs.CommandLine.{Spells, SpellsFuel, SpellsIf, SpellsOr};
+ghost use Rattle.command_line.specs.CommandLine.{Spells, SpellsIf, SpellsOr};
 
 use clap::ArgMatches;
 
@@ -114,12 +114,14 @@ pub fn seconds(inner: &ArgMatches<'_>) -> Option<Option<u32>>
 
 /// How many visits a search may take, from 1.
 pub fn fuel(inner: &ArgMatches<'_>) -> Option<u64>
-    ensures given { IfSome result (SpellsFuel (first_value (found_of inner.now) (codes "fuel"))) }
+    ensures given { IfSome result
+        (SpellsOr 18446744073709551615 (first_value (found_of inner.now) (codes "fuel"))) }
     ensures some { IfSome result (λ fuel. 1 ≤ fuel) }
     ensures none { IfNone result ((n : ℕ) →
-        SpellsFuel (first_value (found_of inner.now) (codes "fuel")) n → n < 2 ^ 64 → ⊥) }
+        SpellsOr 18446744073709551615 (first_value (found_of inner.now) (codes "fuel")) n →
+        1 ≤ n → n < 2 ^ 64 → ⊥) }
 {
-    let fuel = number(inner.get_str("fuel")?)?;
+    let fuel = number_or(inner, "fuel", u64::MAX)?;
     if fuel == 0 {
         return None;
     }

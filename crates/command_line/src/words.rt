@@ -2,7 +2,7 @@
 
 ghost use Rattle.std.specs.Prelude.{Option, ◌≡◌, ◌≢◌, ◌↔◌, true, IfNone, IfOk, IfSome, codes, is_some, map, option_map};
 ghost use Rattle.clap.specs.Words.{Text, first_value, found_of, subcommand_of};
-ghost use Rattle.command_line.specs.CommandLine.{AreMet, AreSpelled, IsAnswerFile, IsFlag, IsMet, IsSpelled, ReadsInputTwice, mode_word, solver_app};
+ghost use Rattle.command_line.specs.CommandLine.{AreMet, AreSpelled, IsAnswerFile, IsFlag, IsLimitedTwice, IsMet, IsSpelled, ReadsInputTwice, mode_word, solver_app};
 
 use crate::commands::{solver_command, value_error};
 use crate::fault::{SettingsFault, fault_of};
@@ -20,6 +20,9 @@ const PROGRAM: &str = "solve_cli";
 const INPUT_TWICE: &str =
     "- is standard input, which can be read once: as the file or as the answer";
 
+/// What is reported where a search is to have no limit, and one.
+const LIMITED_TWICE: &str = "--unlimited can't be used with --fuel";
+
 /// What a subcommand's name stands for.
 fn mode_of(name: &str) -> Option<Mode>
     ensures named { IfSome result (λ mode. mode_word mode ≡ name.now) }
@@ -30,6 +33,9 @@ fn mode_of(name: &str) -> Option<Mode>
     }
     if name == "check" {
         return Some(Mode::Check);
+    }
+    if name == "why" {
+        return Some(Mode::Why);
     }
     if name == "simulate" {
         return Some(Mode::Simulate);
@@ -51,7 +57,7 @@ fn answer_file<'a>(mode: Mode, inner: &ArgMatches<'a>) -> Option<Option<&'a str>
 {
     match mode {
         Mode::Check => Some(Some(inner.get_str("answer")?)),
-        Mode::Alone | Mode::Simulate | Mode::Solve => Some(None),
+        Mode::Alone | Mode::Why | Mode::Simulate | Mode::Solve => Some(None),
     }
 }
 
@@ -93,6 +99,7 @@ fn requested<'a>(name: &'a str, inner: &ArgMatches<'a>) -> Option<Request<'a>>
         settings: spelled(name, inner)?,
         seconds: seconds(inner)?,
         progress: is_set(inner, "progress"),
+        unlimited: is_set(inner, "unlimited"),
     })
 }
 
@@ -104,6 +111,13 @@ fn reads_input_twice(settings: &Settings<'_>) -> bool
         Some(answer) => settings.file == STANDARD_INPUT && answer == STANDARD_INPUT,
         None => false,
     }
+}
+
+/// Whether a search is to have no limit of visits, and one.
+fn is_limited_twice(request: &Request<'_>) -> bool
+    ensures { (result ≡ true) ↔ IsLimitedTwice request.now }
+{
+    request.unlimited && request.settings.fuel != u64::MAX
 }
 
 /// The name that the program was called by: the first word, without the folders before it.
@@ -133,12 +147,13 @@ fn no_subcommand(command: Command<'_>) -> SettingsFault {
 
 /// What the words of a command line ask for; the first word is the program's name.
 ///
-/// `Line` is clap's fault for words that are no command line, the fault of a value that is no number of its range or of
-/// standard input that is named twice, and clap's text for help and version. `Memory` comes where memory was refused, by clap too.
+/// `Line` is clap's fault for words that are no command line, the fault of a value that is no number of its range, of standard input that
+/// is named twice or of a limit of visits beside `--unlimited`, and clap's text for help and version. `Memory` comes where memory was refused, by clap too.
 pub fn request<'a>(alloc: Global, words: &'a [&'a str]) -> Result<Request<'a>, SettingsFault>
     ensures met { IfOk result
         (IsMet (subcommand_of solver_app (map (λ word. word.now) words.now))) }
     ensures once { IfOk result (λ request. ReadsInputTwice request.settings → ⊥) }
+    ensures limit { IfOk result (λ request. IsLimitedTwice request → ⊥) }
 {
     let Ok(mut command) = solver_command(alloc) else {
         return Err(SettingsFault::Memory);
@@ -158,6 +173,9 @@ pub fn request<'a>(alloc: Global, words: &'a [&'a str]) -> Result<Request<'a>, S
     };
     if reads_input_twice(&request.settings) {
         return Err(value_fault(alloc, words, mode, INPUT_TWICE));
+    }
+    if is_limited_twice(&request) {
+        return Err(value_fault(alloc, words, mode, LIMITED_TWICE));
     }
     Ok(request)
 }

@@ -1,3 +1,4 @@
 pub mod Checked
+pub mod Ends
 pub mod Findings
 pub mod Outputs

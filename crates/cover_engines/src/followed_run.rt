@@ -3,7 +3,6 @@
 use brancher::{Finding, Outcome};
 use cover_problem::Problem;
 use dlx_reader::Sink;
-use run_settings::Settings;
 use search_engines::{Gauge, Progress, ProgressLog, Seconds};
 use spawn_frame::Job;
 use std::alloc::{AllocError, Global};
@@ -16,10 +15,8 @@ use udp_node::{Cause, Gate, SiteEnd};
 #[derive(Drop)]
 pub struct FollowedRun<'a, E: Sink, R: Wait + Clock> {
     rt: &'a R,
-    /// How many turns a thread takes at most.
-    turns: u64,
-    /// How many one of node 1 takes at most in each of its starts.
-    turns_of_start: u64,
+    /// How long the run may last, if it is limited.
+    limit: Option<Duration>,
     state: Mutex<State<'a, E>>,
 }
 
@@ -39,12 +36,12 @@ struct State<'a, E: Sink> {
 }
 
 impl<'a, E: Sink, R: Wait + Clock> FollowedRun<'a, E, R> {
-    /// A gate of a run that has these settings and begins now. The only error is want of memory.
+    /// A gate of a run that begins now and lasts so long at most, if it is limited. The only error is want of memory.
     pub fn new(
         rt: &'a R,
         alloc: Global,
-        settings: &Settings,
         problem: &'a Problem,
+        limit: Option<Duration>,
         log: ProgressLog<'a, E>,
     ) -> Result<FollowedRun<'a, E, R>, AllocError> {
         let gauge = Gauge::new(alloc, problem)?;
@@ -58,50 +55,32 @@ impl<'a, E: Sink, R: Wait + Clock> FollowedRun<'a, E, R> {
             is_over: false,
             reason: None,
         };
-        let turns = u64::from(settings.turns);
         Ok(FollowedRun {
             rt,
-            turns,
-            turns_of_start: turns / (u64::from(settings.restarts) + 1),
+            limit,
             state: Mutex::new(state),
         })
     }
 
-    /// The run has ended. Where there is no answer, the reason is written: the limit of its time, or how a site ended.
-    pub fn end(&self, is_answered: bool, limit: Option<Duration>) {
-        let mut state = self.state.lock(self.rt);
-        state.end();
-        if is_answered {
-            return;
-        }
-        let is_late = match (limit, state.seconds.elapsed(self.rt)) {
+    /// Whether the run has lasted as long as it may.
+    fn is_late(&self, state: &State<'a, E>) -> bool {
+        match (self.limit, state.seconds.elapsed(self.rt)) {
             (Some(limit), Some(elapsed)) => elapsed >= limit,
             _ => false,
-        };
-        let reason = match state.reason {
-            _ if is_late => "the time is over",
-            Some(reason) => reason,
-            None => "nothing was published",
-        };
-        state.log.write_reason(reason);
-    }
-
-    /// Why the site of a node ended so.
-    fn reason(&self, node: u8, end: &SiteEnd) -> &'static str {
-        let turns = if node == 1 {
-            self.turns_of_start
-        } else {
-            self.turns
-        };
-        match end.cause {
-            Cause::Over => "the search is over",
-            Cause::BookFull => "a book is full",
-            Cause::Faults => "a socket failed",
-            Cause::Memory => "out of memory",
-            Cause::Turns if !end.is_manned => "a thread could not be started",
-            Cause::Turns if end.taken.turns >= turns => "the turns of a site are over",
-            Cause::Turns => "a site heard nothing for long",
         }
+    }
+}
+
+/// Why a site ended so.
+fn reason_of(end: &SiteEnd) -> &'static str {
+    match end.cause {
+        Cause::Over => "the search is over",
+        Cause::BookFull => "a book is full",
+        Cause::Faults => "a socket failed",
+        Cause::Memory => "out of memory",
+        Cause::Silence => "a site heard nothing for long",
+        Cause::Turns if !end.is_manned => "a thread could not be started",
+        Cause::Turns => "the turns of a site are over",
     }
 }
 
@@ -171,11 +150,26 @@ impl<'a, E: Sink, R: Wait + Clock> Gate for FollowedRun<'a, E, R> {
         }
     }
 
-    fn ended(&self, node: u8, end: &SiteEnd) {
+    fn ended(&self, _node: u8, end: &SiteEnd) {
         let mut state = self.state.lock(self.rt);
         state.end();
         if end.cause != Cause::Over && state.reason.is_none() {
-            state.reason = Some(self.reason(node, end));
+            state.reason = Some(reason_of(end));
         }
+    }
+
+    /// Where there is no answer, the reason is written: the limit of its time, or how the first site ended.
+    fn finished(&self, is_answered: bool) {
+        let mut state = self.state.lock(self.rt);
+        state.end();
+        if is_answered {
+            return;
+        }
+        let reason = match state.reason {
+            _ if self.is_late(&state) => "the time is over",
+            Some(reason) => reason,
+            None => "nothing was published",
+        };
+        state.log.write_reason(reason);
     }
 }

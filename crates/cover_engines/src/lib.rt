@@ -4,14 +4,19 @@
 
 mod audited;
 mod followed_run;
+mod machine;
+mod network;
 mod sockets;
 mod solve;
 
 pub use audited::{Finding, write_audited};
 pub use followed_run::FollowedRun;
+pub use machine::Machine;
+pub use network::{Loopback, Network};
 pub use search_engines::{
     AloneEnd, CheckEnd, EngineEnd, EngineFault, Gauge, Lines, Progress, ProgressLog, alone_engine,
-    alone_with_progress, check_engine, read_whole, tell, tell_end, tell_fault, tell_unbound,
+    alone_unlimited, alone_unlimited_with_progress, alone_with_progress, check_engine,
+    check_unlimited, tell, tell_end, tell_fault,
 };
 pub use sockets::links;
 pub use solve::{SolveEnd, solve_engine, solve_problem};

@@ -95,6 +95,7 @@ fn solve_within<
     if end.answer.is_none() && has_starved(&end.sites) {
         return Err(EngineFault::Memory);
     }
+    gate.finished(end.answer.is_some());
     Ok(SolveEnd {
         answer: end.answer,
         books: end.books,

@@ -1,3 +1,4 @@
+pub mod Alike
 pub mod Among
 pub mod Apart
 pub mod Basics

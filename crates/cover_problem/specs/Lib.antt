@@ -1,3 +1,4 @@
+pub mod Alike
 pub mod Branching
 pub mod ExactCover
 pub mod Examples

@@ -7,7 +7,8 @@ ghost use Rattle.cover_problem.specs.Numbers.{is_in, is_distinct};
 ghost use Rattle.cover_problem.specs.declared.limits.TheConstants.{MOST_ITEMS};
 ghost use Rattle.cover_problem.specs.ExactCover.{IsExactCover, uses, in_order};
 ghost use Rattle.cover_problem.specs.Prefix.{IsBarren, is_prefix, agree, clash, is_covered, is_live, extends, InFileOrder, IsCoverOver};
-ghost use Rattle.cover_problem.specs.Branching.{branch_item, children, IsOpen, IsFirstFewest};
+ghost use Rattle.cover_problem.specs.Alike.{AreAlike, AreAsLive, IsAlive, followed_by};
+ghost use Rattle.cover_problem.specs.Branching.{branch_item, children, is_choice, IsOpen, IsFirstFewest};
 ghost use Rattle.cover_problem.specs.Search.{first_some, visits_until, first, visits, outcome, Covers, Barren, Spent};
 ghost use Rattle.cover_problem.specs.Examples.{small, coloured};
 
@@ -29,6 +30,39 @@ pub fn search_by_children()
     ensures visits { (problem : ProblemValue) (prefix : List ℕ) →
         visits problem prefix ≡ 1 + visits_until (first problem) (visits problem)
         (children problem prefix) }
+{}
+
+/// Prefixes at which the same options are live and the same primary items uncovered are searched alike: by as many visits, to no
+/// cover or to one that puts the same options behind both.
+pub fn alike_prefixes_are_searched_alike()
+    ensures visits { (problem : ProblemValue) (prefix other : List ℕ) →
+        AreAlike problem prefix other → visits problem prefix ≡ visits problem other }
+    ensures first { (problem : ProblemValue) (prefix other : List ℕ) →
+        AreAlike problem prefix other → (rest : Option (List ℕ))
+        × (first problem prefix ≡ followed_by prefix rest)
+        × (first problem other ≡ followed_by other rest) }
+    ensures barren { (problem : ProblemValue) (prefix other : List ℕ) →
+        AreAlike problem prefix other → first problem prefix ≡ None → first problem other ≡ None }
+{}
+
+/// Where each uncovered primary item has a live option, the live options tell which ones are uncovered. Each has one where the
+/// branch item does.
+pub fn live_options_tell_what_is_uncovered()
+    ensures alike { (problem : ProblemValue) (prefix other : List ℕ) →
+        AreAsLive problem prefix other → IsAlive problem prefix → IsAlive problem other →
+        AreAlike problem prefix other }
+    ensures alive { (problem : ProblemValue) (prefix : List ℕ) (item option : ℕ) →
+        branch_item problem prefix ≡ Some item → option < length problem.options →
+        is_choice problem prefix item option ≡ true → IsAlive problem prefix }
+{}
+
+/// Where all items are primary, the uncovered ones tell which options are live.
+pub fn uncovered_items_tell_what_is_live()
+    ensures { (problem : ProblemValue) (prefix other : List ℕ) → IsProblem problem →
+        problem.primary ≡ length problem.names →
+        ((item : ℕ) → item < problem.primary →
+        is_covered problem prefix item ≡ is_covered problem other item) →
+        AreAlike problem prefix other }
 {}
 
 /// What a search finds is an exact cover that extends the prefix, and where it finds none there is none.

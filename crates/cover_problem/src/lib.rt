@@ -18,10 +18,11 @@ mod verdict;
 pub use answer::Answer;
 pub use check::check_cover;
 pub use laws::{
-    branch_item_is_first_fewest, children_are_prefixes, coloured_search, covers_have_no_clash,
-    first_is_a_prefix, first_is_an_exact_cover, in_order_is_in_file_order, live_options_agree,
-    one_child_of_each_cover, prefixes_are_short, search_by_children, small_search, uses_of_a_list,
-    without_colours,
+    alike_prefixes_are_searched_alike, branch_item_is_first_fewest, children_are_prefixes,
+    coloured_search, covers_have_no_clash, first_is_a_prefix, first_is_an_exact_cover,
+    in_order_is_in_file_order, live_options_agree, live_options_tell_what_is_uncovered,
+    one_child_of_each_cover, prefixes_are_short, search_by_children, small_search,
+    uncovered_items_tell_what_is_live, uses_of_a_list, without_colours,
 };
 pub use limits::{MOST_BYTES, MOST_COLOURS, MOST_ITEMS, MOST_NODES, MOST_OPTIONS};
 pub use lists::{Name, Numbers};

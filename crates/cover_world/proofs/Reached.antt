@@ -11,10 +11,10 @@ use Rattle.cover_world.specs.declared.world_event.WorldEvent.{WorldEvent}
 use Rattle.spawn_frame.specs.declared.unit.Job.{Job}
 
 module _ (problem : Problem) where
-  same_run : (old new : World) → new ≡ old → Run problem old new
+  pub same_run : (old new : World) → new ≡ old → Run problem old new
   same_run old new same = subst (Run problem old) (sym same) stay
 
-  passed_run : (old new : World) (event : WorldEvent) (took : Bool) → MayPass problem old event took new → Run problem old new
+  pub passed_run : (old new : World) (event : WorldEvent) (took : Bool) → MayPass problem old event took new → Run problem old new
   passed_run old new event true passes = go stay passes.1.move passes.1.makes.step
   passed_run old new event false passes = same_run old new passes.1
 
@@ -55,3 +55,7 @@ module _ (problem : Problem) where
 
   pub simulated_run : (fuel turns : ℕ) (old : Simulation) (new : World) → Simulated problem fuel turns old new → Run problem old.world new
   simulated_run fuel turns old new s = after (turns_run fuel turns old s.played s.plays) (ends_run s.played.world new (published problem s.played.world) s.ends)
+
+-- a run goes on, of a world whose problem stays
+pub goes_on : (problem same : Problem) (old middle new : World) → same ≡ problem → Run problem old middle → Run same middle new → Run problem old new
+goes_on problem same old middle new is e f = after e (subst (λ (p : Problem). Run p middle new) is f)

@@ -6,6 +6,7 @@ ghost use Rattle.cover_world.specs.Draws.{node_count};
 ghost use Rattle.cover_world.specs.Safety.{published};
 ghost use Rattle.cover_world.specs.Simulation.{deliver_last, left_after, next_run, simulation, AllGreet, AsksForWork, Closes, Draws, Ends, Greets, Searches, Simulated, SearchesJob, Tries, Turns};
 ghost use Rattle.cover_world.specs.Views.{here_job, looked_up};
+ghost use Rattle.cover_world.specs.Worlds.{Run};
 
 use crate::laws::safe_over_every_run;
 use crate::world::World;
@@ -17,7 +18,8 @@ use std::alloc::AllocError;
 /// where it is refused. So many restarts are drawn at most. Where nothing is published then, every node begins anew and
 /// greets the registry, and the first one asks it for work and searches that with the greatest fuel.
 ///
-/// The only error is want of memory; the world then stands where it was met.
+/// The only error is want of memory; the world then stands where it was met, at the end of a run from where it began.
+#[tactic(auto, using(crate::proofs::Reached::goes_on))]
 pub fn simulate(
     world: &mut World,
     rng: &mut Pcg32,
@@ -28,6 +30,7 @@ pub fn simulate(
     ensures problem { world.new.problem ≡ world.old.problem }
     ensures simulated { OnOk result (Simulated world.old.problem fuel turns
         (simulation world.old.world rng.old restarts) world.new.world) }
+    ensures run { Run world.old.problem world.old.world world.new.world }
     ensures holds { HoldsThroughout world.old.problem world.old.world world.new.world }
 {
     safe_over_every_run();
@@ -43,6 +46,7 @@ fn is_answered(world: &World) -> bool
 }
 
 /// So many turns, of which those change nothing that come once an answer is published; answers the restarts that are left.
+#[tactic(auto, using(crate::proofs::Reached::goes_on))]
 fn play(
     world: &mut World,
     rng: &mut Pcg32,
@@ -51,6 +55,7 @@ fn play(
     restarts: u32,
 ) -> Result<u32, AllocError>
     ensures problem { world.new.problem ≡ world.old.problem }
+    ensures run { Run world.old.problem world.old.world world.new.world }
     ensures turns { IfOk result (λ left. Turns world.old.problem fuel turns
         (simulation world.old.world rng.old restarts) (simulation world.new.world rng.new left)) }
 {
@@ -65,8 +70,10 @@ fn play(
 }
 
 /// The closing phase, where no answer is published.
+#[tactic(auto, using(crate::proofs::Reached::same_run))]
 fn bring_to_an_end(world: &mut World) -> Result<(), AllocError>
     ensures problem { world.new.problem ≡ world.old.problem }
+    ensures run { Run world.old.problem world.old.world world.new.world }
     ensures ends { OnOk result (Ends world.old.problem world.old.world world.new.world) }
 {
     if is_answered(world) {
@@ -78,6 +85,7 @@ fn bring_to_an_end(world: &mut World) -> Result<(), AllocError>
 /// Draws an event and tries it; answers the restarts that are left.
 fn draw(world: &mut World, rng: &mut Pcg32, fuel: u64, restarts: u32) -> Result<u32, AllocError>
     ensures problem { world.new.problem ≡ world.old.problem }
+    ensures run { Run world.old.problem world.old.world world.new.world }
     ensures draws { IfOk result (λ left. Draws world.old.problem fuel
         (simulation world.old.world rng.old restarts) (simulation world.new.world rng.new left)) }
 {
@@ -97,9 +105,10 @@ fn left_after(restarts: u32, event: WorldEvent) -> u32
 }
 
 /// Lets an event happen, or passes it over where it is refused; the only error is want of memory.
-#[tactic(auto, using(crate::proofs::Simulating::passed_nodes))]
+#[tactic(auto, using(crate::proofs::Simulating::passed_nodes, crate::proofs::Reached::passed_run, crate::proofs::Reached::same_run))]
 fn attempt(world: &mut World, event: WorldEvent) -> Result<(), AllocError>
     ensures problem { world.new.problem ≡ world.old.problem }
+    ensures run { Run world.old.problem world.old.world world.new.world }
     ensures nodes { length world.new.world.sites ≡ length world.old.world.sites }
     ensures tries { OnOk result (Tries world.old.problem world.old.world event world.new.world) }
 {
@@ -112,6 +121,7 @@ fn attempt(world: &mut World, event: WorldEvent) -> Result<(), AllocError>
 /// The packet that was sent last is delivered.
 fn deliver_last(world: &mut World) -> Result<(), AllocError>
     ensures problem { world.new.problem ≡ world.old.problem }
+    ensures run { Run world.old.problem world.old.world world.new.world }
     ensures nodes { length world.new.world.sites ≡ length world.old.world.sites }
     ensures tries { OnOk result
         (Tries world.old.problem world.old.world (deliver_last world.old.world) world.new.world) }
@@ -120,8 +130,10 @@ fn deliver_last(world: &mut World) -> Result<(), AllocError>
 }
 
 /// All nodes begin anew and greet; then the first one asks for work and searches it.
+#[tactic(auto, using(crate::proofs::Reached::goes_on))]
 fn close(world: &mut World) -> Result<(), AllocError>
     ensures problem { world.new.problem ≡ world.old.problem }
+    ensures run { Run world.old.problem world.old.world world.new.world }
     ensures closes { OnOk result (Closes world.old.problem world.old.world world.new.world) }
 {
     all_greet(world)?;
@@ -130,8 +142,10 @@ fn close(world: &mut World) -> Result<(), AllocError>
 }
 
 /// Every node begins anew and greets, one after another.
+#[tactic(auto, using(crate::proofs::Reached::goes_on))]
 fn all_greet(world: &mut World) -> Result<(), AllocError>
     ensures problem { world.new.problem ≡ world.old.problem }
+    ensures run { Run world.old.problem world.old.world world.new.world }
     ensures greet { OnOk result
         (AllGreet world.old.problem (node_count world.old.world) world.old.world world.new.world) }
 {
@@ -142,9 +156,11 @@ fn all_greet(world: &mut World) -> Result<(), AllocError>
 }
 
 /// A node begins anew and greets, and is heard.
+#[tactic(auto, using(crate::proofs::Reached::goes_on))]
 fn greet(world: &mut World, node: u8) -> Result<(), AllocError>
     requires { node < length world.old.world.sites }
     ensures problem { world.new.problem ≡ world.old.problem }
+    ensures run { Run world.old.problem world.old.world world.new.world }
     ensures nodes { length world.new.world.sites ≡ length world.old.world.sites }
     ensures greets { OnOk result (Greets world.old.problem node world.old.world world.new.world) }
 {
@@ -162,8 +178,10 @@ fn next_run(world: &World, node: u8) -> u32
 }
 
 /// The first node asks the registry for work, and both are heard.
+#[tactic(auto, using(crate::proofs::Reached::goes_on))]
 fn ask_for_work(world: &mut World) -> Result<(), AllocError>
     ensures problem { world.new.problem ≡ world.old.problem }
+    ensures run { Run world.old.problem world.old.world world.new.world }
     ensures asks { OnOk result (AsksForWork world.old.problem world.old.world world.new.world) }
 {
     attempt(world, WorldEvent::Ask(1, 0))?;
@@ -172,8 +190,10 @@ fn ask_for_work(world: &mut World) -> Result<(), AllocError>
 }
 
 /// The first node takes up a job and searches it, and what it says last is heard.
+#[tactic(auto, using(crate::proofs::Reached::goes_on))]
 fn search(world: &mut World) -> Result<(), AllocError>
     ensures problem { world.new.problem ≡ world.old.problem }
+    ensures run { Run world.old.problem world.old.world world.new.world }
     ensures searches { OnOk result (Searches world.old.problem world.old.world world.new.world) }
 {
     attempt(world, WorldEvent::Take(1))?;
@@ -182,8 +202,10 @@ fn search(world: &mut World) -> Result<(), AllocError>
 }
 
 /// The job of the first node is searched with the greatest fuel, if it has one.
+#[tactic(auto, using(crate::proofs::Reached::same_run))]
 fn search_job(world: &mut World) -> Result<(), AllocError>
     ensures problem { world.new.problem ≡ world.old.problem }
+    ensures run { Run world.old.problem world.old.world world.new.world }
     ensures searches { OnOk result (SearchesJob world.old.problem
         (looked_up here_job (slice_get world.old.world.sites 1)) world.old.world world.new.world) }
 {

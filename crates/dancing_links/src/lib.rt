@@ -19,6 +19,7 @@ mod mark;
 mod options;
 mod place;
 mod searching;
+mod uncovered;
 
 pub use laws::{links_by_choices, links_by_options};
 pub use links::Links;

@@ -1,11 +1,15 @@
 //! Links as what a search branches over.
 
+ghost use Rattle.choices.specs.Keys.KeyKind.{OfUncoveredItems};
+
 use crate::links::Links;
 use choices::Branching;
 use cover_problem::Problem;
 
 impl<'a> Branching for Links<'a> {
     ghost choices = { λ links. links };
+
+    ghost kind = { OfUncoveredItems };
 
     #[inline(always)]
     fn problem(&self) -> &Problem {
@@ -20,6 +24,16 @@ impl<'a> Branching for Links<'a> {
     #[inline(always)]
     fn branch_item(&self) -> Option<u16> {
         Links::branch_item(self)
+    }
+
+    #[inline(always)]
+    fn key_words(&self) -> usize {
+        Links::key_words(self)
+    }
+
+    #[inline(always)]
+    fn write_key(&self, words: &mut [u64]) -> bool {
+        Links::write_uncovered(self, words)
     }
 
     #[inline(always)]

@@ -10,3 +10,4 @@ mod refused;
 mod simulate;
 mod texts;
 mod told;
+mod unlimited;

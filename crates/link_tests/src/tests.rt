@@ -1,11 +1,16 @@
 //! Two sites talk, over sockets and in memory.
+//!
+//! Of the bugs of `site_links` that are kept outside the gate, `what_came_before_all_were_bound` finds `sockets_are_not_emptied`,
+//! `hastened_receives_do_not_wait` finds `the_end_is_not_hastened`, and `each_of_sixteen_nodes_is_reached` finds
+//! `sends_reach_four_nodes`.
 
 use site_links::{Link, LinkFault, MemoryLink, Sockets, UdpLink, Wires, bound};
 use std::alloc::Global;
-use std::net::Net;
+use std::net::{Ipv4Addr, Net, SocketAddr, SocketAddrV4, UdpSocket};
 use std::sync::{Arc, Wait};
 use std::test::Fail;
 use std::thread::{self, Threads};
+use std::time::{Clock, Instant};
 
 /// How many datagrams each site sends.
 const SENT: u8 = 20;
@@ -139,5 +144,99 @@ fn a_stranger_is_not_heard(rt: HostRuntime) -> Result<(), Fail> {
         (one.receive(&rt, &mut buffer), one.failures()),
         (Ok(None), 0)
     );
+    Ok(())
+}
+
+/// The sockets of two sites, of which the second has a port from which a stranger sent to the first one before.
+fn sockets_with_a_past<R: Net>(rt: &R, alloc: Global) -> Result<Arc<Sockets, Global>, Fail> {
+    let first = bound(rt)?;
+    let stranger = bound(rt)?;
+    let address = stranger.local_addr()?;
+    stranger.send_to(&[7, 8, 9], first.local_addr()?)?;
+    drop(stranger);
+    let mut sockets = Vec::new(alloc);
+    sockets.push(first)?;
+    sockets.push(UdpSocket::bind(rt, address)?)?;
+    Ok(Arc::new(alloc, Sockets::new(alloc, sockets)?)?)
+}
+
+#[test]
+fn what_came_before_all_were_bound(rt: HostRuntime) -> Result<(), Fail> {
+    let sockets = sockets_with_a_past(&rt, rt.alloc())?;
+    let mut one = UdpLink::new(Arc::try_clone(&sockets)?, 0);
+    let mut other = UdpLink::new(sockets, 1);
+    let mut buffer = [0; 8];
+    one.hasten();
+    assert_eq!(rt; one.receive(&rt, &mut buffer), Ok(None));
+    assert_eq!(rt; other.send(&rt, 0, &[1, 2]), Ok(()));
+    assert_eq!(rt; one.receive(&rt, &mut buffer), Ok(Some(2)));
+    Ok(())
+}
+
+/// A socket on 127.0.0.2 that has the port of this address.
+fn twin_port<R: Net>(rt: &R, address: SocketAddr) -> Result<UdpSocket, Fail> {
+    let here = SocketAddrV4::new(Ipv4Addr::new(127, 0, 0, 2), address.port());
+    Ok(UdpSocket::bind(rt, SocketAddr::V4(here))?)
+}
+
+#[test]
+fn a_stranger_at_another_host_is_not_heard(rt: HostRuntime) -> Result<(), Fail> {
+    let sockets = two_sockets(&rt, rt.alloc())?;
+    let mut one = UdpLink::new(Arc::try_clone(&sockets)?, 0);
+    let mut buffer = [0; 8];
+    let (Some(first), Some(second)) = (sockets.address(0), sockets.address(1)) else {
+        return Err(Fail::new("a site has no socket"));
+    };
+    twin_port(&rt, second)?.send_to(&[7, 8, 9], first)?;
+    assert_eq!(rt; one.receive(&rt, &mut buffer), Ok(Some(0)));
+    Ok(())
+}
+
+/// How many milliseconds a hundred receives take that bring nothing.
+fn waits<L: Link, R: Wait + Clock>(rt: &R, link: &mut L) -> Result<u128, Fail> {
+    let mut buffer = [0; 8];
+    let began = Instant::now(rt)?;
+    for _ in 0..100 {
+        let _ = link.receive(rt, &mut buffer);
+    }
+    Ok(began.elapsed(rt)?.as_millis())
+}
+
+/// How often it is tried: a machine that does other things may hold a try up.
+const TRIES: u32 = 5;
+
+/// Receives that wait take 400 milliseconds at least.
+#[test]
+fn hastened_receives_do_not_wait(rt: HostRuntime) -> Result<(), Fail> {
+    let (mut link, _) = sockets(&rt, rt.alloc())?;
+    link.hasten();
+    let mut least = u128::MAX;
+    for _ in 0..TRIES {
+        least = least.min(waits(&rt, &mut link)?);
+    }
+    assert!(rt; least < 200, "{least} milliseconds");
+    Ok(())
+}
+
+/// The sockets of the registry and sixteen nodes.
+fn many_sockets<R: Net>(rt: &R, alloc: Global) -> Result<Arc<Sockets, Global>, Fail> {
+    let mut sockets = Vec::new(alloc);
+    for _ in 0..17 {
+        sockets.push(bound(rt)?)?;
+    }
+    Ok(Arc::new(alloc, Sockets::new(alloc, sockets)?)?)
+}
+
+#[test]
+fn each_of_sixteen_nodes_is_reached(rt: HostRuntime) -> Result<(), Fail> {
+    let sockets = many_sockets(&rt, rt.alloc())?;
+    let mut registry = UdpLink::new(Arc::try_clone(&sockets)?, 0);
+    let mut buffer = [0; 8];
+    for node in 1..17 {
+        let mut link = UdpLink::new(Arc::try_clone(&sockets)?, node);
+        assert_eq!(rt; registry.send(&rt, node, &[node]), Ok(()));
+        assert_eq!(rt; link.receive(&rt, &mut buffer), Ok(Some(1)));
+        assert_eq!(rt; buffer[0], node);
+    }
     Ok(())
 }

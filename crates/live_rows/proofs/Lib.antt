@@ -4,6 +4,7 @@ pub mod Cleared
 pub mod Counted
 pub mod Gone
 pub mod Halves
+pub mod Keyed
 pub mod Keying
 pub mod Layered
 pub mod Leveled

@@ -5,6 +5,7 @@ ghost use Rattle.cover_problem.specs.Branching.{branch_item, IsOpen};
 ghost use Rattle.cover_problem.specs.Onward.{live_options_from};
 ghost use Rattle.cover_problem.specs.Prefix.{is_covered, is_live, is_prefix};
 ghost use Rattle.cover_problem.specs.Problem.{IsProblem};
+ghost use Rattle.choices.specs.Keys.{TellLive};
 ghost use Rattle.choices.specs.Choices.{Choices, with_child, with_child_if, with_choice, IsChild, IsNextChoice};
 ghost use Rattle.live_rows.specs.Rows.{IsUntried, IsTaken, IsPopped, untried_of};
 
@@ -90,6 +91,27 @@ impl<'a> LiveRows<'a> {
         ensures named { IfSome result (λ item. item < length self.now.problem.names) }
     {
         item_in(self.levels.leasts[self.chosen.len()])
+    }
+
+    /// The words of the live options, where the branch item has one; none where it has none or all items are covered.
+    #[inline(always)]
+    pub fn key(&self) -> Option<&[u64]>
+        ensures { IfSome result (λ key. TellLive self.now.problem self.now.chosen key.now) }
+    {
+        let item = self.branch_item()?;
+        let live = self.levels.live_at(self.sets, self.chosen.len());
+        let untried = Untried::of_row(self.sets.row(item));
+        untried.next(live)?;
+        Some(live)
+    }
+
+    /// How many words the live options take.
+    pub fn words(&self) -> usize
+        ensures { result ≤ 1024 }
+    {
+        // (for what the getter says: that there are at most 20,000 options)
+        let _options = self.sets.problem().options();
+        self.sets.words()
     }
 
     /// Chooses a live option, by its first primary item.

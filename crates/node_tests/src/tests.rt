@@ -1,16 +1,19 @@
 //! Whole runs of threads, in an order that gates bring about, and over links that lose and disorder.
 
+mod books;
 mod broken;
 mod ends;
 mod failing;
 mod fails_once;
 mod limit;
+mod lone;
 mod loss;
 mod order;
 mod pace;
 mod plain;
 mod runs;
 mod sending;
+mod sent;
 mod small_cells;
 mod starts;
 mod strangers;

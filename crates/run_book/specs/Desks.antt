@@ -42,12 +42,14 @@ abbrev pub IsTold : BookFault → ℕ → ℕ → Type 0
 IsTold (BookFull told) many limit = (told ≡ many) × (many ≡ limit)
 IsTold _ many limit = many < limit
 
--- The site refuses the event with the fault: so the rules of its core say, at a view to which entries led it.
-pub record Refuses (run : RunName) (site : Site) (names : ℕ) (rules : Problem → View → Event → Option ActFault) (event : Event)
-    (fault : ActFault) : Type 0 where
+-- The site refuses the event with the fault: so the rules of its core say, at the view to which the entries of its book lead. They are
+-- at least as many as a seat counts that acts there.
+pub record Refuses (run : RunName) (site : Site) (names : ℕ) (rules : Problem → View → Event → Option ActFault) (seat : ℕ)
+    (event : Event) (fault : ActFault) : Type 0 where
   pub entries : List Entry
   pub view : View
   pub leads : EndsIn run (record { site = site; entries = entries }) names view
+  pub counted : seat ≤ length entries
   pub refusal : rules run.problem view event ≡ Some fault
 
 -- the fault of a core that a book's fault tells

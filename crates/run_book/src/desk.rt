@@ -145,7 +145,7 @@ impl<J: Run, C: Core + Drop, N: CellName> Desk<J, C, N> {
         ensures fault { IfErr result (λ back.
             IsTold back.1 (length self.old.entries) self.old.limit) }
         ensures refusal { IfErr result (λ back. IfSome (fault_told back.1)
-            (Refuses J.run N.site N.limit C.refusal prepared.event)) }
+            (Refuses J.run N.site N.limit C.refusal seat.old prepared.event)) }
     {
         let place = self.entries.len() as u64;
         if place >= self.limit {
@@ -154,6 +154,7 @@ impl<J: Run, C: Core + Drop, N: CellName> Desk<J, C, N> {
         if self.entries.reserve(1).is_err() {
             return Err((prepared.into_event(), BookFault::Memory));
         }
+        self.seats.bound(seat);
         let Acted { entry, told } = act_on(&mut self.core, prepared)?;
         let entry = self.repeated.shared(entry);
         let receipt = self.register.enter(place, &entry, told);

@@ -88,6 +88,15 @@ impl<N: CellName> Seats<N> {
         Some(Seat { share, count: 0 })
     }
 
+    /// Does nothing. Its contract says that no seat counts more receipts than all seats together.
+    pub fn bound(&mut self, seat: &mut Seat<N>)
+        ensures bound { seat.old ≤ self.old.total }
+        ensures seat { seat.new ≡ seat.old }
+        ensures all { self.new ≡ self.old }
+    {
+        self.book.audit(&mut seat.share);
+    }
+
     /// The seat counts one receipt more.
     pub fn count(&mut self, seat: &mut Seat<N>)
         requires room { self.old.total < 18446744073709551615 }

@@ -79,8 +79,9 @@ impl<J: Run, C: Core + Drop, N: CellName> SiteCell<J, C, N> {
 
     /// Hands an event to the core. It is entered with what the core did, and the receipt tells the same.
     ///
-    /// `BookFull` comes exactly where the book has as many entries as it may have. The core may refuse the event: it then
-    /// enters nothing. Where memory ran out nothing has happened. With each fault the event comes back.
+    /// `BookFull` comes exactly where the book has as many entries as it may have. The core may refuse the event, at the view to
+    /// which the book leads then: among its entries are those that the seat counts. It then enters nothing. Where memory ran out
+    /// nothing has happened. With each fault the event comes back.
     pub fn act_at<R: Wait>(
         &self,
         rt: &R,
@@ -94,7 +95,7 @@ impl<J: Run, C: Core + Drop, N: CellName> SiteCell<J, C, N> {
         ensures unchanged { OnErr result (seat.new ≡ seat.old) }
         ensures back { IfErr result (λ back. back.0 ≡ event) }
         ensures refusal { IfErr result (λ back. IfSome (fault_told back.1)
-            (Refuses J.run N.site N.limit C.refusal event)) }
+            (Refuses J.run N.site N.limit C.refusal seat.old event)) }
     {
         match Prepared::new(self.alloc, event) {
             Ok(prepared) => self.lock.lock(rt).act(seat, prepared),
@@ -118,7 +119,7 @@ impl<J: Run, C: Core + Drop, N: CellName> SiteCell<J, C, N> {
         ensures seat { IfOk result (λ done. done.0 ≡ seat + 1) }
         ensures back { IfErr result (λ back. (back.0 ≡ seat) × (back.1 ≡ event)) }
         ensures refusal { IfErr result (λ back. IfSome (fault_told back.2)
-            (Refuses J.run N.site N.limit C.refusal event)) }
+            (Refuses J.run N.site N.limit C.refusal seat event)) }
     {
         match self.act_at(rt, &mut seat, event) {
             Ok(receipt) => Ok((seat, receipt)),

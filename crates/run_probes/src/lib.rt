@@ -4,6 +4,8 @@
 
 mod held_gate;
 mod recorder;
+mod sent_gate;
 
 pub use held_gate::{Awaited, HeldGate};
 pub use recorder::{Recorder, Sent, recorded};
+pub use sent_gate::{Expected, SentGate, first_victim};

@@ -14,6 +14,8 @@ pub struct Request<'a> {
     pub seconds: Option<u32>,
     /// Whether it writes how far its search has come.
     pub progress: bool,
+    /// Whether a search by one thread has no limit of visits.
+    pub unlimited: bool,
     pub ghost some_seconds: { ForSome seconds (λ seconds. 1 ≤ seconds) },
     pub ghost most_seconds: { ForSome seconds (λ seconds. seconds ≤ 1000000) },
 }

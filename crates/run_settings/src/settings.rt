@@ -13,6 +13,8 @@ pub enum Mode {
     Alone,
     /// Test an answer to a problem.
     Check,
+    /// Look for a reason why a problem has no exact cover.
+    Why,
     /// Let a world of sites search a problem, by chance.
     Simulate,
     /// Let sites with threads of their own search a problem.

@@ -2,7 +2,7 @@
 use Rattle.std.specs.Prelude.{◌≡◌, ℕ, []}
 use Rattle.cover_problem.specs.ExactCover.{in_order}
 use Rattle.cover_problem.specs.Problem.{Problem}
-use Rattle.cover_problem.specs.Search.{Outcome, Covers, Barren, Spent, outcome}
+use Rattle.cover_problem.specs.Search.{Outcome, Covers, Barren, Spent, first, found_outcome, outcome}
 use Rattle.cover_problem.specs.declared.answer.Answer.TheVariants.{Cover, NoCover}
 use Rattle.search_engines.specs.Output.{Said, answer_said, no_answer}
 
@@ -19,3 +19,11 @@ alone_said problem fuel = outcome_said problem (outcome problem [] fuel)
 -- with so much fuel it says this, and nothing else
 abbrev pub AloneSays : ℕ → Problem → Said → Type 0
 AloneSays fuel problem what = what ≡ alone_said problem fuel
+
+-- without a limit it says what the first cover is, or that there is none
+unfoldable pub decided_said : Problem → Said
+decided_said problem = outcome_said problem (found_outcome (first problem []))
+
+-- and nothing else
+abbrev pub DecidedSays : Problem → Said → Type 0
+DecidedSays problem what = what ≡ decided_said problem

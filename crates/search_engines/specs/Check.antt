@@ -3,7 +3,7 @@ use Rattle.std.specs.Prelude.{◌≡◌, ℕ, List, [], ◌∷◌, ◌++◌, cod
 use Rattle.cover_problem.specs.Numbers.{is_distinct}
 use Rattle.cover_problem.specs.Prefix.{are_options}
 use Rattle.cover_problem.specs.Problem.{Problem}
-use Rattle.cover_problem.specs.Search.{Outcome, Covers, Barren, Spent, outcome}
+use Rattle.cover_problem.specs.Search.{Outcome, Covers, Barren, Spent, first, found_outcome, outcome}
 use Rattle.cover_problem.specs.Verdict.{verdict_of}
 use Rattle.cover_problem.specs.declared.answer.Answer.{Answer}
 use Rattle.cover_problem.specs.declared.answer.Answer.TheVariants.{Cover, NoCover}
@@ -46,6 +46,17 @@ pub record CheckSays (answer : List ℕ) (fuel : ℕ) (problem : Problem) (what 
   pub given : Answer
   pub answered : IsAnswerOf answer problem given
   pub is : what ≡ check_said problem given fuel
+
+-- A cover is tested by counting, and none by whether there is a first cover.
+unfoldable pub decided_check_said : Problem → Answer → Said
+decided_check_said problem (Cover options) = verdict_said problem (verdict_of problem options)
+decided_check_said problem NoCover = none_said (found_outcome (first problem []))
+
+-- Without a limit it says this of the answer that a text gives.
+pub record DecidedCheckSays (answer : List ℕ) (problem : Problem) (what : Said) : Type 0 where
+  pub given : Answer
+  pub answered : IsAnswerOf answer problem given
+  pub is : what ≡ decided_check_said problem given
 
 -- the text gives no answer to the problem, but this first fault
 abbrev pub CheckRefuses : List ℕ → Problem → AnswerFault → Type 0

@@ -4,7 +4,7 @@ ghost use Rattle.std.specs.Prelude.{◌≡◌, ◌≢◌, ◌-◌, ◌<◌, ◌�
 ghost use Rattle.std.specs.Io.KnownBytes.{IsAtEnd};
 ghost use Rattle.brancher.specs.Visit.{outcome_told};
 ghost use Rattle.cover_problem.specs.Search.{Covers};
-ghost use Rattle.search_engines.specs.Alone.{AloneSays, alone_said, outcome_said};
+ghost use Rattle.search_engines.specs.Alone.{AloneSays, DecidedSays, alone_said, decided_said, outcome_said};
 ghost use Rattle.search_engines.specs.Engines.{IsEnded, refuses_none};
 ghost use Rattle.search_engines.specs.Output.{IsOutput};
 
@@ -13,8 +13,9 @@ use crate::fault::EngineFault;
 use crate::input::{problem_of, read_all};
 use crate::lines::{write_line, write_solution};
 use crate::progress::{Follows, ProgressLog, ProgressWatch};
-use brancher::{Outcome, Searcher, Tables, Unwatched};
+use brancher::{Outcome, ROOM, Searcher, Tables, Unwatched};
 use cover_problem::{Answer, Problem, in_order};
+use decider::{Decider, Decision};
 use dlx_reader::{Sink, Source};
 use std::alloc::Global;
 use std::time::Clock;
@@ -60,7 +61,7 @@ fn write_outcome<W: Sink>(
     }
 }
 
-/// Searches the empty prefix under a watch, writes what comes of it, and answers the status.
+/// Searches the empty prefix under a watch, with so many visits at most, writes what comes of it, and answers the status.
 #[tactic(auto, unfolding(crate::specs::Alone::alone_said))]
 fn write_alone<V: Follows, W: Sink>(
     alloc: Global,
@@ -79,12 +80,41 @@ fn write_alone<V: Follows, W: Sink>(
     let Ok(tables) = Tables::build(alloc, problem) else {
         return Err(EngineFault::Memory);
     };
-    let Ok(mut searcher) = Searcher::over(alloc, &tables) else {
+    let Ok(mut searcher) = Searcher::keeping(alloc, &tables, ROOM) else {
         return Err(EngineFault::Memory);
     };
     let outcome = searcher.search_watched(&[], fuel, watch);
     watch.end();
     write_outcome(alloc, problem, outcome, searcher.found(), sink)
+}
+
+/// Searches the empty prefix under a watch without a limit, writes what comes of it, and answers the status.
+#[tactic(auto, unfolding(crate::specs::Alone::decided_said))]
+fn write_decided<V: Follows, W: Sink>(
+    alloc: Global,
+    problem: &Problem,
+    watch: &mut V,
+    sink: &mut W,
+) -> Result<u8, EngineFault>
+    requires watch { V.may_stop ≡ false }
+    requires failed { W.failed sink.old < 2 ^ 64 - 1 }
+    ensures output { IsOutput (decided_said problem.now) (W.contents sink.old)
+        (W.contents sink.new) result }
+    ensures failed { result ≡ Err EngineFault.Write → W.failed sink.old < W.failed sink.new }
+{
+    let Ok(tables) = Tables::build(alloc, problem) else {
+        return Err(EngineFault::Memory);
+    };
+    let Ok(mut decider) = Decider::new(alloc, &tables, ROOM) else {
+        return Err(EngineFault::Memory);
+    };
+    let decision = decider.decide(watch);
+    watch.end();
+    match decision {
+        Decision::Found => write_found(alloc, problem, decider.found(), sink),
+        Decision::Barren(_) => write_solution(problem, &Answer::NoCover, sink),
+        Decision::Stopped => unreachable!(),
+    }
 }
 
 /// Reads a problem to its end, searches it with so many visits at most, and writes its first cover, with the options
@@ -146,6 +176,60 @@ pub fn alone_with_progress<R: Source, W: Sink, E: Sink, C: Clock>(
         return Err(EngineFault::Memory);
     };
     let status = write_alone(alloc, &read.problem, fuel, &mut watch, sink)?;
+    let ignored = read.ignored;
+    Ok(EngineEnd { status, ignored })
+}
+
+/// Does what `alone_engine` does without a limit: it writes the first cover, or `none`, whatever number of visits it takes to see it.
+pub fn alone_unlimited<R: Source, W: Sink>(
+    alloc: Global,
+    source: &mut R,
+    sink: &mut W,
+) -> Result<AloneEnd, EngineFault>
+    requires source { R.failed source.old < 2 ^ 64 - 1 }
+    requires sink { W.failed sink.old < 2 ^ 64 - 1 }
+    ensures ended { IfSome (R.remaining source.old) (λ text.
+        IsEnded DecidedSays refuses_none text (W.contents sink.old)
+        (W.contents sink.new) result) }
+    ensures read { result ≢ Err EngineFault.Read → result ≢ Err EngineFault.Memory →
+        IsAtEnd (R.remaining source.new) }
+    ensures read_fault { result ≡ Err EngineFault.Read → R.failed source.old < R.failed source.new }
+    ensures write_fault { result ≡ Err EngineFault.Write → W.failed sink.old < W.failed sink.new }
+{
+    let text = read_all(alloc, source)?;
+    let read = problem_of(alloc, &text)?;
+    let status = write_decided(alloc, &read.problem, &mut Unwatched, sink)?;
+    Ok(EngineEnd {
+        status,
+        ignored: read.ignored,
+    })
+}
+
+/// Does what `alone_unlimited` does, and meanwhile writes to the log as `alone_with_progress` does; it counts the prefixes that the search
+/// came to.
+pub fn alone_unlimited_with_progress<R: Source, W: Sink, E: Sink, C: Clock>(
+    clock: &C,
+    alloc: Global,
+    source: &mut R,
+    sink: &mut W,
+    log: ProgressLog<'_, E>,
+) -> Result<AloneEnd, EngineFault>
+    requires source { R.failed source.old < 2 ^ 64 - 1 }
+    requires sink { W.failed sink.old < 2 ^ 64 - 1 }
+    ensures ended { IfSome (R.remaining source.old) (λ text.
+        IsEnded DecidedSays refuses_none text (W.contents sink.old)
+        (W.contents sink.new) result) }
+    ensures read { result ≢ Err EngineFault.Read → result ≢ Err EngineFault.Memory →
+        IsAtEnd (R.remaining source.new) }
+    ensures read_fault { result ≡ Err EngineFault.Read → R.failed source.old < R.failed source.new }
+    ensures write_fault { result ≡ Err EngineFault.Write → W.failed sink.old < W.failed sink.new }
+{
+    let text = read_all(alloc, source)?;
+    let read = problem_of(alloc, &text)?;
+    let Ok(mut watch) = ProgressWatch::new(clock, alloc, &read.problem, u64::MAX, log) else {
+        return Err(EngineFault::Memory);
+    };
+    let status = write_decided(alloc, &read.problem, &mut watch, sink)?;
     let ignored = read.ignored;
     Ok(EngineEnd { status, ignored })
 }

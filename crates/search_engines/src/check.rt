@@ -3,9 +3,9 @@
 ghost use Rattle.std.specs.Prelude.{◌≡◌, ◌≢◌, ◌-◌, ◌<◌, ◌≤◌, ◌^◌, ◌⊎◌, ℕ, List, [], length, IfOk, IfSome};
 ghost use Rattle.std.specs.Io.KnownBytes.{IsAtEnd};
 ghost use Rattle.brancher.specs.Visit.{outcome_told};
-ghost use Rattle.cover_problem.specs.Search.{outcome};
+ghost use Rattle.cover_problem.specs.Search.{first, found_outcome, outcome};
 ghost use Rattle.cover_problem.specs.Verdict.{verdict_of};
-ghost use Rattle.search_engines.specs.Check.{CheckRefuses, CheckSays, IsListed, IsListedAnswer, check_said, item_said, none_said, verdict_said};
+ghost use Rattle.search_engines.specs.Check.{CheckRefuses, CheckSays, DecidedCheckSays, IsListed, IsListedAnswer, check_said, decided_check_said, item_said, none_said, verdict_said};
 ghost use Rattle.search_engines.specs.Engines.{IsEnded};
 ghost use Rattle.search_engines.specs.Output.{IsOutput};
 
@@ -13,8 +13,9 @@ use crate::engine::EngineEnd;
 use crate::fault::EngineFault;
 use crate::input::{answer_of, problem_of, read_all};
 use crate::lines::write_line;
-use brancher::{Outcome, Searcher, Tables};
+use brancher::{Outcome, ROOM, Searcher, Tables, Unwatched};
 use cover_problem::{Answer, Problem, Verdict, check_cover};
+use decider::{Decider, Decision};
 use dlx_reader::{Sink, Source};
 use std::alloc::{AllocError, Global};
 
@@ -89,8 +90,22 @@ fn searched(alloc: Global, problem: &Problem, fuel: u64) -> Result<Outcome, Allo
         × (outcome_told came found ≡ outcome problem.now [] fuel)) }
 {
     let tables = Tables::build(alloc, problem)?;
-    let mut searcher = Searcher::over(alloc, &tables)?;
+    let mut searcher = Searcher::keeping(alloc, &tables, ROOM)?;
     Ok(searcher.search(&[], fuel))
+}
+
+/// Writes what an outcome says of the answer that there is no cover, and answers the status.
+fn write_outcome_of_none<W: Sink>(outcome: Outcome, sink: &mut W) -> Result<u8, EngineFault>
+    requires failed { W.failed sink.old < 2 ^ 64 - 1 }
+    ensures output { (found : List ℕ) → IsOutput (none_said (outcome_told outcome found))
+        (W.contents sink.old) (W.contents sink.new) result }
+    ensures failed { result ≡ Err EngineFault.Write → W.failed sink.old < W.failed sink.new }
+{
+    match outcome {
+        Outcome::Cover => write_line(b"wrong: a cover exists\n", 1, sink),
+        Outcome::Barren => write_line(b"right\n", 0, sink),
+        Outcome::Spent => write_line(b"no answer\n", 4, sink),
+    }
 }
 
 /// Searches the empty prefix for a cover, writes whether none is right, and answers the status.
@@ -107,9 +122,47 @@ fn write_none<W: Sink>(
     ensures failed { result ≡ Err EngineFault.Write → W.failed sink.old < W.failed sink.new }
 {
     match searched(alloc, problem, fuel) {
-        Ok(Outcome::Cover) => write_line(b"wrong: a cover exists\n", 1, sink),
-        Ok(Outcome::Barren) => write_line(b"right\n", 0, sink),
-        Ok(Outcome::Spent) => write_line(b"no answer\n", 4, sink),
+        Ok(outcome) => write_outcome_of_none(outcome, sink),
+        Err(_) => Err(EngineFault::Memory),
+    }
+}
+
+/// What a search of the problem without a limit comes to, which is never that the fuel was spent; the only error is out of memory.
+fn decided(alloc: Global, problem: &Problem) -> Result<Outcome, AllocError>
+    ensures { IfOk result (λ came. (found : List ℕ)
+        × (outcome_told came found ≡ found_outcome (first problem.now []))) }
+{
+    let tables = Tables::build(alloc, problem)?;
+    let mut decider = Decider::new(alloc, &tables, ROOM)?;
+    Ok(outcome_of(&mut decider))
+}
+
+/// What a search without a limit comes to, which hasn't begun.
+fn outcome_of(decider: &mut Decider) -> Outcome
+    requires { decider.old.found ≡ [] }
+    ensures { (found : List ℕ)
+        × (outcome_told result found ≡ found_outcome (first decider.old.problem [])) }
+{
+    match decider.decide(&mut Unwatched) {
+        Decision::Found => Outcome::Cover,
+        Decision::Barren(_) => Outcome::Barren,
+        Decision::Stopped => unreachable!(),
+    }
+}
+
+/// Decides whether there is a cover, writes whether none is right, and answers the status.
+fn write_none_decided<W: Sink>(
+    alloc: Global,
+    problem: &Problem,
+    sink: &mut W,
+) -> Result<u8, EngineFault>
+    requires failed { W.failed sink.old < 2 ^ 64 - 1 }
+    ensures output { IsOutput (none_said (found_outcome (first problem.now [])))
+        (W.contents sink.old) (W.contents sink.new) result }
+    ensures failed { result ≡ Err EngineFault.Write → W.failed sink.old < W.failed sink.new }
+{
+    match decided(alloc, problem) {
+        Ok(outcome) => write_outcome_of_none(outcome, sink),
         Err(_) => Err(EngineFault::Memory),
     }
 }
@@ -136,6 +189,26 @@ fn write_check<W: Sink>(
     }
 }
 
+/// Tests an answer without a limit, writes what comes of it, and answers the status.
+#[tactic(auto, unfolding(crate::specs::Check::decided_check_said))]
+fn write_check_decided<W: Sink>(
+    alloc: Global,
+    problem: &Problem,
+    answer: &Answer,
+    sink: &mut W,
+) -> Result<u8, EngineFault>
+    requires options { IsListedAnswer problem.now answer.now }
+    requires failed { W.failed sink.old < 2 ^ 64 - 1 }
+    ensures output { IsOutput (decided_check_said problem.now answer.now) (W.contents sink.old)
+        (W.contents sink.new) result }
+    ensures failed { result ≡ Err EngineFault.Write → W.failed sink.old < W.failed sink.new }
+{
+    match answer {
+        Answer::Cover(options) => write_verdict(alloc, problem, options.as_slice(), sink),
+        Answer::NoCover => write_none_decided(alloc, problem, sink),
+    }
+}
+
 /// Tests the answer of one text to the problem of another, and writes what comes of it.
 fn check_texts<W: Sink>(
     alloc: Global,
@@ -154,6 +227,28 @@ fn check_texts<W: Sink>(
     let read = problem_of(alloc, file)?;
     let given = answer_of(alloc, answer, &read.problem)?;
     let status = write_check(alloc, &read.problem, &given, fuel, sink)?;
+    Ok(EngineEnd {
+        status,
+        ignored: read.ignored,
+    })
+}
+
+/// Tests the answer of one text to the problem of another without a limit, and writes what comes of it.
+fn check_texts_decided<W: Sink>(
+    alloc: Global,
+    file: &[u8],
+    answer: &[u8],
+    sink: &mut W,
+) -> Result<CheckEnd, EngineFault>
+    requires failed { W.failed sink.old < 2 ^ 64 - 1 }
+    ensures ended { IsEnded (DecidedCheckSays answer.now) (CheckRefuses answer.now) file.now
+        (W.contents sink.old) (W.contents sink.new) result }
+    ensures unread { result ≢ Err EngineFault.Read }
+    ensures failed { result ≡ Err EngineFault.Write → W.failed sink.old < W.failed sink.new }
+{
+    let read = problem_of(alloc, file)?;
+    let given = answer_of(alloc, answer, &read.problem)?;
+    let status = write_check_decided(alloc, &read.problem, &given, sink)?;
     Ok(EngineEnd {
         status,
         ignored: read.ignored,
@@ -193,4 +288,30 @@ pub fn check_engine<R: Source, S: Source, W: Sink>(
     let file = read_all(alloc, file)?;
     let answer = read_all(alloc, answer)?;
     check_texts(alloc, fuel, &file, &answer, sink)
+}
+
+/// Does what `check_engine` does without a limit: that there is no cover is decided whatever number of visits it takes.
+pub fn check_unlimited<R: Source, S: Source, W: Sink>(
+    alloc: Global,
+    file: &mut R,
+    answer: &mut S,
+    sink: &mut W,
+) -> Result<CheckEnd, EngineFault>
+    requires file { R.failed file.old < 2 ^ 64 - 1 }
+    requires answer { S.failed answer.old < 2 ^ 64 - 1 }
+    requires sink { W.failed sink.old < 2 ^ 64 - 1 }
+    ensures ended { IfSome (R.remaining file.old) (λ text. IfSome (S.remaining answer.old) (λ given.
+        IsEnded (DecidedCheckSays given) (CheckRefuses given) text (W.contents sink.old)
+        (W.contents sink.new) result)) }
+    ensures file_read { result ≢ Err EngineFault.Read → result ≢ Err EngineFault.Memory →
+        IsAtEnd (R.remaining file.new) }
+    ensures answer_read { result ≢ Err EngineFault.Read → result ≢ Err EngineFault.Memory →
+        IsAtEnd (S.remaining answer.new) }
+    ensures read_fault { result ≡ Err EngineFault.Read →
+        (R.failed file.old < R.failed file.new) ⊎ (S.failed answer.old < S.failed answer.new) }
+    ensures write_fault { result ≡ Err EngineFault.Write → W.failed sink.old < W.failed sink.new }
+{
+    let file = read_all(alloc, file)?;
+    let answer = read_all(alloc, answer)?;
+    check_texts_decided(alloc, &file, &answer, sink)
 }

@@ -12,8 +12,10 @@ mod lines;
 mod progress;
 mod telling;
 
-pub use alone::{AloneEnd, alone_engine, alone_with_progress};
-pub use check::{CheckEnd, check_engine};
+pub use alone::{
+    AloneEnd, alone_engine, alone_unlimited, alone_unlimited_with_progress, alone_with_progress,
+};
+pub use check::{CheckEnd, check_engine, check_unlimited};
 pub use engine::EngineEnd;
 pub use fault::EngineFault;
 pub use gauge::Gauge;

@@ -2,6 +2,7 @@
 
 mod coloured;
 mod fuels;
+mod keeping;
 mod links;
 mod plain;
 mod refused;

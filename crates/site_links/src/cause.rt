@@ -9,6 +9,8 @@ pub enum Cause {
     Faults,
     /// Memory ran out.
     Memory,
-    /// Its turns are over, nothing came for long, or the site's other threads have ended.
+    /// Nothing came for long that shows the run going on.
+    Silence,
+    /// Its turns or its waits are over, or the site's other threads have ended.
     Turns,
 }

@@ -24,6 +24,9 @@ pub trait Gate {
 
     /// The run ends with the site of this node, which ended so.
     fn ended(&self, _node: u8, _end: &SiteEnd) {}
+
+    /// All sites have ended, and there is an answer or none.
+    fn finished(&self, _is_answered: bool) {}
 }
 
 /// The gate that lets all pass.

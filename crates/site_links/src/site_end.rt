@@ -37,7 +37,9 @@ impl SiteEnd {
         match self.cause {
             Cause::Over => node == 0,
             Cause::Memory => true,
-            Cause::BookFull | Cause::Faults | Cause::Turns => node == 0 || self.is_manned,
+            Cause::BookFull | Cause::Faults | Cause::Silence | Cause::Turns => {
+                node == 0 || self.is_manned
+            }
         }
     }
 

@@ -1,6 +1,7 @@
 //! Sockets on 127.0.0.1.
 
-ghost use Rattle.std.specs.Prelude.{◌≡◌, ◌≤◌, ℕ, length, IfOk};
+ghost use Rattle.std.specs.Prelude.{◌≡◌, ◌≤◌, ◌↔◌, ℕ, length, IfOk, IsTrue};
+ghost use Rattle.std.specs.List.{Contains};
 ghost use Rattle.site_links.specs.Links.{failed_once};
 
 use crate::link::{Link, LinkFault};
@@ -12,6 +13,10 @@ use std::time::Duration;
 
 /// How long a receive waits at most, in milliseconds.
 const PATIENCE: u64 = 4;
+
+/// How many datagrams a socket has at most that wait to be received: for each the system counts 512 bytes at least, and in all no more
+/// than 2,147,483,647.
+const MOST_WAITING: u32 = 4_194_304;
 
 /// A socket on 127.0.0.1 with a port of the system's choice, whose receives wait 4 to 8 milliseconds at most, by the system's clock. The
 /// errors are the system's.
@@ -33,11 +38,12 @@ pub struct Sockets {
 }
 
 impl Sockets {
-    /// These sockets, by node. The errors are the system's, which tells their addresses, and `OutOfMemory`.
+    /// These sockets, by node, without what they have received so far: a stranger may have sent it from a port that is a site's by now.
+    /// The errors are the system's, and `OutOfMemory`.
     pub fn new(alloc: Global, sockets: Vec<UdpSocket>) -> io::Result<Sockets> {
-        let mut addresses = Vec::with_capacity(alloc, sockets.len())?;
+        let addresses = addresses_of(alloc, &sockets)?;
         for socket in &sockets {
-            addresses.push(socket.local_addr()?)?;
+            empty(socket)?;
         }
         Ok(Sockets { sockets, addresses })
     }
@@ -47,10 +53,40 @@ impl Sockets {
         self.addresses.get(usize::from(node)).copied()
     }
 
-    /// Whether a site of the run has this address.
-    fn is_own(&self, address: SocketAddr) -> bool {
-        self.addresses.iter().any(|own| *own == address)
+    /// Whether a site of the run has this address: its host and its port.
+    fn is_own(&self, address: SocketAddr) -> bool
+        ensures { IsTrue result ↔ Contains self.now.addresses.items address }
+    {
+        self.addresses.contains(&address)
     }
+}
+
+/// The addresses of these sockets, in their order.
+fn addresses_of(alloc: Global, sockets: &[UdpSocket]) -> io::Result<Vec<SocketAddr>> {
+    let mut addresses = Vec::with_capacity(alloc, sockets.len())?;
+    for socket in sockets {
+        addresses.push(socket.local_addr()?)?;
+    }
+    Ok(addresses)
+}
+
+/// Takes out what a socket has received, and leaves its receives as they were.
+fn empty(socket: &UdpSocket) -> io::Result<()> {
+    socket.set_nonblocking(true)?;
+    take_out(socket)?;
+    socket.set_nonblocking(false)
+}
+
+/// Takes out what a socket that doesn't block has received: no more than can wait there, so that a flood holds nobody up.
+fn take_out(socket: &UdpSocket) -> io::Result<()> {
+    for _ in 0..MOST_WAITING {
+        match socket.recv_from(&mut [0]) {
+            Err(error) if error.kind() == ErrorKind::WouldBlock => break,
+            Err(error) if error.kind() != ErrorKind::Interrupted => return Err(error),
+            _ => {}
+        }
+    }
+    Ok(())
 }
 
 /// The end of a site that has a socket; its twins have the same one. It hears the run's own sockets alone: a datagram from any other

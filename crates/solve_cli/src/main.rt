@@ -1,7 +1,7 @@
 //! `solve_cli`: finds an exact cover of a problem in the format of Knuth's DLX1, or shows that there is none.
 #![tactic(auto)]
 
-ghost use Rattle.std.specs.Prelude.{◌≡◌, ◌+◌, IfOk, vec_len};
+ghost use Rattle.std.specs.Prelude.{◌≡◌, IfOk};
 
 use command_line::request;
 pub use command_line::{SettingsFault, settings};
@@ -10,23 +10,23 @@ pub use cover_engines::{
     simulate_engine, solve_engine, tell, tell_fault,
 };
 use cover_engines::{
-    FollowedRun, Lines, ProgressLog, alone_with_progress, links, read_whole, solve_problem,
-    tell_end, tell_unbound,
+    Lines, Loopback, Machine, ProgressLog, alone_unlimited, alone_unlimited_with_progress,
+    alone_with_progress, check_unlimited, tell_end,
 };
-use cover_problem::Problem;
-use dlx_reader::{CountedReader, CountedWriter};
+use dlx_reader::{CountedReader, CountedWriter, Sink};
 use either::Either;
+pub use reason_engine::{WhyEnd, why_engine};
 pub use run_settings::{Mode, Settings};
 use run_settings::{Request, STANDARD_INPUT};
 use std::env;
+use std::fmt::Write;
 use std::fs::File;
 use std::io::{self, ErrorKind, IsTerminal, Stdin};
 use std::net::Net;
 use std::process::ExitCode;
 use std::sync::Wait;
 use std::thread::Threads;
-use std::time::{Clock, Duration};
-use udp_node::{Gate, Open, UdpLink};
+use std::time::Clock;
 
 /// What is read: a file, or standard input.
 type Input = CountedReader<Either<File, Stdin>>;
@@ -51,25 +51,49 @@ fn lines_of(rt: &HostRuntime) -> Lines {
 }
 
 /// Runs `alone` on a file, and answers the exit status.
-fn run_alone(rt: &HostRuntime, settings: &Settings<'_>, progress: bool) -> u8 {
+fn run_alone(rt: &HostRuntime, request: &Request<'_>) -> u8 {
+    let settings = &request.settings;
     let mut errors = CountedWriter::new(rt.stderr());
     let Ok(mut source) = open(rt, settings.file) else {
         return tell_fault(&EngineFault::Read, &mut errors);
     };
     let mut sink = CountedWriter::new(rt.stdout());
-    let ended = if progress {
-        let log = ProgressLog::new(&mut errors, lines_of(rt));
-        alone_with_progress(rt, rt.alloc(), settings.fuel, &mut source, &mut sink, log)
-    } else {
-        alone_engine(rt.alloc(), settings.fuel, &mut source, &mut sink)
+    let (alloc, fuel) = (rt.alloc(), settings.fuel);
+    let lines = lines_of(rt);
+    let ended = match (request.unlimited, request.progress) {
+        (false, false) => alone_engine(alloc, fuel, &mut source, &mut sink),
+        (true, false) => alone_unlimited(alloc, &mut source, &mut sink),
+        (false, true) => {
+            let log = ProgressLog::new(&mut errors, lines);
+            alone_with_progress(rt, alloc, fuel, &mut source, &mut sink, log)
+        }
+        (true, true) => {
+            let log = ProgressLog::new(&mut errors, lines);
+            alone_unlimited_with_progress(rt, alloc, &mut source, &mut sink, log)
+        }
     };
+    tell_more(&ended, fuel, &mut errors);
     tell_end(&ended, &mut errors)
 }
 
+/// Reports that a search without a limit may go on, where one with the greatest fuel had no answer.
+fn tell_more<W: Sink>(ended: &Result<AloneEnd, EngineFault>, fuel: u64, errors: &mut W) {
+    if let Ok(end) = ended
+        && end.status == 4
+        && fuel == u64::MAX
+    {
+        let _ = writeln!(
+            errors,
+            "more visits than the greatest fuel: --unlimited goes on"
+        );
+    }
+}
+
 /// Runs `check` on a file and an answer's file, and answers the exit status.
-fn run_check(rt: &HostRuntime, settings: &Settings<'_>) -> u8
-    requires { settings.now.mode ≡ Mode.Check }
+fn run_check(rt: &HostRuntime, request: &Request<'_>) -> u8
+    requires { request.now.settings.mode ≡ Mode.Check }
 {
+    let settings = &request.settings;
     let mut errors = CountedWriter::new(rt.stderr());
     let Some(answer) = settings.answer else {
         unreachable!()
@@ -81,7 +105,22 @@ fn run_check(rt: &HostRuntime, settings: &Settings<'_>) -> u8
         return tell_fault(&EngineFault::Read, &mut errors);
     };
     let mut sink = CountedWriter::new(rt.stdout());
-    let ended = check_engine(rt.alloc(), settings.fuel, &mut file, &mut answer, &mut sink);
+    let ended = if request.unlimited {
+        check_unlimited(rt.alloc(), &mut file, &mut answer, &mut sink)
+    } else {
+        check_engine(rt.alloc(), settings.fuel, &mut file, &mut answer, &mut sink)
+    };
+    tell_end(&ended, &mut errors)
+}
+
+/// Runs `why` on a file, and answers the exit status.
+fn run_why(rt: &HostRuntime, settings: &Settings<'_>) -> u8 {
+    let mut errors = CountedWriter::new(rt.stderr());
+    let Ok(mut source) = open(rt, settings.file) else {
+        return tell_fault(&EngineFault::Read, &mut errors);
+    };
+    let mut sink = CountedWriter::new(rt.stdout());
+    let ended = why_engine(rt.alloc(), &mut source, &mut sink);
     tell_end(&ended, &mut errors)
 }
 
@@ -96,83 +135,24 @@ fn run_simulate(rt: &HostRuntime, settings: &Settings<'_>) -> u8 {
     tell_end(&ended, &mut errors)
 }
 
-/// Runs `solve` on a file, and answers the exit status. All sockets are bound before any thread starts.
+/// Runs `solve` on a file, and answers the exit status.
 fn run_solve<R: Threads + Wait + Clock + Net + Sync>(
     rt: &HostRuntime,
     threads: &R,
     request: &Request<'_>,
 ) -> u8 {
-    let settings = &request.settings;
     let mut errors = CountedWriter::new(rt.stderr());
-    let Ok(mut source) = open(rt, settings.file) else {
+    let Ok(mut source) = open(rt, request.settings.file) else {
         return tell_fault(&EngineFault::Read, &mut errors);
     };
-    let read = match read_whole(rt.alloc(), &mut source) {
-        Ok(read) => read,
-        Err(fault) => return tell_fault(&fault, &mut errors),
-    };
-    let links = match links(threads, rt.alloc(), settings.nodes) {
-        Ok(links) => links,
-        Err(error) if error.kind() == ErrorKind::OutOfMemory => {
-            return tell_fault(&EngineFault::Memory, &mut errors);
-        }
-        Err(_) => return tell_unbound(&mut errors),
-    };
-    let ended = if request.progress {
-        run_followed(rt, threads, request, &read.problem, links)
-    } else {
-        run_sites(rt, threads, request, &read.problem, links, &Open)
-    };
-    match ended {
-        Ok(status) => tell(status, read.ignored, &mut errors),
-        Err(fault) => tell_fault(&fault, &mut errors),
-    }
-}
-
-/// Lets sites search a problem over these links, and answers the exit status.
-fn run_sites<G: Gate + Sync, R: Threads + Wait + Clock + Net + Sync>(
-    rt: &HostRuntime,
-    threads: &R,
-    request: &Request<'_>,
-    problem: &Problem,
-    links: Vec<UdpLink>,
-    gate: &G,
-) -> Result<u8, EngineFault>
-    requires { vec_len links ≡ request.now.settings.nodes + 1 }
-{
     let mut sink = CountedWriter::new(rt.stdout());
-    let limit = limit_of(request);
-    let settings = &request.settings;
-    solve_problem(
-        threads,
-        rt.alloc(),
-        settings,
-        limit,
-        problem,
-        links,
-        gate,
-        &mut sink,
-    )
-}
-
-/// Does the same, and meanwhile writes how far the run has come, and why it ended where there is no answer.
-fn run_followed<R: Threads + Wait + Clock + Net + Sync>(
-    rt: &HostRuntime,
-    threads: &R,
-    request: &Request<'_>,
-    problem: &Problem,
-    links: Vec<UdpLink>,
-) -> Result<u8, EngineFault>
-    requires { vec_len links ≡ request.now.settings.nodes + 1 }
-{
-    let mut errors = CountedWriter::new(rt.stderr());
-    let log = ProgressLog::new(&mut errors, lines_of(rt));
-    let Ok(followed) = FollowedRun::new(threads, rt.alloc(), &request.settings, problem, log) else {
-        return Err(EngineFault::Memory);
+    let machine = Machine {
+        rt: threads,
+        alloc: rt.alloc(),
+        network: Loopback { rt: threads },
+        lines: lines_of(rt),
     };
-    let ended = run_sites(rt, threads, request, problem, links, &followed);
-    followed.end(!matches!(ended, Ok(4)), limit_of(request));
-    ended
+    machine.solve(request, &mut source, &mut sink, &mut errors)
 }
 
 /// Runs what is asked for, and answers the exit status.
@@ -183,17 +163,12 @@ fn run_request<R: Threads + Wait + Clock + Net + Sync>(
 ) -> u8 {
     let settings = &request.settings;
     match settings.mode {
-        Mode::Alone => run_alone(rt, settings, request.progress),
-        Mode::Check => run_check(rt, settings),
+        Mode::Alone => run_alone(rt, request),
+        Mode::Check => run_check(rt, request),
+        Mode::Why => run_why(rt, settings),
         Mode::Simulate => run_simulate(rt, settings),
         Mode::Solve => run_solve(rt, threads, request),
     }
-}
-
-/// How long a run over sockets may last, if it is limited.
-fn limit_of(request: &Request<'_>) -> Option<Duration> {
-    let seconds = request.seconds?;
-    Some(Duration::from_secs(u64::from(seconds)))
 }
 
 /// Runs what a command line asks for, and answers the exit status: 2 for a mistake on the command line, 0 for help.

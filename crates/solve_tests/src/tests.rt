@@ -1,19 +1,22 @@
 //! `solve` over sockets: the texts of its answers, and that it comes to answers and its audits are clean, which no contract says.
 //!
-//! Of the bugs of `cover_engines` that are kept outside the gate, `most_runs_answer` finds `always_no_answer`, and
-//! `a_restarted_node_has_a_book_of_each_start` finds `restarts_are_not_handed_on`.
+//! Of the bugs of `cover_engines` that are kept outside the gate, `most_runs_answer` finds `always_no_answer` and
+//! `no_run_above_seven_items`, and `a_restarted_node_has_a_book_of_each_start` finds `restarts_are_not_handed_on`.
 
 mod audited;
 mod followed;
+mod held;
+mod machine;
 mod order;
+mod starved;
 
-ghost use Rattle.std.specs.Prelude.{◌≡◌};
+ghost use Rattle.std.specs.Prelude.{◌≡◌, ◌≤◌};
 
-use cover_engines::{links, solve_engine, solve_problem};
+use cover_engines::{Lines, Loopback, Machine, Network, links, solve_engine};
 use cover_problem::Problem;
-use dlx_reader::{CountedWriter, read_problem};
+use dlx_reader::{CountedReader, CountedWriter, read_problem};
 use run_book::Run;
-use run_settings::{Mode, Settings};
+use run_settings::{Mode, Request, Settings};
 use std::alloc::Global;
 use std::marker::Brand;
 use std::net::Net;
@@ -27,8 +30,9 @@ use udp_node::Open;
 /// A problem, with what is to be told of it and the status.
 type Row = (&'static str, &'static str, u8);
 
-/// Seven items and six options, of which three are the one cover, and the same without the option `b g`.
-static ROWS: [Row; 2] = [
+/// Seven items and six options, of which three are the one cover, and the same without the option `b g`; and nine items with two more,
+/// of which one has a colour.
+static ROWS: [Row; 3] = [
     (
         "a b c d e f g\nc e\na d g\nb c f\na d f\nb g\nd e g\n",
         "cover 3\nc e\na d f\nb g\n",
@@ -38,6 +42,11 @@ static ROWS: [Row; 2] = [
         "a b c d e f g\nc e\na d g\nb c f\na d f\nd e g\n",
         "none\n",
         1,
+    ),
+    (
+        "a b c d e f g h i | x y\nc e x:red\na d g\nb c f\na d f x:red y\nb g\nd e g\nh i x:blue\nh x:red\ni\n",
+        "cover 5\nc e x:red\na d f x:red y\nb g\nh x:red\ni\n",
+        0,
     ),
 ];
 
@@ -66,28 +75,85 @@ fn settings(seed: u64, turns: u32, restarts: u32, audit: bool) -> Settings<'stat
     }
 }
 
+/// The settings of a run of so many nodes and workers, whose searches have so much fuel at first.
+fn sized(nodes: u8, workers: u8, fuel: u64, seed: u64) -> Settings<'static>
+    requires some_nodes { 1 ≤ nodes }
+    requires most_nodes { nodes ≤ 16 }
+    requires some_workers { 1 ≤ workers }
+    requires most_workers { workers ≤ 8 }
+    requires some_fuel { 1 ≤ fuel }
+    ensures { result.nodes ≡ nodes }
+{
+    Settings {
+        mode: Mode::Solve,
+        file: "a.dlx",
+        answer: None,
+        fuel,
+        nodes,
+        seed,
+        workers,
+        turns: 10_000_000,
+        restarts: 0,
+        audit: false,
+    }
+}
+
+/// What `solve` writes of a file's text and tells beside it, and the exit status.
+#[derive(Drop)]
+struct Solved {
+    out: Vec<u8>,
+    errors: Vec<u8>,
+    status: u8,
+}
+
+/// Runs `solve` over this network, by the call that the program makes.
+fn solve_over<N: Network, R: Threads + Wait + Clock + Sync>(
+    rt: &R,
+    alloc: Global,
+    network: N,
+    text: &str,
+    request: &Request<'_>,
+) -> Solved {
+    let (mut out, mut errors) = (Vec::new(alloc), Vec::new(alloc));
+    let mut source = CountedReader::new(text.as_bytes());
+    let machine = Machine {
+        rt,
+        alloc,
+        network,
+        lines: Lines::Listed,
+    };
+    let status = machine.solve(
+        request,
+        &mut source,
+        &mut CountedWriter::new(&mut out),
+        &mut CountedWriter::new(&mut errors),
+    );
+    Solved {
+        out,
+        errors,
+        status,
+    }
+}
+
 /// What `solve` writes of a problem, and the status.
 fn solve<R: Threads + Wait + Clock + Net + Sync>(
     rt: &R,
     alloc: Global,
     text: &str,
-    settings: &Settings<'_>,
-) -> Result<(Vec<u8>, u8), Fail> {
-    let read = read_problem(alloc, text.as_bytes())?;
-    let links = links(rt, alloc, settings.nodes)?;
-    let mut out = Vec::new(alloc);
-    let mut sink = CountedWriter::new(&mut out);
-    let status = solve_problem(
-        rt,
-        alloc,
+    settings: Settings<'_>,
+) -> (Vec<u8>, u8) {
+    let request = Request {
         settings,
-        None,
-        &read.problem,
-        links,
-        &Open,
-        &mut sink,
-    )?;
-    Ok((out, status))
+        seconds: None,
+        progress: false,
+        unlimited: false,
+    };
+    let Solved {
+        out,
+        errors: _,
+        status,
+    } = solve_over(rt, alloc, Loopback { rt }, text, &request);
+    (out, status)
 }
 
 /// What is told behind an answer, or behind that none came: with an audit, that the books are one run.
@@ -115,7 +181,7 @@ fn answers<R: Threads + Wait + Clock + Net + Sync>(
     let mut answers = 0u64;
     for seed in 0..RUNS {
         let settings = settings(seed, 1_000_000, restarts, audit);
-        let (told, came) = solve(rt, alloc, text, &settings)?;
+        let (told, came) = solve(rt, alloc, text, settings);
         if is_told(&told, out, audit) && came == status {
             answers = answers.saturating_add(1);
         } else if !is_told(&told, NOTHING.0, audit) || came != NOTHING.1 {
@@ -184,16 +250,16 @@ fn is_silent<R: Threads + Wait + Clock + Net + Sync>(
     alloc: Global,
     text: &str,
     audit: bool,
-) -> Result<bool, Fail> {
-    let (told, came) = solve(rt, alloc, text, &settings(1, 0, 0, audit))?;
-    Ok(is_told(&told, NOTHING.0, audit) && came == NOTHING.1)
+) -> bool {
+    let (told, came) = solve(rt, alloc, text, settings(1, 0, 0, audit));
+    is_told(&told, NOTHING.0, audit) && came == NOTHING.1
 }
 
 #[test]
 fn no_turns_and_no_answer(rt: HostRuntime) -> Result<(), Fail> {
     for (text, _, _) in ROWS.iter() {
-        let plain = is_silent(&rt, rt.alloc(), text, false)?;
-        let audited = is_silent(&rt, rt.alloc(), text, true)?;
+        let plain = is_silent(&rt, rt.alloc(), text, false);
+        let audited = is_silent(&rt, rt.alloc(), text, true);
         assert!(rt; plain && audited);
     }
     Ok(())

@@ -351,6 +351,8 @@ impl Ledger {
         ensures gives { IfOk result (λ answer. TellsSteal self.old thief answer self.new) }
         ensures chosen { IfOk result (λ answer. IfSome answer (λ given.
             serials_of (gifts_of given) ≡ chosen self.old.own)) }
+        ensures spelled { IfOk result (λ answer. IfSome answer (λ given.
+            is_spelled given ≡ true)) }
         ensures err { OnErr result (self.new ≡ self.old) }
     {
         let Some(serials) = self.ready_share(thief) else {

@@ -1,8 +1,8 @@
-//! `two_searches FILE links|sets|suited FUEL` searches a file's problem by links, over sets of live options, or by that of the two
-//! which the program takes. `bench/searches.py` times it.
+//! `two_searches FILE links|sets|suited plain|kept FUEL` searches a file's problem by links, over sets of live options, or by that of the
+//! two which the program takes; it keeps the states that have no cover, or doesn't. `bench/searches.py` times it.
 #![tactic(auto)]
 
-use brancher::{Outcome, Searcher, Tables};
+use brancher::{Outcome, ROOM, Searcher, Tables};
 use cover_problem::Problem;
 use dlx_reader::read_problem;
 use std::alloc::{AllocError, Global};
@@ -35,7 +35,13 @@ fn word_of(outcome: Outcome) -> &'static str {
 }
 
 /// Searches the problem of a file, and tells of which kind the search was and what it came to.
-fn tell_search(rt: &HostRuntime, file: &str, kind: &str, fuel: u64) -> io::Result<()> {
+fn tell_search(
+    rt: &HostRuntime,
+    file: &str,
+    kind: &str,
+    is_kept: bool,
+    fuel: u64,
+) -> io::Result<()> {
     let mut text = Vec::new(rt.alloc());
     File::open(rt, file)?.read_to_end(&mut text)?;
     let Ok(read) = read_problem(rt.alloc(), &text) else {
@@ -44,7 +50,11 @@ fn tell_search(rt: &HostRuntime, file: &str, kind: &str, fuel: u64) -> io::Resul
     let Some(tables) = tables_of(rt.alloc(), kind, &read.problem)? else {
         return println!(rt; "there is no such kind");
     };
-    let mut searcher = Searcher::over(rt.alloc(), &tables)?;
+    let mut searcher = if is_kept {
+        Searcher::keeping(rt.alloc(), &tables, ROOM)?
+    } else {
+        Searcher::over(rt.alloc(), &tables)?
+    };
     let told = if fuel == 0 {
         "spent"
     } else {
@@ -52,6 +62,15 @@ fn tell_search(rt: &HostRuntime, file: &str, kind: &str, fuel: u64) -> io::Resul
     };
     let taken = if tables.has_sets() { "sets" } else { "links" };
     println!(rt; "{taken} {told}")
+}
+
+/// Whether states are kept; none where the word says neither.
+fn kept_by(word: &str) -> Option<bool> {
+    match word {
+        "kept" => Some(true),
+        "plain" => Some(false),
+        _ => None,
+    }
 }
 
 /// The words of the command line behind the program's name.
@@ -65,12 +84,13 @@ fn given_words(rt: &HostRuntime) -> io::Result<Vec<String>> {
 
 fn main(rt: HostRuntime) -> io::Result<ExitCode> {
     let words = given_words(&rt)?;
-    if let [file, kind, fuel] = words.as_slice()
+    if let [file, kind, keeping, fuel] = words.as_slice()
+        && let Some(is_kept) = kept_by(keeping)
         && let Ok(fuel) = fuel.parse::<u64>()
     {
-        tell_search(&rt, file, kind, fuel)?;
+        tell_search(&rt, file, kind, is_kept, fuel)?;
         return Ok(ExitCode::from(0));
     }
-    println!(rt; "two_searches FILE links|sets|suited FUEL")?;
+    println!(rt; "two_searches FILE links|sets|suited plain|kept FUEL")?;
     Ok(ExitCode::from(2))
 }

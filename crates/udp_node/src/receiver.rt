@@ -197,8 +197,11 @@ impl<L: Link> Receiver<L> {
         if self.over {
             self.last = self.last.saturating_add(1);
         }
-        if self.last > LAST || self.is_lost(rt, actor.shared) {
+        if self.last > LAST {
             return self.end();
+        }
+        if let Some(cause) = self.lost(rt, actor.shared) {
+            return self.end_by(cause);
         }
         after(actor.act(rt, Event::Again))
     }
@@ -214,8 +217,8 @@ impl<L: Link> Receiver<L> {
         thread::sleep(rt, Duration::from_micros(nap));
         self.listen(false);
         self.pauses = self.pauses.saturating_add(1);
-        if self.is_lost(rt, actor.shared) {
-            return self.end();
+        if let Some(cause) = self.lost(rt, actor.shared) {
+            return self.end_by(cause);
         }
         if !self.over && self.pauses < AGAIN {
             return Turn::Waited;
@@ -223,19 +226,31 @@ impl<L: Link> Receiver<L> {
         waited(self.say_again(rt, actor))
     }
 
-    /// Whether the site can't go on: it is to end, or the run is, nothing shows the run going on for long, or no worker is left.
-    fn is_lost<J: Run, C: Core + Drop, N: CellName, G: Gate, R: Clock>(
+    /// Why the site can't go on, if it can't: it is to end, or the run is, no worker is left, or nothing shows the run going on for
+    /// long.
+    fn lost<J: Run, C: Core + Drop, N: CellName, G: Gate, R: Clock>(
         &self,
         rt: &R,
         shared: &Shared<'_, J, C, N, G>,
-    ) -> bool {
+    ) -> Option<Cause> {
         let is_deserted = shared.cell.site().node != 0 && shared.signals.is_deserted();
-        shared.is_over(rt) || is_deserted || self.silent >= shared.plan.quiet
+        if shared.is_over(rt) || is_deserted {
+            Some(Cause::Turns)
+        } else if self.silent >= shared.plan.quiet {
+            Some(Cause::Silence)
+        } else {
+            None
+        }
     }
 
-    /// The thread ends, the registry's with the search where that is over.
+    /// The thread ends, as its turns or the site's other threads do.
     fn end(&self) -> Turn {
-        Turn::Ended(if self.over { Cause::Over } else { Cause::Turns })
+        self.end_by(Cause::Turns)
+    }
+
+    /// The thread ends by this cause, or the registry's with the search where that is over.
+    fn end_by(&self, cause: Cause) -> Turn {
+        Turn::Ended(if self.over { Cause::Over } else { cause })
     }
 }
 

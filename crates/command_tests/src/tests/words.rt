@@ -121,6 +121,24 @@ fn reads_all_words(rt: HostRuntime) {
     );
 }
 
+#[test]
+fn reads_words_of_why(rt: HostRuntime) {
+    let words = ["solve_cli", "why", "a.dlx"].as_slice();
+    let asked = (Mode::Why, "a.dlx", None);
+    assert!(rt;
+        is_read(
+            &rt,
+            rt.alloc(),
+            words,
+            asked,
+            (u64::MAX, 4, 1),
+            (2, 10000, 0)
+        )
+    );
+    assert!(rt; status_of(rt.alloc(), &["solve_cli", "why", "a.dlx", "--fuel", "7"]) == 2);
+    assert!(rt; status_of(rt.alloc(), &["solve_cli", "why"]) == 2);
+}
+
 /// Words that ask for an audit, or don't.
 static AUDITS: [(&[&str], bool); 5] = [
     (&["solve_cli", "solve", "a.dlx", "--audit"], true),
@@ -175,8 +193,24 @@ fn reads_whether_to_write_progress(rt: HostRuntime) {
     }
 }
 
+/// Words that ask for no limit of visits, or don't.
+static UNLIMITED: [(&[&str], bool); 4] = [
+    (&["solve_cli", "alone", "a.dlx", "--unlimited"], true),
+    (&["solve_cli", "check", "--unlimited", "a.dlx", "b"], true),
+    (&["solve_cli", "alone", "a.dlx"], false),
+    (&["solve_cli", "alone", "--", "--unlimited"], false),
+];
+
+#[test]
+fn reads_whether_there_is_a_limit(rt: HostRuntime) {
+    for (words, unlimited) in UNLIMITED.iter() {
+        let request = request(rt.alloc(), words).expect(&rt, "lawful words");
+        assert!(rt; request.unlimited == *unlimited);
+    }
+}
+
 /// Each with the status.
-static WORDS: [(&[&str], u8); 58] = [
+static WORDS: [(&[&str], u8); 64] = [
     (&["solve_cli"], 2),
     (&["solve_cli", "--help"], 0),
     (&["solve_cli", "--version"], 0),
@@ -236,6 +270,15 @@ static WORDS: [(&[&str], u8); 58] = [
         &["solve_cli", "alone", "a", "--fuel", "18446744073709551616"],
         2,
     ),
+    (&["solve_cli", "alone", "a", "--unlimited"], 9),
+    (&["solve_cli", "check", "a", "b", "--unlimited"], 9),
+    (
+        &["solve_cli", "alone", "a", "--unlimited", "--fuel", "7"],
+        2,
+    ),
+    (&["solve_cli", "alone", "a", "--unlimited", "1"], 2),
+    (&["solve_cli", "solve", "a", "--unlimited"], 2),
+    (&["solve_cli", "simulate", "a", "--unlimited"], 2),
     (&["solve_cli", "alone", "a", "--nodes", "4"], 2),
     (&["solve_cli", "alone", "-"], 9),
     (&["solve_cli", "check", "-", "b"], 9),
@@ -263,7 +306,7 @@ fn line_told<R: Abort>(rt: &R, alloc: Global, words: &[&str]) -> String {
 
 /// Values that are refused, each with what is told: the option and its range, and the usage of its own subcommand by the name that
 /// the program was called by.
-static VALUES: [(&[&str], &str); 8] = [
+static VALUES: [(&[&str], &str); 9] = [
     (
         &["solve_cli", "alone", "a", "--fuel", "x"],
         "error: --fuel takes 1 to 18446744073709551615\n\nUsage: solve_cli alone [OPTIONS] <file>\n",
@@ -271,6 +314,10 @@ static VALUES: [(&[&str], &str); 8] = [
     (
         &["./solver", "check", "a", "b", "--fuel", "0"],
         "error: --fuel takes 1 to 18446744073709551615\n\nUsage: solver check [OPTIONS] <file> <answer>\n",
+    ),
+    (
+        &["solve_cli", "alone", "a", "--unlimited", "--fuel", "7"],
+        "error: --unlimited can't be used with --fuel\n\nUsage: solve_cli alone [OPTIONS] <file>\n",
     ),
     (
         &["solve_cli", "simulate", "a", "--nodes", "17", "--seed", "x"],

@@ -12,7 +12,7 @@ use std::sync::atomic::AtomicBool;
 /// The letters without their cover.
 const NO_COVER: &str = "a b c d e f g\nc e\na d g\nb c f\na d f\nd e g\n";
 
-/// How a search ended, with its visits; none where the flag stopped it.
+/// How a search ended, with its visits (all its fuel, unless there is no cover); none where the flag stopped it.
 type End = Option<(Outcome, u64)>;
 
 /// The end of a search of the empty prefix with so much fuel; none where memory ran out.
@@ -28,12 +28,13 @@ fn end(alloc: Global, searcher: &mut Searcher<'_>, fuel: u64, flag: &AtomicBool)
 }
 
 /// Each with the fuel, whether the flag is raised before, and how it ends.
-static ENDS: [(&str, u64, bool, End); 4] = [
+static ENDS: [(&str, u64, bool, End); 5] = [
     (LETTERS, 6, false, Some((Outcome::Cover, 6))),
     (LETTERS, 5, false, Some((Outcome::Spent, 5))),
     (NO_COVER, 9, false, Some((Outcome::Barren, 3))),
     // (with so much fuel the flag is looked at before the first visit)
     (LETTERS, 1_048_576, true, None),
+    (LETTERS, 1_048_576, false, Some((Outcome::Cover, 1_048_576))),
 ];
 
 /// Whether a search of the problem ends so.

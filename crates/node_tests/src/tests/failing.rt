@@ -107,7 +107,8 @@ fn a_send_that_fails_is_a_loss(rt: HostRuntime) -> Result<(), Fail> {
     let Some((cause, losses, dropped, failures)) = came else {
         return Err(Fail::new("memory ran out"));
     };
-    assert_eq!(rt; (cause, dropped), (Cause::Turns, 0));
+    // (the registry may fall silent before)
+    assert!(rt; matches!(cause, Cause::Silence | Cause::Turns) && dropped == 0);
     assert!(rt; losses > 0 && losses == failures, "{losses} and {failures}");
     Ok(())
 }

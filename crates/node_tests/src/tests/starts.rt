@@ -2,7 +2,7 @@
 //!
 //! Of the bugs of `udp_node` that are kept outside the gate, `a_restart_frees_the_root` finds `no_node_is_restarted`,
 //! `any_number_of_restarts` finds `books_of_later_starts_are_lost`, and `a_start_that_hears_nothing_ends_after_its_turns` finds
-//! `waits_before_a_restart_are_no_turns`.
+//! `waits_before_a_restart_are_no_turns` and `no_start_is_the_last`.
 
 use super::broken::{Defect, links_with};
 use super::ends::wires;
@@ -88,12 +88,13 @@ fn greetings(sent: &[Packet], incarnation: u32) -> usize {
         .count()
 }
 
-/// A node greets at its first receive, and at each thousandth after that: so a start of 200 turns greets once.
+/// A node greets at its first receive, and at each thousandth after that: so a start of 900 turns greets once, and the last one, whose
+/// waits are no turns, more often.
 #[test]
 fn a_start_that_hears_nothing_ends_after_its_turns(rt: HostRuntime) -> Result<(), Fail> {
     let alloc = rt.alloc();
     let plan = Plan {
-        turns: 400,
+        turns: 1_800,
         quiet: u64::MAX,
         ..PLAN
     };
@@ -106,5 +107,6 @@ fn a_start_that_hears_nothing_ends_after_its_turns(rt: HostRuntime) -> Result<()
     assert_eq!(rt; ran.came.told, Told::Nothing);
     let sent = sent.lock(&rt);
     assert_eq!(rt; greetings(&sent, 1), 1, "the first start");
+    assert!(rt; greetings(&sent, 2) > 1, "the last start");
     Ok(())
 }

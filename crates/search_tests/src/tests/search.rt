@@ -24,7 +24,7 @@ pub fn finds(searcher: &mut Searcher, fuel: u64, first: &[u16]) -> bool {
 }
 
 /// Whether so many visits are enough to find this first, and one less isn't.
-fn takes(searcher: &mut Searcher, visits: u64, first: &[u16]) -> bool {
+pub fn takes(searcher: &mut Searcher, visits: u64, first: &[u16]) -> bool {
     if visits > 1 && searcher.search(&[], visits - 1) != Outcome::Spent {
         return false;
     }

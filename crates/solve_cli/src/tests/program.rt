@@ -4,7 +4,7 @@ use crate::run_words;
 use std::fs;
 
 /// Each with its status; the files are those that are written below.
-static WORDS: [(&[&str], u8); 18] = [
+static WORDS: [(&[&str], u8); 26] = [
     (&["solve_cli"], 2),
     (&["solve_cli", "--help"], 0),
     (&["solve_cli", "check", "--help"], 0),
@@ -22,6 +22,23 @@ static WORDS: [(&[&str], u8); 18] = [
         4,
     ),
     (&["solve_cli", "check", "cover.txt", "p.dlx"], 3),
+    (&["solve_cli", "alone", "p.dlx", "--unlimited"], 0),
+    (
+        &["solve_cli", "alone", "q.dlx", "--unlimited", "--progress"],
+        1,
+    ),
+    (
+        &["solve_cli", "alone", "p.dlx", "--unlimited", "--fuel", "1"],
+        2,
+    ),
+    (
+        &["solve_cli", "check", "p.dlx", "none.txt", "--unlimited"],
+        1,
+    ),
+    (&["solve_cli", "why", "--help"], 0),
+    (&["solve_cli", "why", "no/such/file"], 3),
+    (&["solve_cli", "why", "p.dlx"], 4),
+    (&["solve_cli", "why", "q.dlx"], 1),
     (&["solve_cli", "simulate", "p.dlx"], 0),
     (&["solve_cli", "simulate", "p.dlx", "--fuel", "1"], 0),
     (&["solve_cli", "solve", "p.dlx", "--turns", "0"], 4),
@@ -34,6 +51,7 @@ static WORDS: [(&[&str], u8); 18] = [
 #[test]
 fn words_end_with_their_status(rt: HostRuntime) {
     fs::write(&rt, "p.dlx", "a\na\n").expect(&rt, "a folder");
+    fs::write(&rt, "q.dlx", "a b\na\n").expect(&rt, "a folder");
     fs::write(&rt, "cover.txt", "cover 1\na\n").expect(&rt, "a folder");
     fs::write(&rt, "none.txt", "none\n").expect(&rt, "a folder");
     for (words, status) in WORDS.iter() {

@@ -1,86 +1,55 @@
 //! What is written of a run that has come to no answer, by how its sites ended.
 //!
 //! Of the bugs of `cover_engines` that are kept outside the gate, `a_run_without_an_answer_tells_the_first_reason` finds
-//! `last_reason_stays`.
+//! `last_reason_stays`, and `searches_are_summed` finds `visits_are_not_summed` and `shares_are_not_summed`.
 
+use brancher::{Finding, Searcher};
 use cover_engines::{FollowedRun, Lines, ProgressLog};
+use cover_problem::{Problem, is_prefix};
 use dlx_reader::{CountedWriter, read_problem};
-use run_settings::{Mode, Settings};
 use std::alloc::Global;
 use std::sync::Wait;
 use std::test::Fail;
+use std::thread;
 use std::time::{Clock, Duration};
-use udp_node::{Cause, Gate, SiteEnd, Taken};
+use udp_node::{Cause, Gate, SiteEnd};
 
-/// How many turns a thread of the run takes at most; node 1 restarts three times.
-const TURNS: u32 = 4000;
-
-/// A site whose threads took so many turns at most, and how it ended.
-fn ended(cause: Cause, turns: u64, is_manned: bool) -> SiteEnd {
+/// The end of a site by this cause, whose threads all began or not.
+fn ended(cause: Cause, is_manned: bool) -> SiteEnd {
     SiteEnd {
         cause,
-        losses: 0,
-        dropped: 0,
-        failures: 0,
-        taken: Taken { turns, waits: 5000 },
         is_manned,
+        ..SiteEnd::NONE
     }
 }
 
-/// The node of a site, why it ended, how many turns its threads took at most, and whether they all began.
-type Ended = (u8, Cause, u64, bool);
+/// The node of a site, why it ended, and whether its threads all began.
+type Ended = (u8, Cause, bool);
 
 /// Sites in the order in which they ended, and the line.
-static REASONS: [(&[Ended], &str); 11] = [
+static REASONS: [(&[Ended], &str); 9] = [
     (&[], "ended: nothing was published\n"),
+    (&[(0, Cause::Over, true)], "ended: nothing was published\n"),
+    (&[(1, Cause::BookFull, true)], "ended: a book is full\n"),
+    (&[(2, Cause::Faults, true)], "ended: a socket failed\n"),
+    (&[(0, Cause::Memory, false)], "ended: out of memory\n"),
     (
-        &[(0, Cause::Over, 9, true)],
-        "ended: nothing was published\n",
-    ),
-    (&[(1, Cause::BookFull, 9, true)], "ended: a book is full\n"),
-    (&[(2, Cause::Faults, 9, true)], "ended: a socket failed\n"),
-    (&[(0, Cause::Memory, 0, false)], "ended: out of memory\n"),
-    (
-        &[(4, Cause::Turns, 0, false)],
+        &[(4, Cause::Turns, false)],
         "ended: a thread could not be started\n",
     ),
     (
-        &[(2, Cause::Turns, 4000, true)],
+        &[(2, Cause::Turns, true)],
         "ended: the turns of a site are over\n",
     ),
     (
-        &[(2, Cause::Turns, 3999, true)],
+        &[(1, Cause::Silence, true)],
         "ended: a site heard nothing for long\n",
     ),
     (
-        &[(1, Cause::Turns, 1000, true)],
-        "ended: the turns of a site are over\n",
-    ),
-    (
-        &[(1, Cause::Turns, 999, true)],
-        "ended: a site heard nothing for long\n",
-    ),
-    (
-        &[(3, Cause::Faults, 9, true), (0, Cause::BookFull, 9, true)],
+        &[(3, Cause::Faults, true), (0, Cause::BookFull, true)],
         "ended: a socket failed\n",
     ),
 ];
-
-/// The settings of the run.
-fn settings() -> Settings<'static> {
-    Settings {
-        mode: Mode::Solve,
-        file: "a.dlx",
-        answer: None,
-        fuel: 1000,
-        nodes: 4,
-        seed: 1,
-        workers: 2,
-        turns: TURNS,
-        restarts: 3,
-        audit: false,
-    }
-}
 
 /// What is written where these sites ended and there is an answer or not, within a limit of time.
 fn told<R: Wait + Clock>(
@@ -94,11 +63,11 @@ fn told<R: Wait + Clock>(
     let mut told = Vec::new(alloc);
     let mut errors = CountedWriter::new(&mut told);
     let log = ProgressLog::new(&mut errors, Lines::Listed);
-    let run = FollowedRun::new(rt, alloc, &settings(), &read.problem, log)?;
-    for (node, cause, turns, is_manned) in sites {
-        run.ended(*node, &ended(*cause, *turns, *is_manned));
+    let run = FollowedRun::new(rt, alloc, &read.problem, limit, log)?;
+    for (node, cause, is_manned) in sites {
+        run.ended(*node, &ended(*cause, *is_manned));
     }
-    run.end(is_answered, limit);
+    run.finished(is_answered);
     drop(run);
     Ok(told)
 }
@@ -114,7 +83,7 @@ fn a_run_without_an_answer_tells_the_first_reason(rt: HostRuntime) -> Result<(),
 
 #[test]
 fn the_limit_comes_before_all_others(rt: HostRuntime) -> Result<(), Fail> {
-    let sites = [(1, Cause::Turns, 9, true)];
+    let sites = [(1, Cause::Silence, true)];
     let late = told(&rt, rt.alloc(), &sites, false, Some(Duration::from_secs(0)))?;
     assert!(rt; late.as_slice() == b"ended: the time is over\n".as_slice());
     let early = told(
@@ -130,7 +99,50 @@ fn the_limit_comes_before_all_others(rt: HostRuntime) -> Result<(), Fail> {
 
 #[test]
 fn a_run_with_an_answer_tells_none(rt: HostRuntime) -> Result<(), Fail> {
-    let told = told(&rt, rt.alloc(), &[(1, Cause::Faults, 9, true)], true, None)?;
+    let told = told(&rt, rt.alloc(), &[(1, Cause::Faults, true)], true, None)?;
     assert!(rt; told.is_empty());
+    Ok(())
+}
+
+/// Three items and three options without a cover: the root has two children, which have none.
+const TWO_CHILDREN: &[u8] = b"a b c\na b\na c\nb c\n";
+
+/// What a search of this child of the root comes to.
+fn search(alloc: Global, problem: &Problem, child: u16) -> Result<Finding, Fail> {
+    let mut searcher = Searcher::new(alloc, problem)?;
+    let mut prefix = Vec::new(alloc);
+    prefix.push(child)?;
+    if !is_prefix(problem, &prefix) {
+        return Err(Fail::new("the root has another child"));
+    }
+    match searcher.find(prefix, 9) {
+        Ok(finding) => Ok(finding),
+        Err(_) => Err(Fail::new("memory ran out")),
+    }
+}
+
+/// What is written of a run in which both children were searched, each with a thousand visits, the second one more than a second later.
+fn told_of_searches<R: Wait + Clock>(rt: &R, alloc: Global) -> Result<Vec<u8>, Fail> {
+    let read = read_problem(alloc, TWO_CHILDREN)?;
+    let mut told = Vec::new(alloc);
+    let mut errors = CountedWriter::new(&mut told);
+    let log = ProgressLog::new(&mut errors, Lines::Listed);
+    let run = FollowedRun::new(rt, alloc, &read.problem, None, log)?;
+    for child in 0..2u16 {
+        run.begun();
+        run.searched(&search(alloc, &read.problem, child)?, 1_000);
+        if child == 0 {
+            thread::sleep(rt, Duration::from_millis(1_100));
+        }
+    }
+    drop(run);
+    Ok(told)
+}
+
+#[test]
+fn searches_are_summed(rt: HostRuntime) -> Result<(), Fail> {
+    let told = told_of_searches(&rt, rt.alloc())?;
+    let line = b" s: 2000 visits, 100.0000 % of the tree, 0 jobs out\n";
+    assert!(rt; told.ends_with(line.as_slice()));
     Ok(())
 }

@@ -1,18 +1,19 @@
-//! A run of two nodes in an order that a gate brings about.
+//! Runs in an order that a gate brings about, and whom nodes ask first.
 //!
 //! No contract says that nodes work at once. Of the bugs of `udp_node` that are kept outside the gate, `gate_two_nodes` finds
-//! `asks_the_registry_alone`.
+//! `asks_the_registry_alone`. Of the bugs of `cover_engines` that are kept outside the gate, `gate_two_workers` finds
+//! `one_worker_in_each_node`, and `a_seed_draws_victims_of_its_own` finds `the_seed_is_ignored`.
 
-ghost use Rattle.std.specs.Prelude.{◌≡◌, vec_len};
+ghost use Rattle.std.specs.Prelude.{◌≡◌, ◌+◌, vec_len};
 
-use super::ROWS;
+use super::{ROWS, sized};
 use cover_engines::{links, solve_engine};
 use cover_problem::{Answer, Problem};
 use dlx_reader::read_problem;
 use packet_wire::{Body, Packet};
 use run_book::Run;
-use run_probes::{Awaited, HeldGate, Sent, recorded};
-use run_settings::{Mode, Settings};
+use run_probes::{Awaited, Expected, HeldGate, Sent, SentGate, first_victim, recorded};
+use run_settings::Settings;
 use std::alloc::Global;
 use std::marker::Brand;
 use std::net::Net;
@@ -42,44 +43,35 @@ fn is_covered(answer: Option<&Answer>) -> bool {
     }
 }
 
-/// Whether a run of two nodes with one worker each publishes the cover of the row's problem, and leaves three books; a search makes
-/// one visit.
-fn two_nodes<
-    J: Run + Send + Sync,
-    L: Link + Send,
-    G: Gate + Sync,
-    R: Threads + Wait + Clock + Sync,
->(rt: &R, alloc: Global, problem: &Problem, links: Vec<L>, gate: &G) -> Result<bool, Fail>
+/// Whether a run publishes the cover of the row's problem, and leaves a book of each site.
+fn covers<J: Run + Send + Sync, L: Link + Send, G: Gate + Sync, R: Threads + Wait + Clock + Sync>(
+    rt: &R,
+    alloc: Global,
+    settings: &Settings<'_>,
+    problem: &Problem,
+    links: Vec<L>,
+    gate: &G,
+) -> Result<bool, Fail>
     requires problem { problem.now ≡ J.run.problem }
-    requires nodes { J.run.nodes ≡ 2 }
-    requires links { vec_len links ≡ 3 }
+    requires nodes { settings.now.nodes ≡ J.run.nodes }
+    requires links { vec_len links ≡ settings.now.nodes + 1 }
 {
-    let settings = Settings {
-        mode: Mode::Solve,
-        file: "a.dlx",
-        answer: None,
-        fuel: 1,
-        nodes: 2,
-        seed: 1,
-        workers: 1,
-        turns: 10_000_000,
-        restarts: 0,
-        audit: false,
-    };
-    let end = solve_engine::<J, L, G, R>(rt, alloc, &settings, problem, links, gate)?;
-    Ok(is_covered(end.answer.as_ref()) && end.books.len() == 3)
+    let end = solve_engine::<J, L, G, R>(rt, alloc, settings, problem, links, gate)?;
+    let books = usize::from(settings.nodes) + 1;
+    Ok(is_covered(end.answer.as_ref()) && end.books.len() == books)
 }
 
 /// The same over sockets of their own, with a list of what is sent.
-fn two_recorded<G: Gate + Sync, R: Threads + Wait + Clock + Net + Sync>(
+fn covers_recorded<G: Gate + Sync, R: Threads + Wait + Clock + Net + Sync>(
     rt: &R,
     alloc: Global,
-    problem: &Problem,
+    settings: &Settings<'_>,
     gate: &G,
     sent: &Sent,
 ) -> Result<bool, Fail> {
-    let links = recorded(alloc, links(rt, alloc, 2)?, sent)?;
-    two_nodes::<Brand, _, _, _>(rt, alloc, problem, links, gate)
+    let read = read_problem(alloc, ROWS[0].0.as_bytes())?;
+    let links = recorded(alloc, links(rt, alloc, settings.nodes)?, sent)?;
+    covers::<Brand, _, _, _>(rt, alloc, settings, &read.problem, links, gate)
 }
 
 #[test]
@@ -87,12 +79,46 @@ fn gate_two_nodes(rt: HostRuntime) -> Result<(), Fail> {
     let alloc = rt.alloc();
     let gate = HeldGate::new(Awaited::Guest, 100_000_000);
     let sent = Arc::new(alloc, Mutex::new(Vec::new(alloc)))?;
-    let read = read_problem(alloc, ROWS[0].0.as_bytes())?;
-    assert!(rt; two_recorded(&rt, alloc, &read.problem, &gate, &sent)?);
+    assert!(rt; covers_recorded(&rt, alloc, &sized(2, 1, 1, 1), &gate, &sent)?);
     assert!(rt;
         gate.is_through(),
         "no guest of a node was posted meanwhile"
     );
     assert!(rt; has_all(&sent.lock(&rt)), "a Hello or a Give is missing");
+    Ok(())
+}
+
+#[test]
+fn gate_two_workers(rt: HostRuntime) -> Result<(), Fail> {
+    let alloc = rt.alloc();
+    let gate = HeldGate::new(Awaited::OtherChild, 1_000_000);
+    let sent = Arc::new(alloc, Mutex::new(Vec::new(alloc)))?;
+    assert!(rt; covers_recorded(&rt, alloc, &sized(1, 2, 1, 1), &gate, &sent)?);
+    assert!(rt; gate.is_through(), "no other child was posted meanwhile");
+    Ok(())
+}
+
+/// Whom each of four nodes asked first in a run of this seed.
+fn first_victims<R: Threads + Wait + Clock + Net + Sync>(
+    rt: &R,
+    alloc: Global,
+    seed: u64,
+) -> Result<[Option<u8>; 4], Fail> {
+    let sent = Arc::new(alloc, Mutex::new(Vec::new(alloc)))?;
+    let gate = SentGate::new(rt, Arc::try_clone(&sent)?, Expected::Steals(4));
+    covers_recorded(rt, alloc, &sized(4, 1, 1, seed), &gate, &sent)?;
+    let sent = sent.lock(rt);
+    Ok([
+        first_victim(&sent, 1),
+        first_victim(&sent, 2),
+        first_victim(&sent, 3),
+        first_victim(&sent, 4),
+    ])
+}
+
+#[test]
+fn a_seed_draws_victims_of_its_own(rt: HostRuntime) -> Result<(), Fail> {
+    let victims = first_victims(&rt, rt.alloc(), 13)?;
+    assert_eq!(rt; victims, [Some(4), Some(3), Some(2), Some(3)]);
     Ok(())
 }

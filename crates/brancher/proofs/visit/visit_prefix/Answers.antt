@@ -3,7 +3,7 @@ use Rattle.cover_problem.specs.Branching.{branch_item}
 use Rattle.cover_problem.proofs.Steps.{within_none, some_visits}
 use Rattle.choices.specs.Choices.{Choices}
 use Rattle.brancher.specs.Reach.{IsReached, IsOnward, at_root}
-use Rattle.brancher.proofs.Reaches.{first_child, goes_on, is_barren, reached_found, reached_items, reached_problem, reached_spent}
+use Rattle.brancher.proofs.Reaches.{first_child, goes_on, is_barren, reached_found, reached_items, reached_problem, reached_spent, reached_stopped}
 use Rattle.brancher.proofs.visit.visit_prefix.Goals as goal
 use Rattle.brancher.proofs.visit.visit_prefix.Goals.{else-is_none-via-then-is_none+else-not-choose_onward, else-is_none-via-else-is_none}
 
@@ -39,6 +39,7 @@ returns-then-not-choose_onward g c =
       visit = (ended.visits, ended.none, ap (λ (v : Choices). v.chosen) ended.back);
       back = λ rest told. ended.back;
       stopped = search rules;
+      reached = search rules;
     }
 
 pub loop-left-preserved : goal.loop-left-preserved
@@ -62,3 +63,8 @@ pub returns-clause-visit : goal.returns-clause-visit
 returns-clause-visit g c =
     let now = (g.B.Branching.choices c.loop-left.state) in
     reached_spent (g.B.Branching.choices c.args.state.now) c.args.fuel now c.loop-left.left c.loop-left.invariant.reached (omega (arith, some_visits now.problem now.problem.primary now.chosen, c.loop-left-test.false))
+
+pub returns-then-look-clause-visit : goal.returns-then-look-clause-visit
+returns-then-look-clause-visit g c =
+    let now = g.B.Branching.choices c.loop-left.state in
+    omega (arith, reached_stopped (g.B.Branching.choices c.args.state.now) c.args.fuel now c.loop-left.left 0 c.loop-left.invariant.reached (some_visits now.problem now.problem.primary now.chosen))

@@ -4,7 +4,7 @@ use Rattle.command_line.proofs.words.spelled.Goals as goal
 
 pub returns-in_err-fuel-clause-none : goal.returns-in_err-fuel-clause-none
 returns-in_err-fuel-clause-none c =
-    none_spelled _ c.args.name.now (first_value (found_of c.args.inner.now)) (λ settings h. c.in_err-fuel.ensures.none settings.fuel h.fuel_given h.fuel_fits)
+    none_spelled _ c.args.name.now (first_value (found_of c.args.inner.now)) (λ settings h. c.in_err-fuel.ensures.none settings.fuel h.fuel_given settings.some_fuel h.fuel_fits)
 
 pub returns-in_err-nodes-clause-none : goal.returns-in_err-nodes-clause-none
 returns-in_err-nodes-clause-none c =

@@ -1,9 +1,11 @@
-use Rattle.std.proofs.Common.{is_some, sym, ap, ◌∙◌, subst, arith}
+use Rattle.std.proofs.Common.{is_some, refl, sym, ap, ◌∙◌, subst, arith}
 use Rattle.cover_problem.specs.Problem.{Problem}
+use Rattle.cover_world.proofs.Reached.{goes_on}
 use Rattle.cover_world.proofs.Simulating.{one_more, stands}
 use Rattle.cover_world.proofs.simulation.play.Goals as goal
 use Rattle.cover_world.specs.Safety.{published}
 use Rattle.cover_world.specs.Simulation.{Draws, simulation}
+use Rattle.cover_world.specs.Worlds.{stay}
 
 pub returns-then-is_answered-clause-turns : goal.returns-then-is_answered-clause-turns
 returns-then-is_answered-clause-turns c =
@@ -22,5 +24,9 @@ loop-turn-preserved c =
     let draws = subst (λ (p : Problem). Draws p c.args.fuel now next) here.invariant.problem c.in_ok-left.ensures.draws in
     record {
       problem = c.draw.ensures.problem ∙ here.invariant.problem;
+      run = goes_on c.args.world.now.problem here.world.problem c.args.world.now.world here.world.world c.draw.new.world.world here.invariant.problem here.invariant.run c.draw.ensures.run;
       turns = one_more c.args.world.now.problem c.args.fuel here._turn start now next none here.invariant.turns draws;
     }
+
+pub loop-turn-init : goal.loop-turn-init
+loop-turn-init c = record { problem = refl; run = stay; turns = refl }

@@ -1,4 +1,4 @@
-use Rattle.std.proofs.Common.{rules, ◌≡◌, ◌++◌, ◌∷◌, [], ap, ◌∙◌}
+use Rattle.std.proofs.Common.{rules, ◌≡◌, ◌+◌, ◌++◌, ◌∷◌, [], ap, ◌∙◌}
 use Rattle.run_book.proofs.Desks.{desk_lawful, desk_next, desk_reply_fits}
 use Rattle.run_book.specs.Entries.{Entry}
 use Rattle.run_book.proofs.desk.Desk.act.Goals as goal
@@ -13,7 +13,7 @@ invariant_of-self-2 g c =
     let kept : Entry = c.shared-entry.result in
     let entry_is : kept ≡ record { event = c.args.prepared.event; reply = acted.reply; packets = acted.packets } =
     c.shared-entry.ensures ∙ (λ k. record { event = c.in_ok-entry.ensures.event k; reply = acted.reply; packets = acted.packets }) in
-    desk_next _ _ _ _ _ _ _ _ _ i kept _ _ _ _ _ _ _ _ _ c.requires.fit c.in_ok-entry.ensures.acts entry_is c.act_on.ensures.problem (search rules) (c.push_reserved.ensures.items ∙ ap (λ l. l ++ kept ∷ []) c.reserve.ensures.items) c.enter-receipt.ensures.log c.enter-receipt.ensures.back c.count.ensures.total
+    desk_next _ _ _ _ _ _ _ _ _ i kept _ _ _ _ _ _ _ _ _ c.requires.fit c.in_ok-entry.ensures.acts entry_is c.act_on.ensures.problem (search rules) (c.push_reserved.ensures.items ∙ ap (λ l. l ++ kept ∷ []) c.reserve.ensures.items) c.enter-receipt.ensures.log c.enter-receipt.ensures.back (c.count.ensures.total ∙ ap (λ s. s.total + 1) c.bound.ensures.all)
 
 pub returns-clause-lawful : goal.returns-clause-lawful
 returns-clause-lawful g c =

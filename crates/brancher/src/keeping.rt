@@ -1,0 +1,239 @@
+//! A visit that keeps which states it found barren, and goes past those that it meets again.
+
+ghost use Rattle.std.specs.Prelude.{◌≡◌, Bool, ◌+◌, ◌<◌, ◌≤◌, ℕ, List, length, false, None, Some, true, IfSome, slice_index};
+ghost use Rattle.cover_problem.specs.Branching.{branch_item};
+ghost use Rattle.cover_problem.specs.Prefix.{is_covered, is_prefix};
+ghost use Rattle.cover_problem.specs.Problem.{IsProblem};
+ghost use Rattle.cover_problem.specs.Search.{first, visits};
+ghost use Rattle.choices.specs.Choices.{Choices};
+ghost use Rattle.brancher.specs.Keeping.{AreBarren, AreKept, IsBarrenIn, IsEntered, IsNoteOf, IsPassed, IsTurned};
+ghost use Rattle.brancher.specs.Stepping.{IsStep};
+ghost use Rattle.brancher.specs.Visit.{IsVisit};
+
+use crate::branching::put_prefix;
+use crate::kept::Kept;
+use crate::step::Step;
+use crate::visit::{Visit, visit_prefix};
+use crate::watch::Watch;
+use choices::Branching;
+
+/// Puts a prefix in place of what is chosen, and visits it and what is below it; states that are kept are not visited again.
+pub(crate) fn visit_below_keeping<B: Branching, W: Watch>(
+    state: &mut B,
+    prefix: &[u16],
+    fuel: u64,
+    watch: &mut W,
+    kept: &mut Kept,
+) -> Visit
+    requires prefix { is_prefix (B.choices state.old).problem prefix.now ≡ true }
+    requires kept { AreKept B.kind (B.choices state.old).problem kept.old }
+    ensures problem { (B.choices state.new).problem ≡ (B.choices state.old).problem }
+    ensures lawful { IsProblem (B.choices state.old).problem }
+    ensures visit { IsVisit (first (B.choices state.old).problem prefix.now)
+        (visits (B.choices state.old).problem prefix.now) fuel prefix.now
+        (B.choices state.new).chosen result }
+    ensures stopped { (left : ℕ) → result ≡ Visit.Stopped left → W.may_stop ≡ true }
+    ensures kept { AreKept B.kind (B.choices state.old).problem kept.new }
+{
+    state.problem();
+    put_prefix(state, prefix);
+    visit_keeping(state, fuel, watch, kept)
+}
+
+/// Visits the prefix that is chosen, and what is below it. The chosen options come back, or are the first cover.
+fn visit_keeping<B: Branching, W: Watch>(
+    state: &mut B,
+    fuel: u64,
+    watch: &mut W,
+    kept: &mut Kept,
+) -> Visit
+    requires { AreKept B.kind (B.choices state.old).problem kept.old }
+    ensures problem { (B.choices state.new).problem ≡ (B.choices state.old).problem }
+    ensures visit { IsVisit (first (B.choices state.old).problem (B.choices state.old).chosen)
+        (visits (B.choices state.old).problem (B.choices state.old).chosen) fuel
+        (B.choices state.old).chosen (B.choices state.new).chosen result }
+    ensures stopped { (left : ℕ) → result ≡ Visit.Stopped left → W.may_stop ≡ true }
+    ensures kept { AreKept B.kind (B.choices state.old).problem kept.new }
+{
+    let base = state.chosen().len();
+    let mut left = fuel;
+    while left > 0 {
+        match step(state, base, left, watch, kept) {
+            Step::On(rest) => left = rest,
+            Step::End(visit) => return visit,
+        }
+    }
+    Visit::Spent
+}
+
+/// Goes on from the chosen options, at which something is left, to what comes next.
+#[inline(always)]
+fn step<B: Branching, W: Watch>(
+    state: &mut B,
+    base: usize,
+    left: u64,
+    watch: &mut W,
+    kept: &mut Kept,
+) -> Step
+    requires left { 0 < left }
+    requires items { length (B.choices state.old).chosen
+        ≤ base + length (B.choices state.old).branches }
+    requires room { (B.choices state.old).problem.primary < length kept.old.entered }
+    ensures room { length kept.new.entered ≡ length kept.old.entered }
+    ensures step { (root : Choices) (fuel : ℕ) → base ≡ length root.chosen →
+        AreBarren B.kind root.problem kept.old.states →
+        IsEntered root fuel kept.old.entered (B.choices state.old) left →
+        AreBarren B.kind root.problem kept.new.states
+        × IsStep W.may_stop root fuel kept.new.entered left (B.choices state.new) result }
+{
+    state.problem();
+    if kept.is_watch_due() && watch.look(state.chosen(), left) {
+        return Step::End(Visit::Stopped(left));
+    }
+    if kept.is_beyond(state.chosen().len()) {
+        return step_plainly(state, base, left, watch, kept);
+    }
+    let Some(item) = state.branch_item() else {
+        return Step::End(Visit::Found);
+    };
+    kept.made(1);
+    let Some((rest, chosen)) = pass(state, item, left, kept) else {
+        return Step::End(Visit::Spent);
+    };
+    if chosen {
+        Step::On(rest)
+    } else {
+        turn(state, base, rest, kept)
+    }
+}
+
+/// Visits what is below the chosen options without a look for states, up to the next trial.
+fn step_plainly<B: Branching, W: Watch>(
+    state: &mut B,
+    base: usize,
+    left: u64,
+    watch: &mut W,
+    kept: &mut Kept,
+) -> Step
+    requires left { 0 < left }
+    requires items { length (B.choices state.old).chosen
+        ≤ base + length (B.choices state.old).branches }
+    requires room { (B.choices state.old).problem.primary < length kept.old.entered }
+    ensures room { length kept.new.entered ≡ length kept.old.entered }
+    ensures step { (root : Choices) (fuel : ℕ) → base ≡ length root.chosen →
+        AreBarren B.kind root.problem kept.old.states →
+        IsEntered root fuel kept.old.entered (B.choices state.old) left →
+        AreBarren B.kind root.problem kept.new.states
+        × IsStep W.may_stop root fuel kept.new.entered left (B.choices state.new) result }
+{
+    state.problem();
+    let depth = state.chosen().len();
+    let pause = left.saturating_sub(kept.until_trial());
+    match visit_prefix(state, left, pause, watch) {
+        Visit::Barren(rest) => {
+            kept.made(left.saturating_sub(rest));
+            turn(state, base, rest, kept)
+        }
+        Visit::Stopped(rest) if rest <= pause => {
+            kept.made(left.saturating_sub(rest));
+            kept.forget_from(depth);
+            Step::On(rest)
+        }
+        Visit::Stopped(rest) => Step::End(Visit::Stopped(rest)),
+        Visit::Found => Step::End(Visit::Found),
+        Visit::Spent => Step::End(Visit::Spent),
+    }
+}
+
+/// Goes past the chosen options, whose branch item is given: to their first child, unless they have none or are known to be barren. Answers
+/// how much is left then, and whether a child is chosen; none where it would be more than there is.
+#[inline(always)]
+fn pass<B: Branching>(state: &mut B, item: u16, left: u64, kept: &mut Kept) -> Option<(u64, bool)>
+    requires left { 0 < left }
+    requires room { (B.choices state.old).problem.primary < length kept.old.entered }
+    requires item { branch_item (B.choices state.old).problem (B.choices state.old).chosen
+        ≡ Some item }
+    requires named { item < length (B.choices state.old).problem.names }
+    requires uncovered { is_covered (B.choices state.old).problem (B.choices state.old).chosen item
+        ≡ false }
+    ensures unchanged { IfSome result (λ passed. passed.1 ≡ false →
+        B.choices state.new ≡ B.choices state.old) }
+    ensures spent { result ≡ None → B.choices state.new ≡ B.choices state.old }
+    ensures states { kept.new.states ≡ kept.old.states }
+    ensures room { length kept.new.entered ≡ length kept.old.entered }
+    ensures passed { (root : Choices) (fuel : ℕ) →
+        AreBarren B.kind (B.choices state.old).problem kept.old.states →
+        IsEntered root fuel kept.old.entered (B.choices state.old) left →
+        IsPassed root fuel kept.new.entered (B.choices state.new) left result }
+{
+    state.problem();
+    kept.note(state.chosen().len(), left);
+    if let Some(count) = kept.look(state) {
+        if count > left {
+            return None;
+        }
+        return Some((left - count, false));
+    }
+    Some((left - 1, state.choose_first(item).is_some()))
+}
+
+/// Goes on from choices that are barren with all below, or ends where these were all.
+#[inline(always)]
+fn turn<B: Branching>(state: &mut B, base: usize, left: u64, kept: &mut Kept) -> Step
+    requires items { length (B.choices state.old).chosen
+        ≤ base + length (B.choices state.old).branches }
+    requires room { length (B.choices state.old).chosen < length kept.old.entered }
+    ensures room { length kept.new.entered ≡ length kept.old.entered }
+    ensures step { (root : Choices) (fuel before : ℕ) (may_stop : Bool) → base ≡ length root.chosen →
+        left < before → AreBarren B.kind root.problem kept.old.states →
+        IsBarrenIn root fuel kept.old.entered (B.choices state.old) left →
+        AreBarren B.kind root.problem kept.new.states
+        × IsStep may_stop root fuel kept.new.entered before (B.choices state.new) result }
+{
+    if turn_onward(state, base, left, kept) {
+        Step::On(left)
+    } else {
+        Step::End(Visit::Barren(left))
+    }
+}
+
+/// Takes choices back, the last one first, until one has an option that comes next, which is chosen in its place; what is left is
+/// kept as barren. False where none has: then only the first `base` choices are left, which are never taken back.
+#[inline(always)]
+fn turn_onward<B: Branching>(state: &mut B, base: usize, left: u64, kept: &mut Kept) -> bool
+    requires items { length (B.choices state.old).chosen
+        ≤ base + length (B.choices state.old).branches }
+    requires room { length (B.choices state.old).chosen < length kept.old.entered }
+    ensures entered { kept.new.entered ≡ kept.old.entered }
+    ensures turned { (root : Choices) (fuel : ℕ) → base ≡ length root.chosen →
+        AreBarren B.kind root.problem kept.old.states →
+        IsBarrenIn root fuel kept.old.entered (B.choices state.old) left →
+        AreBarren B.kind root.problem kept.new.states
+        × IsTurned root fuel kept.old.entered left (B.choices state.new) result }
+{
+    while state.chosen().len() > base {
+        if state.choose_next().is_some() {
+            return true;
+        }
+        keep_barren(state, left, kept);
+    }
+    false
+}
+
+/// Keeps that there is no cover below the chosen options, and how many visits that took, where it is noted what was left when they were
+/// come to.
+#[inline(always)]
+fn keep_barren<B: Branching>(state: &B, left: u64, kept: &mut Kept)
+    requires { length (B.choices state.now).chosen < length kept.old.entered }
+    ensures entered { kept.new.entered ≡ kept.old.entered }
+    ensures barren { AreBarren B.kind (B.choices state.now).problem kept.old.states →
+        first (B.choices state.now).problem (B.choices state.now).chosen ≡ None →
+        IsNoteOf kept.old.entered (length (B.choices state.now).chosen)
+        (visits (B.choices state.now).problem (B.choices state.now).chosen + left) →
+        AreBarren B.kind (B.choices state.now).problem kept.new.states }
+{
+    state.problem();
+    if let Some(visits) = kept.since(state.chosen().len(), left) {
+        kept.keep(state, visits);
+    }
+}

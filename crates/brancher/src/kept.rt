@@ -1,0 +1,187 @@
+//! What the searches of a problem keep.
+
+ghost use Rattle.std.specs.Prelude.{◌≡◌, ◌-◌, ◌<◌, ◌≤◌, ℕ, List, length, IfOk, IfSome, slice_index, slice_set};
+ghost use Rattle.barren_states.specs.States.{Holds};
+ghost use Rattle.choices.specs.Keys.{KeyKind};
+ghost use Rattle.brancher.specs.Keeping.{AreKept, IsKeptOf, IsKnown};
+
+use crate::trials::Trials;
+use barren_states::BarrenStates;
+use choices::Branching;
+use cover_problem::Problem;
+use std::alloc::{AllocError, Global};
+use std::marker::Model;
+
+/// The fewest visits of a state that is kept: a smaller one is visited again as fast as it is found.
+const LEAST: u64 = 4;
+
+/// What the searches of a problem keep: the states that they found barren, and, while one is under way, how much fuel was left when it
+/// came to prefixes of its way.
+#[derive(Drop)]
+pub struct Kept {
+    /// The states.
+    states: BarrenStates,
+    /// What was left, at the place of the prefix's length; 0 says nothing.
+    entered: Vec<u64>,
+    /// Room for a key.
+    key: Vec<u64>,
+    /// Where states are looked for.
+    trials: Trials,
+}
+
+impl Model for Kept {
+    ghost use Rattle.brancher.specs.Keeping.{Keeping};
+
+    ghost Value = { Keeping };
+
+    ghost view = { λ s. record { states = s.states; entered = s.entered.items } };
+}
+
+impl Kept {
+    /// Nothing yet, with room for states of keys of so many words in at most so many bytes, or in less where that is refused. The only
+    /// error is out of memory.
+    pub fn build(
+        alloc: Global,
+        problem: &Problem,
+        width: usize,
+        room: u64,
+    ) -> Result<Kept, AllocError>
+        requires width { width ≤ 1024 }
+        ensures kept { (kind : KeyKind) → IfOk result (AreKept kind problem.now) }
+        ensures empty { IfOk result (λ kept. (key : List ℕ) (visits : ℕ) →
+            Holds kept.states key visits → ⊥) }
+    {
+        // (for what the getter says: that there are at most 1,000)
+        let _items = problem.items();
+        let depths = problem.primary() + 1;
+        let states = states_in(alloc, width, room)?;
+        let entered = vec![in alloc; 0u64; depths]?;
+        let key = vec![in alloc; 0u64; width]?;
+        let trials = Trials::build(alloc, depths)?;
+        Ok(Kept {
+            states,
+            entered,
+            key,
+            trials,
+        })
+    }
+
+    /// Whether nothing is looked for at prefixes of this length and below.
+    #[inline(always)]
+    pub fn is_beyond(&self, depth: usize) -> bool {
+        self.trials.is_beyond(depth)
+    }
+
+    /// How many visits may be made until it is tried again where looking pays.
+    pub(crate) fn until_trial(&self) -> u64
+        ensures { 0 < result }
+    {
+        self.trials.until_trial()
+    }
+
+    /// Whether a watch is to look now.
+    #[inline(always)]
+    pub fn is_watch_due(&mut self) -> bool
+        ensures { self.new ≡ self.old }
+    {
+        self.trials.is_watch_due()
+    }
+
+    /// Counts visits that were made.
+    #[inline(always)]
+    pub fn made(&mut self, visits: u64)
+        ensures { self.new ≡ self.old }
+    {
+        self.trials.made(visits);
+    }
+
+    /// Notes how much was left when the search came to a prefix of this length.
+    #[inline(always)]
+    pub(crate) fn note(&mut self, depth: usize, left: u64)
+        requires { depth < length self.old.entered }
+        ensures states { self.new.states ≡ self.old.states }
+        ensures entered { self.new.entered ≡ slice_set self.old.entered depth left }
+    {
+        self.entered[depth] = left;
+    }
+
+    /// Takes the notes of prefixes back that have this length or more.
+    pub(crate) fn forget_from(&mut self, depth: usize)
+        ensures states { self.new.states ≡ self.old.states }
+        ensures long { length self.new.entered ≡ length self.old.entered }
+        ensures before { (place : ℕ) → place < depth →
+            slice_index self.new.entered place ≡ slice_index self.old.entered place }
+        ensures forgotten { (place : ℕ) → depth ≤ place →
+            slice_index self.new.entered place ≡ 0 }
+    {
+        for place in depth..self.entered.len() {
+            self.entered[place] = 0;
+        }
+    }
+
+    /// How many visits were kept of the chosen options, if they were.
+    #[inline(always)]
+    pub fn look<B: Branching>(&mut self, state: &B) -> Option<u64>
+        ensures unchanged { self.new ≡ self.old }
+        ensures known { IfSome result (IsKnown B.kind (B.choices state.now).problem
+            (B.choices state.now).chosen self.old.states) }
+    {
+        if !state.write_key(&mut self.key) {
+            return None;
+        }
+        let depth = state.chosen().len();
+        self.trials.looked(depth);
+        let visits = self.states.look(&self.key)?;
+        self.trials.found(depth, visits);
+        Some(visits)
+    }
+
+    /// Keeps so many visits of the chosen options, unless they are few.
+    #[inline(always)]
+    pub fn keep<B: Branching>(&mut self, state: &B, visits: u64)
+        ensures entered { self.new.entered ≡ self.old.entered }
+        ensures states { IsKeptOf B.kind (B.choices state.now).problem
+            (B.choices state.now).chosen visits self.old.states self.new.states }
+    {
+        if visits < LEAST {
+            return;
+        }
+        if !state.write_key(&mut self.key) {
+            return;
+        }
+        self.states.keep(&self.key, visits);
+    }
+
+    /// How much less is left than when the search came to a prefix of this length, where that is noted.
+    #[inline(always)]
+    pub(crate) fn since(&self, depth: usize, left: u64) -> Option<u64>
+        requires { depth < length self.now.entered }
+        ensures { IfSome result (λ visits. (1 ≤ slice_index self.now.entered depth)
+            × (visits ≡ slice_index self.now.entered depth - left)) }
+    {
+        let noted = self.entered[depth];
+        if noted > 0 {
+            Some(noted.saturating_sub(left))
+        } else {
+            None
+        }
+    }
+}
+
+/// A table of states of keys of so many words, in at most so many bytes, or in less where that is refused; the only error is out of memory.
+fn states_in(alloc: Global, width: usize, room: u64) -> Result<BarrenStates, AllocError>
+    requires { width ≤ 1024 }
+    ensures { IfOk result (λ states. (key : List ℕ) (visits : ℕ) → Holds states key visits → ⊥) }
+{
+    // (a slot has a key, its visits, and a byte for its worth)
+    let slots = room / (width as u64 * 8 + 9);
+    let bits = (u64::BITS - 1)
+        .saturating_sub(slots.leading_zeros())
+        .min(32);
+    for less in 0..bits + 1 {
+        if let Ok(states) = BarrenStates::build(alloc, width, bits - less) {
+            return Ok(states);
+        }
+    }
+    Err(AllocError)
+}

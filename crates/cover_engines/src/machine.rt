@@ -1,0 +1,132 @@
+//! `solve`: from the bytes of a problem's file to the bytes of the answer.
+
+ghost use Rattle.std.specs.Prelude.{◌≡◌, ◌+◌, ◌-◌, ◌<◌, ◌^◌, ◌⊎◌, List, ℕ, vec_len, IfSome};
+ghost use Rattle.cover_engines.specs.Solve.{EndsAs, SolveSays};
+ghost use Rattle.dlx_reader.specs.ProblemOf.{IsProblemOf};
+ghost use Rattle.search_engines.specs.Output.{IsOutputOf};
+
+use crate::followed_run::FollowedRun;
+use crate::network::Network;
+use crate::solve::solve_problem;
+use cover_problem::Problem;
+use dlx_reader::{Read, Sink, Source};
+use run_settings::Request;
+use search_engines::{EngineFault, Lines, ProgressLog, read_whole, tell, tell_fault, tell_unbound};
+use std::alloc::Global;
+use std::io::{self, ErrorKind};
+use std::sync::Wait;
+use std::thread::Threads;
+use std::time::{Clock, Duration};
+use udp_node::Open;
+
+/// What `solve` runs on.
+#[derive(Drop)]
+pub struct Machine<'a, N: Network, R: Threads + Wait + Clock + Sync> {
+    /// Where its threads come from.
+    pub rt: &'a R,
+    /// Where its memory comes from.
+    pub alloc: Global,
+    /// Where its sites get their links.
+    pub network: N,
+    /// How its lines of progress follow one another.
+    pub lines: Lines,
+}
+
+impl<N: Network, R: Threads + Wait + Clock + Sync> Machine<'_, N, R> {
+    /// Reads a problem to its end, lets sites search it as the request has it, writes the answer, and with an audit what that found, and
+    /// returns the exit status: 0 for a cover, 1 for none, 4 for no answer, 6 where the audit is unclean.
+    ///
+    /// The other statuses are 3, where a device failed, the text is refused or no links could be had, and 5 for want of memory. Where
+    /// the sink failed a beginning of the text was written, else nothing. The links are had before any thread starts. The other
+    /// sink is told what is wrong, how many options were ignored, and how far the search is, if the request has it so; a fault of it is
+    /// passed over.
+    #[tactic(auto, using(crate::proofs::Ends::ends_unread))]
+    pub fn solve<S: Source, W: Sink, E: Sink + Send>(
+        &self,
+        request: &Request<'_>,
+        source: &mut S,
+        sink: &mut W,
+        errors: &mut E,
+    ) -> u8
+        requires source { S.failed source.old < 2 ^ 64 - 1 }
+        requires sink { W.failed sink.old < 2 ^ 64 - 1 }
+        ensures { IfSome (S.remaining source.old) (λ text. EndsAs
+            (SolveSays request.now.settings) text (W.contents sink.old) (W.contents sink.new)
+            result) }
+    {
+        match read_whole(self.alloc, source) {
+            Ok(read) => self.solve_read(request, &read, sink, errors),
+            Err(fault) => tell_fault(&fault, errors),
+        }
+    }
+
+    /// The same of a problem that was read.
+    #[tactic(auto, using(crate::proofs::Ends::ends_unlinked, crate::proofs::Ends::ends_said, crate::proofs::Ends::ends_stopped))]
+    fn solve_read<W: Sink, E: Sink + Send>(
+        &self,
+        request: &Request<'_>,
+        read: &Read,
+        sink: &mut W,
+        errors: &mut E,
+    ) -> u8
+        requires { W.failed sink.old < 2 ^ 64 - 1 }
+        ensures { (text : List ℕ) → IsProblemOf text read.now.problem read.now.ignored → EndsAs
+            (SolveSays request.now.settings) text (W.contents sink.old) (W.contents sink.new)
+            result }
+    {
+        let links = match self.network.links(self.alloc, request.settings.nodes) {
+            Ok(links) => links,
+            Err(error) => return tell_unlinked(&error, errors),
+        };
+        match self.search(request, &read.problem, links, sink, errors) {
+            Ok(status) => tell(status, read.ignored, errors),
+            Err(fault) => tell_fault(&fault, errors),
+        }
+    }
+
+    /// Lets sites search a problem over these links, and returns the exit status of what is written.
+    #[tactic(auto, using(crate::proofs::Ends::said_with))]
+    fn search<W: Sink, E: Sink + Send>(
+        &self,
+        request: &Request<'_>,
+        problem: &Problem,
+        links: Vec<N::End>,
+        sink: &mut W,
+        errors: &mut E,
+    ) -> Result<u8, EngineFault>
+        requires links { vec_len links ≡ request.now.settings.nodes + 1 }
+        requires sink { W.failed sink.old < 2 ^ 64 - 1 }
+        ensures { IsOutputOf (SolveSays request.now.settings problem.now) (W.contents sink.old)
+            (W.contents sink.new) result }
+    {
+        let (rt, alloc, settings) = (self.rt, self.alloc, &request.settings);
+        let limit = limit_of(request);
+        if !request.progress {
+            return solve_problem(rt, alloc, settings, limit, problem, links, &Open, sink);
+        }
+        let log = ProgressLog::new(errors, self.lines);
+        match FollowedRun::new(rt, alloc, problem, limit, log) {
+            Ok(followed) => {
+                solve_problem(rt, alloc, settings, limit, problem, links, &followed, sink)
+            }
+            Err(_) => Err(EngineFault::Memory),
+        }
+    }
+}
+
+/// How long a run may last, if it is limited.
+fn limit_of(request: &Request<'_>) -> Option<Duration> {
+    let seconds = request.seconds?;
+    Some(Duration::from_secs(u64::from(seconds)))
+}
+
+/// Tells that no links could be had, and returns the exit status: 5 for want of memory, else 3.
+fn tell_unlinked<E: Sink>(error: &io::Error, errors: &mut E) -> u8
+    ensures { (result ≡ 3) ⊎ (result ≡ 5) }
+{
+    if error.kind() == ErrorKind::OutOfMemory {
+        tell_fault(&EngineFault::Memory, errors)
+    } else {
+        tell_unbound(errors)
+    }
+}

@@ -1,0 +1,5 @@
+mod Reasoning
+mod Rooming
+mod Steps
+mod Sums
+mod Weighing

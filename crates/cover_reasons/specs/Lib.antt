@@ -1,0 +1,3 @@
+pub mod Reasons
+pub mod Room
+pub mod Weights

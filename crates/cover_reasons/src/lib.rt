@@ -1,0 +1,32 @@
+//! Reasons why a problem has no exact cover that anybody can add up: weights of the primary items such that each option weighs 0
+//! modulo some number, and all primary items together don't; or too little room for what primary items need.
+#![tactic(auto)]
+
+mod bits;
+mod demand;
+mod kernel;
+mod kinds;
+mod laws;
+mod line;
+mod matching;
+mod neighbours;
+mod reason;
+mod reason_finder;
+mod room;
+mod room_finder;
+mod room_test;
+mod row;
+mod sides;
+mod weights;
+mod weights_finder;
+mod weights_test;
+
+pub use laws::{lack_of_room_excludes_covers, reasons_exclude_covers, weights_exclude_covers};
+pub use reason::{Reason, holds_of};
+pub use reason_finder::find_reason;
+pub use room::Room;
+pub use room_finder::find_room;
+pub use room_test::is_too_little;
+pub use weights::{MOST_MODULUS, Weights};
+pub use weights_finder::find_weights;
+pub use weights_test::excludes;

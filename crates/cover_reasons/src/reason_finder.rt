@@ -1,0 +1,36 @@
+//! The search for a reason of either kind.
+
+ghost use Rattle.std.specs.Prelude.{◌≡◌, [], true, IfOk, IfSome};
+ghost use Rattle.cover_problem.specs.Prefix.{IsBarren};
+ghost use Rattle.cover_reasons.specs.Reasons.{holds_of};
+
+use crate::laws::reasons_exclude_covers;
+use crate::reason::Reason;
+use crate::room_finder::find_room;
+use crate::weights_finder::find_weights;
+use cover_problem::Problem;
+use std::alloc::{AllocError, Global};
+
+/// The moduli that are tried, in this order: small primes, and powers of those that boards and tori need.
+const MODULI: [u8; 8] = [2, 3, 4, 8, 9, 5, 7, 16];
+
+/// A reason why the problem has no exact cover: too little room, or else weights modulo 2, 3, 4, 8, 9, 5, 7 or 16.
+///
+/// Where it finds none there may be a cover or none. It takes memory of the order of the items' square, and time of the order of their
+/// cube. The only error is want of memory.
+pub fn find_reason(alloc: Global, problem: &Problem) -> Result<Option<Reason>, AllocError>
+    ensures holds { IfOk result (λ found.
+        IfSome found (λ reason. holds_of problem.now reason ≡ true)) }
+    ensures barren { IfOk result (λ found. IfSome found (λ reason. IsBarren problem.now [])) }
+{
+    reasons_exclude_covers();
+    // (for what the getter says: that it is a problem)
+    let _options = problem.options();
+    if let Some(room) = find_room(alloc, problem)? {
+        return Ok(Some(Reason::TooLittleRoom(room)));
+    }
+    match find_weights(alloc, problem, &MODULI)? {
+        Some(weights) => Ok(Some(Reason::Weighed(weights))),
+        None => Ok(None),
+    }
+}

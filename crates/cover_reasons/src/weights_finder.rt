@@ -1,0 +1,64 @@
+//! The search for weights that exclude an exact cover.
+
+ghost use Rattle.std.specs.Prelude.{◌≡◌, ◌≤◌, true, IfOk, IfSome};
+ghost use Rattle.cover_reasons.specs.Weights.{excludes};
+
+use crate::kernel::Kernel;
+use crate::weights::Weights;
+use crate::weights_test::excludes;
+use cover_problem::Problem;
+use std::alloc::{AllocError, Global};
+
+/// Weights modulo one of these numbers that exclude an exact cover: modulo the first of the numbers that has such weights. Numbers
+/// beyond 2 to 127 are passed over, and only a prime or a power of one is looked at as it should be.
+///
+/// Where it finds none there may be a cover or none, and there may be such weights modulo other numbers. It takes memory of the order of the
+/// primary items' square. The only error is want of memory.
+pub fn find_weights(
+    alloc: Global,
+    problem: &Problem,
+    moduli: &[u8],
+) -> Result<Option<Weights>, AllocError>
+    ensures { IfOk result (λ found. IfSome found (λ weights. excludes problem.now weights ≡ true)) }
+{
+    for modulus in moduli {
+        if *modulus >= 2 && *modulus < 128 {
+            let found = weights_modulo(alloc, problem, *modulus)?;
+            if found.is_some() {
+                return Ok(found);
+            }
+        }
+    }
+    Ok(None)
+}
+
+/// The same for one modulus.
+fn weights_modulo(
+    alloc: Global,
+    problem: &Problem,
+    modulus: u8,
+) -> Result<Option<Weights>, AllocError>
+    requires { 2 ≤ modulus }
+    ensures { IfOk result (λ found. IfSome found (λ weights. excludes problem.now weights ≡ true)) }
+{
+    let mut kernel = Kernel::new(alloc, modulus, problem.primary())?;
+    add_options(&mut kernel, problem);
+    let Some(place) = kernel.best(alloc)? else {
+        return Ok(None);
+    };
+    let weights = Weights::from_parts(u32::from(modulus), kernel.vector(alloc, place)?);
+    if excludes(problem, &weights) {
+        return Ok(Some(weights));
+    }
+    Ok(None)
+}
+
+/// Makes each option weigh 0, as long as all items together weigh something.
+fn add_options(kernel: &mut Kernel, problem: &Problem) {
+    for option in 0..problem.options() as u16 {
+        if !kernel.has_whole() {
+            break;
+        }
+        kernel.add(problem.option(option));
+    }
+}

@@ -1,0 +1,60 @@
+//! The search without a limit: each prefix decides by its children, one after the other (TAOCP 7.2.2.1).
+
+ghost use Rattle.std.specs.Prelude.{◌≡◌, IfSome};
+ghost use Rattle.brancher.specs.Keeping.{IsKnown};
+ghost use Rattle.decider.specs.Deciding.{HaveNoCover, IsDecided};
+
+use crate::decision::Decision;
+use brancher::{Kept, Watch};
+use choices::Branching;
+
+/// Decides whether there is a cover below the chosen options. They come back, or are the first cover. It counts the prefixes that it comes
+/// to in `steps`.
+pub fn decide<B: Branching, W: Watch>(
+    state: &mut B,
+    watch: &mut W,
+    kept: &mut Kept,
+    steps: &mut u64,
+) -> Decision
+    requires { HaveNoCover B.kind (B.choices state.old).problem kept.old.states }
+    ensures problem { (B.choices state.new).problem ≡ (B.choices state.old).problem }
+    ensures decided { IsDecided W.may_stop (B.choices state.old) (B.choices state.new) result }
+    ensures kept { HaveNoCover B.kind (B.choices state.old).problem kept.new.states }
+{
+    state.problem();
+    if kept.is_watch_due() && watch.look(state.chosen(), u64::MAX.saturating_sub(*steps)) {
+        return Decision::Stopped;
+    }
+    let Some(item) = state.branch_item() else {
+        return Decision::Found;
+    };
+    *steps = steps.saturating_add(1);
+    kept.made(1);
+    let looks = !kept.is_beyond(state.chosen().len());
+    if let Some(visits) = known(state, kept, looks) {
+        return Decision::Barren(visits);
+    }
+    let mut visits = 1u64;
+    let mut next = state.choose_first(item);
+    while next.is_some() {
+        match decide(state, watch, kept, steps) {
+            Decision::Barren(count) => visits = visits.saturating_add(count),
+            ended => return ended,
+        }
+        next = state.choose_next();
+    }
+    if looks {
+        kept.keep(state, visits);
+    }
+    Decision::Barren(visits)
+}
+
+/// How many visits are kept of the chosen options, if they are and states are looked for here.
+#[inline(always)]
+fn known<B: Branching>(state: &B, kept: &mut Kept, looks: bool) -> Option<u64>
+    ensures unchanged { kept.new ≡ kept.old }
+    ensures known { IfSome result (IsKnown B.kind (B.choices state.now).problem
+        (B.choices state.now).chosen kept.old.states) }
+{
+    if looks { kept.look(state) } else { None }
+}

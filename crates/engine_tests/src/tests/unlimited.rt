@@ -1,0 +1,109 @@
+//! `alone` and `check` without a limit, over texts in memory; the expected values were worked out by hand.
+
+use super::texts::{LETTERS, NO_COVER};
+use super::told::Told;
+use dlx_reader::{CountedReader, CountedWriter};
+use search_engines::{
+    Lines, ProgressLog, alone_unlimited, alone_unlimited_with_progress, check_unlimited, tell_end,
+};
+use std::alloc::Global;
+
+/// What `alone` tells of a problem.
+fn alone(alloc: Global, text: &str) -> Told {
+    let mut out = Vec::new(alloc);
+    let mut errors = Vec::new(alloc);
+    let mut source = CountedReader::new(text.as_bytes());
+    let ended = alone_unlimited(alloc, &mut source, &mut CountedWriter::new(&mut out));
+    let status = tell_end(&ended, &mut CountedWriter::new(&mut errors));
+    Told {
+        out,
+        errors,
+        status,
+    }
+}
+
+/// What `check` tells of an answer to a problem.
+fn check(alloc: Global, text: &str, answer: &str) -> Told {
+    let mut out = Vec::new(alloc);
+    let mut errors = Vec::new(alloc);
+    let mut file = CountedReader::new(text.as_bytes());
+    let mut answer = CountedReader::new(answer.as_bytes());
+    let mut sink = CountedWriter::new(&mut out);
+    let ended = check_unlimited(alloc, &mut file, &mut answer, &mut sink);
+    let status = tell_end(&ended, &mut CountedWriter::new(&mut errors));
+    Told {
+        out,
+        errors,
+        status,
+    }
+}
+
+/// Each with what is written to both outputs, and the status.
+static ANSWERS: [(&str, &str, &str, u8); 7] = [
+    (LETTERS, "cover 3\nc e\na d f\nb g\n", "", 0),
+    (NO_COVER, "none\n", "", 1),
+    ("a b | x\na x\nb x\n", "none\n", "", 1),
+    ("a b | x\na x\nb x\nb\n", "cover 2\na x\nb\n", "", 0),
+    ("a\n", "none\n", "", 1),
+    ("a | x\nx\na", "cover 1\na\n", "ignored 1\n", 0),
+    ("a ||x\n", "", "refused: IllegalByte line 1\n", 3),
+];
+
+#[test]
+fn alone_without_a_limit(rt: HostRuntime) {
+    for (text, out, errors, status) in ANSWERS.iter() {
+        assert!(rt; alone(rt.alloc(), text).is(out, errors, *status), "{text}");
+    }
+}
+
+/// Answers to problems, each with what is written to both outputs, and the status.
+static VERDICTS: [(&str, &str, &str, &str, u8); 6] = [
+    (LETTERS, "cover 3\nc e\na d f\nb g\n", "right\n", "", 0),
+    (
+        LETTERS,
+        "cover 2\nc e\nb g\n",
+        "wrong: Uncovered a\n",
+        "",
+        1,
+    ),
+    (LETTERS, "none\n", "wrong: a cover exists\n", "", 1),
+    (NO_COVER, "none\n", "right\n", "", 0),
+    (
+        "a | x\nx\na",
+        "none\n",
+        "wrong: a cover exists\n",
+        "ignored 1\n",
+        1,
+    ),
+    ("a ||x\n", "none\n", "", "refused: IllegalByte line 1\n", 3),
+];
+
+#[test]
+fn check_without_a_limit(rt: HostRuntime) {
+    for (text, answer, out, errors, status) in VERDICTS.iter() {
+        assert!(rt;
+            check(rt.alloc(), text, answer).is(out, errors, *status),
+            "{text}"
+        );
+    }
+}
+
+#[test]
+fn progress_changes_no_answer_without_a_limit(rt: HostRuntime) {
+    for (text, out, _, status) in ANSWERS.iter() {
+        let (mut written, mut lines) = (Vec::new(rt.alloc()), Vec::new(rt.alloc()));
+        let mut source = CountedReader::new(text.as_bytes());
+        let mut sink = CountedWriter::new(&mut written);
+        let mut errors = CountedWriter::new(&mut lines);
+        let log = ProgressLog::new(&mut errors, Lines::Listed);
+        let ended = alone_unlimited_with_progress(&rt, rt.alloc(), &mut source, &mut sink, log);
+        let told = match &ended {
+            Ok(end) => end.status,
+            Err(_) => 3,
+        };
+        assert!(rt;
+            written.as_slice() == out.as_bytes() && told == *status,
+            "{text}"
+        );
+    }
+}

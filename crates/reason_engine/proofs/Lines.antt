@@ -1,0 +1,18 @@
+-- The lines of the items so far, and one more.
+use Rattle.std.proofs.Common.{◌≡◌, ℕ, zero, suc, ◌+◌, List, [], ◌∷◌, ◌++◌, sym, ap, ◌∙◌, arith}
+use Rattle.std.proofs.lemmas.List.{flat_map_more}
+use Rattle.std.specs.List.{flat_map, range_with_len}
+
+range_more : (a n : ℕ) → range_with_len a (suc n) ≡ range_with_len a n ++ (a + n) ∷ []
+range_more a zero = let same : a ≡ a + 0 = omega arith in ap (λ k. k ∷ []) same
+range_more a (suc n) = let same : a + 1 + n ≡ a + suc n = omega arith in ap (λ l. a ∷ l) (range_more (a + 1) n ∙ ap (λ k. range_with_len (a + 1) n ++ k ∷ []) same)
+
+range_next : (k : ℕ) → range_with_len 0 (k + 1) ≡ range_with_len 0 k ++ k ∷ []
+range_next k =
+    let count : k + 1 ≡ suc k = omega arith in
+    let last : 0 + k ≡ k = omega arith in
+    ap (range_with_len 0) count ∙ range_more 0 k ∙ ap (λ n. range_with_len 0 k ++ n ∷ []) last
+
+pub lines_more : (f : ℕ → List ℕ) (before now new : List ℕ) (k : ℕ) → now ≡ before ++ flat_map f (range_with_len 0 k) → new ≡ now ++ f k → new ≡ before ++ flat_map f (range_with_len 0 (k + 1))
+lines_more f before now new k was is =
+    is ∙ ap (λ xs. xs ++ f k) was ∙ flat_map_more f before (range_with_len 0 k) k ∙ ap (λ xs. before ++ flat_map f xs) (sym (range_next k))

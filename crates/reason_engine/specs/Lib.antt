@@ -1,0 +1,2 @@
+pub mod ReasonText
+pub mod Why

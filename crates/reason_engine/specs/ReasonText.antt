@@ -1,0 +1,24 @@
+-- The text of a reason: its kind, and a line for each item that counts.
+use Rattle.std.specs.Prelude.{ℕ, List, [], ◌∷◌, ◌++◌, length, codes, ◌==◌, if◌then◌else◌}
+use Rattle.std.specs.Fmt.{decimal}
+use Rattle.std.specs.List.{flat_map, range_with_len}
+use Rattle.cover_problem.specs.Problem.{Problem}
+use Rattle.cover_reasons.specs.Room.{amount_of}
+use Rattle.cover_reasons.specs.declared.reason.Reason.{Reason}
+use Rattle.cover_reasons.specs.declared.reason.Reason.TheVariants as reasons
+use Rattle.dlx_reader.specs.Writing.{name_text}
+
+-- a word, the item's number in the list and its name, with spaces between; nothing where the number is 0
+abbrev pub line_text : Problem → List ℕ → List ℕ → ℕ → List ℕ
+line_text problem word amounts item =
+    if amount_of amounts item == 0 then [] else word ++ 32 ∷ decimal (amount_of amounts item) ++ 32 ∷ name_text problem item ++ 10 ∷ []
+
+-- the lines of a list, in the order of the items
+abbrev pub lines_text : Problem → List ℕ → List ℕ → List ℕ
+lines_text problem word amounts = flat_map (line_text problem word amounts) (range_with_len 0 (length problem.names))
+
+-- that there is no cover, the kind of the reason, and the modulus and what each item weighs, or what each item needs and for how much
+-- each item has room
+abbrev pub reason_text : Problem → Reason → List ℕ
+reason_text problem (reasons.Weighed weights) = codes "none\nweights modulo" ++ 32 ∷ decimal weights.modulus ++ codes "\n" ++ lines_text problem (codes "weigh") weights.list
+reason_text problem (reasons.TooLittleRoom room) = codes "none\ntoo little room\n" ++ lines_text problem (codes "need") room.needs ++ lines_text problem (codes "room") room.rooms

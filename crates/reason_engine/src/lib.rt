@@ -1,0 +1,7 @@
+//! The engine that writes a reason why a file's problem has no exact cover.
+#![tactic(auto)]
+
+mod text;
+mod why;
+
+pub use why::{WhyEnd, why_engine};

@@ -1,0 +1,77 @@
+//! `why`: a reason why a file's problem has no exact cover.
+
+ghost use Rattle.std.specs.Prelude.{◌≡◌, ◌≢◌, ◌-◌, ◌<◌, ◌^◌, Some, None, IfSome};
+ghost use Rattle.std.specs.Io.KnownBytes.{IsAtEnd};
+ghost use Rattle.reason_engine.specs.Why.{WhySays, why_said};
+ghost use Rattle.search_engines.specs.Engines.{IsEnded, refuses_none};
+ghost use Rattle.search_engines.specs.Output.{IsOutput, IsOutputOf};
+
+use crate::text::text_of;
+use cover_problem::Problem;
+use cover_reasons::{Reason, find_reason};
+use dlx_reader::{Sink, Source};
+use search_engines::{EngineEnd, EngineFault, problem_of, read_all, write_line};
+use std::alloc::Global;
+
+/// How a run of `why` ended: with status 1 where a reason was written, 4 where none was found.
+pub type WhyEnd = EngineEnd;
+
+/// Writes a reason, and answers the status.
+fn write_reason<W: Sink>(
+    alloc: Global,
+    problem: &Problem,
+    reason: &Reason,
+    sink: &mut W,
+) -> Result<u8, EngineFault>
+    requires { W.failed sink.old < 2 ^ 64 - 1 }
+    ensures output { IsOutput (why_said problem.now (Some reason.now)) (W.contents sink.old)
+        (W.contents sink.new) result }
+    ensures failed { result ≡ Err EngineFault.Write → W.failed sink.old < W.failed sink.new }
+{
+    let Ok(text) = text_of(alloc, problem, reason) else {
+        return Err(EngineFault::Memory);
+    };
+    write_line(&text, 1, sink)
+}
+
+/// Looks for a reason why the problem has no exact cover, writes it, or that none was found, and answers the status.
+fn write_why<W: Sink>(alloc: Global, problem: &Problem, sink: &mut W) -> Result<u8, EngineFault>
+    requires { W.failed sink.old < 2 ^ 64 - 1 }
+    ensures output { IsOutputOf (WhySays problem.now) (W.contents sink.old)
+        (W.contents sink.new) result }
+    ensures failed { result ≡ Err EngineFault.Write → W.failed sink.old < W.failed sink.new }
+{
+    match find_reason(alloc, problem) {
+        Ok(Some(reason)) => write_reason(alloc, problem, &reason, sink),
+        Ok(None) => write_line(b"no reason found\n", 4, sink),
+        Err(_) => Err(EngineFault::Memory),
+    }
+}
+
+/// Reads a problem to its end, looks for a reason why it has no exact cover, and writes `none` and the reason, or `no reason found`,
+/// whether it has a cover or not.
+///
+/// The faults are `Read` and `Write`, where that device failed, `File`, with the text's first fault, and `Memory`.
+/// After `Write` a beginning of the text was written, after another fault nothing. At `Memory` the source may have been read in part.
+pub fn why_engine<R: Source, W: Sink>(
+    alloc: Global,
+    source: &mut R,
+    sink: &mut W,
+) -> Result<WhyEnd, EngineFault>
+    requires source { R.failed source.old < 2 ^ 64 - 1 }
+    requires sink { W.failed sink.old < 2 ^ 64 - 1 }
+    ensures ended { IfSome (R.remaining source.old) (λ text.
+        IsEnded WhySays refuses_none text (W.contents sink.old) (W.contents sink.new) result) }
+    ensures read { result ≢ Err EngineFault.Read → result ≢ Err EngineFault.Memory →
+        IsAtEnd (R.remaining source.new) }
+    ensures read_fault { result ≡ Err EngineFault.Read → R.failed source.old < R.failed source.new }
+    ensures write_fault { result ≡ Err EngineFault.Write → W.failed sink.old < W.failed sink.new }
+{
+    let text = read_all(alloc, source)?;
+    let read = problem_of(alloc, &text)?;
+    let status = write_why(alloc, &read.problem, sink)?;
+    Ok(EngineEnd {
+        status,
+        ignored: read.ignored,
+    })
+}

@@ -1,0 +1,5 @@
+use Rattle.std.proofs.Common.{◌≡◌, length, vec_len}
+use Rattle.solve_tests.proofs.tests.starved.without_twins.Given as goal
+
+abbrev pub invariant-loop-inner : goal.invariant-loop-inner
+invariant-loop-inner l = vec_len l.all ≡ length l.yielded

@@ -1,0 +1,241 @@
+//! The call that the program makes, where it has no answer to write: over links that forge, that lose all, or that aren't there.
+//!
+//! Of the bugs of `cover_engines` that are kept outside the gate, `a_limit_is_counted_in_seconds` finds `no_limit` and
+//! `seconds_are_milliseconds`.
+
+ghost use Rattle.std.specs.Prelude.{◌≡◌, ◌+◌, ◌≤◌, ℕ, length, vec_len, IfOk, IfSome};
+ghost use Rattle.site_links.specs.Links.{failed_once};
+
+use super::{NOTHING, ROWS, settings, solve_over};
+use cover_engines::{Loopback, Network, links};
+use packet_wire::{Body, Packet, write_packet};
+use run_settings::Request;
+use spawn_frame::Site;
+use std::alloc::{AllocError, Global};
+use std::io::{self, ErrorKind};
+use std::net::Net;
+use std::sync::Wait;
+use std::test::Fail;
+use std::thread::Threads;
+use std::time::{Clock, Instant};
+use udp_node::{Link, LinkFault, UdpLink};
+
+/// What is wrong with all links of a run.
+#[derive(Clone, Copy, Debug, PartialEq, Eq)]
+enum Wrong {
+    /// The first receive of each node brings a packet of the registry that was never sent. A node has the root's Give from a later
+    /// receive, so where there is an answer some node's book has such a packet, whichever node it was.
+    Forging,
+    /// All that is sent is lost.
+    Mute,
+}
+
+/// A link with which something is wrong.
+#[derive(Drop)]
+struct Odd {
+    inner: UdpLink,
+    alloc: Global,
+    node: u8,
+    wrong: Wrong,
+    has_received: bool,
+}
+
+/// What the registry tells this node where there is no work, though it was not asked.
+fn forged(alloc: Global, node: u8) -> Result<Vec<u8>, AllocError> {
+    let packet = Packet {
+        from: Site {
+            node: 0,
+            incarnation: 1,
+        },
+        to: Site {
+            node,
+            incarnation: 1,
+        },
+        body: Body::NoWork,
+    };
+    let mut bytes = Vec::new(alloc);
+    write_packet(alloc, &packet, &mut bytes)?;
+    Ok(bytes)
+}
+
+impl Odd {
+    /// Whether a packet is forged at this receive.
+    fn forges(&mut self) -> bool
+        ensures { self.new.inner ≡ self.old.inner }
+    {
+        let is_first = !self.has_received;
+        self.has_received = true;
+        is_first && self.node > 0 && self.wrong == Wrong::Forging
+    }
+}
+
+impl Link for Odd {
+    ghost failed = { λ l. l.inner.failures };
+
+    fn failures(&self) -> u64 {
+        self.inner.failures()
+    }
+
+    fn send<R: Wait>(&mut self, rt: &R, to: u8, bytes: &[u8]) -> Result<(), LinkFault> {
+        if self.wrong == Wrong::Mute {
+            return Ok(());
+        }
+        self.inner.send(rt, to, bytes)
+    }
+
+    fn receive<R: Wait>(&mut self, rt: &R, into: &mut [u8]) -> Result<Option<usize>, LinkFault> {
+        if self.forges()
+            && let Ok(bytes) = forged(self.alloc, self.node)
+        {
+            let count = bytes.len().min(into.len());
+            into[..count].copy_from_slice(&bytes[..count]);
+            return Ok(Some(count));
+        }
+        self.inner.receive(rt, into)
+    }
+
+    fn twin(&self) -> Result<Odd, AllocError> {
+        Ok(Odd {
+            inner: self.inner.twin()?,
+            alloc: self.alloc,
+            node: self.node,
+            wrong: self.wrong,
+            has_received: self.has_received,
+        })
+    }
+}
+
+/// Sockets with which something is wrong.
+#[derive(Drop)]
+struct OddNetwork<'a, R: Net> {
+    rt: &'a R,
+    wrong: Wrong,
+}
+
+impl<R: Net> Network for OddNetwork<'_, R> {
+    type End = Odd;
+
+    fn links(&self, alloc: Global, nodes: u8) -> io::Result<Vec<Odd>> {
+        let mut all = Vec::new(alloc);
+        for inner in links(self.rt, alloc, nodes)? {
+            let node = all.len().min(16) as u8;
+            all.push(Odd {
+                inner,
+                alloc,
+                node,
+                wrong: self.wrong,
+                has_received: false,
+            })?;
+        }
+        Ok(all)
+    }
+}
+
+/// No links, for this reason.
+#[derive(Drop)]
+struct NoNetwork(ErrorKind);
+
+impl Network for NoNetwork {
+    type End = UdpLink;
+
+    fn links(&self, _alloc: Global, _nodes: u8) -> io::Result<Vec<UdpLink>> {
+        Err(io::Error::from(self.0))
+    }
+}
+
+/// A request with the settings that the command line has by default, and an audit or none.
+fn request(audit: bool) -> Request<'static> {
+    Request {
+        settings: settings(1, 1_000_000, 0, audit),
+        seconds: None,
+        progress: false,
+        unlimited: false,
+    }
+}
+
+/// Whether an answer was written or that there is none, and behind it that a packet was never sent.
+fn is_unclean(out: &[u8]) -> bool {
+    let line = b"audit unclean: NeverSent node ";
+    [ROWS[0].1, NOTHING.0].iter().any(|answer| {
+        match out.split_at_checked(answer.len()) {
+            Some((front, behind)) => front == answer.as_bytes() && behind.starts_with(line),
+            None => false,
+        }
+    })
+}
+
+#[test]
+fn a_forged_packet_makes_an_audit_unclean(rt: HostRuntime) -> Result<(), Fail> {
+    let wrong = Wrong::Forging;
+    let network = OddNetwork { rt: &rt, wrong };
+    let solved = solve_over(&rt, rt.alloc(), network, ROWS[0].0, &request(true));
+    assert_eq!(rt; solved.status, 6);
+    assert!(rt; is_unclean(&solved.out));
+    Ok(())
+}
+
+/// How many seconds a run of one may last on a machine that does other things, too. Without its limit it lasts 24 at least.
+const LATEST: u64 = 15;
+
+#[test]
+fn a_limit_is_counted_in_seconds(rt: HostRuntime) -> Result<(), Fail> {
+    let request = Request {
+        settings: settings(1, 1_000_000, 0, false),
+        seconds: Some(1),
+        progress: true,
+        unlimited: false,
+    };
+    let wrong = Wrong::Mute;
+    let began = Instant::now(&rt)?;
+    let network = OddNetwork { rt: &rt, wrong };
+    let solved = solve_over(&rt, rt.alloc(), network, ROWS[0].0, &request);
+    let lasted = began.elapsed(&rt)?;
+    assert_eq!(rt; solved.status, 4);
+    assert!(rt; solved.out.as_slice() == NOTHING.0.as_bytes());
+    assert!(rt; solved.errors.as_slice() == b"ended: the time is over\n".as_slice());
+    assert!(rt; 1 <= lasted.as_secs() && lasted.as_secs() < LATEST);
+    Ok(())
+}
+
+/// Whether no links for this reason end with this status and line.
+fn is_unlinked<R: Threads + Wait + Clock + Sync>(
+    rt: &R,
+    alloc: Global,
+    reason: ErrorKind,
+    status: u8,
+    line: &str,
+) -> bool {
+    let solved = solve_over(rt, alloc, NoNetwork(reason), ROWS[0].0, &request(false));
+    solved.status == status && solved.out.is_empty() && solved.errors.as_slice() == line.as_bytes()
+}
+
+#[test]
+fn no_links_and_no_run(rt: HostRuntime) {
+    assert!(rt; is_unlinked(&rt, rt.alloc(), ErrorKind::AddrInUse, 3, "cannot bind\n"));
+    assert!(rt;
+        is_unlinked(
+            &rt,
+            rt.alloc(),
+            ErrorKind::OutOfMemory,
+            5,
+            "out of memory\n"
+        )
+    );
+}
+
+/// Texts, with what is written, what is told beside it, and the status.
+static TEXTS: [(&str, &str, &str, u8); 2] = [
+    ("a a\n", "", "refused: DuplicateItem line 1\n", 3),
+    ("a | x\nx\na\n", "cover 1\na\n", "ignored 1\n", 0),
+];
+
+#[test]
+fn what_is_told_beside_the_answer(rt: HostRuntime) {
+    for (text, out, errors, status) in TEXTS.iter() {
+        let network = Loopback { rt: &rt };
+        let solved = solve_over(&rt, rt.alloc(), network, text, &request(false));
+        assert!(rt; solved.out.as_slice() == out.as_bytes(), "{text}");
+        assert!(rt; solved.errors.as_slice() == errors.as_bytes(), "{text}");
+        assert!(rt; solved.status == *status, "{text}");
+    }
+}

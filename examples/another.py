@@ -1,0 +1,86 @@
+#!/usr/bin/env python3
+"""Writes a problem whose covers are those of a file that aren't given: it has none where the given ones are all.
+
+    python3 examples/another.py FILE ANSWER .. > OTHER
+
+A cover that isn't a given one lacks some option of it. So there is a primary item more for each answer, and for each option of the answer one
+that names this item and bars the option: it gives an item of the option's own another colour than the option does. An answer to OTHER may be
+an ANSWER too; its further items are passed over. Of options that stand several times in a file all count as one. The exit status is 0, 2 for a
+mistake on the command line, 3 for a file or an answer that can't be read, a problem that would be too large, or where the standard output
+can't be written.
+"""
+from __future__ import annotations
+
+import argparse
+import os
+import sys
+from collections.abc import Iterator
+
+sys.path.insert(0, os.path.join(os.path.dirname(os.path.abspath(__file__)), "..", "scripts"))
+from cover_files import lines_of, MAX_ITEMS, MAX_OPTIONS, Problem, read_audited, read_bytes, read_problem, refusal, run  # noqa: E402
+from cover_files import stop, Unreadable  # noqa: E402
+
+# the words of an option
+Words = tuple[bytes, ...]
+
+
+def free_name(problem: Problem, beginning: bytes) -> bytes:
+    """A name that begins no item's name."""
+    name = beginning
+    while any(item.startswith(name) for item in problem.items):
+        name += b"+"
+    return name
+
+
+def without_others(text: bytes, other: bytes) -> bytes:
+    """An answer's text without the items and options that this script adds."""
+    lines = [[word.text for word in words if not word.text.startswith(other)] for words in lines_of(text)]
+    rest = [b" ".join(words) for words in lines[1:] if words]
+    head = b"cover %d" % len(rest) if lines[:1] and lines[0][:1] == [b"cover"] else b" ".join(lines[0]) if lines else b""
+    return b"\n".join([head, *rest, b""])
+
+
+def chosen_options(problem: Problem, path: str, other: bytes) -> list[Words]:
+    """The words of the options in an answer."""
+    answer = read_audited(without_others(read_bytes(path), other), problem)
+    if answer.faults or answer.kind == "none":
+        stop(f"{path} has no cover: {refusal(answer.faults) if answer.faults else 'none'}", 3)
+    return list(dict.fromkeys(problem.options[place].words for _, place in answer.chosen))
+
+
+def other_lines(problem: Problem, answers: list[list[Words]], other: bytes) -> Iterator[bytes]:
+    """The lines of the problem of all other covers."""
+    bars = {words: b"%s-%d" % (other, k) for k, words in enumerate(dict.fromkeys(words for chosen in answers for words in chosen))}
+    names, primary, wanted = problem.names(), problem.primary, [b"%s%d" % (other, k) for k in range(1, len(answers) + 1)]
+    yield b"| the covers that lack an option of each given one"
+    yield b" ".join([*wanted, *names[:primary], b"|", *names[primary:], *bars.values()])
+    for option in problem.options:
+        yield b" ".join([*option.words, *([bars[option.words] + b":used"] if option.words in bars else [])])
+    for item, chosen in zip(wanted, answers):
+        for words in chosen:
+            yield b"%s %s:barred" % (item, bars[words])
+
+
+def main() -> int:
+    parser = argparse.ArgumentParser(description=__doc__, formatter_class=argparse.RawDescriptionHelpFormatter)
+    parser.add_argument("file", metavar="FILE", help="the problem's file")
+    parser.add_argument("answers", metavar="ANSWER", nargs="+", help="an answer's file, or - for the standard input")
+    given = parser.parse_args()
+    try:
+        problem = read_problem(read_bytes(given.file))
+        if problem.faults:
+            stop(f"{given.file} is refused: {refusal(problem.faults)}", 3)
+        other = free_name(problem, b"other")
+        answers = [chosen_options(problem, path, other) for path in given.answers]
+    except Unreadable as why:
+        stop(why, 3)
+    lines = list(other_lines(problem, answers, other))
+    for count, most, what in ((len(lines[1].split()) - 1, MAX_ITEMS, "items"), (len(lines) - 2, MAX_OPTIONS, "options")):
+        if count > most:
+            stop(f"this would have {count:,} {what}, and the program reads at most {most:,}", 3)
+    sys.stdout.buffer.write(b"".join(line + b"\n" for line in lines))
+    return 0
+
+
+if __name__ == "__main__":
+    run(main)

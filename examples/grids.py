@@ -1,0 +1,156 @@
+"""Kakuro and star battles as exact covers."""
+from __future__ import annotations
+
+import itertools
+import re
+from collections.abc import Iterable
+from typing import Optional
+
+from cover_files import MAX_OPTIONS
+from puzzle_texts import blocks_of, no_cover, Puzzle, refuse
+from puzzles import cell_names
+from sudokus import cells_by_letter, letters_of
+
+# a cell by row and column; the sum below a black cell and the one on its right
+Cell = tuple[int, int]
+Clue = tuple[Optional[int], Optional[int]]
+
+# ---- kakuro
+
+class Run:
+    """White cells in a row or a column behind a clue, their sum, and where the clue stands."""
+
+    def __init__(self, name: str, cells: list[Cell], total: int, line: int) -> None:
+        self.name, self.cells, self.total, self.line = name, cells, total, line
+        self.choices = [set(chosen) for chosen in itertools.combinations(range(1, 10), len(cells)) if sum(chosen) == total]
+        self.possible = sorted(set().union(*self.choices))
+
+    def options(self) -> list[list[str]]:
+        """The choices of its digits, each with the possible digits that it leaves."""
+        return [[self.name] + [f"{self.name}.{digit}" for digit in self.possible if digit not in chosen] for chosen in self.choices]
+
+    def items(self) -> list[str]:
+        return [self.name] + [f"{self.name}.{digit}" for digit in self.possible]
+
+
+def clue_of(path: str, number: int, word: str) -> Clue | None:
+    """The sum down and the sum across of a black cell, None where there is none; None alone for a white cell."""
+    if word in (".", "_", "0"):
+        return None
+    found = re.fullmatch(r"(\d{1,2})?[\\/](\d{1,2})?", word)
+    if not found and word not in ("#", "x", "X", "-"):
+        refuse(path, number, f"'{word}' is no cell: . is a white cell, # a black one, and 16\\24 a black one with the sum 16 below, and 24 on "
+               "its right")
+    return tuple(int(part) if part else None for part in found.groups()) if found else (None, None)
+
+
+def read_kakuro(path: str) -> tuple[list[list[Clue | None]], list[int]]:
+    """The clues of black cells by row and column, None for white ones, and the numbers of the lines."""
+    lines = [line for block in blocks_of(path) for line in block] if blocks_of(path) else refuse(path, None, "there are no rows")
+    rows = [[clue_of(path, number, word) for word in line.split()] for number, line in lines]
+    for (number, _), row in zip(lines, rows):
+        if len(row) != len(rows[0]):
+            refuse(path, number, f"{len(rows[0])} cells are expected, as in the first row, and here are {len(row)}")
+    return rows, [number for number, _ in lines]
+
+
+def behind(rows: list[list[Clue | None]], cell: Cell, step: Cell) -> list[Cell]:
+    """The white cells from a cell on in a direction."""
+    cells, (r, c) = [], (cell[0] + step[0], cell[1] + step[1])
+    while r < len(rows) and c < len(rows[0]) and rows[r][c] is None:
+        cells.append((r, c))
+        r, c = r + step[0], c + step[1]
+    return cells
+
+
+def runs_of(path: str, rows: list[list[Clue | None]], numbers: list[int]) -> tuple[list[Run], dict[Cell, set[Cell]]]:
+    """All runs with their sums; white cells without a clue, and clues without white cells, are refused."""
+    runs, clued = [], {(1, 0): set(), (0, 1): set()}
+    for (r, row), (step, way) in itertools.product(enumerate(rows), (((1, 0), "d"), ((0, 1), "a"))):
+        for c, clue in enumerate(row):
+            total = None if clue is None else clue[way == "a"]
+            if total is None:
+                continue
+            cells = behind(rows, (r, c), step)
+            clued[step].update(cells)
+            run = Run(f"{way}{len(runs) + 1}", cells, total, numbers[r])
+            where = f"{path}, line {numbers[r]}: the sum {total} {'below' if way == 'd' else 'on the right of'} column {c + 1}"
+            if not cells:
+                refuse(path, numbers[r], f"the sum {total} in column {c + 1} has no white cell {'below it' if way == 'd' else 'on its right'}")
+            if not run.choices:
+                no_cover(f"{where} can't be: {len(cells)} different digits make {len(cells) * (len(cells) + 1) // 2} to "
+                         f"{sum(range(10 - len(cells), 10)) if len(cells) < 10 else 0}")
+            runs.append(run)
+    return runs, clued
+
+
+def kakuro(path: str) -> Puzzle:
+    """Each white cell has a digit, each run different ones with its sum."""
+    rows, numbers = read_kakuro(path)
+    runs, clued = runs_of(path, rows, numbers)
+    names, run_of = cell_names(len(rows), len(rows[0])), {}
+    for run in runs:
+        for cell in run.cells:
+            run_of.setdefault(cell, []).append(run)
+    white = [(r, c) for r, row in enumerate(rows) for c, clue in enumerate(row) if clue is None]
+    for cell in white:
+        if cell not in run_of:
+            refuse(path, numbers[cell[0]], f"the white cell in column {cell[1] + 1} has no sum across or down")
+    for step, what in (((0, 1), "across"), ((1, 0), "down")):
+        for r, c in white:
+            alone = (r - step[0], c - step[1]) not in white and (r + step[0], c + step[1]) not in white
+            if (r, c) not in clued[step] and not alone:
+                refuse(path, numbers[r], f"the white cell in column {c + 1} has no sum {what}")
+    options = [[names[cell]] + [f"{run.name}.{digit}" for run in run_of[cell]] for cell in white for digit in range(1, 10)
+               if all(digit in run.possible for run in run_of[cell])]
+    options += [option for run in runs for option in run.options()]
+    items = [names[cell] for cell in white] + [item for run in runs for item in run.items()]
+    return Puzzle(items, [], options, [f"size: {len(rows)} {len(rows[0])}"])
+
+
+# ---- star battles
+
+def are_apart(stars: Iterable[Cell]) -> bool:
+    """Whether no two of these cells touch, not even by a corner."""
+    return all(max(abs(r - other_r), abs(c - other_c)) > 1 for (r, c), (other_r, other_c) in itertools.combinations(stars, 2))
+
+
+def squares_round(cell: Cell, size: int) -> list[Cell]:
+    """The squares of two by two cells that a cell is in, by their first cells: two stars that touch share one."""
+    r, c = cell
+    return [(top, left) for top in (r - 1, r) for left in (c - 1, c) if 0 <= top < size - 1 and 0 <= left < size - 1]
+
+
+def star_options(name: str, cells: list[Cell], stars: int, names: dict[Cell, str], size: int, with_squares: bool) -> list[list[str]]:
+    """The ways to put so many stars into a row, a column or a region; all its cells get a colour, and a row's stars take their squares."""
+    options = []
+    for chosen in itertools.combinations(cells, stars):
+        if are_apart(chosen):
+            squares = [f"s{names[square]}" for cell in chosen for square in squares_round(cell, size)] if with_squares else []
+            options.append([name] + [f"{names[cell]}:{'star' if cell in chosen else 'blank'}" for cell in cells] + squares)
+    return options
+
+
+def star_battle(path: str, stars: int) -> Puzzle:
+    """So many stars in each row, column and region, none of which touch."""
+    blocks = blocks_of(path)
+    if len(blocks) != 1:
+        refuse(path, None, "one square of letters for the regions is expected")
+    rows = letters_of(path, blocks[0])
+    size, regions = len(rows), cells_by_letter(rows)
+    names = cell_names(size, size)
+    for letter, cells in regions.items():
+        if not any(map(are_apart, itertools.combinations(cells, stars))):
+            no_cover(f"{path}, line {blocks[0][cells[0][0]][0]}: the region {letter} has no room for {stars} stars that don't touch")
+    if len(regions) != size:
+        no_cover(f"{path}: {size} rows with {stars} stars each are {size * stars} stars, and {len(regions)} regions have {len(regions) * stars}")
+    houses = [(f"row{r}", [(r, c) for c in range(size)]) for r in range(size)] + [(f"column{c}", [(r, c) for r in range(size)]) for c in range(size)]
+    houses += [(f"region{k}", cells) for k, cells in enumerate(regions.values())]
+    options = []
+    for name, cells in houses:
+        options += star_options(name, cells, stars, names, size, name.startswith("row"))
+        if len(options) > MAX_OPTIONS:
+            refuse(path, None, f"{stars} stars can stand in rows, columns and regions in more than {MAX_OPTIONS:,} ways, and the program "
+                   "reads no more options")
+    squares = [f"s{names[r, c]}" for r in range(size - 1) for c in range(size - 1)]
+    return Puzzle([name for name, _ in houses], list(names.values()) + squares, options)

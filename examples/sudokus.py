@@ -1,0 +1,285 @@
+"""Sudokus of many sizes as exact covers: with boxes or other regions, with diagonals, and with cages that have sums (killer).
+
+The items are what is still lacking: `p12` a digit in row 1, column 2, `r13` the digit 3 in row 1, `c23` in column 2, `b43` in region 4, `x3`
+and `y3` on the two diagonals. From a size of ten on numbers have two digits. Of a cage `k5` is the choice of its digits, and `k5.3` is taken
+by a cell of the cage with a 3, or by the choice if the cage has no 3.
+"""
+from __future__ import annotations
+
+import itertools
+import math
+import re
+from collections.abc import Iterator, Sequence
+from typing import NoReturn, Optional
+
+from puzzle_texts import blocks_of, no_cover, Puzzle, read_text, refuse, TYPED
+from sudoku_pictures import BOXES, MARKS
+
+# a cell by row and column; the cells and the sum of a cage; lines with their numbers; rows of marks, and the places of their lines
+Cell = tuple[int, int]
+Cage = tuple[list[Cell], int]
+Block = list[tuple[int, str]]
+Square = tuple[list[list[str]], Optional[list[int]]]
+
+
+class Sudoku:
+    """Given digits, regions, diagonals and cages; digits are numbers from 1, and 0 is none."""
+
+    def __init__(self, given: list[list[int]], regions: list[list[int]] | None = None, diagonals: bool = False, cages: Sequence[Cage] = (),
+                 symbols: str | None = None) -> None:
+        self.given, self.size, self.diagonals, self.cages, self.symbols = given, len(given), diagonals, cages, symbols
+        high, wide = BOXES.get(self.size, (1, self.size))
+        boxes = [[r // high * (self.size // wide) + c // wide for c in range(self.size)] for r in range(self.size)]
+        self.has_boxes = regions is None or regions == boxes
+        self.regions = regions or boxes
+        self.cage_of = {cell: k for k, (cells, _) in enumerate(cages) for cell in cells}
+
+    def cells(self) -> Iterator[Cell]:
+        return itertools.product(range(self.size), repeat=2)
+
+    def number(self, value: int) -> str:
+        return f"{value:0{1 if self.size < 10 else 2}}"
+
+    def houses(self, r: int, c: int) -> list[str]:
+        """The rows and so on that a cell is in, each with its mark."""
+        found = ["r" + self.number(r), "c" + self.number(c), "b" + self.number(self.regions[r][c])]
+        diagonals = ["x"] * (r == c) + ["y"] * (r + c == self.size - 1)
+        return found + (diagonals if self.diagonals else [])
+
+    def option(self, r: int, c: int, digit: int) -> list[str]:
+        cage = [f"k{self.cage_of[r, c]}.{digit}"] if (r, c) in self.cage_of else []
+        return ["p" + self.number(r) + self.number(c)] + [house + self.number(digit) for house in self.houses(r, c)] + cage
+
+    def twice(self) -> tuple[str, int, tuple[int, int]] | None:
+        """A house that has a digit twice, the digit, and its two rows; None where none has."""
+        seen: dict[tuple[str, int], int] = {}
+        for r, c in self.cells():
+            for house in self.houses(r, c):
+                if self.given[r][c] and (house, self.given[r][c]) in seen:
+                    return house, self.given[r][c], (seen[house, self.given[r][c]], r)
+                seen[house, self.given[r][c]] = r
+        return None
+
+    def cage_options(self) -> list[list[str]]:
+        """For each cage the choices of its digits, each with the digits that it leaves."""
+        options = []
+        for k, (cells, total) in enumerate(self.cages):
+            for chosen in itertools.combinations(range(1, self.size + 1), len(cells)):
+                if sum(chosen) == total:
+                    options.append([f"k{k}"] + [f"k{k}.{digit}" for digit in range(1, self.size + 1) if digit not in chosen])
+        return options
+
+    def puzzle(self) -> Puzzle:
+        """The items that are lacking, and the options that name none but these. In a sudoku with cages the given cells stay."""
+        keep = bool(self.cages)
+        gone = set() if keep else {item for r, c in self.cells() if self.given[r][c] for item in self.option(r, c, self.given[r][c])}
+        every = [self.option(r, c, digit) for r, c in self.cells() for digit in range(1, self.size + 1)
+                 if not keep or self.given[r][c] in (0, digit)]
+        options = [option for option in every if gone.isdisjoint(option)] + self.cage_options()
+        items = {item for r, c in self.cells() for digit in range(1, self.size + 1) for item in self.option(r, c, digit)} - gone
+        return Puzzle(sorted(items | {f"k{k}" for k in range(len(self.cages))}), [], options, self.comments())
+
+    def comments(self) -> list[str]:
+        are_words = self.size > 9 and not self.symbols
+        told = ["given: " + (" / " if are_words else " ").join((" " if are_words else "").join(map(self.mark, row)) for row in self.given)]
+        if not self.has_boxes:
+            told.append("regions: " + " ".join("".join(MARKS[region] for region in row) for row in self.regions))
+        return told + ([f"digits: {self.symbols}"] if self.symbols else [])
+
+    def mark(self, digit: int) -> str:
+        return "." if not digit else self.symbols[digit - 1] if self.symbols else str(digit)
+
+
+# ---- texts
+
+def bare_lines(text: str) -> list[tuple[int, str]]:
+    """The lines without frames, each with its place from 0, and without those that are frames alone."""
+    lines = [re.sub(r"[|+=\u2500-\u257f]|-{2,}", " " if " " in line.strip("| +-=") else "", line).rstrip() for line in text.splitlines()]
+    return [(place, line) for place, line in enumerate(lines) if line.strip()]
+
+
+def square_of(text: str) -> Square | None:
+    """Rows of marks of a square text, by words or by characters, and the places of their lines; None where it is none."""
+    lines = [line for _, line in bare_lines(text)]
+    for rows in ([line.split() for line in lines], ["".join(line.split()) for line in lines], lines):
+        if len(rows) > 1 and all(len(row) == len(rows) for row in rows):
+            return [list(row) for row in rows], [place for place, _ in bare_lines(text)]
+    for marks in (re.sub(r"[^0-9._]", "", text), "".join(text.split())):
+        size = math.isqrt(len(marks))
+        if size > 1 and size * size == len(marks):
+            return [list(marks[k:k + size]) for k in range(0, len(marks), size)], None
+    return None
+
+
+def blank_nine(text: str) -> Square | None:
+    """Nine lines of at most nine characters, in which a blank is an empty cell; None for others."""
+    lines = text.splitlines() if "\n" in text else re.findall(".{9}", text)
+    are_short = len(lines) == 9 and all(re.fullmatch(r"[0-9._ ]{0,9}", line) for line in lines)
+    if are_short and any(" " in line.strip() or len(line) < 9 for line in lines):
+        return [list(line.ljust(9)) for line in lines], list(range(9)) if "\n" in text else None
+    return None
+
+
+def symbols_of(marks: list[str], size: int) -> str | None:
+    """The digits as they are written: numbers, 1 to 9 and A on, or 0 to 9 and A on where 0 isn't an empty cell; None for numbers."""
+    if size < 10 or any(len(mark) > 1 for mark in marks):
+        return None
+    has_zero = "0" in marks and ("." in marks or "_" in marks) and MARKS[size - 1] not in "".join(marks).upper()
+    return "0" + MARKS[:size - 1] if has_zero else MARKS[:size]
+
+
+def digit_of(mark: str, size: int, symbols: str | None) -> int | None:
+    """The number that a mark of a cell is, 0 where the cell is empty, None where it is no digit."""
+    if mark in (".", "_", " ") or mark == "0" and not (symbols or "").startswith("0"):
+        return 0
+    if symbols and mark.upper() in symbols:
+        return symbols.index(mark.upper()) + 1
+    return int(mark) if not symbols and mark.isdecimal() and 1 <= int(mark) <= size else None
+
+
+def refuse_shape(path: str, text: str, numbers: Sequence[int]) -> NoReturn:
+    """Refuses a text that is no square, with the first line that is shorter or longer than the first."""
+    lines = bare_lines(text)
+    lengths = [len(line.split()) if " " in lines[0][1].strip() else len("".join(line.split())) for _, line in lines]
+    other = next((k for k, length in enumerate(lengths) if length != lengths[0]), None)
+    if path == TYPED or not lines or other is None:
+        count = len(re.sub(r"[^0-9._]", "", text))
+        refuse(path, None, f"as many rows as columns of digits and dots are expected, as 81 in all; here are {count}")
+    refuse(path, numbers[lines[other][0]],
+           f"as many rows as columns are expected; here are {lengths[other]} cells, and {lengths[0]} in the first row")
+
+
+def digits_of(path: str, text: str, numbers: Sequence[int] | None = None) -> tuple[list[list[int]], str | None]:
+    """The given digits of a text, and the symbols that stand for them; `numbers` are those of its lines in the file."""
+    numbers = numbers or range(1, len(text.splitlines()) + 1)
+    square = blank_nine(text) or square_of(text)
+    if square is None:
+        refuse_shape(path, text, numbers)
+    rows, places = square
+    size = len(rows)
+    if size > len(MARKS):
+        refuse(path, None, f"a sudoku has at most {len(MARKS)} rows")
+    symbols = symbols_of([mark for row in rows for mark in row], size)
+    digits = [[digit_of(mark, size, symbols) for mark in row] for row in rows]
+    for r, row in enumerate(digits):
+        if None in row:
+            line = numbers[places[r]] if places else None
+            c = row.index(None)
+            refuse(path, line, f"'{rows[r][c]}' in row {r + 1}, column {c + 1} is no digit of a sudoku of {size} by {size}")
+    return digits, symbols
+
+
+def checked(path: str, sudoku: Sudoku) -> Sudoku:
+    """A sudoku that has no digit twice in a row and so on."""
+    twice = sudoku.twice()
+    if twice:
+        house, digit, rows = twice
+        kind = {"r": "row", "c": "column", "b": "box" if sudoku.has_boxes else "region", "x": "diagonal", "y": "diagonal"}[house[0]]
+        number = f" {int(house[1:]) + 1}" if house[1:] else ""
+        where = "" if house[0] == "r" else f", in row {rows[0] + 1} and row {rows[1] + 1}"
+        no_cover(f"{path}: {kind}{number} has the digit {sudoku.mark(digit)} twice{where}")
+    return sudoku
+
+
+def read_sudoku(given: str, is_text: bool, diagonals: bool = False) -> Sudoku:
+    """A sudoku from characters or a file, with boxes."""
+    path = TYPED if is_text else given
+    digits, symbols = digits_of(path, given if is_text else read_text(given))
+    if len(digits) not in BOXES:
+        refuse(path, None, f"a sudoku of {len(digits)} by {len(digits)} has no boxes: the kind jigsaw takes its regions")
+    return checked(path, Sudoku(digits, None, diagonals, (), symbols))
+
+
+def letters_of(path: str, block: Block) -> list[str]:
+    """A square of letters, one for each cell."""
+    rows = ["".join(line.split()) for _, line in block]
+    for (number, _), row in zip(block, rows):
+        if len(row) != len(rows):
+            refuse(path, number, f"{len(rows)} letters are expected, as there are rows, and here are {len(row)}")
+    return rows
+
+
+def cells_by_letter(rows: list[str]) -> dict[str, list[Cell]]:
+    cells: dict[str, list[Cell]] = {}
+    for r, row in enumerate(rows):
+        for c, letter in enumerate(row):
+            cells.setdefault(letter, []).append((r, c))
+    return cells
+
+
+def regions_of(path: str, block: Block, size: int) -> list[list[int]]:
+    """Regions by letters, each with as many cells as the sudoku has rows; numbered in the order of their first cells."""
+    rows = letters_of(path, block)
+    if len(rows) != size:
+        refuse(path, block[0][0], f"the regions have {len(rows)} rows and the digits {size}")
+    cells = cells_by_letter(rows)
+    for letter, its_cells in cells.items():
+        if len(its_cells) != size:
+            line = block[its_cells[0][0]][0]
+            refuse(path, line, f"the region {letter} has {len(its_cells)} cells, and each has {size}")
+    order = list(cells)
+    return [[order.index(letter) for letter in row] for row in rows]
+
+
+def text_of(block: Block) -> tuple[str, list[int]]:
+    """The text of a block, and the numbers of its lines."""
+    return "\n".join(line for _, line in block), [number for number, _ in block]
+
+
+def is_digits(block: Block) -> bool:
+    return all(re.fullmatch(r"[0-9._\s|]+", line) for _, line in block)
+
+
+def read_jigsaw(path: str, diagonals: bool = False) -> Sudoku:
+    """Given digits and regions: two squares with an empty line between, in any order."""
+    blocks = blocks_of(path)
+    if len(blocks) != 2:
+        refuse(path, None, "rows of digits and dots, an empty line, and rows of letters for the regions are expected")
+    blocks.sort(key=lambda block: not is_digits(block))
+    digits, symbols = digits_of(path, *text_of(blocks[0]))
+    return checked(path, Sudoku(digits, regions_of(path, blocks[1], len(digits)), diagonals, (), symbols))
+
+
+def sums_of(path: str, block: Block) -> dict[str, int]:
+    """The sums of cages by their letters, as a=12 or a 12, several in a line."""
+    found = {}
+    for number, line in block:
+        words = re.findall(r"\S+", re.sub(r"\s*[=:]\s*", "=", line))
+        words = [f"{one}={other}" for one, other in zip(words[::2], words[1::2])] if words and "=" not in line else words
+        for word in words:
+            letter, sign, total = word.partition("=")
+            if len(letter) != 1 or not re.fullmatch(r"[1-9]\d{0,2},?", total):
+                refuse(path, number, f"'{word}' is no sum of a cage, as a=12")
+            if letter in found:
+                refuse(path, number, f"the cage {letter} has a sum already")
+            found[letter] = int(total.rstrip(","))
+    return found
+
+
+def read_killer(path: str, diagonals: bool = False) -> Sudoku:
+    """Cages by letters, their sums, and perhaps given digits, with empty lines between."""
+    blocks = blocks_of(path)
+    if not 2 <= len(blocks) <= 3:
+        refuse(path, None, "rows of letters for the cages, an empty line and lines of sums as a=12 are expected, and if there are given digits, "
+               "an empty line and rows of them")
+    rows, sums = letters_of(path, blocks[0]), sums_of(path, blocks[1])
+    size, cages = len(rows), []
+    if size not in BOXES or size > 9:
+        refuse(path, None, f"a killer sudoku has 4, 6, 8 or 9 rows, and this one {size}")
+    digits = digits_of(path, *text_of(blocks[2]))[0] if len(blocks) > 2 else [[0] * size for _ in range(size)]
+    if len(digits) != size:
+        refuse(path, blocks[2][0][0], f"the digits have {len(digits)} rows and the cages {size}")
+    cells = {letter: its_cells for letter, its_cells in cells_by_letter(rows).items() if letter != "."}
+    for letter in sums:
+        if letter not in cells:
+            refuse(path, blocks[1][0][0], f"there is no cage {letter}")
+    for letter, its_cells in cells.items():
+        line, count = blocks[0][its_cells[0][0]][0], len(its_cells)
+        if letter not in sums:
+            refuse(path, line, f"the cage {letter} has no sum")
+        least, most = sum(range(1, count + 1)), sum(range(size - count + 1, size + 1))
+        if count > size or not least <= sums[letter] <= most:
+            no_cover(f"{path}, line {line}: the cage {letter} can't have the sum {sums[letter]}: {count} different digits make {least}"
+                     + (f" to {most}" if most > least else ""))
+        cages.append((its_cells, sums[letter]))
+    return checked(path, Sudoku(digits, None, diagonals, cages))

@@ -1,0 +1,200 @@
+"""Tables of lessons as people write them, in CSV: who gives which lesson to whom, where and when it may be.
+
+A cell may name several: teachers or classes that share a lesson, rooms of which it has one, periods of which it has one. What can be meant
+in two ways is refused with its line.
+"""
+from __future__ import annotations
+
+import csv
+import io
+import re
+from collections import Counter
+from collections.abc import Iterator
+from dataclasses import dataclass
+
+from puzzle_texts import called, read_text, refuse
+
+WANTED = ("lesson", "teacher", "class", "rooms", "periods")
+OTHER = {"hours", "length", "note"}
+ALIASES = {"lessons": "lesson", "subject": "lesson", "teachers": "teacher", "classes": "class", "group": "class", "groups": "class", "room": "rooms",
+           "period": "periods", "times": "hours", "notes": "note", "remark": "note", "remarks": "note"}
+NOBODY = "-"
+
+
+@dataclass
+class Lesson:
+    """A lesson of the table: who gives it to whom, the rooms and periods that it may have, how often in the week, and in how many periods
+    one after another."""
+    line: int
+    name: str
+    teachers: list[str]
+    classes: list[str]
+    rooms: list[str]
+    periods: list[str]
+    hours: int
+    length: int
+
+
+def head_of(path: str, names: list[str]) -> list[str]:
+    """The columns of the table by the names that they have here."""
+    columns = [re.sub(r"\s+", "", name or "").lower() for name in names]
+    columns = [ALIASES.get(column, column) for column in columns]
+    unknown = [name for name, column in zip(names, columns) if column and column not in WANTED and column not in OTHER]
+    if unknown:
+        refuse(path, 1, f"there is no column '{unknown[0]}'; the columns are {','.join(WANTED)}, and if they are wanted hours, length and note")
+    lacking = [column for column in WANTED if column not in columns]
+    if lacking:
+        refuse(path, 1, f"the column {lacking[0]} is missing; the columns are {','.join(WANTED)}, and if they are wanted hours, length and note")
+    twice = [column for column in columns if column and columns.count(column) > 1]
+    if twice:
+        refuse(path, 1, f"the column {twice[0]} stands there twice")
+    return columns
+
+
+def read_table(path: str) -> Iterator[tuple[int, dict[str, str]]]:
+    """The rows of a table by its head, whose columns have commas, semicolons or tabs between, each with the number of its line."""
+    text = read_text(path)
+    head = text.partition("\n")[0]
+    reader = csv.reader(io.StringIO(text), delimiter=max(",;\t", key=head.count))
+    try:
+        lines = [(reader.line_num, row) for row in reader if any(map(str.strip, row)) and not row[0].lstrip().startswith(("|", "#"))]
+    except csv.Error as why:
+        refuse(path, reader.line_num, f"it can't be read as a table: {why}")
+    if not lines:
+        refuse(path, None, "the table has no head")
+    columns = head_of(path, lines[0][1])
+    for number, row in lines[1:]:
+        if len(row) > len(columns) and any(map(str.strip, row[len(columns):])):
+            refuse(path, number, "it has more columns than the head; several rooms or periods have spaces between")
+        yield number, dict(zip(columns, [cell.strip() for cell in row] + [""] * len(columns)))
+
+
+# ---- cells
+
+def number_in(path: str, line: int, row: dict[str, str], column: str, most: int) -> int:
+    """A number from 1 in a column that may be missing."""
+    text = row.get(column) or "1"
+    if not re.fullmatch(r"[1-9]\d?", text) or int(text) > most:
+        refuse(path, line, f"{column} is a number from 1 to {most}, and not '{text}'")
+    return int(text)
+
+
+def between(path: str, line: int, word: str) -> list[str]:
+    """The periods of a range on one day, as Mon1-4 or 1-30."""
+    found = re.fullmatch(r"(\D*)(\d{1,3})-(\D*)(\d{1,3})", word)
+    if not found or found[3] not in ("", found[1]) or int(found[2]) > int(found[4]):
+        refuse(path, line, f"'{word}' is no range of periods on one day, as Mon1-4 or 1-30; a period's name has no '-'")
+    return [f"{found[1]}{number}" for number in range(int(found[2]), int(found[4]) + 1)]
+
+
+def periods_in(path: str, line: int, cell: str) -> list[str]:
+    words = re.findall(r"[^\s;,]+", cell)
+    periods = [period for word in words for period in (between(path, line, word) if "-" in word else [word])]
+    twice = [period for period, count in Counter(periods).items() if count > 1]
+    if twice:
+        refuse(path, line, f"the period {twice[0]} stands there twice")
+    return periods
+
+
+def rooms_in(path: str, line: int, cell: str, alone: set[str]) -> list[str]:
+    """The rooms of a cell. A blank parts rooms, so that `room 12` is refused unless `room` or `12` stands alone elsewhere."""
+    words = [] if cell == NOBODY else list(dict.fromkeys(re.findall(r"[^\s;,]+", cell)))
+    for word, number in zip(words, words[1:]):
+        if number.isdecimal() and not re.search(r"\d", word) and alone.isdisjoint((word, number)) and not re.search("[;,]", cell):
+            refuse(path, line, f"rooms '{cell}': a blank parts rooms, so write {word}_{number} for one room, and {word};{number} for two")
+    return words
+
+
+class People:
+    """Who the cells of a column name. `;`, `,` and `+` part names; a blank, `/` or `&` does where what it parts are names elsewhere."""
+
+    def __init__(self, path: str, column: str, cells: list[str]) -> None:
+        self.path, self.column = path, column
+        whole = {name.strip() for cell in cells for name in re.split(r"[;,+]", cell)}
+        self.alone = {name for name in whole if not re.search(r"[\s/&]", name)} - {""}
+        parted = [tuple(self.words(name)) for name in whole if self.words(name)[1:]]
+        self.companies = {word: {words for words in parted if word in words} for words in parted for word in words}
+
+    @staticmethod
+    def words(name: str) -> list[str]:
+        return [word for word in re.split(r"[\s/&]+", name) if word]
+
+    def read(self, line: int, cell: str) -> list[str]:
+        """The names in a cell."""
+        if cell == NOBODY:
+            return []
+        names = [name.strip() for name in re.split(r"[;,+]", cell)]
+        if "" in names:
+            refuse(self.path, line, f"{self.column} '{cell}': a name is missing beside ';', ',' or '+'")
+        found = [one for name in names for one in self.parted(line, name)]
+        twice = [one for one, count in Counter(found).items() if count > 1]
+        if twice:
+            refuse(self.path, line, f"{self.column} '{cell}' names {twice[0]} twice")
+        return found
+
+    def parted(self, line: int, name: str) -> list[str]:
+        """One name, or several where that is what blanks between them mean."""
+        words = self.words(name)
+        hyphened = [word for word in name.split("-") if word]
+        if len(hyphened) > 1 and set(hyphened) <= self.alone:
+            refuse(self.path, line, f"{self.column} '{name}': {', '.join(hyphened)} are names elsewhere; several names have ';' between")
+        if len(words) < 2 or not self.alone & set(words) and all(len(self.companies[word]) == 1 for word in words):
+            together = len(words) > 1 and self.column == "class" and all(re.search(r"\d", word) for word in words)
+            return words if together else [name]
+        if set(words) <= self.alone:
+            return words
+        return refuse(self.path, line, f"{self.column} '{name}' may be one name or several: several have ';' between ({';'.join(words)}), and one "
+                      f"has none ({'_'.join(words)})")
+
+
+# ---- lessons
+
+def numbered_names(lessons: list[Lesson]) -> None:
+    """Lessons with the name of another are called after their classes too."""
+    counts = Counter(lesson.name for lesson in lessons)
+    for lesson in lessons:
+        if counts[lesson.name] > 1:
+            lesson.name = f"{lesson.name}({'+'.join(lesson.classes)})"
+
+
+def want_different(path: str, lessons: list[Lesson]) -> None:
+    """Refuses two lessons of one name."""
+    seen: dict[str, int] = {}
+    for lesson in lessons:
+        for name in {lesson.name, *(f"{lesson.name}.{k}" for k in range(1, lesson.hours + 1) if lesson.hours > 1)}:
+            if name in seen:
+                refuse(path, lesson.line, f"the lesson {name} stands there twice, in line {seen[name]} too; a column hours says how often "
+                       "a lesson is given")
+            seen[name] = lesson.line
+
+
+def want_roles(path: str, lessons: list[Lesson]) -> None:
+    """Refuses a name of a teacher that is one of a class or a room too, and so on."""
+    roles: dict[str, str] = {}
+    for lesson in lessons:
+        for role, names in (("teacher", lesson.teachers), ("class", lesson.classes), ("room", lesson.rooms)):
+            for who in names:
+                if roles.setdefault(who, role) != role:
+                    refuse(path, lesson.line, f"{who} would be a {roles[who]} and a {role}: these have names of their own")
+
+
+def read_lessons(path: str) -> list[Lesson]:
+    """All lessons of a table."""
+    rows = list(read_table(path))
+    people = {column: People(path, column, [row[column] for _, row in rows]) for column in ("teacher", "class")}
+    alone = {row["rooms"] for _, row in rows}
+    lessons = []
+    for line, row in rows:
+        lacking = [column for column in WANTED if not re.search(r"[^\s;,]", row[column])]
+        if lacking:
+            refuse(path, line, f"{lacking[0]} is missing; where there is none, - says so")
+        lessons.append(Lesson(
+            line, row["lesson"], people["teacher"].read(line, row["teacher"]), people["class"].read(line, row["class"]),
+            rooms_in(path, line, row["rooms"], alone), periods_in(path, line, row["periods"]),
+            number_in(path, line, row, "hours", 99), number_in(path, line, row, "length", 9)))
+    if not lessons:
+        refuse(path, None, f"{called(path)} has a head and no lessons")
+    numbered_names(lessons)
+    want_different(path, lessons)
+    want_roles(path, lessons)
+    return lessons

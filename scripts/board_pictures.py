@@ -1,0 +1,109 @@
+"""Pictures of boards that pieces fill, flat or in layers."""
+from __future__ import annotations
+
+import functools
+import re
+from collections.abc import Callable
+
+from picture_base import Cell, CELL, cell_of, is_connected, Kind, LARGEST, sheet_cell_of, without_order
+from svg_paper import Board, FILLS, MARGIN, Paper, WIDEST
+
+
+def piece_of(name: str) -> str:
+    """A piece's name without the number of its copy."""
+    return re.sub(r"(?<=.)\.\d+$", "", name)
+
+
+class Tiling(Kind):
+    """Pieces that fill cells; at most one name of an option is that of its piece."""
+
+    @functools.cached_property
+    def cell_of(self) -> Callable[[str], Cell | None]:
+        """How names of cells are read: as in a spreadsheet where the problem names none by numbers."""
+        return cell_of if any(map(cell_of, self.items)) else sheet_cell_of
+
+    def is_known(self) -> bool:
+        cells = [[self.cell_of(name) for name in without_order(option)] for option in self.options]
+        rows, columns = ({place[k] for place in map(self.cell_of, self.items) if place} for k in (0, 1))
+        return bool(cells) and max(rows | columns, default=LARGEST) < LARGEST and all(found.count(None) <= 1 and len(found) > found.count(None) and
+                                   is_connected([cell for cell in found if cell]) for found in cells)
+
+    def board(self) -> Board:
+        areas = {self.cell_of(name): 0 for name in self.items if self.cell_of(name)}
+        labels = {}
+        for k, option in enumerate(self.chosen, 1):
+            piece = next((piece_of(name) for name in without_order(option) if self.cell_of(name) is None), "")
+            areas.update((self.cell_of(name), k) for name in option if self.cell_of(name))
+            labels.update((self.cell_of(name), piece) for name in option if self.cell_of(name))
+        return Board(labels, areas)
+
+    def lines(self) -> list[str]:
+        return self.board().text()
+
+    def draw(self, paper: Paper) -> None:
+        board = self.board()
+
+        def fill(cell: Cell) -> str:
+            if self.is_none:
+                return "#e3dccd" if sum(cell) % 2 else "#fffdf8"
+            return FILLS[(board.areas[cell] - 1) % len(FILLS)]
+
+        board.draw(paper, CELL, fill)
+        self.caption(paper)
+
+
+class Layers(Kind):
+    """Pieces that fill a solid of cells, named by layer, row and column as 0-1-2; its layers are drawn side by side. A piece without a name has
+    the number of its option, so that its parts in several layers are known."""
+
+    CELL_NAME = re.compile(r"(\d{1,2})-(\d{1,2})-(\d{1,2})")
+
+    def cell(self, name: str) -> tuple[int, ...] | None:
+        found = self.CELL_NAME.fullmatch(name)
+        return tuple(map(int, found.groups())) if found else None
+
+    def is_known(self) -> bool:
+        cells = [[self.cell(name) for name in without_order(option)] for option in self.options]
+        return bool(cells) and all(found.count(None) <= 1 and len(found) > found.count(None) for found in cells)
+
+    def boards(self) -> list[Board]:
+        """The board of each layer."""
+        areas = {self.cell(name): 0 for name in self.items if self.cell(name)}
+        labels = {}
+        for k, option in enumerate(self.chosen, 1):
+            piece = next((piece_of(name) for name in without_order(option) if not self.cell(name)), str(k))
+            areas.update((self.cell(name), k) for name in option if self.cell(name))
+            labels.update((self.cell(name), piece) for name in option if self.cell(name))
+        return [Board({cell[1:]: label for cell, label in labels.items() if cell[0] == layer},
+                      {cell[1:]: area for cell, area in areas.items() if cell[0] == layer}) for layer in sorted({cell[0] for cell in areas})]
+
+    def lines(self) -> list[str]:
+        return [line for k, board in enumerate(self.boards(), 1) for line in [f"layer {k}", *board.text()]]
+
+    def draw(self, paper: Paper) -> None:
+        left = top = high = 0
+        for k, board in enumerate(self.boards(), 1):
+            wide = (board.columns[-1] + 1.5) * CELL
+            if left and left + wide > WIDEST - 2 * MARGIN:
+                left, top, high = 0, top + high, 0
+            paper.text(left, top + 8, f"layer {k}", 13, "start")
+            board.draw(Shifted(paper, left, top + 24), CELL,
+                       lambda cell, areas=board.areas: FILLS[(areas[cell] - 1) % len(FILLS)] if areas[cell] else "#fffdf8")
+            left, high = left + wide, max(high, (board.rows[-1] + 1.5) * CELL + 24)
+        self.caption(paper)
+
+
+class Shifted:
+    """A sheet whose shapes are moved."""
+
+    def __init__(self, paper: Paper, right: float, down: float) -> None:
+        self.paper, self.right, self.down = paper, right, down
+
+    def box(self, x: float, y: float, *shape) -> None:
+        self.paper.box(x + self.right, y + self.down, *shape)
+
+    def text(self, x: float, y: float, *words, **style) -> None:
+        self.paper.text(x + self.right, y + self.down, *words, **style)
+
+    def line(self, x: float, y: float, to_x: float, to_y: float, *style) -> None:
+        self.paper.line(x + self.right, y + self.down, to_x + self.right, to_y + self.down, *style)

@@ -1,0 +1,74 @@
+#!/usr/bin/env python3
+"""Adds up a reason that `solve_cli why FILE` gives for `none`, and says whether it holds.
+
+    python3 scripts/check_reason.py FILE REASON
+
+REASON is a file with what `why` wrote, or - for the standard input. No search and no part of the program is needed: an exact cover names
+each primary item once. So where the weights in each option are a multiple of the modulus, all weights together are one; and where
+each option brings as much room as it needs, all needs together are at most all rooms.
+
+The exit status is 0 where the reason holds, 1 where it doesn't, 2 for a mistake on the command line, 3 for a file that can't be read.
+"""
+import argparse
+import sys
+
+
+def check(problem, reason):
+    """What is wrong with a reason; nothing where it holds. Both are lists of lines, these lists of words."""
+    items, *options = [words for words in problem if words and not words[0].startswith(b"|")]
+    bar = next((place for place, word in enumerate(items) if word.startswith(b"|")), len(items))
+    primary = set(items[:bar])
+    options = [option for option in options if primary.intersection(option)]    # the others are in no cover
+    amounts = {b"weigh": {}, b"need": {}, b"room": {}}
+    for kind, number, name in reason[2:]:
+        if not number.isdigit():
+            return "a weight, a need or a room isn't a number from 0"
+        amounts[kind][name] = int(number)
+    weights, needs, rooms = amounts.values()
+    if not primary.issuperset([*weights, *needs]):
+        return "an item has a weight or a need, and isn't primary"
+
+    if reason[1][0] == b"weights":
+        modulus = int(reason[1][-1])
+        for option in options:
+            if sum(weights.get(name, 0) for name in option) % modulus:
+                return f"the weights in this option are no multiple of {modulus}: {b' '.join(option).decode()}"
+        return "" if sum(weights.values()) % modulus else f"all weights together are a multiple of {modulus}"
+
+    for option in options:
+        if any(word.partition(b":")[0] in rooms for word in option if b":" in word):
+            return f"this option gives a colour to an item that has room: {b' '.join(option).decode()}"
+        if sum(needs.get(name, 0) for name in option) > sum(rooms.get(name, 0) for name in option):
+            return f"this option needs more than it has room for: {b' '.join(option).decode()}"
+    return "" if sum(needs.values()) > sum(rooms.values()) else "all needs together are no more than all rooms"
+
+
+def lines_of(path):
+    """The words of each line of a file."""
+    text = sys.stdin.buffer.read() if path == "-" else open(path, "rb").read()
+    return [line.split() for line in text.split(b"\n")]
+
+
+def main():
+    parser = argparse.ArgumentParser(description=__doc__, formatter_class=argparse.RawDescriptionHelpFormatter)
+    parser.add_argument("file", metavar="FILE")
+    parser.add_argument("reason", metavar="REASON")
+    given = parser.parse_args()
+    try:
+        problem, reason = lines_of(given.file), [words for words in lines_of(given.reason) if words]
+    except OSError as why:
+        print(why, file=sys.stderr)
+        return 3
+    if reason[:1] != [[b"none"]]:
+        print("no reason: the first line isn't 'none'")
+        return 1
+    try:
+        wrong = check(problem, reason)
+    except (KeyError, ValueError, IndexError, ZeroDivisionError):
+        wrong = "this isn't the text of a reason, or of a problem"
+    print(f"wrong: {wrong}" if wrong else "right: the reason holds, so there is no exact cover")
+    return 1 if wrong else 0
+
+
+if __name__ == "__main__":
+    sys.exit(main())

@@ -1,0 +1,123 @@
+"""Reasons for `none` as `solve_cli why` writes them: read, added up again, and told in words.
+
+A reason is either weights of primary items modulo a number, or what primary items need and the room that items have for it.
+`docs/FORMAT.md` has the text; `holds` is all that has to be believed.
+"""
+import re
+import subprocess
+from math import gcd
+
+from cover_files import shown, stop
+from fault_words import listed, plural, quoted
+
+SHOWN = 12
+LINE = re.compile(rb"(weigh|need|room) ([0-9]+) (\S+)")
+
+
+class Reason:
+    """The weights, needs and rooms of a reason, by names, and its modulus, 0 where it has none."""
+
+    def __init__(self, text):
+        head, *lines = text.removeprefix(b"none\n").rstrip(b"\n").split(b"\n")
+        self.modulus = int(head.rpartition(b" ")[2]) if head.startswith(b"weights modulo ") else 0
+        self.weights, self.needs, self.rooms = {}, {}, {}
+        kinds = {b"weigh": self.weights, b"need": self.needs, b"room": self.rooms}
+        for line in lines:
+            kind, number, name = LINE.fullmatch(line).groups()
+            kinds[kind][name] = int(number)
+
+    def holds(self, problem):
+        """Whether the reason shows that the problem has no cover."""
+        primary = set(problem.primary_names())
+        if not primary.issuperset([*self.weights, *self.needs]):
+            return False
+        if self.modulus:
+            return (sum(self.weights.values()) % self.modulus != 0
+                    and all(added(self.weights, option.names) % self.modulus == 0 for option in problem.options))
+        coloured = {name for option in problem.options for name, colour in zip(option.names, option.colours) if colour is not None}
+        return (coloured.isdisjoint(self.rooms) and sum(self.rooms.values()) < sum(self.needs.values())
+                and all(added(self.needs, option.names) <= added(self.rooms, option.names) for option in problem.options))
+
+    def words(self, problem):
+        """Lines that say why there is no cover."""
+        return list(weight_words(self, problem) if self.modulus else room_words(self, problem))
+
+    def line(self, problem):
+        """The same in one line."""
+        if not self.modulus:
+            return f"{sum(self.needs.values()):,} needed, and room for {sum(self.rooms.values()):,}: there is no cover"
+        weights = self.signed()
+        zero = "0" if is_exact(weights, problem) else f"a multiple of {self.modulus}"
+        return f"each option weighs {zero}, all items together {sum(weights.values()):,}: there is no cover"
+
+    def signed(self):
+        """The weights, those above half of the modulus as what is less than 0."""
+        return {name: weight if 2 * weight <= self.modulus else weight - self.modulus for name, weight in self.weights.items()}
+
+
+def added(amounts, names):
+    return sum(amounts.get(name, 0) for name in names)
+
+
+def names_line(names, most=SHOWN):
+    return f"  {listed([shown(name) for name in names], most)}"
+
+
+# ---- too little room
+
+def room_words(reason, problem):
+    if len(reason.needs) == 1 and not reason.rooms:
+        yield f"no option names {quoted(*reason.needs)}"
+        return
+    needs, rooms = sum(reason.needs.values()), sum(reason.rooms.values())
+    yield f"too little room: {plural(needs, 'place')} needed, and there are {rooms:,}"
+    for amounts, what in (reason.needs, "needs"), (reason.rooms, "has room for"):
+        for amount in sorted(set(amounts.values())):
+            names = [name for name, own in amounts.items() if own == amount]
+            many = "each of these" if len(names) > 1 else "this one"
+            yield f"  {many} {what} {amount if amount != 1 else 'one'}: {listed([shown(name) for name in names], SHOWN)}"
+
+
+# ---- weights
+
+def is_exact(weights, problem):
+    """Whether each option weighs 0, and not only a multiple of the modulus."""
+    return all(added(weights, option.names) == 0 for option in problem.options)
+
+
+def weight_words(reason, problem):
+    weights = reason.signed()
+    groups = {}
+    for name, weight in weights.items():
+        groups.setdefault(weight, []).append(name)
+    groups = dict(sorted(groups.items(), reverse=True))
+    exact = is_exact(weights, problem)
+    if len(groups) == 1:
+        yield from one_group(reason.modulus, *groups.items())
+    elif exact and list(groups) == [1, -1]:
+        yield f"each option names as many of the first items as of the second, and there are {len(groups[1]):,} and {len(groups[-1]):,}:"
+        yield from map(names_line, groups.values())
+    else:
+        zero = "0" if exact else f"a multiple of {reason.modulus}"
+        yield f"with these weights each option weighs {zero}, and all primary items together weigh {sum(weights.values()):,}:"
+        for weight, group in groups.items():
+            yield f"  {weight:+d} each: {listed([shown(name) for name in group], SHOWN)}"
+
+
+def one_group(modulus, group):
+    """Where all that weigh something weigh the same."""
+    weight, names = group
+    step = modulus // gcd(modulus, weight)
+    yield f"each option names {'an even number' if step == 2 else f'a multiple of {step}'} of these items, and there are {len(names):,}:"
+    yield names_line(names)
+
+
+# ---- from the program
+
+def found_reason(program, text):
+    """The reason that the program gives for the bytes of a problem file, or None where it finds none; ends the script where it can't be run."""
+    try:
+        ran = subprocess.run([program, "why", "-"], input=text, capture_output=True)
+    except OSError as why:
+        stop(f"the program can't be run: {why}")
+    return Reason(ran.stdout) if ran.returncode == 1 and ran.stdout.startswith(b"none\n") else None

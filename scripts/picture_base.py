@@ -1,0 +1,103 @@
+"""What all kinds of pictures share: an answer with the names of its problem, and how names of cells are read."""
+from __future__ import annotations
+
+import re
+from collections.abc import Iterable
+
+from cover_files import Option, Problem, shown
+from svg_paper import folded, MARGIN, Paper, WIDEST
+
+# the names of an option; a cell by row and column
+Names = tuple[str, ...]
+Cell = tuple[int, int]
+
+CELL, LARGEST = 40, 1_000
+NONE = "none: the answer is that there is no cover"
+KNOWN_COLOURS = {"red": "#f0a39a", "green": "#b3d9b1", "blue": "#a5c4ee", "yellow": "#f5e08c", "orange": "#f7c08a", "purple": "#cdb3e6",
+                 "white": "#ffffff", "grey": "#cccccc", "gray": "#cccccc", "brown": "#cfae8e", "pink": "#f3bfd3"}
+
+
+def names_of(option: Option) -> Names:
+    return tuple(map(shown, option.names))
+
+
+def without_order(option: Iterable[str]) -> Names:
+    """An option without the items that only keep things that are alike in order, as L.1<3."""
+    return tuple(name for name in option if not re.fullmatch(r".+<\d+", name))
+
+
+def colours_of(option: Option) -> dict[str, str]:
+    """The colour of each name that has one."""
+    return {shown(name): shown(colour) for name, colour in zip(option.names, option.colours) if colour}
+
+
+class Kind:
+    """An answer to a problem of a kind: the chosen options, and whether the answer is `none`.
+
+    Options are tuples of names; `option_colours` and `chosen_colours` have beside each option the colours that it gives.
+    """
+
+    # whether the kind is one of problems with colours, or else of those without
+    with_colours = False
+
+    def __init__(self, problem: Problem, chosen: list[Option], is_none: bool) -> None:
+        self.items = [shown(name) for name in problem.items]
+        self.primary = set(self.items[:problem.primary])
+        self.options, self.chosen = ([names_of(option) for option in some] for some in (problem.options, chosen))
+        self.option_colours, self.chosen_colours = ([colours_of(option) for option in some] for some in (problem.options, chosen))
+        self.comments = [shown(comment) for comment in problem.comments]
+        self.is_none = is_none
+
+    def is_known(self) -> bool:
+        """Whether the problem is of this kind, by its names."""
+        raise NotImplementedError
+
+    def all_match(self, pattern: str, items: Iterable[str] | None = None) -> bool:
+        return all(re.fullmatch(pattern, item) for item in (self.items if items is None else items))
+
+    def secondary(self) -> list[str]:
+        return [item for item in self.items if item not in self.primary]
+
+    def text(self) -> list[str]:
+        return ([NONE] if self.is_none else []) + self.lines()
+
+    def caption(self, paper: Paper) -> None:
+        """Under the picture of an answer without a cover, that there is none."""
+        if self.is_none:
+            paper.text((paper.left + paper.right) / 2, paper.bottom + 22, "none: there is no cover", 15)
+
+
+# ---- boards
+
+def cell_of(name: str) -> Cell | None:
+    """The row and the column that a name tells, as 07, 0011 or 3-12; None where it tells none."""
+    if re.fullmatch(r"\d+", name) and len(name) % 2 == 0:
+        return int(name[:len(name) // 2]), int(name[len(name) // 2:])
+    found = re.fullmatch(r"(\d+)-(\d+)", name)
+    return (int(found[1]), int(found[2])) if found else None
+
+
+def sheet_cell_of(name: str) -> Cell | None:
+    """The same of a name as A1 or C12, whose letter is the column and whose number the row, as in a spreadsheet."""
+    found = re.fullmatch(r"([A-Z])([1-9]\d{0,2})", name)
+    return (int(found[2]) - 1, ord(found[1]) - ord("A")) if found else None
+
+
+def is_connected(cells: Iterable[Cell]) -> bool:
+    """Whether the cells hang together by their edges."""
+    left, reached = set(cells), []
+    while left and (reached or len(left) == len(set(cells))):
+        r, c = reached.pop() if reached else left.pop()
+        near = {(r + a, c + b) for a, b in ((0, 1), (1, 0), (0, -1), (-1, 0))} & left
+        left -= near
+        reached += near
+    return not left
+
+
+def draw_lines(paper: Paper, lines: list[str], size: int = 14) -> None:
+    """Plain lines of text, folded where they are too long for a sheet; an empty picture says so."""
+    place = 0
+    for line in lines or ["no option is chosen"]:
+        for k, part in enumerate(folded(line, WIDEST - 4 * MARGIN, size)):
+            paper.text(2 * size if k else 0, place * size * 1.6, part, size, "start")
+            place += 1

@@ -1,0 +1,301 @@
+#!/usr/bin/env python3
+"""Tests problems that generate.py makes of puzzles drawn by lot, with the built program and draw.py behind it.
+
+    python3 scripts/try_generate.py [--program PROGRAM] [--times N]
+
+Of each kind N puzzles are drawn by lot, from a solution (1 where no number is given), and written as people write them. The answer is
+drawn as text, and this text is tested by the kind's own rules, which know nothing of items and options. Tables and boards that can't be
+meant must be refused with their line. The last line is 'N passed, M failed'.
+
+It wants the program: (cd crates/solve_cli && rt run -- --version) builds it. The exit status is 0 where all passed, 1 where something
+failed, 2 for a mistake on the command line or where there is no program.
+"""
+import os
+import random
+import subprocess
+import sys
+import tempfile
+
+import drawn_puzzles
+from built import number_from_one, parser_of, SOLVE_CLI, TOP, want_program
+from expected import Trial
+from full_names import full_name, full_names, named_numbers
+from school_rules import faults, school
+
+HEAD = "lesson,teacher,class,rooms,periods"
+
+
+class Generating(Trial):
+    def __init__(self, program, folder, times):
+        super().__init__()
+        self.program, self.folder, self.times = program, folder, times
+
+    def path(self, name, text=None):
+        path = os.path.join(self.folder, name)
+        if text is not None:
+            with open(path, "w", encoding="utf-8") as opened:
+                opened.write(text)
+        return path
+
+    @staticmethod
+    def python(script, *words):
+        return subprocess.run([sys.executable, os.path.join(TOP, script), *words], capture_output=True, text=True)
+
+    def made(self, *words):
+        """A problem's file, made by generate.py."""
+        path = self.path("made.dlx")
+        ended = self.python("examples/generate.py", *words, "--out", path)
+        self.expect(f"generate.py {words}: {ended.stderr}", ended.returncode == 0)
+        return path
+
+    def drawn(self, file, *words, command="alone"):
+        """What draw.py prints of the program's answer, by lines; the picture is at most 1,200 pixels wide."""
+        answered = subprocess.run([self.program, command, file], capture_output=True, text=True, timeout=300)
+        answer, svg = self.path("answer", answered.stdout), self.path("made.svg")
+        ended = self.python("scripts/draw.py", file, answer, "--svg", svg, *words)
+        self.expect(f"draw.py {file}: {ended.stderr}", ended.returncode == 0)
+        return ended.stdout.split("\n")[:-1]
+
+    def solved(self, *words):
+        return self.drawn(self.made(*words))
+
+    def refused(self, what, status, line, *words):
+        """Expects that generate.py refuses this with a status, and names a line where one is given."""
+        out = self.path("refused.dlx")
+        ended = self.python("examples/generate.py", *words, "--out", out)
+        told = line is None or f"line {line}" in ended.stderr or f"lines {line}" in ended.stderr
+        self.expect(f"{what} is refused: {ended.returncode} {ended.stderr}", ended.returncode == status and told and "Traceback" not in ended.stderr)
+        self.expect(f"{what} leaves no file", not os.path.exists(out))
+
+
+# ---- timetables
+
+def schools(trial):
+    for seed in range(1, trial.times + 1):
+        table = school(seed)
+        file = trial.made("timetable", trial.path("school.csv", table))
+        found = faults(table, trial.drawn(file, "--plan", "all", command="solve"))
+        trial.expect(f"the school {seed}: {found[:3]}", not found)
+    table = school(1, 8, 11, 0, 6, 0, 0)
+    file = trial.made("timetable", trial.path("large.csv", table))
+    with open(file, encoding="utf-8") as opened:
+        trial.expect("rooms without items", "\n| also " in opened.read())
+    found = faults(table, trial.drawn(file, "--plan", "all", command="solve"))
+    trial.expect(f"a school whose rooms have no items: {found[:3]}", not found)
+    for seed in range(1, trial.times + 1):
+        table = school(seed, 1, 4, 2, 6, 0, 3)
+        found = faults(table, trial.drawn(trial.made("timetable", trial.path("class.csv", table)), "--plan", "all"))
+        trial.expect(f"one class, all periods, {seed}: {found[:3]}", not found)
+
+
+def exact_covers(primary, options, chosen=()):
+    """All exact covers, by their options: at each step the first primary item that isn't covered."""
+    covered = set().union(*chosen)
+    left = [item for item in primary if item not in covered]
+    if not left:
+        return {frozenset(chosen)}
+    fitting = [option for option in options if left[0] in option and covered.isdisjoint(option)]
+    return {cover for option in fitting for cover in exact_covers(primary, options, (*chosen, option))}
+
+
+def same_covers(trial):
+    """Primary periods change no cover: with all of them secondary the covers are the same."""
+    draw, tight = random.Random(4), 0
+    week = [f"{day}{number}" for day in ("Mon", "Tue") for number in (1, 2)]
+    for table in range(20):
+        rows = [f"l{k},{draw.choice(['ann', 'bob'])},{draw.choice(['5a', '5b'])},{draw.choice(['r s', 's t'])},"
+                f"{' '.join(sorted(draw.sample(week, draw.randint(1, 4))))}" for k in range(draw.randint(3, 7))]
+        ended = trial.python("examples/generate.py", "timetable", trial.path("small.csv", "\n".join([HEAD, *rows]) + "\n"))
+        lines = [line.split() for line in ended.stdout.split("\n") if line and not line.startswith("|")]
+        if ended.returncode:
+            trial.expect(f"a small table: {ended.stderr}", ended.returncode == 1)
+            continue
+        primary = lines[0][:lines[0].index("|")] if "|" in lines[0] else lines[0]
+        lessons, options = [f"l{k}" for k in range(len(rows))], [frozenset(words) for words in lines[1:]]
+        tight += len(primary) > len(lessons)
+        trial.expect(f"the covers of {rows}", exact_covers(primary, options) == exact_covers(lessons, options))
+    trial.expect(f"tables with primary periods: {tight}", tight > 3)
+
+
+def joint_lessons(trial):
+    """However several classes and teachers are parted, all of them are busy; one name with a blank stays one."""
+    rows = ["a,ann,5a,r,1", "b,bob,5b,r,2", 'c,ann+bob,5a 5b,s,3', 'd,"ann;bob","5a;5b",s,4', 'e,"ann,bob",5a/5b,s,5', "f,Eva Maria Lang,5c,-,1"]
+    file = trial.made("timetable", trial.path("joint.csv", "\n".join([HEAD, *rows]) + "\n"))
+    with open(file, encoding="utf-8") as opened:
+        lines = opened.read().split("\n")
+    for lesson, period in (("c", "3"), ("d", "4"), ("e", "5")):
+        busy = {f"{who}-{period}" for who in ("ann", "bob", "5a", "5b", "s")}
+        trial.expect(f"all are busy in {lesson}", [set(line.split()[1:]) for line in lines if line.startswith(lesson + " ")] == [busy])
+    trial.expect("one name with blanks", any(line.startswith("| name ") and line.endswith(": Eva Maria Lang") for line in lines))
+
+
+def long_names(trial):
+    """Names that don't fit into 32 bytes have numbers in the file, and are whole in plans."""
+    lesson, teacher = "Mathematics for those who like it", "\u041a\u043e\u043d\u0441\u0442\u0430\u043d\u0442\u0438\u043d\u043e\u0432\u0430" * 2
+    table = f"lesson;teacher;class;rooms;periods;hours\n{lesson};{teacher};5a;room;Mon1-2;2\n"
+    lines = trial.drawn(trial.made("timetable", trial.path("long.csv", table)), "--plan", "all")
+    text = "\n".join(lines)
+    names = full_names(["| teachers: 1 bob", "| name 1: Eva Maria Lang"])
+    for item, name in (("1", "Eva Maria Lang"), ("1-Mon1", "Eva Maria Lang-Mon1"), ("1.2", "Eva Maria Lang.2"), ("bob-1", "bob-1"), ("11", "11")):
+        trial.expect(f"the full name of {item}", full_name(names, item) == name)
+    told = named_numbers(["| name 1: Eva Maria Lang", "| name 2: Ann"], ["1-2", "2-1"], ["'1-2' stands in line 2"])
+    trial.expect("the names of numbers in a text", told == ["1 means Eva Maria Lang"])
+    trial.expect(f"long names: {lines}", text.count(f"{lesson} {teacher} room") == 2 and any(line.startswith(teacher + "  Mon") for line in lines))
+
+
+def rules_are_tested(trial):
+    """The test of timetables finds what is wrong with one."""
+    table = ";".join(HEAD.split(",")) + ";hours;length\na;ann;5a+5b;r;Mon1-3;1;2\nb;bob;5a;r;Mon1-3;1;1\n"
+    lines = trial.drawn(trial.made("timetable", trial.path("small.csv", table)), "--plan", "all")
+    trial.expect(f"a small timetable: {lines}", not faults(table, lines))
+    text = "\n".join(lines)
+    for what, old, new in (("a lesson less", "b bob r", "       "), ("another lesson", "b bob r", "c bob r"),
+                           ("a class less", "a ann 5a r", "          ")):
+        trial.expect(f"{what} is found", old in text and faults(table, text.replace(old, new).split("\n")))
+    swapped = [line if not line.startswith(("1", "2", "3")) else {"1": "2", "2": "1", "3": "3"}[line[0]] + line[1:] for line in lines]
+    trial.expect("a double lesson in two pieces is found", faults(table, swapped) or faults(table, [line.replace("2", "4", 1) for line in lines]))
+
+
+def wrong_tables(trial):
+    """Tables of lessons that nobody can mean, each with the line that is told and the exit status."""
+    rows = (("a class with more lessons than periods", 1, "2", ["a,ann,5a,r,1-3", "b,bob,5a,s,1-3", "c,cyd,5a,r,1-3", "d,dan,5a,s,1-3"]),
+            ("a teacher with too few periods for some lessons", 1, "2", ["a,ann,5a,r,1", "b,ann,5b,s,1", "c,ann,5c,r,1-9"]),
+            ("a room with too many lessons", 1, "2", ["a,ann,5a,r,1", "b,bob,5b,r,1"]),
+            ("a missing teacher", 3, "3", ["a,ann,5a,r,1", "b,,5a,r,1"]),
+            ("a lesson twice", 3, "3", ["a,ann,5a,r,1", "a,ann,5a,r,2"]),
+            ("more columns than the head", 3, "2", ["a,ann,5a,r,1,2,3"]),
+            ("a class that may be one or two", 3, "3", ["a,ann,5a,r,1", "b,bob,5a 5b,r,2"]),
+            ("two classes by a hyphen", 3, "4", ["a,ann,5a,r,1", "b,ann,5b,r,2", "c,ann,5a-5b,r,3"]),
+            ("a class twice", 3, "2", ["a,ann,5a+5a,r,1"]),
+            ("nobody beside a plus", 3, "2", ["a,ann+,5a,r,1"]),
+            ("a room that may be one or two", 3, "2", ["a,ann,5a,room 12,1"]),
+            ("a period twice", 3, "2", ["a,ann,5a,r,1 2 1"]),
+            ("a range over two days", 3, "2", ["a,ann,5a,r,Mon1-Tue2"]),
+            ("a teacher who is a class too", 3, "2", ["a,5a,5a,r,1"]))
+    for what, status, line, lines in rows:
+        trial.refused(what, status, line, "timetable", trial.path("wrong.csv", "\n".join([HEAD, *lines]) + "\n"))
+    for what, line, head, row in (("an unknown column", "1", HEAD + ",lenght", "a,ann,5a,r,1,2"),
+                                  ("a column that is missing", "1", "lesson,class", "a,5a"),
+                                  ("no number of hours", "2", HEAD + ",hours", "a,ann,5a,r,1,many"),
+                                  ("a double lesson without days", "2", HEAD + ",length", "a,ann,5a,r,12-30,2"),
+                                  ("a double lesson that runs nowhere", "2", HEAD + ",length", "a,ann,5a,r,Mon1 Tue2,2")):
+        trial.refused(what, 3, line, "timetable", trial.path("wrong.csv", f"{head}\n{row}\n"))
+
+
+# ---- puzzles
+
+# how each kind is drawn by lot, and what generate.py wants behind the file
+PUZZLES = {
+    **{f"sudoku of {size}": (lambda draw, size=size: drawn_puzzles.sudoku(draw, size), ["sudoku"], []) for size in (4, 6, 9, 12, 16)},
+    "diagonals": (drawn_puzzles.diagonals, ["sudoku"], ["--diagonals"]), "jigsaw": (drawn_puzzles.jigsaw, ["jigsaw"], []),
+    "killer": (drawn_puzzles.killer, ["killer"], []), "kakuro": (drawn_puzzles.kakuro, ["kakuro"], []), "stars": (drawn_puzzles.stars, ["stars"], []),
+    "nonogram": (drawn_puzzles.nonogram, ["nonogram"], []), "large nonogram": (lambda draw: drawn_puzzles.nonogram(draw, 20), ["nonogram"], []),
+    "crossword": (drawn_puzzles.crossword, ["crossword"], []), "board": (drawn_puzzles.board, ["board"], []),
+}
+
+
+def puzzles(trial):
+    """Each kind, from a text to the drawn text of its solution."""
+    draw = random.Random(1)
+    for kind, (drawn, words, further) in PUZZLES.items():
+        for number in range(trial.times):
+            text, is_right = drawn(draw)
+            texts = text if isinstance(text, tuple) else (text,)
+            paths = [trial.path(f"{kind}-{k}.txt", one) for k, one in enumerate(texts)]
+            told = paths if kind != "board" else [paths[0], "--pieces", paths[1]]
+            lines = trial.solved(*words, *told, *further)
+            trial.expect(f"{kind} {number}: {texts} {lines}", is_right(lines))
+
+
+def other_answers(trial):
+    """What is drawn is tested: a changed digit, star or cell is seen."""
+    draw = random.Random(2)
+    for kind in ("sudoku of 9", "jigsaw", "killer", "kakuro", "stars", "nonogram"):
+        drawn, words, further = PUZZLES[kind]
+        text, is_right = drawn(draw)
+        lines = trial.solved(*words, trial.path("other.txt", text), *further)
+        changed = [line.translate(str.maketrans("1234#*", "2143. ")) for line in lines]
+        trial.expect(f"{kind}: a change is seen", is_right(lines) and not is_right(lines[:1] + changed[1:2] + lines[2:]) or not is_right(changed))
+
+
+def solids(trial):
+    """Soma: seven pieces fill three layers, each of 27 cells once."""
+    lines = trial.solved("board", "3x3x3", "--pieces", "soma")
+    counts = {letter: "".join(lines).count(f" {letter} ") for letter in "VLTZABP"}
+    trial.expect(f"Soma {counts}", sorted(counts.values()) == [3, 4, 4, 4, 4, 4, 4] and counts["V"] == 3)
+
+
+def covers(trial, file):
+    """How many covers a problem has, by another.py."""
+    other, found = file, []
+    while True:
+        answered = subprocess.run([trial.program, "alone", other], capture_output=True, text=True, timeout=300)
+        if answered.returncode:
+            return len(found) if answered.stdout == "none\n" else None
+        found.append(trial.path(f"cover-{len(found)}", answered.stdout))
+        ended = trial.python("examples/another.py", file, *found)
+        other = trial.path("other.dlx", ended.stdout)
+
+
+def all_covers(trial):
+    """Six queens have four solutions, Langford's four numbers one and its mirror image, and the example of a killer one."""
+    for words, count in ((["queens", "6"], 4), (["langford", "4"], 2), (["killer", os.path.join(TOP, "examples", "killer.txt")], 1)):
+        trial.expect(f"all covers of {words}", covers(trial, trial.made(*words)) == count)
+
+
+SQUARE = "aabb\naabb\nccdd\nccdd\n"
+EMPTY = "1...\n....\n....\n....\n"
+# puzzles that nobody can mean: what they are, the exit status, the line that is told, the kind, and the text
+WRONG = (
+    ("a letter in a sudoku", 3, "1", ["sudoku"], "12x4\n....\n....\n....\n"), ("a sudoku of five rows", 3, None, ["sudoku"], "12345\n" * 5),
+    ("a digit twice in a column", 1, None, ["sudoku"], "1...\n1...\n....\n....\n"), ("rows that aren't square", 3, "2", ["sudoku"], "1234\n12\n"),
+    ("a region with too many cells", 3, "6", ["jigsaw"], EMPTY + "\naaab\naabb\nccdd\nccdd\n"),
+    ("regions with a short row", 3, "8", ["jigsaw"], EMPTY + "\naabb\naabb\nccd\nccdd\n"),
+    ("a cage without a sum", 3, "3", ["killer"], SQUARE + "\na=10 b=10 d=10\n"),
+    ("a sum without a cage", 3, "6", ["killer"], SQUARE + "\na=10 e=10\n"),
+    ("a sum that can't be", 1, "1", ["killer"], SQUARE + "\na=11 b=10 c=10 d=10\n"),
+    ("a sum that is no number", 3, "6", ["killer"], SQUARE + "\na=ten\n"),
+    ("a kakuro with a short row", 3, "2", ["kakuro"], "# 3\\ 4\\\n\\3 .\n"), ("no cell of a kakuro", 3, "2", ["kakuro"], "# 3\\ 4\\\n\\3 . 7\n"),
+    ("a kakuro's sum that can't be", 1, "2", ["kakuro"], "# 3\\ 4\\\n\\30 . .\n\\4 . .\n"),
+    ("a white cell without a sum", 3, "3", ["kakuro"], "# 3\\ 4\\\n\\3 . .\n# . .\n"),
+    ("regions that aren't square", 3, "2", ["stars"], "aab\nab\nccc\n"), ("too few regions", 1, None, ["stars"], "aaa\naaa\nbbb\n"),
+    ("a region without room", 1, "1", ["stars", "--stars", "2"], "aab\nabb\nbcc\n"),
+    ("blocks that don't fit", 1, "2", ["nonogram"], "1\n2 2\n\n1\n1\n1\n"), ("a nonogram's letter", 3, "2", ["nonogram"], "1\nx\n\n1\n1\n"),
+    ("a board of letters", 3, "2", ["board"], "xx\nxy\n"))
+WRONG_PIECES = (
+    ("a piece in two parts", 3, "1", "A\nx.x\n"), ("two pieces of one name", 3, "1", "A\nx\n\nA\nxx\n"),
+    ("a piece's name of digits", 3, "1", "12\nxx\n"),
+    ("no such piece", 3, "1", "Q\n"), ("too few cells", 1, None, "A 3\nxx\n"))
+
+
+def wrong_boards(trial):
+    for what, status, line, words, text in WRONG:
+        trial.refused(what, status, line, words[0], trial.path("wrong.txt", text), *words[1:])
+    for what, status, line, text in WRONG_PIECES:
+        trial.refused(what, status, line, "board", "2x4", "--pieces", trial.path("wrong.txt", text))
+    trial.refused("a word that fits nowhere", 1, "1", "crossword", trial.path("grid.txt", "...\n#.b\n"), trial.path("list.txt", "abc\nda\n"))
+    words = ["".join(random.Random(number).choices("abcdefghij", k=5)) for number in range(1500)]
+    grid, many = trial.path("grid.txt", "\n".join(["....."] * 5)), trial.path("many.txt", "\n".join(words))
+    told = trial.python("examples/generate.py", "crossword", grid, many)
+    trial.expect(f"what would fit: {told.stderr}", told.returncode == 3 and "with --repeat" in told.stderr)
+
+
+TESTS = (schools, same_covers, joint_lessons, long_names, rules_are_tested, wrong_tables, puzzles, other_answers, solids, all_covers,
+         wrong_boards)
+
+
+def main():
+    parser = parser_of(__doc__)
+    parser.add_argument("--program", type=os.path.abspath, default=SOLVE_CLI, help="the built program (default crates/solve_cli/out/solve_cli)")
+    parser.add_argument("--times", type=number_from_one, default=1, metavar="N", help="how many puzzles of each kind (default 1)")
+    given = parser.parse_args()
+    want_program(given.program)
+    with tempfile.TemporaryDirectory(prefix="try-generate-") as folder:
+        trial = Generating(given.program, folder, given.times)
+        for tests in TESTS:
+            tests(trial)
+    return trial.end()
+
+
+if __name__ == "__main__":
+    sys.exit(main())

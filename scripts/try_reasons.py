@@ -1,0 +1,224 @@
+#!/usr/bin/env python3
+"""Compares the reasons that the program finds with a plain search, and with check_reason.py, which adds each of them up.
+
+    python3 scripts/try_reasons.py [COUNT]
+
+Of so many random problems with a cover (default 300) the program has to find no reason, and of as many without one each reason that it finds has
+to hold; whether there is a cover says the plain search of `plain_search.py`. A reason in which one number is changed has to be refused by
+check_reason.py unless it still holds, as this script counts for itself. Then come families whose reasons are known: over-full timetables,
+pigeons, boards, Langford pairs, triples; the examples; and odd words for check_reason.py.
+
+It wants the program: (cd crates/solve_cli && rt run -- --version) builds it. The last line is 'N passed, M failed'. The exit status is 0 where all
+passed, 1 where something failed, 2 for a mistake on the command line or where there is no program.
+"""
+import collections
+import glob
+import itertools
+import os
+import random
+import subprocess
+import sys
+import tempfile
+
+import check_reason
+from built import SOLVE_CLI, TOP, number_from_one, parser_of, want_program
+from cover_files import read_problem
+from cover_reason import Reason
+from expected import Trial
+from plain_search import read, search
+
+trial = Trial()
+expect = trial.expect
+
+
+def why(text):
+    """The exit status of the program, and what it writes."""
+    ran = subprocess.run([SOLVE_CLI, "why", "-"], input=text.encode(), capture_output=True)
+    return ran.returncode, ran.stdout
+
+
+def is_checked(text, reason):
+    """Whether check_reason.py finds that the reason holds."""
+    lines = ([line.split() for line in some.split(b"\n")] for some in (text.encode(), reason.rstrip(b"\n")))
+    return check_reason.check(*lines) == ""
+
+
+# ---- random problems
+
+def random_text(draw):
+    """A problem of a few items, whose options are short; secondary items may have colours."""
+    primary = [f"p{k}" for k in range(draw.randint(1, 7))]
+    secondary = [f"s{k}" for k in range(draw.randint(0, 4))]
+    colours = draw.choice([[""], [""], ["", ":a", ":a", ":b"]])
+    size = draw.randint(1, 3)
+    options = []
+    for _ in range(draw.randint(1, 12)):
+        words = draw.sample(primary, min(draw.choice([size, size, size, 1]), len(primary)))
+        words += [item + draw.choice(colours) for item in draw.sample(secondary, draw.randint(0, min(2, len(secondary))))]
+        draw.shuffle(words)
+        options.append(words)
+    return "\n".join(" ".join(words) for words in [primary + (["|"] + secondary if secondary else []), *options]) + "\n"
+
+
+def changed(draw, reason):
+    """The reason with one number changed, or with a line less."""
+    lines = reason.rstrip(b"\n").split(b"\n")
+    place = draw.randrange(2, len(lines))
+    if draw.random() < 0.3:
+        del lines[place]
+    else:
+        kind, number, name = lines[place].split()
+        lines[place] = b"%s %d %s" % (kind, max(0, int(number) + draw.choice([-1, 1, 1, 2])), name)
+    return b"\n".join(lines) + b"\n"
+
+
+def random_problems(count):
+    """How many problems without a cover got a reason of each kind."""
+    draw, left, found = random.Random(74), collections.Counter({True: count, False: count}), collections.Counter()
+    while left.total():
+        text = random_text(draw)
+        _, primary, options, _ = read(text.encode())
+        has_cover = search(primary, options, [])[0] is not None
+        if not left[has_cover]:
+            continue
+        left[has_cover] -= 1
+        status, reason = why(text)
+        if has_cover:
+            expect(f"no reason, since there is a cover:\n{text}", (status, reason) == (4, b"no reason found\n"))
+            continue
+        found[reason.split(b"\n")[1][:7].decode() if status == 1 else ""] += 1
+        if status == 1:
+            expect(f"the reason of\n{text}", reason.startswith(b"none\n") and is_checked(text, reason))
+            other = changed(draw, reason)
+            expect(f"{other} of\n{text}", is_checked(text, other) == Reason(other).holds(read_problem(text.encode())))
+        else:
+            expect(f"a reason or none of\n{text}", (status, reason) == (4, b"no reason found\n"))
+    return found
+
+
+# ---- families
+
+def lines(primary, secondary, options):
+    head = " ".join(primary) + (" | " + " ".join(secondary) if secondary else "")
+    return "\n".join([head, *(" ".join(option) for option in options)]) + "\n"
+
+
+def lessons(count, periods, length=1, teachers=("ann",)):
+    """So many lessons, each of a class of its own and with one of the teachers."""
+    options = [[f"l{k}"] + [word for at in range(first, first + length) for word in (f"{who}-{at}", f"c{k}-{at}")]
+               for k in range(count) for who in teachers for first in range(periods - length + 1)]
+    busy = sorted({word for option in options for word in option[1:]})
+    return lines([f"l{k}" for k in range(count)], busy, options)
+
+
+def pigeons(count):
+    return lines([f"p{k}" for k in range(count)], [f"h{k}" for k in range(1, count)],
+                 [[f"p{k}", f"h{hole}"] for k in range(count) for hole in range(1, count)])
+
+
+def board(size):
+    """Dominoes on a board without two opposite corners."""
+    cells = sorted(set(itertools.product(range(size), repeat=2)) - {(0, 0), (size - 1, size - 1)})
+    name = "{}-{}".format
+    options = [[name(r, c), name(*other)] for r, c in cells for other in ((r, c + 1), (r + 1, c)) if other in cells]
+    return lines([name(*cell) for cell in cells], [], options)
+
+
+def langford(size):
+    options = [[str(d), f"s{at}", f"s{at + d + 1}"] for d in range(1, size + 1) for at in range(1, 2 * size - d)]
+    return lines([*map(str, range(1, size + 1)), *(f"s{at}" for at in range(1, 2 * size + 1))], [], options)
+
+
+def triples(points):
+    return lines([f"{a}-{b}" for a, b in itertools.combinations(range(points), 2)], [],
+                 [[f"{a}-{b}", f"{a}-{c}", f"{b}-{c}"] for a, b, c in itertools.combinations(range(points), 3)])
+
+
+FAMILIES = [
+    ("25 lessons in 24 periods", lessons(25, 24), "too little room: 25 needed, 24 there"),
+    ("24 lessons in 24 periods", lessons(24, 24), None),
+    ("6 double lessons in 10 periods", lessons(6, 10, 2), "too little room: 12 needed, 10 there"),
+    ("31 lessons of two teachers in 15 periods", lessons(31, 15, 1, ("ann", "bob")), "too little room: 31 needed, 30 there"),
+    ("pigeons", pigeons(12), "too little room: 12 needed, 11 there"),
+    ("a board", board(8), "too little room: 32 needed, 30 there"),
+    ("a larger board", board(30), "too little room: 450 needed, 448 there"),
+    *((f"{size} Langford pairs", langford(size), "weights modulo 2" if size % 4 in (1, 2) else None) for size in (4, 5, 13, 14, 17, 18, 22)),
+    ("triples of 9 points", triples(9), None),
+    ("triples of 10 points", triples(10), "weights modulo 2"),
+    ("triples of 11 points", triples(11), "weights modulo 3"),
+]
+
+
+def said_of(text):
+    """What the program says of a problem, in short."""
+    status, written = why(text)
+    if status != 1:
+        return None
+    reason = Reason(written)
+    if not (is_checked(text, written) and reason.holds(read_problem(text.encode()))):
+        return "a reason that doesn't hold"
+    return f"weights modulo {reason.modulus}" if reason.modulus else (
+        f"too little room: {sum(reason.needs.values())} needed, {sum(reason.rooms.values())} there")
+
+
+# ---- the examples
+
+NONE = {"langford-5.dlx", "mutilated-chessboard.dlx", "tetrominoes-4x5.dlx"}
+
+
+def examples():
+    """The examples without a cover have a reason, the others none."""
+    for path in sorted(glob.glob(os.path.join(TOP, "examples", "*.dlx"))):
+        name = os.path.basename(path)
+        with open(path, encoding="utf-8") as opened:
+            text = opened.read()
+        status, written = why(text)
+        ran = subprocess.run([SOLVE_CLI, "why", path], capture_output=True)
+        expect(f"{name} as a file", (ran.returncode, ran.stdout) == (status, written))
+        expect(f"the reason of {name}", (status == 1 and is_checked(text, written)) if name in NONE else
+               (status, written) == (4, b"no reason found\n"))
+
+
+# ---- check_reason.py by its words
+
+def odd_words(folder):
+    problem, reason = os.path.join(folder, "problem"), os.path.join(folder, "reason")
+
+    def checked(written, *words, text="a b c | x\na b\nb c x:1\n"):
+        for path, content in ((problem, text), (reason, written)):
+            with open(path, "w", encoding="ascii") as opened:
+                opened.write(content)
+        words = words or (problem, reason)
+        ran = subprocess.run([sys.executable, os.path.join(TOP, "scripts", "check_reason.py"), *words], capture_output=True, text=True)
+        return ran.returncode, ran.stdout.partition(":")[0].strip()
+
+    right, weights = "none\nweights modulo 3\nweigh 1 a\nweigh 2 b\nweigh 1 c\n", "none\nweights modulo 3\n"
+    expect("weights", checked(right) == (0, "right"))
+    expect("no words", checked(right, problem) == (2, ""))
+    expect("no file", checked(right, problem, os.path.join(folder, "none")) == (3, ""))
+    for wrong in ("", "none\n", "no reason found\n", weights, weights + "weigh 1 a\n", weights + "weigh 1 x\n", weights + "weigh -1 a\n",
+                  weights + "weigh a\n", right.replace("3", "0"), right.replace("3", "1"), "none\ntoo little room\nneed 1 a\nneed 1 c\nroom 1 b\nroom 1 x\n"):
+        expect(repr(wrong), checked(wrong)[0] == 1)
+    room = "none\ntoo little room\nneed 1 a\nneed 1 c\nroom 1 b\n"
+    expect("room", checked(room) == (0, "right"))
+    expect("a need too many", checked(room + "need 1 x\n")[0] == 1)
+    expect("just room", checked(room + "room 1 c\n")[0] == 1)
+
+
+def main():
+    parser = parser_of(__doc__)
+    parser.add_argument("count", metavar="COUNT", type=number_from_one, nargs="?", default=300, help="how many problems of each kind (default 300)")
+    count = parser.parse_args().count
+    want_program(SOLVE_CLI)
+    found = random_problems(count)
+    for what, text, wanted in FAMILIES:
+        expect(f"{what}: {said_of(text)}", said_of(text) == wanted)
+    examples()
+    with tempfile.TemporaryDirectory() as folder:
+        odd_words(folder)
+    print(f"{count} random problems with a cover, {count} without: {found['too lit']} have too little room, {found['weights']} weights, {found['']} no reason that is found")
+    return trial.end()
+
+
+if __name__ == "__main__":
+    sys.exit(main())
