@@ -105,16 +105,6 @@ find_some_in test (y ∷ ys) x found =
           or_right (y == x) (is_in ys x) (find_some_in test ys x later)
     ]
 
-pub find_some_test : (test : ℕ → Bool) (xs : List ℕ) (x : ℕ) → find test xs ≡ Some x → test x ≡ true
-find_some_test test [] x found = absurd (cc)
-find_some_test test (y ∷ ys) x found =
-    elim (cases_Bool (test y)) [
-      | inl passes ↦ let here : Some y ≡ Some x = rw passes at found in
-          let same : y ≡ x = cc in
-          ap test (sym same) ∙ passes
-      | inr fails ↦ let later : find test ys ≡ Some x = rw fails at found in find_some_test test ys x later
-    ]
-
 -- ---- the numbers of a range
 
 pub range_in : (start count x : ℕ) → start ≤ x → x < start + count → is_in (range_with_len start count) x ≡ true

@@ -124,7 +124,7 @@ no_zero n e = grind (arith, nat_tests)
 no_two : (n : ℕ) → n ≤ 1 → nat_le 2 n ≡ false
 no_two n l = lt-leb 2 n (omega (arith, l))
 
-named_at_most_once : (p : Problem) (options : List ℕ) (item : ℕ) → uses p (is_in options) item ≤ 1 → is_covered_twice p options item ≡ false
+pub named_at_most_once : (p : Problem) (options : List ℕ) (item : ℕ) → uses p (is_in options) item ≤ 1 → is_covered_twice p options item ≡ false
 unfolding is_covered_twice
 named_at_most_once p options item few = and_left (nat_le 2 (uses p (is_in options) item)) (not (is_in_one_colour p options item)) (no_two (uses p (is_in options) item) few)
 

@@ -14,6 +14,7 @@ pub mod Firsts
 pub mod Fronts
 pub mod Marks
 pub mod Named
+pub mod Namings
 pub mod Ordered
 pub mod Outcomes
 pub mod Plain

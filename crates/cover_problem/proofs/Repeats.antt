@@ -67,7 +67,7 @@ seen_more marks numbers place n seen inside here small unmarked =
       distinct = rw front (is_distinct-push (take place numbers) n seen.distinct (sym (seen.marked n within) ∙ unmarked));
     }
 
-repeated : (xs : List ℕ) (k : ℕ) → k < length xs → is_in (take k xs) (get_or xs k 0) ≡ true → is_distinct xs ≡ false
+pub repeated : (xs : List ℕ) (k : ℕ) → k < length xs → is_in (take k xs) (get_or xs k 0) ≡ true → is_distinct xs ≡ false
 repeated [] k h twice = absurd (omega arith)
 repeated (x ∷ xs) zero h twice = absurd (both_ways false refl twice)
 repeated (x ∷ xs) (suc k) h twice =

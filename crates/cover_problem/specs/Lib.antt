@@ -3,6 +3,7 @@ pub mod Branching
 pub mod ExactCover
 pub mod Examples
 pub mod Marks
+pub mod Naming
 pub mod Numbers
 pub mod Onward
 pub mod Prefix

@@ -11,6 +11,7 @@ mod laws;
 mod limits;
 mod lists;
 mod marking;
+mod naming;
 mod prefix;
 mod problem;
 mod verdict;
