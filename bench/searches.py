@@ -3,9 +3,9 @@
 
     python3 bench/searches.py [--times N] [--fuel N] [NAME ..]
 
-Each instance that is named, or each of the benchmark's and four more whose options bar few others, is searched both ways, until the
-search ends or has made N visits (default 100,000). The first columns say which of the two the program takes and what the search came
-to. Times are the least processor seconds of the whole process, reading included. Where the command valgrind is on the path, millions of
+Each instance that is named, or each of the benchmark's, four more whose options bar few others, and two that mislead averages, is
+searched both ways, until the search ends or has made N visits (default 100,000). The first columns say which of the two the program
+takes and what the search came to. Times are the least processor seconds of the whole process, reading included. Where the command valgrind is on the path, millions of
 instructions are told too, without those of a search of one visit: reading and building the tables. The ratio is the time of the search
 that the program takes to the time of the other.
 
@@ -48,6 +48,20 @@ def sparse_instances(folder):
     generate.write("local-1000.dlx", "options of items next to one another", names, [], local)
     few = [[names[k] for k in sorted({item, *draw.sample(range(1000), draw.randrange(3))})] for item in range(1000) for _ in range(6)]
     generate.write("primary-1000.dlx", "six options of one to three items for each item", names, [], few)
+
+
+def uneven_instances(folder):
+    """Options that agree where they meet, and a hard core that averages hide."""
+    generate.HERE = folder
+    names = [f"c{row}-{column}" for row in range(33) for column in range(30)]
+    beside = [(place, place + 1) for place in range(990) if place % 30 < 29] + [(place, place + 30) for place in range(960)]
+    same = [[names[place] for place in both] + ["x:A", "y:A", "z:A"] for both in beside if 0 not in both and 988 not in both]
+    left = [name for place, name in enumerate(names) if place not in (0, 988)]
+    generate.write("agreed-dominoes.dlx", "dominoes, and three items to which all of them give one colour", left, ["x", "y", "z"], same)
+    draw, hard, easy = random.Random(7), [f"h{k}" for k in range(95)], [f"e{k}" for k in range(400)]
+    core = [sorted(draw.sample(hard, 19)) for _ in range(4000)]
+    generate.write("hard-core.dlx", "4,000 options of 19 of 95 items, and 400 items with 40 options of their own each", hard + easy, [],
+                   core + [[item] for item in easy for _ in range(40)])
 
 
 def told(file, kind, fuel):
@@ -93,6 +107,7 @@ def main():
     with tempfile.TemporaryDirectory() as folder:
         subprocess.run([sys.executable, os.path.join(HERE, "instances.py"), folder], check=True)
         sparse_instances(folder)
+        uneven_instances(folder)
         print("| Instance | Taken | Outcome | Links, s | Sets, s | Links, instructions | Sets, instructions | Ratio |")
         print("|---|---|---|---|---|---|---|---|")
         for name in given.names or sorted(it.removesuffix(".dlx") for it in os.listdir(folder)):
