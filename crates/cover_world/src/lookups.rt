@@ -16,7 +16,7 @@ pub fn here_job(table: &Table) -> Option<Job>
     }
 }
 
-/// The job of the own child of least serial that a worker has.
+/// The job of that own child which has the least serial of those that a worker has.
 fn here_child(table: &Table) -> Option<Job>
     ensures { result ≡ here_child table.now.own }
 {
@@ -30,7 +30,7 @@ fn here_child(table: &Table) -> Option<Job>
     }
 }
 
-/// The own child of least serial that a worker has.
+/// That own child which has the least serial of those that a worker has.
 fn first_here(table: &Table) -> Option<u32>
     ensures least { result ≡ first_here table.now.own }
     ensures here { IfSome result (λ serial. has_status is_here (slice_get table.now.own serial)
@@ -54,7 +54,7 @@ fn here_guest(table: &Table) -> Option<Job>
     None
 }
 
-/// The own child of least serial that is out. It costs what `Table::next_out` does.
+/// That own child which has the least serial of those that are out. It costs what `Table::next_out` does.
 pub fn first_out(table: &Table) -> Option<u32>
     ensures { result ≡ first_out table.now.own }
 {

@@ -237,7 +237,7 @@ impl<'a> World<'a> {
         self.sites.state(node)?.ledger().table().ripe()
     }
 
-    /// The own child of a node of least serial that is out.
+    /// That own child of a node which has the least serial of those that are out.
     pub fn out(&self, node: u8) -> Option<u32>
         ensures { result ≡ looked_up (λ table. first_out table.own)
             (slice_get self.now.world.sites node) }
