@@ -87,7 +87,7 @@ fn step<B: Branching, W: Watch>(
         × IsStep W.may_stop root fuel kept.new.entered left (B.choices state.new) result }
 {
     state.problem();
-    if kept.is_watch_due() && watch.look(state.chosen(), left) {
+    if is_due(watch, kept) && watch.look(state.chosen(), left) {
         return Step::End(Visit::Stopped(left));
     }
     if kept.is_beyond(state.chosen().len()) {
@@ -100,11 +100,27 @@ fn step<B: Branching, W: Watch>(
     let Some((rest, chosen)) = pass(state, item, left, kept) else {
         return Step::End(Visit::Spent);
     };
+    watch.made(1, rest);
     if chosen {
         Step::On(rest)
     } else {
         turn(state, base, rest, kept)
     }
+}
+
+/// Whether the watch is to look now.
+#[inline(always)]
+fn is_due<W: Watch>(watch: &W, kept: &mut Kept) -> bool
+    ensures { kept.new ≡ kept.old }
+{
+    kept.is_watch_due() || watch.wait() == 0
+}
+
+/// How many visits may be made until the next trial, or until the watch looks.
+fn stretch<W: Watch>(watch: &W, kept: &Kept) -> u64
+    ensures { 0 < result }
+{
+    kept.until_trial().min(watch.wait().max(1))
 }
 
 /// Visits what is below the chosen options without a look for states, up to the next trial.
@@ -128,14 +144,16 @@ fn step_plainly<B: Branching, W: Watch>(
 {
     state.problem();
     let depth = state.chosen().len();
-    let pause = left.saturating_sub(kept.until_trial());
+    let pause = left.saturating_sub(stretch(watch, kept));
     match visit_prefix(state, left, pause, watch) {
         Visit::Barren(rest) => {
             kept.made(left.saturating_sub(rest));
+            watch.made(left.saturating_sub(rest), rest);
             turn(state, base, rest, kept)
         }
         Visit::Stopped(rest) if rest <= pause => {
             kept.made(left.saturating_sub(rest));
+            watch.made(left.saturating_sub(rest), rest);
             kept.forget_from(depth);
             Step::On(rest)
         }

@@ -219,6 +219,48 @@ impl<'a> Searcher<'a> {
         Ok(Some((self.copied_into(room, prefix, fuel, outcome), made)))
     }
 
+    /// Searches as `find_until` does. Where the watch stopped it, it tells what it came to by then: with fuel for the visits that were made
+    /// alone it would be spent, so the finding has that fuel. None where not one was made.
+    pub fn find_so_far<W: Watch>(
+        &mut self,
+        prefix: Vec<u16>,
+        fuel: u64,
+        watch: &mut W,
+    ) -> Result<Option<(Finding, u64)>, Vec<u16>>
+        requires prefix { is_prefix self.old.problem prefix.items ≡ true }
+        requires fuel { 1 ≤ fuel }
+        ensures problem { self.new.problem ≡ self.old.problem }
+        ensures finding { IfOk result (λ ended. IfSome ended (λ found.
+            found.0 ≡ finding_by prefix.items found.0.fuel
+            (outcome self.old.problem prefix.items found.0.fuel))) }
+        ensures fuel { IfOk result (λ ended. IfSome ended (λ found.
+            (1 ≤ found.0.fuel) × (found.0.fuel ≤ fuel))) }
+        ensures whole { W.may_stop ≡ false → IfOk result (λ ended.
+            IfSome ended (λ found. found.0.fuel ≡ fuel)) }
+        ensures visits { IfOk result (λ ended. IfSome ended (λ found.
+            found.1 ≡ took found.0.outcome (visits self.old.problem prefix.items) found.0.fuel)) }
+        ensures stopped { result ≡ Ok None → W.may_stop ≡ true }
+        ensures unchanged { OnErr result (self.new ≡ self.old) }
+        ensures back { IfErr result (λ list. list.items ≡ prefix.items) }
+    {
+        let Ok(room) = Vec::with_capacity(self.alloc, self.kernel.problem().primary()) else {
+            return Err(prefix);
+        };
+        let (fuel, outcome, made) = match self.visit(&prefix, fuel, watch) {
+            Visit::Found => (fuel, Outcome::Cover, fuel),
+            Visit::Barren(left) => (fuel, Outcome::Barren, fuel - left),
+            Visit::Spent => (fuel, Outcome::Spent, fuel),
+            Visit::Stopped(left) if left < fuel => (fuel - left, Outcome::Spent, fuel - left),
+            Visit::Stopped(_) => return Ok(None),
+        };
+        Ok(Some((self.copied_into(room, prefix, fuel, outcome), made)))
+    }
+
+    /// Whether it keeps states.
+    pub fn keeps(&self) -> bool {
+        self.kept.is_some()
+    }
+
     /// The cover that the last search found. It has at most as many options as there are primary items, so at most 1,000.
     pub fn found(&self) -> &[u16]
         ensures found { result.now ≡ self.now.found }

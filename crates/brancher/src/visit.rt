@@ -46,8 +46,8 @@ pub fn visit_below<B: Branching, W: Watch>(
     visit_prefix(state, fuel, 0, watch)
 }
 
-/// Visits the prefix that is chosen, and what is below it. The chosen options come back, or are the first cover. It also stops, after at
-/// most 1,023 more visits, where no more than `pause` is left: then another visit may go on at what is chosen.
+/// Visits the prefix that is chosen, and what is below it. The chosen options come back, or are the first cover. It also stops where no
+/// more than `pause` is left: then another visit may go on at what is chosen.
 pub(crate) fn visit_prefix<B: Branching, W: Watch>(
     state: &mut B,
     fuel: u64,
@@ -67,8 +67,8 @@ pub(crate) fn visit_prefix<B: Branching, W: Watch>(
 {
     let base = state.chosen().len();
     let mut left = fuel;
-    while left > 0 {
-        if left % LOOK == 0 && (left <= pause || watch.look(state.chosen(), left)) {
+    while left > pause {
+        if left % LOOK == 0 && watch.look(state.chosen(), left) {
             return Visit::Stopped(left);
         }
         let Some(item) = state.branch_item() else {
@@ -79,7 +79,11 @@ pub(crate) fn visit_prefix<B: Branching, W: Watch>(
             return Visit::Barren(left);
         }
     }
-    Visit::Spent
+    if left > 0 {
+        Visit::Stopped(left)
+    } else {
+        Visit::Spent
+    }
 }
 
 /// Takes choices back, the last one first, until one has an option that comes next, which is chosen in its place. False where

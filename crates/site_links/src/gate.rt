@@ -1,3 +1,4 @@
+use crate::pace::Quota;
 use crate::site_end::SiteEnd;
 use brancher::{Finding, Watch};
 use spawn_frame::Job;
@@ -41,16 +42,73 @@ impl Gate for Open {
     fn posted(&self, _worker: u8, _job: &Job) {}
 }
 
-/// Stops a worker's search once its site is to end, and shows it to the gate meanwhile.
+/// A search that keeps states saves many visits where it went past so many times as many as it made.
+const MANY: u64 = 16;
+
+/// Stops a worker's search once its site is to end, or, if it keeps states, once it has made so many visits as it may; shows it to the gate
+/// meanwhile.
 #[derive(Drop)]
 pub struct SearchWatch<'a, G: Gate> {
     /// The site is to end.
-    pub over: &'a AtomicBool,
-    pub gate: &'a G,
+    over: &'a AtomicBool,
+    gate: &'a G,
     /// How long the prefix is that is searched.
-    pub length: usize,
-    /// How many visits the search may make.
-    pub fuel: u64,
+    length: usize,
+    /// How many visits the search may make if it keeps no states.
+    fuel: u64,
+    /// How many it may make if it does.
+    quota: Quota,
+    /// How many visits it has made.
+    made: u64,
+    /// How many visits were left then.
+    left: u64,
+    /// It was stopped since the site is to end.
+    is_over: bool,
+}
+
+impl<'a, G: Gate> SearchWatch<'a, G> {
+    /// The watch of the search of a prefix of this length, with so much fuel and these quota, which stops it once `over` is raised.
+    pub fn new(
+        over: &'a AtomicBool,
+        gate: &'a G,
+        length: usize,
+        fuel: u64,
+        quota: Quota,
+    ) -> SearchWatch<'a, G> {
+        SearchWatch {
+            over,
+            gate,
+            length,
+            fuel,
+            quota,
+            made: 0,
+            left: fuel,
+            is_over: false,
+        }
+    }
+
+    /// How many visits a search that keeps states has made.
+    pub fn visits(&self) -> u64 {
+        self.made
+    }
+
+    /// Whether it was stopped since the site is to end.
+    pub fn is_over(&self) -> bool {
+        self.is_over
+    }
+
+    /// Whether the search may make no more visits; where it saves many it may make more.
+    fn is_at_limit(&mut self, left: u64) -> bool {
+        if self.wait() > 0 {
+            return false;
+        }
+        let gone = self.fuel.saturating_sub(left);
+        if self.quota.visits < self.quota.most && gone / MANY > self.made {
+            self.quota.visits = self.quota.visits.saturating_mul(2).min(self.quota.most);
+            return false;
+        }
+        true
+    }
 }
 
 impl<'a, G: Gate> Watch for SearchWatch<'a, G> {
@@ -59,8 +117,23 @@ impl<'a, G: Gate> Watch for SearchWatch<'a, G> {
     ghost may_stop = { true };
 
     fn look(&mut self, chosen: &[u16], left: u64) -> bool {
-        let visits = self.fuel.saturating_sub(left);
+        if self.is_at_limit(left) {
+            return true;
+        }
+        let visits = self.made.saturating_add(self.left.saturating_sub(left));
         self.gate.seen(self.length, chosen, visits);
-        self.over.load(Ordering::Relaxed)
+        self.is_over = self.over.load(Ordering::Relaxed);
+        self.is_over
+    }
+
+    #[inline(always)]
+    fn wait(&self) -> u64 {
+        self.quota.visits.saturating_sub(self.made)
+    }
+
+    #[inline(always)]
+    fn made(&mut self, visits: u64, left: u64) {
+        self.made = self.made.saturating_add(visits);
+        self.left = left;
     }
 }

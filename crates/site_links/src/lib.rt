@@ -18,7 +18,7 @@ pub use ending::Ending;
 pub use gate::{Gate, Open, SearchWatch};
 pub use link::{Link, LinkFault};
 pub use memory_link::{MemoryLink, Wires};
-pub use pace::Pace;
+pub use pace::{Pace, Quota};
 pub use plan::Plan;
 pub use site_end::SiteEnd;
 pub use turn::{Limits, Taken, Turn};

@@ -8,11 +8,26 @@ use std::alloc::{AllocError, Global};
 /// A job in plenty gets so many times the base at least, before it is taken eightfold.
 const PLENTY: u64 = 30;
 
+/// Where states are kept, the first search gets so many times as many visits: it is to see whether states repeat.
+const FIRST: u64 = 24;
+
+/// A search that saves many visits by the states that are kept gets so many times the base at most.
+const LONGEST: u64 = 16_000;
+
 /// Of so many visits that a worker has made, a job in plenty gets one.
 const SHARE: u64 = 1_024;
 
 /// How many searches of the next length one of an unknown length is thought to take.
 const WIDTH: u64 = 8;
+
+/// How many visits a search that keeps states may make.
+#[derive(Clone, Copy, Debug, PartialEq, Eq)]
+pub struct Quota {
+    /// So many in any case.
+    pub visits: u64,
+    /// So many where the states that are kept save many.
+    pub most: u64,
+}
 
 /// How many visits a worker's next search gets. Where work is short jobs are small, so that they are split; in plenty they are
 /// large and grow with the work done, so that few visits are made twice. A search that ends for want of visits is lost,
@@ -71,6 +86,23 @@ impl Pace {
             return self.small();
         }
         self.plenty().saturating_mul(8).max(1)
+    }
+
+    /// The quota of a search of a prefix of this length that keeps states, where one that keeps none has so many visits.
+    pub fn quota(&self, length: usize, visits: u64) -> Quota {
+        if self.base == 1 || visits <= self.small() {
+            return Quota {
+                visits,
+                most: visits,
+            };
+        }
+        let visits = if length == 0 {
+            visits.saturating_mul(FIRST)
+        } else {
+            visits
+        };
+        let most = visits.max(self.base.saturating_mul(LONGEST));
+        Quota { visits, most }
     }
 
     /// A search of a prefix of this length ended so, after so many visits.

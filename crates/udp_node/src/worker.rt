@@ -7,7 +7,7 @@ ghost use Rattle.udp_node.specs.Hands.{IsPosted};
 use crate::actor::Actor;
 use crate::hand::{Hand, Searched, Wanted};
 use crate::stand::Refused;
-use brancher::{Finding, Outcome, Searcher, Tables};
+use brancher::{Finding, Outcome, ROOM, Searcher, Tables};
 use cover_problem::Numbers;
 use node_core::{ActFault, Core, Event, Reply};
 use rand_core::utils::NextWord;
@@ -36,6 +36,8 @@ pub struct Worker<'a, J: Run> {
     idle: u32,
     /// What the site's count of stirs was when a look at the core found nothing to do last.
     looked_at: Option<u64>,
+    /// How many visits the last search might make.
+    limit: u64,
     number: u8,
     node: u8,
     alloc: Global,
@@ -56,12 +58,13 @@ impl<'a, J: Run> Worker<'a, J> {
         let stream = u64::from(node) * 16 + u64::from(number);
         let alone = plan.nodes == 1 && plan.workers == 1;
         Ok(Worker {
-            searcher: Searcher::over(alloc, tables)?,
+            searcher: Searcher::keeping(alloc, tables, room_for(plan))?,
             hand: Hand::Nothing,
             pace: Pace::new(alloc, plan.fuel, alone, tables.problem().primary() + 1)?,
             rng: Pcg32::new(plan.seed, stream),
             idle: 0,
             looked_at: None,
+            limit: 1,
             number,
             node,
             alloc,
@@ -168,32 +171,33 @@ impl<'a, J: Run> Worker<'a, J> {
             fuel,
             run,
         } = wanted;
-        let fuel = fuel.max(1);
+        let limit = fuel.max(1);
+        self.limit = limit;
+        let keeps = self.searcher.keeps();
+        let fuel = if keeps { u64::MAX } else { limit };
         let (gate, signals) = (actor.shared.gate, actor.shared.signals);
         gate.begun();
-        let mut watch = SearchWatch {
-            over: signals.over(),
-            gate,
-            length: prefix.as_slice().len(),
-            fuel,
-        };
+        let length = prefix.as_slice().len();
+        let quota = self.pace.quota(length, limit);
+        let mut watch = SearchWatch::new(signals.over(), gate, length, fuel, quota);
         match self
             .searcher
-            .find_until(prefix.into_vec(), fuel, &mut watch)
+            .find_so_far(prefix.into_vec(), fuel, &mut watch)
         {
-            Ok(Some((finding, visits))) => {
+            Ok(Some((finding, visits))) if !watch.is_over() => {
+                let visits = if keeps { watch.visits() } else { visits };
                 gate.searched(&finding, visits);
                 self.pace
                     .note(finding.prefix().len(), finding.outcome(), visits);
                 self.post(rt, actor, Searched { job, finding, run })
             }
-            Ok(None) => Turn::Ended(Cause::Turns),
+            Ok(_) => Turn::Ended(Cause::Turns),
             Err(prefix) => {
                 let prefix = Numbers::from_vec(prefix);
                 self.hand = Hand::Search(Wanted {
                     job,
                     prefix,
-                    fuel,
+                    fuel: limit,
                     run,
                 });
                 Turn::Ended(Cause::Memory)
@@ -239,7 +243,7 @@ impl<'a, J: Run> Worker<'a, J> {
     {
         match Vec::from_slice(self.alloc, finding.prefix()) {
             Ok(prefix) => {
-                let fuel = finding.fuel().saturating_mul(16);
+                let fuel = self.limit.saturating_mul(16);
                 let prefix = Numbers::from_vec(prefix);
                 let run = PhantomData;
                 self.hand = Hand::Search(Wanted {
@@ -270,6 +274,12 @@ impl<'a, J: Run> Worker<'a, J> {
             (_, refused) => after_refusal(refused),
         }
     }
+}
+
+/// The room for states that one searcher of the run has: all of them together have what four searches by one thread have.
+fn room_for(plan: Plan) -> u64 {
+    let searchers = u64::from(plan.nodes) * u64::from(plan.workers);
+    (4 * ROOM / searchers.max(1)).min(ROOM)
 }
 
 /// Of how many idle turns one waits, after so many in a row.

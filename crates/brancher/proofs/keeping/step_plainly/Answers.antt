@@ -30,7 +30,7 @@ returns-in-Stopped-clause-step g c = λ root fuel same are reached.
     let S : States → Type 0 = λ s. AreBarren g.B.Branching.kind root.problem s in (
       subst S (sym (c.forget_from.ensures.states ∙ ap (λ (v : Keeping). v.states) c.made-in-Stopped.ensures)) are,
       (
-        omega (arith, c.if-rest-pause.true, c.saturating_sub-pause.ensures, c.until_trial.ensures, c.requires.left),
+        omega (arith, c.if-rest-pause.true, c.saturating_sub-pause.ensures, c.stretch.ensures, c.requires.left),
         paused_here root fuel c.made-in-Stopped.new.self.entered c.forget_from.new.self.entered now (g.B.Branching.choices c.visit_prefix.new.state) c.args.left c.in-Stopped.rest (length c.chosen-depth.result.now) (ap length c.chosen-depth.ensures.chosen)
             c.forget_from.ensures.before c.forget_from.ensures.forgotten (subst R (sym c.made-in-Stopped.ensures) reached) (c.visit_prefix.ensures.reached c.in-Stopped.rest c.in-Stopped.is).1,
       ),

@@ -22,7 +22,7 @@ choose_onward-requires g c =
     let root = (g.B.Branching.choices c.args.state.now) in
     let left = c.loop-left.left - 1 in
     let now = (g.B.Branching.choices c.choose_first.new.self) in
-    let next = first_child root c.args.fuel (g.B.Branching.choices c.loop-left.state) now c.in-Some.item c.loop-left.left c.choose_first.result c.loop-left-test.true c.loop-left.invariant.reached (sym c.in-Some.ensures.item) c.choose_first.ensures.first c.choose_first.ensures.child c.choose_first.ensures.chosen in
+    let next = first_child root c.args.fuel (g.B.Branching.choices c.loop-left.state) now c.in-Some.item c.loop-left.left c.choose_first.result (omega (arith, c.loop-left-test.true)) c.loop-left.invariant.reached (sym c.in-Some.ensures.item) c.choose_first.ensures.first c.choose_first.ensures.child c.choose_first.ensures.chosen in
     let barren = is_barren root c.args.fuel left now c.choose_first.result (c.is_none.ensures ∙ ap not c.if-is_none.true) next in
     omega (arith, reached_items root c.args.fuel now barren.earlier barren.reached, ap length c.chosen-base.ensures.chosen)
 
@@ -31,7 +31,7 @@ returns-then-not-choose_onward g c =
     let root = (g.B.Branching.choices c.args.state.now) in
     let left = c.loop-left.left - 1 in
     let now = (g.B.Branching.choices c.choose_first.new.self) in
-    let next = first_child root c.args.fuel (g.B.Branching.choices c.loop-left.state) now c.in-Some.item c.loop-left.left c.choose_first.result c.loop-left-test.true c.loop-left.invariant.reached (sym c.in-Some.ensures.item) c.choose_first.ensures.first c.choose_first.ensures.child c.choose_first.ensures.chosen in
+    let next = first_child root c.args.fuel (g.B.Branching.choices c.loop-left.state) now c.in-Some.item c.loop-left.left c.choose_first.result (omega (arith, c.loop-left-test.true)) c.loop-left.invariant.reached (sym c.in-Some.ensures.item) c.choose_first.ensures.first c.choose_first.ensures.child c.choose_first.ensures.chosen in
     let barren = is_barren root c.args.fuel left now c.choose_first.result (c.is_none.ensures ∙ ap not c.if-is_none.true) next in
     let ended = subst (IsOnward root c.args.fuel left (g.B.Branching.choices c.choose_onward.new.state)) c.if-not-choose_onward.true (c.choose_onward.ensures root c.args.fuel left (ap length c.chosen-base.ensures.chosen) barren) in
     record {
@@ -47,7 +47,7 @@ loop-left-preserved g c =
     let root = (g.B.Branching.choices c.args.state.now) in
     let left = c.loop-left.left - 1 in
     let now = (g.B.Branching.choices c.choose_first.new.self) in
-    let next = first_child root c.args.fuel (g.B.Branching.choices c.loop-left.state) now c.in-Some.item c.loop-left.left c.choose_first.result c.loop-left-test.true c.loop-left.invariant.reached (sym c.in-Some.ensures.item) c.choose_first.ensures.first c.choose_first.ensures.child c.choose_first.ensures.chosen in
+    let next = first_child root c.args.fuel (g.B.Branching.choices c.loop-left.state) now c.in-Some.item c.loop-left.left c.choose_first.result (omega (arith, c.loop-left-test.true)) c.loop-left.invariant.reached (sym c.in-Some.ensures.item) c.choose_first.ensures.first c.choose_first.ensures.child c.choose_first.ensures.chosen in
     let P : Choices → Type 0 = λ v. IsReached (g.B.Branching.choices c.args.state.now) c.args.fuel v (c.loop-left.left - 1) in
     let reached : IsReached (g.B.Branching.choices c.args.state.now) c.args.fuel (g.B.Branching.choices c.else-is_none.state) (c.loop-left.left - 1) = elim c.else-is_none.branch [
       | else-is_none-via-then-is_none+else-not-choose_onward w ↦
@@ -59,10 +59,15 @@ loop-left-preserved g c =
     ] in
     record { problem = reached_problem root c.args.fuel (g.B.Branching.choices c.else-is_none.state) left reached; reached = reached }
 
-pub returns-clause-visit : goal.returns-clause-visit
-returns-clause-visit g c =
+pub returns-else-left-gt0-clause-visit : goal.returns-else-left-gt0-clause-visit
+returns-else-left-gt0-clause-visit g c =
     let now = (g.B.Branching.choices c.loop-left.state) in
-    reached_spent (g.B.Branching.choices c.args.state.now) c.args.fuel now c.loop-left.left c.loop-left.invariant.reached (omega (arith, some_visits now.problem now.problem.primary now.chosen, c.loop-left-test.false))
+    reached_spent (g.B.Branching.choices c.args.state.now) c.args.fuel now c.loop-left.left c.loop-left.invariant.reached (omega (arith, some_visits now.problem now.problem.primary now.chosen, c.if-left-gt0.false))
+
+pub returns-then-left-gt0-clause-visit : goal.returns-then-left-gt0-clause-visit
+returns-then-left-gt0-clause-visit g c =
+    let now = g.B.Branching.choices c.loop-left.state in
+    omega (arith, reached_stopped (g.B.Branching.choices c.args.state.now) c.args.fuel now c.loop-left.left 0 c.loop-left.invariant.reached (some_visits now.problem now.problem.primary now.chosen))
 
 pub returns-then-look-clause-visit : goal.returns-then-look-clause-visit
 returns-then-look-clause-visit g c =
