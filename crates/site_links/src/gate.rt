@@ -42,8 +42,9 @@ impl Gate for Open {
     fn posted(&self, _worker: u8, _job: &Job) {}
 }
 
-/// A search that keeps states saves many visits where it went past so many times as many as it made.
-const MANY: u64 = 16;
+/// A search that keeps states may make twice as many visits where so many times as many are gone as it has made, and twice as often again
+/// each time that it comes to its limit. So it goes on where states repeat in all that it searches, and not where they repeat here and there.
+const MANY: u64 = 2;
 
 /// Stops a worker's search once its site is to end, or, if it keeps states, once it has made so many visits as it may; shows it to the gate
 /// meanwhile.
@@ -58,6 +59,8 @@ pub struct SearchWatch<'a, G: Gate> {
     fuel: u64,
     /// How many it may make if it does.
     quota: Quota,
+    /// For how many times as many that are gone it may make more.
+    many: u64,
     /// How many visits it has made.
     made: u64,
     /// How many visits were left then.
@@ -81,6 +84,7 @@ impl<'a, G: Gate> SearchWatch<'a, G> {
             length,
             fuel,
             quota,
+            many: MANY,
             made: 0,
             left: fuel,
             is_over: false,
@@ -103,8 +107,9 @@ impl<'a, G: Gate> SearchWatch<'a, G> {
             return false;
         }
         let gone = self.fuel.saturating_sub(left);
-        if self.quota.visits < self.quota.most && gone / MANY > self.made {
+        if self.quota.visits < self.quota.most && gone / self.many > self.made {
             self.quota.visits = self.quota.visits.saturating_mul(2).min(self.quota.most);
+            self.many = self.many.saturating_mul(2).max(1);
             return false;
         }
         true
