@@ -4,7 +4,7 @@ ghost use Rattle.std.specs.Prelude.{◌≡◌, IfOk, IfSome};
 ghost use Rattle.node_core.specs.Refusal.{IsFit};
 
 use crate::fault::TrialFault;
-use brancher::{Finding, Searcher};
+use brancher::{Finding, ROOM, Searcher, Tables};
 use cover_problem::{Problem, is_prefix};
 use node_core::Event;
 use packet_wire::is_well_formed;
@@ -13,7 +13,8 @@ use spawn_frame::Job;
 use std::alloc::{AllocError, Global};
 use std::marker::PhantomData;
 
-/// Hands out the events of a run's books once more. A search that was posted is made again.
+/// Hands out the events of a run's books once more. A search that was posted is made again, by a searcher that keeps states, as the one
+/// was that made it: its visits may be more than could be made one by one.
 #[derive(Drop)]
 pub struct Player<'a, J: Run> {
     searcher: Searcher<'a>,
@@ -25,13 +26,13 @@ pub struct Player<'a, J: Run> {
 }
 
 impl<'a, J: Run> Player<'a, J> {
-    /// A player of books of the run. The only error is out of memory.
-    pub fn new(alloc: Global, problem: &'a Problem) -> Result<Player<'a, J>, AllocError>
-        requires { problem.now ≡ J.run.problem }
+    /// A player of books of the run, over tables of its problem. The only error is out of memory.
+    pub fn new(alloc: Global, tables: &'a Tables<'a>) -> Result<Player<'a, J>, AllocError>
+        requires { tables.now ≡ J.run.problem }
     {
         Ok(Player {
-            searcher: Searcher::new(alloc, problem)?,
-            problem,
+            searcher: Searcher::keeping(alloc, tables, ROOM)?,
+            problem: tables.problem(),
             alloc,
             run: PhantomData,
         })

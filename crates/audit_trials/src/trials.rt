@@ -8,6 +8,7 @@ use crate::fault::TrialFault;
 use crate::player::Player;
 use crate::playing::play;
 use audit::audit;
+use brancher::Tables;
 use cover_problem::Problem;
 use rand_pcg::Pcg32;
 use run_book::{Book, Run, distinct_sites};
@@ -138,7 +139,8 @@ fn tell_changes<J: Run, R: Wait>(
     if books.is_empty() {
         return Err(TrialFault::Unexpected);
     }
-    let mut player: Player<J> = Player::new(trials.alloc, problem)?;
+    let tables = Tables::build(trials.alloc, problem)?;
+    let mut player: Player<J> = Player::new(trials.alloc, &tables)?;
     for _ in 0..changes {
         try_change(trials, threads, &mut player, rng, books)?;
     }

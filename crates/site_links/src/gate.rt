@@ -107,9 +107,9 @@ impl<'a, G: Gate> SearchWatch<'a, G> {
             return false;
         }
         let gone = self.fuel.saturating_sub(left);
-        if self.quota.visits < self.quota.most && gone / self.many > self.made {
+        if self.quota.visits < self.quota.most && gone > self.made.saturating_mul(self.many) {
             self.quota.visits = self.quota.visits.saturating_mul(2).min(self.quota.most);
-            self.many = self.many.saturating_mul(2).max(1);
+            self.many = self.many.saturating_mul(2);
             return false;
         }
         true

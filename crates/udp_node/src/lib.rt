@@ -19,7 +19,7 @@ pub use node::{run_node, run_root};
 pub use node_end::NodeEnd;
 pub use run::{RunEnd, run_sites, run_sites_within};
 pub use site_links::{
-    Cause, Gate, Link, LinkFault, MemoryLink, Open, Pace, Plan, SiteEnd, Sockets, Taken, UdpLink,
-    Wires, bound,
+    Cause, Gate, Link, LinkFault, MemoryLink, Open, Pace, Plan, Quota, SiteEnd, Sockets, Taken,
+    UdpLink, Wires, bound,
 };
 pub use stand::Stand;

@@ -6,12 +6,13 @@ ghost use Rattle.run_book.specs.Sites.{opening_of, IsRun, MayBeginIn};
 ghost use Rattle.site_links.specs.Links.{failed_once};
 
 use super::runs::COVERED;
+use brancher::Finding;
 use cover_problem::Problem;
 use dlx_reader::read_problem;
 use node_core::{Event, NodeCore};
 use packet_wire::{Packet, write_packet};
 use run_book::{CellName, CellParts, Entry, Run, SiteCell, cores_step_as_their_sites};
-use spawn_frame::Site;
+use spawn_frame::{Job, Site};
 use std::alloc::{AllocError, Global};
 use std::marker::Brand;
 use std::sync::atomic::{AtomicU64, Ordering};
@@ -19,7 +20,7 @@ use std::sync::{Arc, Wait};
 use std::test::Fail;
 use std::thread::{self, Threads};
 use std::time::Clock;
-use udp_node::{Cause, Link, LinkFault, Open, Plan, run_node};
+use udp_node::{Cause, Gate, Link, LinkFault, Plan, run_node};
 
 /// How many turns a send waits at most.
 const TURNS: u64 = 100_000_000;
@@ -167,18 +168,33 @@ pub struct Ended {
     pub delivered: usize,
     /// In how many it says again what may be lost.
     pub agains: usize,
-    /// The fuel of the first search that was posted.
-    pub fuel: Option<u64>,
+    /// How many searches it has begun.
+    pub searches: u64,
+    /// How many visits the longest of them made.
+    pub visits: u64,
 }
 
-/// The fuel of the first search that was posted.
-fn posted(entries: &[Entry]) -> Option<u64> {
-    for entry in entries {
-        if let Event::Post(_, finding) = entry.event() {
-            return Some(finding.fuel());
-        }
+/// A gate that lets all pass, and counts searches and their visits.
+#[derive(Drop)]
+struct Counting {
+    begun: AtomicU64,
+    most: AtomicU64,
+}
+
+impl Gate for Counting {
+    fn pass(&self, _worker: u8, _job: &Job) -> bool {
+        true
     }
-    None
+
+    fn posted(&self, _worker: u8, _job: &Job) {}
+
+    fn begun(&self) {
+        self.begun.fetch_add(1, Ordering::SeqCst);
+    }
+
+    fn searched(&self, _finding: &Finding, visits: u64) {
+        self.most.fetch_max(visits, Ordering::SeqCst);
+    }
 }
 
 /// In how many entries a packet is delivered.
@@ -221,7 +237,11 @@ fn play<J: Run + Send + Sync, N: CellName + Send + Sync, R: Threads + Wait + Clo
         turns: room.turns,
         ..PLAN
     };
-    let end = run_node(rt, alloc, &cell, problem, link, plan, &Open);
+    let gate = Counting {
+        begun: AtomicU64::new(0),
+        most: AtomicU64::new(0),
+    };
+    let end = run_node(rt, alloc, &cell, problem, link, plan, &gate);
     let (cause, losses) = (end.cause, end.losses);
     let (seats, stubs) = end.into_lists(alloc).ok()?;
     let threads = seats.len();
@@ -234,7 +254,8 @@ fn play<J: Run + Send + Sync, N: CellName + Send + Sync, R: Threads + Wait + Clo
         entries: entries.len(),
         delivered: delivered(entries),
         agains: agains(entries),
-        fuel: posted(entries),
+        searches: gate.begun.load(Ordering::SeqCst),
+        visits: gate.most.load(Ordering::SeqCst),
     })
 }
 

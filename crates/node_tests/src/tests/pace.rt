@@ -1,10 +1,10 @@
 //! How much a worker searches: a script of what it asks and learns.
 
-use self::Step::{Asks, Ends};
+use self::Step::{Asks, Ends, Keeps};
 use brancher::Outcome;
 use std::alloc::{AllocError, Global};
 use std::test::Fail;
-use udp_node::Pace;
+use udp_node::{Pace, Quota};
 
 /// What happens to a pace.
 #[derive(Clone, Copy)]
@@ -13,10 +13,12 @@ enum Step {
     Asks(usize, bool, u64),
     /// A search of a prefix of this length ended so, after so many visits.
     Ends(usize, Outcome, u64),
+    /// It is asked for the quota of a prefix of this length and so many visits: the answer's visits, and the most.
+    Keeps(usize, u64, u64, u64),
 }
 
 /// A worker among others, with a base of 1,000.
-static AMONG_OTHERS: [Step; 25] = [
+static AMONG_OTHERS: [Step; 30] = [
     Asks(0, true, 1_000),
     Asks(0, false, 1_000),
     Asks(3, true, 200),
@@ -48,6 +50,12 @@ static AMONG_OTHERS: [Step; 25] = [
     Asks(4, false, 314_432),
     Ends(99, Outcome::Barren, 5),
     Asks(99, false, 314_432),
+    // where states are kept the first search gets more, a large one may, and a small one gets no more
+    Keeps(0, 1_000, 24_000, 16_000_000),
+    Keeps(4, 240_000, 240_000, 16_000_000),
+    Keeps(4, 201, 201, 16_000_000),
+    Keeps(4, 200, 200, 200),
+    Keeps(1, 20_000_000, 20_000_000, 20_000_000),
 ];
 
 /// What is thought to take too long is searched again once it was thought to take a tenth less often enough.
@@ -63,19 +71,23 @@ static FORGETS: [Step; 8] = [
 ];
 
 /// The only worker of the only node.
-static ALONE: [Step; 3] = [
+static ALONE: [Step; 4] = [
     Asks(0, false, u64::MAX),
     Asks(7, true, u64::MAX),
     Asks(7, false, u64::MAX),
+    Keeps(0, u64::MAX, u64::MAX, u64::MAX),
 ];
 
 /// With a base of 1 each job gets one visit.
-static ONE_VISIT: [Step; 5] = [
+static ONE_VISIT: [Step; 7] = [
     Asks(0, false, 1),
     Asks(4, true, 1),
     Ends(4, Outcome::Barren, 9_000),
     Asks(4, false, 1),
     Asks(99, false, 1),
+    Keeps(0, 1, 1, 1),
+    // (it is searched again where names are spent)
+    Keeps(0, 16, 16, 16),
 ];
 
 /// Whether the pace answers so.
@@ -86,6 +98,7 @@ fn is_answered(pace: &mut Pace, step: Step) -> bool {
             pace.note(length, outcome, visits);
             true
         }
+        Keeps(length, given, visits, most) => pace.quota(length, given) == Quota { visits, most },
     }
 }
 

@@ -49,8 +49,8 @@ fn a_node_of_few_names(rt: HostRuntime) -> Result<(), Fail> {
     let script = root_after(rt.alloc(), 0)?;
     let ended = run_alone(&rt, rt.alloc(), script, ROOM)?;
     assert_eq!(rt;
-        (ended.cause, ended.threads, ended.fuel),
-        (Cause::Silence, 2, Some(16))
+        (ended.cause, ended.threads, ended.searches, ended.visits),
+        (Cause::Silence, 2, 2, 5)
     );
     assert!(rt; ended.agains > 0);
     Ok(())
@@ -77,7 +77,7 @@ fn an_idle_worker_stays(rt: HostRuntime) -> Result<(), Fail> {
         ..ROOM
     };
     let ended = run_alone(&rt, rt.alloc(), script, room)?;
-    assert_eq!(rt; ended.fuel, Some(16));
+    assert_eq!(rt; ended.searches, 2);
     Ok(())
 }
 

@@ -2,11 +2,13 @@
 //!
 //! Of the bugs of `cover_engines` that are kept outside the gate, `a_run_waits_for_a_slow_search` finds `quiet_for_half_a_second` and
 //! `turns_are_cut`, and `a_search_has_the_fuel_of_the_settings` finds `each_job_has_fuel_of_one`. Of the bugs of `udp_node` that are
-//! kept outside the gate, `a_run_waits_for_a_slow_search` finds `the_only_worker_has_a_limit`.
+//! kept outside the gate, `a_run_waits_for_a_slow_search` finds `the_only_worker_has_a_limit`, and
+//! `a_run_in_which_states_repeat_ends` finds `workers_keep_nothing`. Of the bugs of `site_links` that are kept outside the gate,
+//! `a_search_has_the_fuel_of_the_settings` finds `a_quota_stops_nothing`.
 
 ghost use Rattle.std.specs.Prelude.{◌≡◌};
 
-use super::{ROWS, sized};
+use super::{BOARD, ROWS, sized};
 use brancher::Finding;
 use cover_engines::{links, solve_engine};
 use cover_problem::Problem;
@@ -33,6 +35,8 @@ struct Slow<'a, R: Clock> {
     asked: AtomicU64,
     /// The greatest fuel of a search.
     fuel: AtomicU64,
+    /// How many visits the longest search made.
+    visits: AtomicU64,
 }
 
 impl<'a, R: Clock> Slow<'a, R> {
@@ -44,6 +48,7 @@ impl<'a, R: Clock> Slow<'a, R> {
             refusals,
             asked: AtomicU64::new(0),
             fuel: AtomicU64::new(0),
+            visits: AtomicU64::new(0),
         }
     }
 }
@@ -59,12 +64,13 @@ impl<R: Clock> Gate for Slow<'_, R> {
 
     fn posted(&self, _worker: u8, _job: &Job) {}
 
-    fn searched(&self, finding: &Finding, _visits: u64) {
+    fn searched(&self, finding: &Finding, visits: u64) {
         self.fuel.fetch_max(finding.fuel(), Ordering::SeqCst);
+        self.visits.fetch_max(visits, Ordering::SeqCst);
     }
 }
 
-/// Whether a run of the first row's problem publishes an answer.
+/// Whether a run of a problem publishes an answer.
 fn is_answered<J: Run + Send + Sync, G: Gate + Sync, R: Threads + Wait + Clock + Net + Sync>(
     rt: &R,
     alloc: Global,
@@ -84,25 +90,47 @@ fn is_answered<J: Run + Send + Sync, G: Gate + Sync, R: Threads + Wait + Clock +
 fn answers<G: Gate + Sync, R: Threads + Wait + Clock + Net + Sync>(
     rt: &R,
     alloc: Global,
+    text: &str,
     settings: &Settings<'_>,
     gate: &G,
 ) -> Result<bool, Fail> {
-    let read = read_problem(alloc, ROWS[0].0.as_bytes())?;
+    let read = read_problem(alloc, text.as_bytes())?;
     is_answered::<Brand, _, _>(rt, alloc, settings, &read.problem, gate)
 }
 
 #[test]
 fn a_run_waits_for_a_slow_search(rt: HostRuntime) -> Result<(), Fail> {
     let gate = Slow::new(&rt, Duration::from_secs(1), 30_000);
-    assert!(rt; answers(&rt, rt.alloc(), &sized(1, 1, 1_000, 1), &gate)?);
+    assert!(rt; answers(&rt, rt.alloc(), ROWS[0].0, &sized(1, 1, 1_000, 1), &gate)?);
     assert_eq!(rt; gate.fuel.load(Ordering::SeqCst), u64::MAX);
     Ok(())
 }
 
+/// How many visits the longest search makes in a run of the second row's problem, whose root takes three, with so much fuel.
+fn longest<R: Threads + Wait + Clock + Net + Sync>(
+    rt: &R,
+    alloc: Global,
+    fuel: u64,
+) -> Result<u64, Fail> {
+    let gate = Slow::new(rt, Duration::from_secs(0), 0);
+    let text = ROWS[1].0;
+    if !answers(rt, alloc, text, &sized(1, 2, fuel.max(1), 1), &gate)? {
+        return Err(Fail::new("no answer came"));
+    }
+    Ok(gate.visits.load(Ordering::SeqCst))
+}
+
 #[test]
 fn a_search_has_the_fuel_of_the_settings(rt: HostRuntime) -> Result<(), Fail> {
+    assert_eq!(rt; longest(&rt, rt.alloc(), 1)?, 1);
+    assert_eq!(rt; longest(&rt, rt.alloc(), 1_000)?, 3);
+    Ok(())
+}
+
+/// Workers that visit each state that they meet again don't come to an end.
+#[test]
+fn a_run_in_which_states_repeat_ends(rt: HostRuntime) -> Result<(), Fail> {
     let gate = Slow::new(&rt, Duration::from_secs(0), 0);
-    assert!(rt; answers(&rt, rt.alloc(), &sized(1, 2, 1_000, 1), &gate)?);
-    assert_eq!(rt; gate.fuel.load(Ordering::SeqCst), 1_000);
+    assert!(rt; answers(&rt, rt.alloc(), BOARD, &sized(1, 2, 1_000, 1), &gate)?);
     Ok(())
 }
