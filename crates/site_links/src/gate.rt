@@ -42,8 +42,8 @@ impl Gate for Open {
     fn posted(&self, _worker: u8, _job: &Job) {}
 }
 
-/// A search that keeps states may make twice as many visits where so many times as many are gone as it has made, and twice as often again
-/// each time that it comes to its limit. So it goes on where states repeat in all that it searches, and not where they repeat here and there.
+/// A search that keeps states goes on at its limit, up to twice as many visits, if so many times as many are gone as it has made; at each
+/// limit behind it has to be twice as many times. So it goes on where states repeat in all that it searches, not where some do.
 const MANY: u64 = 2;
 
 /// Stops a worker's search once its site is to end, or, if it keeps states, once it has made so many visits as it may; shows it to the gate
@@ -55,22 +55,22 @@ pub struct SearchWatch<'a, G: Gate> {
     gate: &'a G,
     /// How long the prefix is that is searched.
     length: usize,
-    /// How many visits the search may make if it keeps no states.
+    /// With how much fuel it is searched.
     fuel: u64,
-    /// How many it may make if it does.
+    /// How many visits it may make if it keeps states.
     quota: Quota,
-    /// For how many times as many that are gone it may make more.
+    /// At its limit it goes on if so many times as many visits are gone as it has made.
     many: u64,
-    /// How many visits it has made.
+    /// How many visits it has made if it keeps states.
     made: u64,
-    /// How many visits were left then.
+    /// How much fuel was left then.
     left: u64,
-    /// It was stopped since the site is to end.
+    /// It was stopped because the site is to end.
     is_over: bool,
 }
 
 impl<'a, G: Gate> SearchWatch<'a, G> {
-    /// The watch of the search of a prefix of this length, with so much fuel and these quota, which stops it once `over` is raised.
+    /// The watch of the search of a prefix of this length, with so much fuel and this quota. It stops it once `over` is raised.
     pub fn new(
         over: &'a AtomicBool,
         gate: &'a G,
@@ -96,12 +96,12 @@ impl<'a, G: Gate> SearchWatch<'a, G> {
         self.made
     }
 
-    /// Whether it was stopped since the site is to end.
+    /// Whether it was stopped because the site is to end.
     pub fn is_over(&self) -> bool {
         self.is_over
     }
 
-    /// Whether the search may make no more visits; where it saves many it may make more.
+    /// Whether the search may make no more visits. Where it saves many its quota grows.
     fn is_at_limit(&mut self, left: u64) -> bool {
         if self.wait() > 0 {
             return false;
