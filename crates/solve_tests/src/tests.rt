@@ -1,7 +1,8 @@
 //! `solve` over sockets: the texts of its answers, and that it comes to answers and its audits are clean, which no contract says.
 //!
 //! Of the bugs of `cover_engines` that are kept outside the gate, `most_runs_answer` finds `always_no_answer` and
-//! `no_run_above_seven_items`, and `a_restarted_node_has_a_book_of_each_start` finds `restarts_are_not_handed_on`.
+//! `no_run_above_seven_items`, and `a_restarted_node_has_a_book_of_each_start` finds `restarts_are_not_handed_on`. Of the bugs of
+//! `udp_node` that are kept outside the gate, `a_run_in_which_states_repeat_ends` finds `workers_keep_nothing`.
 
 mod audited;
 mod followed;
@@ -212,6 +213,20 @@ fn most_answer<R: Abort + Threads + Wait + Clock + Net + Sync>(
 #[test]
 fn most_runs_answer(rt: HostRuntime) -> Result<(), Fail> {
     most_answer(&rt, rt.alloc(), 0, false)
+}
+
+/// Workers that visit each state again that they meet don't come to an end: the run has half a minute.
+#[test]
+fn a_run_in_which_states_repeat_ends(rt: HostRuntime) {
+    let request = Request {
+        settings: sized(1, 2, 1_000, 1),
+        seconds: Some(30),
+        progress: false,
+        unlimited: false,
+    };
+    let network = Loopback { rt: &rt };
+    let solved = solve_over(&rt, rt.alloc(), network, BOARD, &request);
+    assert!(rt; solved.out.as_slice() == b"none\n".as_slice() && solved.status == 1);
 }
 
 #[test]

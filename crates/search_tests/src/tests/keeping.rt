@@ -70,20 +70,6 @@ fn rooms_of_each_size_come_to_the_same(rt: HostRuntime) {
     }
 }
 
-/// The search takes 1,455,115,025,598,703 visits, of which few are made.
-#[test]
-fn a_board_of_twelve_by_twelve_is_searched_whole(rt: HostRuntime) {
-    let is_so = take_keeping(
-        &rt,
-        rt.alloc(),
-        BOARD_OF_12,
-        ROOM,
-        1_455_115_025_598_703,
-        &[],
-    );
-    assert!(rt; is_so);
-}
-
 /// A watch that stops a search once it has made so many visits.
 #[derive(Drop)]
 struct Stopping {
@@ -119,6 +105,30 @@ fn came_to(alloc: Global, tables: &Tables<'_>, room: u64, visits: u64) -> Option
         .find_so_far(Vec::new(alloc), u64::MAX, &mut watch)
         .ok()?;
     Some(found.map(|(finding, gone)| (finding.outcome(), watch.made, gone)))
+}
+
+/// How many visits the search of the board of twelve by twelve takes, of which few are made.
+const VISITS_OF_12: u64 = 1_455_115_025_598_703;
+
+/// Whether the search of the board over these tables comes to an end within three million visits that it makes, and counts all.
+fn is_searched_whole(alloc: Global, tables: &Tables<'_>) -> bool {
+    match came_to(alloc, tables, ROOM, 3_000_000) {
+        Some(Some((outcome, _made, gone))) => outcome == Outcome::Barren && gone == VISITS_OF_12,
+        Some(None) | None => false,
+    }
+}
+
+#[test]
+fn a_board_of_twelve_by_twelve_is_searched_whole(rt: HostRuntime) {
+    let alloc = rt.alloc();
+    let problem = problem_of(&rt, alloc, BOARD_OF_12);
+    let sets = Tables::of_sets(alloc, &problem).expect(&rt, "memory");
+    assert!(rt; is_searched_whole(alloc, &sets), "over sets");
+    assert!(rt;
+        is_searched_whole(alloc, &Tables::of_links(&problem)),
+        "by links"
+    );
+    assert!(rt; take_keeping(&rt, alloc, BOARD_OF_12, ROOM, VISITS_OF_12, &[]));
 }
 
 /// Problems without a cover, rooms for states, after how many visits the search is stopped, and what it came to.

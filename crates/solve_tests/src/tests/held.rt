@@ -2,13 +2,12 @@
 //!
 //! Of the bugs of `cover_engines` that are kept outside the gate, `a_run_waits_for_a_slow_search` finds `quiet_for_half_a_second` and
 //! `turns_are_cut`, and `a_search_has_the_fuel_of_the_settings` finds `each_job_has_fuel_of_one`. Of the bugs of `udp_node` that are
-//! kept outside the gate, `a_run_waits_for_a_slow_search` finds `the_only_worker_has_a_limit`, and
-//! `a_run_in_which_states_repeat_ends` finds `workers_keep_nothing`. Of the bugs of `site_links` that are kept outside the gate,
+//! kept outside the gate, `a_run_waits_for_a_slow_search` finds `the_only_worker_has_a_limit`. Of the bugs of `site_links` that are kept outside the gate,
 //! `a_search_has_the_fuel_of_the_settings` finds `a_quota_stops_nothing`.
 
 ghost use Rattle.std.specs.Prelude.{◌≡◌};
 
-use super::{BOARD, ROWS, sized};
+use super::{ROWS, sized};
 use brancher::Finding;
 use cover_engines::{links, solve_engine};
 use cover_problem::Problem;
@@ -124,13 +123,5 @@ fn longest<R: Threads + Wait + Clock + Net + Sync>(
 fn a_search_has_the_fuel_of_the_settings(rt: HostRuntime) -> Result<(), Fail> {
     assert_eq!(rt; longest(&rt, rt.alloc(), 1)?, 1);
     assert_eq!(rt; longest(&rt, rt.alloc(), 1_000)?, 3);
-    Ok(())
-}
-
-/// Workers that visit each state that they meet again don't come to an end.
-#[test]
-fn a_run_in_which_states_repeat_ends(rt: HostRuntime) -> Result<(), Fail> {
-    let gate = Slow::new(&rt, Duration::from_secs(0), 0);
-    assert!(rt; answers(&rt, rt.alloc(), BOARD, &sized(1, 2, 1_000, 1), &gate)?);
     Ok(())
 }
