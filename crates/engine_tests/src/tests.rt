@@ -11,3 +11,4 @@ mod simulate;
 mod texts;
 mod told;
 mod unlimited;
+mod why;

@@ -1,8 +1,9 @@
 -- What `alone` says of a problem.
-use Rattle.std.specs.Prelude.{◌≡◌, ℕ, []}
+use Rattle.std.specs.Prelude.{◌≡◌, ℕ, List, [], Option, None, Some}
 use Rattle.cover_problem.specs.ExactCover.{in_order}
 use Rattle.cover_problem.specs.Problem.{Problem}
 use Rattle.cover_problem.specs.Search.{Outcome, Covers, Barren, Spent, first, found_outcome, outcome}
+use Rattle.cover_problem.specs.declared.answer.Answer.{Answer}
 use Rattle.cover_problem.specs.declared.answer.Answer.TheVariants.{Cover, NoCover}
 use Rattle.search_engines.specs.Output.{Said, answer_said, no_answer}
 
@@ -19,6 +20,11 @@ alone_said problem fuel = outcome_said problem (outcome problem [] fuel)
 -- with so much fuel it says this, and nothing else
 abbrev pub AloneSays : ℕ → Problem → Said → Type 0
 AloneSays fuel problem what = what ≡ alone_said problem fuel
+
+-- the answer where this cover is the first, with its options in file order, or where there is none
+abbrev pub answer_by : Problem → Option (List ℕ) → Answer
+answer_by problem (Some chosen) = Cover (in_order problem chosen)
+answer_by problem None = NoCover
 
 -- without a limit it says what the first cover is, or that there is none
 unfoldable pub decided_said : Problem → Said

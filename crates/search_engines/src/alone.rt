@@ -8,6 +8,7 @@ ghost use Rattle.search_engines.specs.Alone.{AloneSays, DecidedSays, alone_said,
 ghost use Rattle.search_engines.specs.Engines.{IsEnded, refuses_none};
 ghost use Rattle.search_engines.specs.Output.{IsOutput};
 
+use crate::deciding::first_answer;
 use crate::engine::EngineEnd;
 use crate::fault::EngineFault;
 use crate::input::{problem_of, read_all};
@@ -15,7 +16,6 @@ use crate::lines::{write_line, write_solution};
 use crate::progress::{Follows, ProgressLog, ProgressWatch};
 use brancher::{Outcome, ROOM, Searcher, Tables, Unwatched};
 use cover_problem::{Answer, Problem, in_order};
-use decider::{Decider, Decision};
 use dlx_reader::{Sink, Source};
 use std::alloc::Global;
 use std::time::Clock;
@@ -88,9 +88,9 @@ fn write_alone<V: Follows, W: Sink>(
     write_outcome(alloc, problem, outcome, searcher.found(), sink)
 }
 
-/// Searches the empty prefix under a watch without a limit, writes what comes of it, and answers the status.
-#[tactic(auto, unfolding(crate::specs::Alone::decided_said))]
-fn write_decided<V: Follows, W: Sink>(
+/// Finds the first cover under a watch without a limit, writes it, or that there is none, and answers the status.
+fn write_decided<V: Follows, W: Sink, C: Clock>(
+    clock: &C,
     alloc: Global,
     problem: &Problem,
     watch: &mut V,
@@ -102,19 +102,11 @@ fn write_decided<V: Follows, W: Sink>(
         (W.contents sink.new) result }
     ensures failed { result ≡ Err EngineFault.Write → W.failed sink.old < W.failed sink.new }
 {
-    let Ok(tables) = Tables::build(alloc, problem) else {
+    let Ok(answer) = first_answer(clock, alloc, problem, watch) else {
         return Err(EngineFault::Memory);
     };
-    let Ok(mut decider) = Decider::new(alloc, &tables, ROOM) else {
-        return Err(EngineFault::Memory);
-    };
-    let decision = decider.decide(watch);
     watch.end();
-    match decision {
-        Decision::Found => write_found(alloc, problem, decider.found(), sink),
-        Decision::Barren(_) => write_solution(problem, &Answer::NoCover, sink),
-        Decision::Stopped => unreachable!(),
-    }
+    write_solution(problem, &answer, sink)
 }
 
 /// Reads a problem to its end, searches it with so many visits at most, and writes its first cover, with the options
@@ -180,8 +172,10 @@ pub fn alone_with_progress<R: Source, W: Sink, E: Sink, C: Clock>(
     Ok(EngineEnd { status, ignored })
 }
 
-/// Does what `alone_engine` does without a limit: it writes the first cover, or `none`, whatever number of visits it takes to see it.
-pub fn alone_unlimited<R: Source, W: Sink>(
+/// Does what `alone_engine` does without a limit: it writes the first cover, or `none`, whatever number of visits it takes to see it. After a
+/// tenth of a second it looks for a reason that there is none, before it searches on.
+pub fn alone_unlimited<R: Source, W: Sink, C: Clock>(
+    clock: &C,
     alloc: Global,
     source: &mut R,
     sink: &mut W,
@@ -198,7 +192,7 @@ pub fn alone_unlimited<R: Source, W: Sink>(
 {
     let text = read_all(alloc, source)?;
     let read = problem_of(alloc, &text)?;
-    let status = write_decided(alloc, &read.problem, &mut Unwatched, sink)?;
+    let status = write_decided(clock, alloc, &read.problem, &mut Unwatched, sink)?;
     Ok(EngineEnd {
         status,
         ignored: read.ignored,
@@ -229,7 +223,7 @@ pub fn alone_unlimited_with_progress<R: Source, W: Sink, E: Sink, C: Clock>(
     let Ok(mut watch) = ProgressWatch::new(clock, alloc, &read.problem, u64::MAX, log) else {
         return Err(EngineFault::Memory);
     };
-    let status = write_decided(alloc, &read.problem, &mut watch, sink)?;
+    let status = write_decided(clock, alloc, &read.problem, &mut watch, sink)?;
     let ignored = read.ignored;
     Ok(EngineEnd { status, ignored })
 }

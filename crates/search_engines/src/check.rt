@@ -9,15 +9,16 @@ ghost use Rattle.search_engines.specs.Check.{CheckRefuses, CheckSays, DecidedChe
 ghost use Rattle.search_engines.specs.Engines.{IsEnded};
 ghost use Rattle.search_engines.specs.Output.{IsOutput};
 
+use crate::deciding::first_answer;
 use crate::engine::EngineEnd;
 use crate::fault::EngineFault;
 use crate::input::{answer_of, problem_of, read_all};
 use crate::lines::write_line;
 use brancher::{Outcome, ROOM, Searcher, Tables, Unwatched};
 use cover_problem::{Answer, Problem, Verdict, check_cover};
-use decider::{Decider, Decision};
 use dlx_reader::{Sink, Source};
 use std::alloc::{AllocError, Global};
+use std::time::Clock;
 
 /// How a run of `check` ended: with status 0 for right, 1 for wrong, 4 where the fuel was spent.
 pub type CheckEnd = EngineEnd;
@@ -127,31 +128,9 @@ fn write_none<W: Sink>(
     }
 }
 
-/// What a search of the problem without a limit comes to, which is never that the fuel was spent; the only error is out of memory.
-fn decided(alloc: Global, problem: &Problem) -> Result<Outcome, AllocError>
-    ensures { IfOk result (λ came. (found : List ℕ)
-        × (outcome_told came found ≡ found_outcome (first problem.now []))) }
-{
-    let tables = Tables::build(alloc, problem)?;
-    let mut decider = Decider::new(alloc, &tables, ROOM)?;
-    Ok(outcome_of(&mut decider))
-}
-
-/// What a search without a limit comes to, which hasn't begun.
-fn outcome_of(decider: &mut Decider) -> Outcome
-    requires { decider.old.found ≡ [] }
-    ensures { (found : List ℕ)
-        × (outcome_told result found ≡ found_outcome (first decider.old.problem [])) }
-{
-    match decider.decide(&mut Unwatched) {
-        Decision::Found => Outcome::Cover,
-        Decision::Barren(_) => Outcome::Barren,
-        Decision::Stopped => unreachable!(),
-    }
-}
-
 /// Decides whether there is a cover, writes whether none is right, and answers the status.
-fn write_none_decided<W: Sink>(
+fn write_none_decided<W: Sink, C: Clock>(
+    clock: &C,
     alloc: Global,
     problem: &Problem,
     sink: &mut W,
@@ -161,8 +140,9 @@ fn write_none_decided<W: Sink>(
         (W.contents sink.old) (W.contents sink.new) result }
     ensures failed { result ≡ Err EngineFault.Write → W.failed sink.old < W.failed sink.new }
 {
-    match decided(alloc, problem) {
-        Ok(outcome) => write_outcome_of_none(outcome, sink),
+    match first_answer(clock, alloc, problem, &mut Unwatched) {
+        Ok(Answer::Cover(_)) => write_line(b"wrong: a cover exists\n", 1, sink),
+        Ok(Answer::NoCover) => write_line(b"right\n", 0, sink),
         Err(_) => Err(EngineFault::Memory),
     }
 }
@@ -191,7 +171,8 @@ fn write_check<W: Sink>(
 
 /// Tests an answer without a limit, writes what comes of it, and answers the status.
 #[tactic(auto, unfolding(crate::specs::Check::decided_check_said))]
-fn write_check_decided<W: Sink>(
+fn write_check_decided<W: Sink, C: Clock>(
+    clock: &C,
     alloc: Global,
     problem: &Problem,
     answer: &Answer,
@@ -205,7 +186,7 @@ fn write_check_decided<W: Sink>(
 {
     match answer {
         Answer::Cover(options) => write_verdict(alloc, problem, options.as_slice(), sink),
-        Answer::NoCover => write_none_decided(alloc, problem, sink),
+        Answer::NoCover => write_none_decided(clock, alloc, problem, sink),
     }
 }
 
@@ -234,7 +215,8 @@ fn check_texts<W: Sink>(
 }
 
 /// Tests the answer of one text to the problem of another without a limit, and writes what comes of it.
-fn check_texts_decided<W: Sink>(
+fn check_texts_decided<W: Sink, C: Clock>(
+    clock: &C,
     alloc: Global,
     file: &[u8],
     answer: &[u8],
@@ -248,7 +230,7 @@ fn check_texts_decided<W: Sink>(
 {
     let read = problem_of(alloc, file)?;
     let given = answer_of(alloc, answer, &read.problem)?;
-    let status = write_check_decided(alloc, &read.problem, &given, sink)?;
+    let status = write_check_decided(clock, alloc, &read.problem, &given, sink)?;
     Ok(EngineEnd {
         status,
         ignored: read.ignored,
@@ -291,7 +273,8 @@ pub fn check_engine<R: Source, S: Source, W: Sink>(
 }
 
 /// Does what `check_engine` does without a limit: that there is no cover is decided whatever number of visits it takes.
-pub fn check_unlimited<R: Source, S: Source, W: Sink>(
+pub fn check_unlimited<R: Source, S: Source, W: Sink, C: Clock>(
+    clock: &C,
     alloc: Global,
     file: &mut R,
     answer: &mut S,
@@ -313,5 +296,5 @@ pub fn check_unlimited<R: Source, S: Source, W: Sink>(
 {
     let file = read_all(alloc, file)?;
     let answer = read_all(alloc, answer)?;
-    check_texts_decided(alloc, &file, &answer, sink)
+    check_texts_decided(clock, alloc, &file, &answer, sink)
 }

@@ -4,6 +4,7 @@
 
 mod alone;
 mod check;
+mod deciding;
 mod engine;
 mod fault;
 mod gauge;

@@ -62,7 +62,7 @@ fn run_alone(rt: &HostRuntime, request: &Request<'_>) -> u8 {
     let lines = lines_of(rt);
     let ended = match (request.unlimited, request.progress) {
         (false, false) => alone_engine(alloc, fuel, &mut source, &mut sink),
-        (true, false) => alone_unlimited(alloc, &mut source, &mut sink),
+        (true, false) => alone_unlimited(rt, alloc, &mut source, &mut sink),
         (false, true) => {
             let log = ProgressLog::new(&mut errors, lines);
             alone_with_progress(rt, alloc, fuel, &mut source, &mut sink, log)
@@ -106,7 +106,7 @@ fn run_check(rt: &HostRuntime, request: &Request<'_>) -> u8
     };
     let mut sink = CountedWriter::new(rt.stdout());
     let ended = if request.unlimited {
-        check_unlimited(rt.alloc(), &mut file, &mut answer, &mut sink)
+        check_unlimited(rt, rt.alloc(), &mut file, &mut answer, &mut sink)
     } else {
         check_engine(rt.alloc(), settings.fuel, &mut file, &mut answer, &mut sink)
     };

@@ -1,5 +1,8 @@
 //! `alone` and `check` without a limit, over texts in memory; the expected values were worked out by hand.
+//!
+//! Of the bugs of `search_engines` that are kept outside the gate, `a_reason_decides_without_a_search` finds `no_reason_before_a_long_search`.
 
+use super::long::names;
 use super::texts::{LETTERS, NO_COVER};
 use super::told::Told;
 use dlx_reader::{CountedReader, CountedWriter};
@@ -7,13 +10,15 @@ use search_engines::{
     Lines, ProgressLog, alone_unlimited, alone_unlimited_with_progress, check_unlimited, tell_end,
 };
 use std::alloc::Global;
+use std::process::Abort;
+use std::time::Clock;
 
 /// What `alone` tells of a problem.
-fn alone(alloc: Global, text: &str) -> Told {
+fn alone<C: Clock>(clock: &C, alloc: Global, text: &str) -> Told {
     let mut out = Vec::new(alloc);
     let mut errors = Vec::new(alloc);
     let mut source = CountedReader::new(text.as_bytes());
-    let ended = alone_unlimited(alloc, &mut source, &mut CountedWriter::new(&mut out));
+    let ended = alone_unlimited(clock, alloc, &mut source, &mut CountedWriter::new(&mut out));
     let status = tell_end(&ended, &mut CountedWriter::new(&mut errors));
     Told {
         out,
@@ -23,13 +28,13 @@ fn alone(alloc: Global, text: &str) -> Told {
 }
 
 /// What `check` tells of an answer to a problem.
-fn check(alloc: Global, text: &str, answer: &str) -> Told {
+fn check<C: Clock>(clock: &C, alloc: Global, text: &str, answer: &str) -> Told {
     let mut out = Vec::new(alloc);
     let mut errors = Vec::new(alloc);
     let mut file = CountedReader::new(text.as_bytes());
     let mut answer = CountedReader::new(answer.as_bytes());
     let mut sink = CountedWriter::new(&mut out);
-    let ended = check_unlimited(alloc, &mut file, &mut answer, &mut sink);
+    let ended = check_unlimited(clock, alloc, &mut file, &mut answer, &mut sink);
     let status = tell_end(&ended, &mut CountedWriter::new(&mut errors));
     Told {
         out,
@@ -52,7 +57,10 @@ static ANSWERS: [(&str, &str, &str, u8); 7] = [
 #[test]
 fn alone_without_a_limit(rt: HostRuntime) {
     for (text, out, errors, status) in ANSWERS.iter() {
-        assert!(rt; alone(rt.alloc(), text).is(out, errors, *status), "{text}");
+        assert!(rt;
+            alone(&rt, rt.alloc(), text).is(out, errors, *status),
+            "{text}"
+        );
     }
 }
 
@@ -82,10 +90,29 @@ static VERDICTS: [(&str, &str, &str, &str, u8); 6] = [
 fn check_without_a_limit(rt: HostRuntime) {
     for (text, answer, out, errors, status) in VERDICTS.iter() {
         assert!(rt;
-            check(rt.alloc(), text, answer).is(out, errors, *status),
+            check(&rt, rt.alloc(), text, answer).is(out, errors, *status),
             "{text}"
         );
     }
+}
+
+/// All pairs of so many items, each an option.
+fn pairs<R: Abort>(rt: &R, alloc: Global, count: u16) -> String {
+    let mut text = names(rt, alloc, count);
+    for first in 0..count {
+        for second in 0..first {
+            write!(text, "\nn{second} n{first}").expect(rt, "memory");
+        }
+    }
+    text
+}
+
+/// An odd number of items can't be told into pairs: a search would go on for years.
+#[test]
+fn a_reason_decides_without_a_search(rt: HostRuntime) {
+    let text = pairs(&rt, rt.alloc(), 41);
+    assert!(rt; alone(&rt, rt.alloc(), &text).is("none\n", "", 1));
+    assert!(rt; check(&rt, rt.alloc(), &text, "none\n").is("right\n", "", 0));
 }
 
 #[test]

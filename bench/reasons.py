@@ -1,0 +1,150 @@
+#!/usr/bin/env python3
+"""Times how long it takes to see that there is no cover: by a reason, by a search, and by the script that says why.
+
+    python3 bench/reasons.py [--seconds N] [NAME ..]
+
+Each instance that is named, or each of all, is given to `solve_cli why`, `solve_cli alone --unlimited` and `scripts/why_none.py`. Each has N
+seconds (default 60); a dash stands where it didn't end. The table has the reason, in how many items it has a number, and the wall
+seconds of each. Each reason is added up by `scripts/check_reason.py`.
+
+It wants the program: (cd crates/solve_cli && rt run -- --version) builds it. The exit status is 0, 1 where a reason doesn't hold or two
+come to other outcomes, 2 for a mistake on the command line or where there is no program.
+"""
+import os
+import random
+import subprocess
+import sys
+import tempfile
+import time
+
+HERE = os.path.dirname(os.path.abspath(__file__))
+sys.path[:0] = [os.path.join(HERE, "..", folder) for folder in ("examples", "scripts")]
+import generate  # noqa: E402
+from built import SOLVE_CLI, TOP, number_from_one, parser_of, stop, want_program  # noqa: E402
+
+SCRIPTS = os.path.join(TOP, "scripts")
+EXAMPLES = ("langford-5", "mutilated-chessboard", "tetrominoes-4x5")
+INSTANCES = ("triples-19", "triples-22", "torus-queens-14", "torus-queens-14-all", "torus-queens-15", "torus-queens-15-all",
+             "torus-queens-16", "torus-queens-16-all", "diamond", "scattered-19", "crowd", "word-squares-4", "sudoku-hard")
+QUASIGROUPS = ((15, 110, 0), (15, 110, 2), (20, 220, 2), (25, 340, 2))
+FAMILIES = ("dominoes-20x20", "dominoes-30x30", "langford-13", "langford-14", "langford-17", "langford-18", "langford-22",
+            "t-tetrominoes-22x22", "straight-trominoes-14x14", "steiner-10", "steiner-11", "class-25-in-24", "school-of-8",
+            *(f"quasigroup-{order}-{filled}-{seed}" for order, filled, seed in QUASIGROUPS))
+
+
+# ---- what the folder of instances lacks
+
+def straight(name, side, length):
+    """Straight pieces of so many cells on a square board, which lacks its first cell."""
+    names = generate.names_of(generate.rectangle(side, side) - {(0, 0)})
+    rows = [[(row, column + k) for k in range(length)] for row in range(side) for column in range(side - length + 1)]
+    columns = [[(row + k, column) for k in range(length)] for row in range(side - length + 1) for column in range(side)]
+    options = [[names[cell] for cell in piece] for piece in rows + columns if (0, 0) not in piece]
+    generate.write(name, "none", list(names.values()), [], options)
+
+
+def tetrominoes(name, side):
+    """Tetrominoes like a T on a square board."""
+    cells = generate.rectangle(side, side)
+    options = [option[1:] for option in generate.placements({"T": generate.TETROMINOES["T"]}, cells)]
+    generate.write(name, "none", list(generate.names_of(cells).values()), [], options)
+
+
+def lessons(name, hours, periods):
+    """A timetable: each row has a class's hours with each teacher."""
+    names = {f"{who}-{teacher}-{hour}": (f"t{teacher}", f"c{who}")
+             for who, row in enumerate(hours) for teacher, count in enumerate(row) for hour in range(count)}
+    options = [[lesson, *(f"{one}-{at}" for one in both)] for lesson, both in names.items() for at in range(periods)]
+    busy = sorted({word for option in options for word in option[1:]})
+    generate.write(name, "none", list(names), busy, options)
+
+
+def quasigroup(name, order, filled, seed):
+    """A square of so many rows and numbers in which so many cells are filled one by one, by what no row and column has; each row and
+    column is to have each number."""
+    draw = random.Random(seed)
+    free = {f"{kind}{a}-{b}" for kind in "xrc" for a in range(order) for b in range(order)}
+    parts = {(r, c, v): (f"x{r}-{c}", f"r{r}-{v}", f"c{c}-{v}") for r in range(order) for c in range(order) for v in range(order)}
+    cells = draw.sample(sorted(generate.rectangle(order, order)), filled)
+    for r, c in cells:
+        open_values = [v for v in range(order) if free.issuperset(parts[r, c, v])]
+        if open_values:
+            free.difference_update(parts[r, c, draw.choice(open_values)])
+    options = [list(part) for part in parts.values() if free.issuperset(part)]
+    generate.write(name, f"{len(free)} items are free", sorted(free), [], options)
+
+
+def write_instances(folder):
+    """All instances."""
+    subprocess.run([sys.executable, os.path.join(HERE, "instances.py"), folder], check=True)
+    generate.HERE = folder
+    for side in (20, 30):
+        cells = generate.rectangle(side, side) - {(0, 0), (side - 1, side - 1)}
+        generate.dominoes(f"dominoes-{side}x{side}.dlx", "without two opposite corners", cells)
+    for count in (13, 14, 17, 18, 22):
+        generate.langford(f"langford-{count}.dlx", "pairs", count)
+    tetrominoes("t-tetrominoes-22x22.dlx", 22)
+    straight("straight-trominoes-14x14.dlx", 14, 3)
+    for points in (10, 11):
+        generate.triples(f"steiner-{points}.dlx", "triples", points)
+    lessons("class-25-in-24.dlx", [[25]], 24)
+    # (the first teacher has 26 hours)
+    lessons("school-of-8.dlx", [[5, 2, 2, 3, 3, 3, 3, 3], *[[3] * 8] * 7], 25)
+    for order, filled, seed in QUASIGROUPS:
+        quasigroup(f"quasigroup-{order}-{filled}-{seed}.dlx", order, filled, seed)
+
+
+# ---- the table
+
+def timed(words, seconds):
+    """What a command writes, its status and its wall seconds; none where it doesn't end in time."""
+    began = time.monotonic()
+    try:
+        ran = subprocess.run(words, capture_output=True, text=True, timeout=seconds)
+    except subprocess.TimeoutExpired:
+        return None
+    return ran.stdout, ran.returncode, time.monotonic() - began
+
+
+def reason_of(file, text):
+    """The kind of a reason in a word or two, and how many items have a number; ends where it doesn't hold."""
+    checked = subprocess.run([sys.executable, os.path.join(SCRIPTS, "check_reason.py"), file, "-"], input=text, capture_output=True, text=True)
+    if checked.returncode:
+        sys.exit(f"{file}: {checked.stdout}")
+    _, kind, *lines = text.splitlines()
+    return kind.replace("weights modulo", "modulo"), f"{len(lines):,}"
+
+
+def cells_of(file, seconds):
+    """The cells of an instance's row."""
+    why = timed([SOLVE_CLI, "why", file], seconds)
+    alone = timed([SOLVE_CLI, "alone", file, "--unlimited"], seconds)
+    script = timed([sys.executable, os.path.join(SCRIPTS, "why_none.py"), file], seconds)
+    has_reason = why is not None and why[1] == 1
+    if has_reason and alone and alone[1] != 1:
+        sys.exit(f"{file}: a reason, and a cover")
+    yield "-" if alone is None else alone[0].split()[0]
+    yield from reason_of(file, why[0]) if has_reason else ("-", "-")
+    for it in (why, alone, script):
+        yield "-" if it is None else f"{it[2]:.2f}"
+
+
+def main():
+    words = parser_of(__doc__)
+    words.add_argument("--seconds", metavar="N", type=number_from_one, default=60, help="how long each may take (default 60)")
+    words.add_argument("names", nargs="*", metavar="NAME", help="instances, without their ending")
+    given = words.parse_args()
+    want_program(SOLVE_CLI)
+    with tempfile.TemporaryDirectory() as folder:
+        write_instances(folder)
+        places = {name: os.path.join(TOP, "examples", f"{name}.dlx") for name in EXAMPLES}
+        places.update((name, os.path.join(folder, f"{name}.dlx")) for name in (*FAMILIES, *INSTANCES))
+        print("| Instance | Outcome | Reason | Items | `why` | `alone --unlimited` | `why_none.py` |\n|---|---|---|---|---|---|---|")
+        for name in given.names or places:
+            if name not in places:
+                stop(f"there is no instance {name}")
+            print(f"| {name} | {' | '.join(cells_of(places[name], given.seconds))} |", flush=True)
+
+
+if __name__ == "__main__":
+    main()

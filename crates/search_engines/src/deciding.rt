@@ -1,0 +1,94 @@
+//! The answer to a problem, whatever number of visits it takes: by a short search, by a reason that excludes covers, or by a long search.
+
+ghost use Rattle.std.specs.Prelude.{◌≡◌, [], true, false, None, IfOk, IfSome, MatchOption};
+ghost use Rattle.cover_problem.specs.Search.{first};
+ghost use Rattle.dlx_reader.specs.Writing.{IsWritable};
+ghost use Rattle.search_engines.specs.Alone.{answer_by};
+
+use crate::progress::Seconds;
+use brancher::{ROOM, Tables, Watch};
+use cover_problem::{Answer, Problem, in_order};
+use cover_reasons::{find_reason, holds_of};
+use decider::{Decider, Decision};
+use std::alloc::{AllocError, Global};
+use std::time::{Clock, Duration};
+
+/// How many milliseconds a search lasts before a reason is looked for. Most searches are shorter, and to look may take most of a second.
+const SHORT: u64 = 100;
+
+/// A watch that stops a search some time after it was made. Where the clock can't be read it stops it when it first looks.
+#[derive(Drop)]
+struct ShortWatch<'a, C: Clock> {
+    clock: &'a C,
+    seconds: Seconds,
+}
+
+impl<'a, C: Clock> Watch for ShortWatch<'a, C> {
+    ghost use Rattle.std.specs.Prelude.{true};
+
+    ghost may_stop = { true };
+
+    fn look(&mut self, _chosen: &[u16], _left: u64) -> bool {
+        match self.seconds.elapsed(self.clock) {
+            Some(elapsed) => elapsed >= Duration::from_millis(SHORT),
+            None => true,
+        }
+    }
+}
+
+/// Searches the problem until it is decided or the watch stops it: the answer, or none where it was stopped. The only error is out of
+/// memory.
+fn searched<V: Watch>(
+    alloc: Global,
+    tables: &Tables<'_>,
+    watch: &mut V,
+) -> Result<Option<Answer>, AllocError>
+    ensures answer { IfOk result (λ found. MatchOption found (V.may_stop ≡ true)
+        (λ answer. answer ≡ answer_by tables.now (first tables.now []))) }
+    ensures order { IfOk result (λ found. IfSome found (IsWritable tables.now)) }
+{
+    let problem = tables.problem();
+    let mut decider = Decider::new(alloc, tables, ROOM)?;
+    match decider.decide(watch) {
+        Decision::Found => Ok(Some(Answer::Cover(in_order(alloc, problem, decider.found())?))),
+        Decision::Barren(_) => Ok(Some(Answer::NoCover)),
+        Decision::Stopped => Ok(None),
+    }
+}
+
+/// Whether a reason is found why there is no cover. Where memory runs out none is found, since a search may need less.
+fn is_excluded(alloc: Global, problem: &Problem) -> bool
+    ensures { result ≡ true → first problem.now [] ≡ None }
+{
+    match find_reason(alloc, problem) {
+        Ok(Some(reason)) => holds_of(problem, &reason),
+        _ => false,
+    }
+}
+
+/// The answer of a problem: its first cover, with its options in the order of the file, or that there is none. A search that lasts longer
+/// than a tenth of a second is begun again under the watch, if no reason is found that excludes a cover. The only error is out of memory.
+pub fn first_answer<V: Watch, C: Clock>(
+    clock: &C,
+    alloc: Global,
+    problem: &Problem,
+    watch: &mut V,
+) -> Result<Answer, AllocError>
+    requires { V.may_stop ≡ false }
+    ensures answer { IfOk result (λ answer. answer ≡ answer_by problem.now (first problem.now [])) }
+    ensures order { IfOk result (IsWritable problem.now) }
+{
+    let tables = Tables::build(alloc, problem)?;
+    let seconds = Seconds::new(clock);
+    let mut short = ShortWatch { clock, seconds };
+    if let Some(answer) = searched(alloc, &tables, &mut short)? {
+        return Ok(answer);
+    }
+    if is_excluded(alloc, problem) {
+        return Ok(Answer::NoCover);
+    }
+    match searched(alloc, &tables, watch)? {
+        Some(answer) => Ok(answer),
+        None => unreachable!(),
+    }
+}
