@@ -1,21 +1,21 @@
 #!/usr/bin/env python3
 """Times how long it takes to see that there is no cover: by a reason, by a search, and by the script that says why.
 
-    python3 bench/reasons.py [--seconds N] [NAME ..]
+    python3 bench/reasons.py [--seconds N] [--times N] [NAME ..]
 
 Each instance that is named, or each of all, is given to `solve_cli why`, `solve_cli alone --unlimited` and `scripts/why_none.py`. Each has N
-seconds (default 60); a dash stands where it didn't end. The table has the reason, in how many items it has a number, and the wall
-seconds of each. Each reason is added up by `scripts/check_reason.py`.
+seconds (default 60); a dash stands where it didn't end. The table has the reason, how many items have a number in it, and the least
+processor seconds of each. Each reason is added up by `scripts/check_reason.py`.
 
 It wants the program: (cd crates/solve_cli && rt run -- --version) builds it. The exit status is 0, 1 where a reason doesn't hold or two
 come to other outcomes, 2 for a mistake on the command line or where there is no program.
 """
 import os
 import random
+import resource
 import subprocess
 import sys
 import tempfile
-import time
 
 HERE = os.path.dirname(os.path.abspath(__file__))
 sys.path[:0] = [os.path.join(HERE, "..", folder) for folder in ("examples", "scripts")]
@@ -26,10 +26,12 @@ SCRIPTS = os.path.join(TOP, "scripts")
 EXAMPLES = ("langford-5", "mutilated-chessboard", "tetrominoes-4x5")
 INSTANCES = ("triples-19", "triples-22", "torus-queens-14", "torus-queens-14-all", "torus-queens-15", "torus-queens-15-all",
              "torus-queens-16", "torus-queens-16-all", "diamond", "scattered-19", "crowd", "word-squares-4", "sudoku-hard")
+LIMITS = (2, 4, 10)
 QUASIGROUPS = ((15, 110, 0), (15, 110, 2), (20, 220, 2), (25, 340, 2))
-FAMILIES = ("dominoes-20x20", "dominoes-30x30", "langford-13", "langford-14", "langford-17", "langford-18", "langford-22",
+FAMILIES = ("dominoes-20x20", "dominoes-30x30", "langford-13", "langford-14", "langford-16", "langford-17", "langford-18", "langford-22",
             "t-tetrominoes-22x22", "straight-trominoes-14x14", "steiner-10", "steiner-11", "class-25-in-24", "school-of-8",
-            *(f"quasigroup-{order}-{filled}-{seed}" for order, filled, seed in QUASIGROUPS))
+            *(f"quasigroup-{order}-{filled}-{seed}" for order, filled, seed in QUASIGROUPS),
+            *(f"limits-{size}" for size in LIMITS))
 
 
 # ---- what the folder of instances lacks
@@ -74,6 +76,17 @@ def quasigroup(name, order, filled, seed):
     generate.write(name, f"{len(free)} items are free", sorted(free), [], options)
 
 
+def limits(name, size):
+    """The most items and options that a file may have: options of so many items, some of which make up a cover."""
+    draw = random.Random(size)
+    items = [f"i{k}" for k in range(1000)]
+    order = draw.sample(items, len(items))
+    options = [order[place:place + size] for place in range(0, len(items), size)]
+    options += [draw.sample(items, size) for _ in range(20_000 - len(options))]
+    draw.shuffle(options)
+    generate.write(name, "a cover, among many options", items, [], options)
+
+
 def write_instances(folder):
     """All instances."""
     subprocess.run([sys.executable, os.path.join(HERE, "instances.py"), folder], check=True)
@@ -81,7 +94,7 @@ def write_instances(folder):
     for side in (20, 30):
         cells = generate.rectangle(side, side) - {(0, 0), (side - 1, side - 1)}
         generate.dominoes(f"dominoes-{side}x{side}.dlx", "without two opposite corners", cells)
-    for count in (13, 14, 17, 18, 22):
+    for count in (13, 14, 16, 17, 18, 22):
         generate.langford(f"langford-{count}.dlx", "pairs", count)
     tetrominoes("t-tetrominoes-22x22.dlx", 22)
     straight("straight-trominoes-14x14.dlx", 14, 3)
@@ -92,18 +105,32 @@ def write_instances(folder):
     lessons("school-of-8.dlx", [[5, 2, 2, 3, 3, 3, 3, 3], *[[3] * 8] * 7], 25)
     for order, filled, seed in QUASIGROUPS:
         quasigroup(f"quasigroup-{order}-{filled}-{seed}.dlx", order, filled, seed)
+    for size in LIMITS:
+        limits(f"limits-{size}.dlx", size)
 
 
 # ---- the table
 
-def timed(words, seconds):
-    """What a command writes, its status and its wall seconds; none where it doesn't end in time."""
-    began = time.monotonic()
+def timed_once(words, seconds):
+    """What a command writes, its status and its processor seconds; none where it doesn't end in time."""
+    before = resource.getrusage(resource.RUSAGE_CHILDREN)
     try:
         ran = subprocess.run(words, capture_output=True, text=True, timeout=seconds)
     except subprocess.TimeoutExpired:
         return None
-    return ran.stdout, ran.returncode, time.monotonic() - began
+    after = resource.getrusage(resource.RUSAGE_CHILDREN)
+    return ran.stdout, ran.returncode, after.ru_utime + after.ru_stime - before.ru_utime - before.ru_stime
+
+
+def timed(words, seconds, times):
+    """The same, with the least processor seconds of several runs."""
+    best = None
+    for _ in range(times):
+        found = timed_once(words, seconds)
+        if found is None:
+            return None
+        best = min(best or found, found, key=lambda it: it[2])
+    return best
 
 
 def reason_of(file, text):
@@ -115,11 +142,11 @@ def reason_of(file, text):
     return kind.replace("weights modulo", "modulo"), f"{len(lines):,}"
 
 
-def cells_of(file, seconds):
+def cells_of(file, seconds, times):
     """The cells of an instance's row."""
-    why = timed([SOLVE_CLI, "why", file], seconds)
-    alone = timed([SOLVE_CLI, "alone", file, "--unlimited"], seconds)
-    script = timed([sys.executable, os.path.join(SCRIPTS, "why_none.py"), file], seconds)
+    why = timed([SOLVE_CLI, "why", file], seconds, times)
+    alone = timed([SOLVE_CLI, "alone", file, "--unlimited"], seconds, times)
+    script = timed([sys.executable, os.path.join(SCRIPTS, "why_none.py"), file], seconds, times)
     has_reason = why is not None and why[1] == 1
     if has_reason and alone and alone[1] != 1:
         sys.exit(f"{file}: a reason, and a cover")
@@ -132,6 +159,7 @@ def cells_of(file, seconds):
 def main():
     words = parser_of(__doc__)
     words.add_argument("--seconds", metavar="N", type=number_from_one, default=60, help="how long each may take (default 60)")
+    words.add_argument("--times", metavar="N", type=number_from_one, default=3, help="how often each is timed (default 3)")
     words.add_argument("names", nargs="*", metavar="NAME", help="instances, without their ending")
     given = words.parse_args()
     want_program(SOLVE_CLI)
@@ -143,7 +171,7 @@ def main():
         for name in given.names or places:
             if name not in places:
                 stop(f"there is no instance {name}")
-            print(f"| {name} | {' | '.join(cells_of(places[name], given.seconds))} |", flush=True)
+            print(f"| {name} | {' | '.join(cells_of(places[name], given.seconds, given.times))} |", flush=True)
 
 
 if __name__ == "__main__":

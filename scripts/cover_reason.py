@@ -70,7 +70,7 @@ def room_words(reason, problem):
         yield f"no option names {quoted(*reason.needs)}"
         return
     needs, rooms = sum(reason.needs.values()), sum(reason.rooms.values())
-    yield f"too little room: {plural(needs, 'place')} needed, and there are {rooms:,}"
+    yield f"too little room: {plural(needs, 'place')} needed, and there {'is' if rooms == 1 else 'are'} {rooms:,}"
     for amounts, what in (reason.needs, "needs"), (reason.rooms, "has room for"):
         for amount in sorted(set(amounts.values())):
             names = [name for name, own in amounts.items() if own == amount]

@@ -157,7 +157,9 @@ def room_words(problem, text):
     """Lines on primary items that need more than there is room for, where the program finds such."""
     reason = found_reason(SOLVE_CLI, text) if os.access(SOLVE_CLI, os.X_OK) else None
     if reason and not reason.modulus and reason.rooms and reason.holds(problem):
-        yield from reason.words(problem)
+        first, *others = reason.words(problem)
+        yield f"{first}, so there is no cover"
+        yield from others
 
 
 def items_together(by_item):

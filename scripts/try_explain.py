@@ -237,7 +237,7 @@ TOLD = [
         "line 9, column 3, 'x:" + "k" * 33 + "': BadColour: a colour has at most 32 bytes, this one has 33"]),
     (b"a b c | x\na x\nb x\nc\nc x\n", None, [
         "'a' (line 2) and 'b' (line 3) are each in one option alone, and these options clash in 'x', so there is no cover",
-        "too little room: 2 places needed, and there are 1", "  each of these needs one: a and b", "  this one has room for one: x"]),
+        "too little room: 2 places needed, and there is 1, so there is no cover", "  each of these needs one: a and b", "  this one has room for one: x"]),
     (b"a b | x y\na x:1 y:2\nb x:1 y:3\n", None, [
         "'a' (line 2) and 'b' (line 3) are each in one option alone, and these options clash in 'y', so there is no cover"]),
     (b"a | x:red\na x:red\n", None, [

@@ -90,7 +90,7 @@ def path():
 REASONS = [
     ("a b\na\n", ["no option names 'b'"], ["b", "1 needs 1"]),
     ("a b | x y\na x y\nb x\n",
-     ["too little room: 2 places needed, and there are 1", "  each of these needs one: a and b", "  this one has room for one: x"],
+     ["too little room: 2 places needed, and there is 1", "  each of these needs one: a and b", "  this one has room for one: x"],
      ["2 need 1 each", "1 has room for 1", "2 needed, and room for 1: there is no cover"]),
     ("p q r | 1 2 3 4 5\n" + "".join(f"{name} {k} {j}\n" for name in "pqr" for k in range(1, 6) for j in range(1, k)),
      ["too little room: 6 places needed, and there are 5", "  each of these needs 2: p, q and r",

@@ -1,5 +1,5 @@
 -- What `why` says of a problem.
-use Rattle.std.specs.Prelude.{◌≡◌, ℕ, [], codes, true, Option, None, Some, IfSome}
+use Rattle.std.specs.Prelude.{◌≡◌, [], codes, true, Option, None, Some, IfSome}
 use Rattle.cover_problem.specs.Prefix.{IsBarren}
 use Rattle.cover_problem.specs.Problem.{Problem}
 use Rattle.cover_reasons.specs.Reasons.{holds_of}
