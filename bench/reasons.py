@@ -4,8 +4,9 @@
     python3 bench/reasons.py [--seconds N] [--times N] [NAME ..]
 
 Each instance that is named, or each of all, is given to `solve_cli why`, `solve_cli alone --unlimited` and `scripts/why_none.py`. Each has N
-seconds (default 60); a dash stands where it didn't end. The table has the reason, how many items have a number in it, and the least
-processor seconds of each. Each reason is added up by `scripts/check_reason.py`.
+seconds (default 60); a dash stands where it didn't end. The table has the reason, how many items have a number in it, and the
+least processor seconds of each, but of `alone` the least wall seconds, since it looks for a reason after a tenth of a second by the clock.
+Each reason is added up by `scripts/check_reason.py`.
 
 It wants the program: (cd crates/solve_cli && rt run -- --version) builds it. The exit status is 0, 1 where a reason doesn't hold or two
 come to other outcomes, 2 for a mistake on the command line or where there is no program.
@@ -16,6 +17,8 @@ import resource
 import subprocess
 import sys
 import tempfile
+import time
+import typing
 
 HERE = os.path.dirname(os.path.abspath(__file__))
 sys.path[:0] = [os.path.join(HERE, "..", folder) for folder in ("examples", "scripts")]
@@ -111,25 +114,34 @@ def write_instances(folder):
 
 # ---- the table
 
-def timed_once(words, seconds):
-    """What a command writes, its status and its processor seconds; none where it doesn't end in time."""
-    before = resource.getrusage(resource.RUSAGE_CHILDREN)
+class Ran(typing.NamedTuple):
+    """What a command wrote, its status, and its processor and wall seconds."""
+    text: str
+    status: int
+    processor: float
+    wall: float
+
+
+def run_once(words, seconds):
+    """What came of a command; none where it doesn't end in time."""
+    before, began = resource.getrusage(resource.RUSAGE_CHILDREN), time.monotonic()
     try:
         ran = subprocess.run(words, capture_output=True, text=True, timeout=seconds)
     except subprocess.TimeoutExpired:
         return None
-    after = resource.getrusage(resource.RUSAGE_CHILDREN)
-    return ran.stdout, ran.returncode, after.ru_utime + after.ru_stime - before.ru_utime - before.ru_stime
+    after, wall = resource.getrusage(resource.RUSAGE_CHILDREN), time.monotonic() - began
+    return Ran(ran.stdout, ran.returncode, after.ru_utime + after.ru_stime - before.ru_utime - before.ru_stime, wall)
 
 
-def timed(words, seconds, times):
-    """The same, with the least processor seconds of several runs."""
+def run(words, seconds, times):
+    """The same, with the least seconds of several runs."""
     best = None
     for _ in range(times):
-        found = timed_once(words, seconds)
+        found = run_once(words, seconds)
         if found is None:
             return None
-        best = min(best or found, found, key=lambda it: it[2])
+        best = best or found
+        best = found._replace(processor=min(best.processor, found.processor), wall=min(best.wall, found.wall))
     return best
 
 
@@ -144,16 +156,17 @@ def reason_of(file, text):
 
 def cells_of(file, seconds, times):
     """The cells of an instance's row."""
-    why = timed([SOLVE_CLI, "why", file], seconds, times)
-    alone = timed([SOLVE_CLI, "alone", file, "--unlimited"], seconds, times)
-    script = timed([sys.executable, os.path.join(SCRIPTS, "why_none.py"), file], seconds, times)
-    has_reason = why is not None and why[1] == 1
-    if has_reason and alone and alone[1] != 1:
+    why = run([SOLVE_CLI, "why", file], seconds, times)
+    alone = run([SOLVE_CLI, "alone", file, "--unlimited"], seconds, times)
+    script = run([sys.executable, os.path.join(SCRIPTS, "why_none.py"), file], seconds, times)
+    has_reason = why is not None and why.status == 1
+    if has_reason and alone and alone.status != 1:
         sys.exit(f"{file}: a reason, and a cover")
-    yield "-" if alone is None else alone[0].split()[0]
-    yield from reason_of(file, why[0]) if has_reason else ("-", "-")
-    for it in (why, alone, script):
-        yield "-" if it is None else f"{it[2]:.2f}"
+    yield alone.text.split()[0] if alone else "-"
+    yield from reason_of(file, why.text) if has_reason else ("-", "-")
+    yield f"{why.processor:.2f}" if why else "-"
+    yield f"{alone.wall:.2f}" if alone else "-"
+    yield f"{script.processor:.2f}" if script else "-"
 
 
 def main():
