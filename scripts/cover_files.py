@@ -2,13 +2,16 @@
 
 The program decides what a file says. This reader stands beside it: it goes on after a fault, so that all can be told.
 """
+from __future__ import annotations
+
 import contextlib
+import io
 import os
 import re
 import shutil
 import signal
 import sys
-from collections import namedtuple
+from typing import BinaryIO, Callable, Iterator, NamedTuple, NoReturn, Optional, Sequence, Union
 
 BAR, COLON, ILLEGAL = b"|", b":", b"\0:|"
 WITHOUT_LINE = {"NoItems", "BadHead", "WrongCount"}
@@ -16,12 +19,32 @@ WITHOUT_LINE = {"NoItems", "BadHead", "WrongCount"}
 LARGEST = 1 << 26
 MAX_NAME, MAX_ITEMS, MAX_OPTIONS, MAX_OCCURRENCES, MAX_COLOURS = 32, 1_000, 20_000, 200_000, 10_000
 
-# a word with its place, counted from 1, the column in characters
-Word = namedtuple("Word", "line column text")
-# a fault by the program's name for it; `word` is None where the fault is told of a whole line or file
-Fault = namedtuple("Fault", "name line word")
-# an option with the number of its line: its words as they stand, and of each the item's name and the colour, None where it has none
-Option = namedtuple("Option", "line words names colours")
+
+class Word(NamedTuple):
+    """A word with its place, counted from 1, the column in characters."""
+    line: int
+    column: int
+    text: bytes
+
+
+class Fault(NamedTuple):
+    """A fault by the program's name for it; `word` is None where it is a fault of a whole line, `line` where it is one of the file."""
+    name: str
+    line: Optional[int]
+    word: Optional[Word]
+
+
+class Option(NamedTuple):
+    """An option with the number of its line: its words as they stand, and of each the item's name and the colour, None where it has none."""
+    line: int
+    words: tuple[bytes, ...]
+    names: tuple[bytes, ...]
+    colours: tuple[Optional[bytes], ...]
+
+
+# the words of a line, and what a main function may answer
+Line = list[Word]
+Status = Union[int, str, None]
 
 
 class Unreadable(Exception):
@@ -32,7 +55,7 @@ class TooLarge(Unreadable):
     """A file that is not read here, and that the program may read."""
 
 
-def all_bytes(opened, path):
+def all_bytes(opened: BinaryIO, path: str) -> bytes:
     """All bytes of an opened file; `TooLarge` where there are more than a script reads."""
     text = opened.read(LARGEST + 1)
     if len(text) > LARGEST:
@@ -40,7 +63,7 @@ def all_bytes(opened, path):
     return text
 
 
-def standard_input():
+def standard_input() -> bytes:
     """All bytes of the standard input; `Unreadable` where it is closed or refused by the system."""
     if sys.stdin is None:
         raise Unreadable("the standard input can't be read: it is closed")
@@ -50,7 +73,7 @@ def standard_input():
         raise Unreadable(f"the standard input can't be read: {why.strerror}") from None
 
 
-def read_bytes(path):
+def read_bytes(path: str) -> bytes:
     """All bytes of a file, or of the standard input, which is `-`; `Unreadable` where it is missing, a folder, too large, or refused
     by the system."""
     if path == "-":
@@ -70,18 +93,18 @@ def read_bytes(path):
         raise Unreadable(f"{path} can't be read: {getattr(why, 'strerror', None) or why}") from None
 
 
-def shown(name):
+def shown(name: bytes) -> str:
     """A name for readers: its text where it is UTF-8, and bytes that can't be seen by their numbers."""
     text = name.decode("utf-8", "backslashreplace")
     return "".join(c if c.isprintable() else c.encode("unicode_escape").decode("ascii") for c in text)
 
 
-def width(piece):
+def width(piece: bytes) -> int:
     """How many characters the bytes are; bytes that aren't UTF-8 count as one each."""
     return len(piece.decode("utf-8", "surrogateescape"))
 
 
-def words_of(number, line):
+def words_of(number: int, line: bytes) -> Line:
     """The words of a line, each with its place."""
     words, column, behind = [], 1, 0
     for found in re.finditer(rb"[^\t\v\f\r ]+", line):
@@ -91,46 +114,46 @@ def words_of(number, line):
     return words
 
 
-def lines_of(text):
+def lines_of(text: bytes) -> list[Line]:
     """The words of each line that has any."""
     lines = (words_of(number, line) for number, line in enumerate(text.split(b"\n"), 1))
     return [words for words in lines if words]
 
 
-def is_comment(words):
+def is_comment(words: Line) -> bool:
     return words[0].text.startswith(BAR)
 
 
-def name_part(text):
+def name_part(text: bytes) -> bytes:
     """What a word of the item line names: behind the separator's bar perhaps nothing."""
     return text[1:] if text.startswith(BAR) else text
 
 
-def parts_of(text):
+def parts_of(text: bytes) -> tuple[bytes, Optional[bytes]]:
     """What a word of an option says: an item's name, and behind the first colon a colour's; None where no colon stands."""
     name, colon, colour = text.partition(COLON)
     return name, colour if colon else None
 
 
-def option_of(words):
+def option_of(words: Line) -> Option:
     """The option of a line with these words."""
     texts = tuple(word.text for word in words)
     names, colours = zip(*map(parts_of, texts))
     return Option(words[0].line, texts, names, colours)
 
 
-def is_illegal(name):
+def is_illegal(name: bytes) -> bool:
     return name.translate(None, ILLEGAL) != name
 
 
-def name_faults(name, word):
+def name_faults(name: bytes, word: Word) -> Iterator[Fault]:
     if is_illegal(name):
         yield Fault("IllegalByte", word.line, word)
     if len(name) > MAX_NAME:
         yield Fault("NameTooLong", word.line, word)
 
 
-def part_faults(name, colour, word):
+def part_faults(name: bytes, colour: Optional[bytes], word: Word) -> Iterator[Fault]:
     """The faults that an option's word has by itself."""
     if is_illegal(name) or is_illegal(colour or b""):
         yield Fault("IllegalByte", word.line, word)
@@ -148,10 +171,15 @@ class Problem:
     number from 1, in the order in which they first stand. After a fault these are what the rest of the file says.
     """
 
-    def __init__(self, lines):
-        self.items, self.primary, self.colours = {}, 0, {}
-        self.options, self.ignored, self.occurrences = [], [], 0
-        self.item_line, self.faults, self.places = None, [], {}
+    def __init__(self, lines: list[Line]) -> None:
+        self.items: dict[bytes, int] = {}
+        self.primary, self.occurrences = 0, 0
+        self.colours: dict[bytes, int] = {}
+        self.options: list[Option] = []
+        self.ignored: list[Option] = []
+        self.item_line: Optional[int] = None
+        self.faults: list[Fault] = []
+        self.places: dict[bytes, Word] = {}
         content = [words for words in lines if not is_comment(words)]
         self.comments = [b" ".join(word.text for word in words) for words in lines if is_comment(words)]
         if not content:
@@ -162,7 +190,7 @@ class Problem:
         for words in content[1:]:
             self.faults.extend(self.read_option(words))
 
-    def read_items(self, words):
+    def read_items(self, words: Line) -> Iterator[Fault]:
         divided = False
         for word in words:
             name = name_part(word.text)
@@ -181,10 +209,10 @@ class Problem:
                 if len(self.items) == MAX_ITEMS + 1:
                     yield Fault("TooManyItems", word.line, word)
 
-    def is_primary(self, name):
+    def is_primary(self, name: bytes) -> bool:
         return self.items.get(name, self.primary) < self.primary
 
-    def read_option(self, words):
+    def read_option(self, words: Line) -> Iterator[Fault]:
         option, seen = option_of(words), set()
         for word, name, colour in zip(words, option.names, option.colours):
             yield from part_faults(name, colour, word)
@@ -200,7 +228,7 @@ class Problem:
         else:
             self.ignored.append(option)
 
-    def keep(self, option):
+    def keep(self, option: Option) -> Iterator[Fault]:
         """Takes an option, and counts what is limited; each limit is told once."""
         before, self.occurrences = self.occurrences, self.occurrences + len(option.words)
         fewer = len(self.colours)
@@ -214,22 +242,22 @@ class Problem:
         if fewer <= MAX_COLOURS < len(self.colours):
             yield Fault("TooManyColours", option.line, None)
 
-    def names(self):
+    def names(self) -> list[bytes]:
         return list(self.items)
 
-    def primary_names(self):
+    def primary_names(self) -> list[bytes]:
         return self.names()[:self.primary]
 
-    def options_by_item(self):
+    def options_by_item(self) -> dict[bytes, list[int]]:
         """For each item the options that name it, as places in `options`."""
-        by_item = {name: [] for name in self.items}
+        by_item: dict[bytes, list[int]] = {name: [] for name in self.items}
         for place, option in enumerate(self.options):
             for name in set(option.names):
                 by_item.setdefault(name, []).append(place)
         return by_item
 
 
-def read_problem(text):
+def read_problem(text: bytes) -> Problem:
     return Problem(lines_of(text))
 
 
@@ -240,26 +268,30 @@ class Answer:
     is an option: its words, and the option's place in the problem. Where the head is missing all lines are read as options.
     """
 
-    def __init__(self, lines, problem):
-        self.kind, self.count, self.faults, self.chosen = None, None, [], []
-        self.head, self.rest = (lines[0], lines[1:]) if lines else (None, [])
+    def __init__(self, lines: list[Line], problem: Problem) -> None:
+        self.kind: Optional[str] = None
+        self.count: Optional[int] = None
+        self.faults: list[Fault] = []
+        self.chosen: list[tuple[Line, int]] = []
+        self.head = lines[0] if lines else None
+        self.rest = lines[1:]
         self.read_head([word.text for word in self.head or []])
         if self.kind is None:
             self.faults.append(Fault("BadHead", self.head[0].line if self.head else None, None))
             self.rest = self.rest if self.head and self.head[0].text == b"cover" else lines
-        elif self.count != len(self.rest):
+        elif self.head and self.count != len(self.rest):
             self.faults.append(Fault("WrongCount", self.head[0].line, None))
         if self.kind != "none":
             self.read_options(problem)
 
-    def read_head(self, head):
+    def read_head(self, head: list[bytes]) -> None:
         if head == [b"none"]:
             self.kind, self.count = "none", 0
         elif len(head) == 2 and head[0] == b"cover" and head[1].isdigit() and len(head[1]) <= 5:
             self.kind, self.count = "cover", int(head[1])
 
-    def read_options(self, problem):
-        free = {}
+    def read_options(self, problem: Problem) -> None:
+        free: dict[tuple[bytes, ...], list[int]] = {}
         for place in reversed(range(len(problem.options))):
             free.setdefault(problem.options[place].words, []).append(place)
         for words in self.rest:
@@ -269,14 +301,14 @@ class Answer:
             else:
                 self.faults.append(Fault("UnknownOption", words[0].line, words[0]))
 
-    def uncovered(self, problem):
+    def uncovered(self, problem: Problem) -> list[bytes]:
         """The primary items in none of the chosen options, in the order of the item line."""
         used = {name for _, place in self.chosen for name in problem.options[place].names}
         return [name for name in problem.primary_names() if name not in used]
 
-    def covered_twice(self, problem):
+    def covered_twice(self, problem: Problem) -> list[tuple[bytes, list[int]]]:
         """Each item that several chosen options name and don't all give one colour, with these: places in `chosen`."""
-        users = {}
+        users: dict[bytes, list[tuple[int, Optional[bytes]]]] = {}
         for k, (_, place) in enumerate(self.chosen):
             option = problem.options[place]
             for name, colour in zip(option.names, option.colours):
@@ -285,35 +317,35 @@ class Answer:
         return [(name, [k for k, _ in by]) for name, by in several if len(by) > 1 and not in_one_colour(by)]
 
 
-def in_one_colour(users):
+def in_one_colour(users: Sequence[tuple[int, Optional[bytes]]]) -> bool:
     """Whether all of these places and colours have one and the same colour."""
     colours = {colour for _, colour in users}
     return len(colours) == 1 and None not in colours
 
 
-def read_answer(text, problem):
+def read_answer(text: bytes, problem: Problem) -> Answer:
     return Answer(lines_of(text), problem)
 
 
-def is_audit(words):
+def is_audit(words: Line) -> bool:
     """Whether a line is the one in which `solve --audit` says what it found."""
     return [word.text for word in words[:2]] in ([b"audit", b"clean"], [b"audit", b"unclean:"])
 
 
-def read_audited(text, problem):
+def read_audited(text: bytes, problem: Problem) -> Answer:
     """An answer, without the line of an audit if that is what is wrong with it."""
     lines = lines_of(text)
     answer = Answer(lines, problem)
     return Answer(lines[:-1], problem) if answer.faults and is_audit(lines[-1] if lines else []) else answer
 
 
-def refusal(faults):
+def refusal(faults: Sequence[Fault]) -> str:
     """The first fault as the program tells it, without what stands before its name."""
     first = faults[0]
     return first.name if first.name in WITHOUT_LINE else f"{first.name} line {first.line}"
 
 
-def put(path, text):
+def put(path: str, text: str) -> None:
     """Writes a file whole or not at all; what is no plain file, as a device or a pipe, is written as it stands."""
     if os.path.exists(path) and not os.path.isfile(path):
         with open(path, "w", encoding="utf-8") as file:
@@ -332,19 +364,19 @@ def put(path, text):
             os.remove(part)
 
 
-def complain(why):
+def complain(why: object) -> None:
     """Writes a line on standard error, if that is open."""
     if sys.stderr is not None:
         print(f"{os.path.basename(sys.argv[0]).removesuffix('.py')}: {why}", file=sys.stderr)
 
 
-def stop(why, status=2):
+def stop(why: object, status: int = 2) -> NoReturn:
     """Ends the script with this status and tells why."""
     complain(why)
     sys.exit(status)
 
 
-def status_of(main):
+def status_of(main: Callable[[], Status]) -> Status:
     """The exit status of a main function, whether it returns it or ends the script."""
     try:
         return main()
@@ -352,7 +384,7 @@ def status_of(main):
         return ended.code
 
 
-def run(main):
+def run(main: Callable[[], Status]) -> NoReturn:
     """Runs a script's main function to its exit status.
 
     A reader that goes away, as `head` does, ends it quietly, with status 1. Where the standard output is closed or takes no more, or
@@ -362,7 +394,8 @@ def run(main):
     if sys.stdout is None:
         complain("the standard output can't be written: it is closed")
         sys.exit(3)
-    sys.stdout.reconfigure(errors="backslashreplace")
+    if isinstance(sys.stdout, io.TextIOWrapper):
+        sys.stdout.reconfigure(errors="backslashreplace")
     try:
         status = status_of(main)
         sys.stdout.flush()
