@@ -18,7 +18,7 @@ short_form() {
     case "$1" in
     try_audit.py) echo --changes 20 --runs 1 ;;
     try_explain.py) echo --files 200 ;;
-    try_bugs.py | try_found.py | try_memory.py | try_shortage.py) echo --short ;;
+    try_bugs.py | try_found.py | try_memory.py | try_shortage.py | try_split.py) echo --short ;;
     try_search.py) echo 100 ;;
     try_states.py) echo --problems 4000 ;;
     try_why_none.py) echo 30 ;;

@@ -1,0 +1,166 @@
+#!/usr/bin/env python3
+"""Joins the answers of a search's parts, which scripts/split.py wrote, to the answer of the whole.
+
+    python3 scripts/join.py FOLDER [--left]
+
+It writes a cover of the whole file as soon as one part has one: the part's options with those of its prefix, counted here, in the order of the
+file. It writes `none` only if each part of the list has the answer `none`, and is to the byte what split.py writes now of FOLDER/whole.dlx; the list
+is compared too. Else it writes `no answer`, and standard error names the parts without an answer, as Slurm's --array reads them. The answer of
+part-7.dlx is what the program wrote, in part-7.answer. A file that is empty, or says `no answer`, is no answer.
+
+Standard error names each part that was changed or is missing, and each answer that is refused or is no cover. With --left it writes, in place of an
+answer, the paths of the parts that are still to be searched, a line each; after a cover there are none.
+
+It wants no built program. The exit status is 0 for a cover, 1 for `none`, 4 for `no answer`, 2 for a mistake on the command line, and 3 where,
+without a cover, something was changed, is missing or wrong.
+"""
+from __future__ import annotations
+
+import os
+import re
+import sys
+from typing import NamedTuple, Optional
+
+from built import parser_of
+from cover_files import Answer, Unreadable, complain, lines_of, read_bytes, refusal, run, shown, stop
+from search_parts import LIST, WHOLE, Prefix, Tree, answer_name, cover_text, list_text, part_name, path_in, read_tree, split, texts_of
+
+# so many faults are named; of the others only the number is given
+MOST_NAMED = 20
+
+
+class Part(NamedTuple):
+    """What there is of a part: a cover of the whole, `none`, or neither; and what is wrong, if anything is."""
+    number: int
+    cover: Optional[bytes] = None
+    is_none: bool = False
+    fault: Optional[str] = None
+
+
+def wrong_in(answer: Answer, tree: Tree, prefix: Prefix) -> Optional[str]:
+    """Why the answer of a part and its prefix are no cover of the whole, in the program's words. It gets the options of the prefix too."""
+    if answer.faults:
+        return "refused: " + refusal(answer.faults)
+    answer.chosen.extend(([], place) for place in prefix.options)
+    uncovered, twice = answer.uncovered(tree.problem), answer.covered_twice(tree.problem)
+    if uncovered:
+        return "wrong: Uncovered " + shown(uncovered[0])
+    return "wrong: CoveredTwice " + shown(twice[0][0]) if twice else None
+
+
+def answered(number: int, text: bytes, tree: Tree, prefix: Prefix) -> Part:
+    """What the answer of a part says."""
+    lines = lines_of(text)
+    said = [[word.text for word in words] for words in lines]
+    if not said or said[0] == [b"no", b"answer"]:
+        return Part(number)
+    answer = Answer(lines[:-1] if said[-1] == [b"audit", b"clean"] else lines, tree.problem)
+    if answer.kind == "none" and not answer.faults:
+        return Part(number, is_none=True)
+    fault = wrong_in(answer, tree, prefix)
+    if fault:
+        return Part(number, fault=fault)
+    return Part(number, cover=cover_text(tree, [place for _, place in answer.chosen]))
+
+
+def read_part(folder: str, number: int, tree: Tree, prefix: Prefix) -> Part:
+    """What the answer of a part says, if there is one."""
+    path = path_in(folder, answer_name(number))
+    if not os.path.lexists(path):
+        return Part(number)
+    try:
+        part = answered(number, read_bytes(path), tree, prefix)
+    except Unreadable as why:
+        return Part(number, fault=str(why))
+    return part._replace(fault=f"{path} is {part.fault}") if part.fault else part
+
+
+def changed_in(path: str, text: bytes) -> Optional[str]:
+    """Why a file isn't what split.py writes."""
+    try:
+        return None if read_bytes(path) == text else f"{path} was changed: split.py writes something else"
+    except Unreadable as why:
+        return str(why)
+
+
+def compared(part: Part, folder: str, text: bytes) -> Part:
+    """A part whose answer counts only if its problem is what split.py writes; a cover of the whole was counted, and stays one."""
+    fault = changed_in(path_in(folder, part_name(part.number)), text)
+    return part._replace(is_none=False, fault=fault) if fault else part
+
+
+def number_in(folder: str) -> int:
+    """The number of parts that split.py was given."""
+    path = path_in(folder, LIST)
+    try:
+        head = re.match(rb"at least ([1-9][0-9]{0,5}) parts\n", read_bytes(path))
+    except Unreadable as why:
+        stop(why, 3)
+    if not head:
+        stop(f"{path} was changed: split.py writes something else", 3)
+    return int(head[1])
+
+
+def ranges(numbers: list[int]) -> str:
+    """Rising numbers, as 1-3,7."""
+    runs: list[list[int]] = []
+    for number in numbers:
+        if runs and runs[-1][-1] == number - 1:
+            runs[-1][1:] = [number]
+        else:
+            runs.append([number])
+    return ",".join("-".join(map(str, run)) for run in runs)
+
+
+def tell(faults: list[str]) -> None:
+    """Names what is wrong."""
+    for fault in faults[:MOST_NAMED]:
+        complain(fault)
+    if len(faults) > MOST_NAMED:
+        complain(f"and {len(faults) - MOST_NAMED} more")
+
+
+def outcome(tree: Tree, folder: str) -> tuple[Optional[bytes], list[Part]]:
+    """A cover, if there is one, and what there is of each part."""
+    number = number_in(folder)
+    found = split(tree, number)
+    fault = changed_in(path_in(folder, LIST), list_text(found, number))
+    if fault:
+        stop(fault, 3)
+    if found.cover:
+        return cover_text(tree, found.cover.options), []
+    parts = [compared(read_part(folder, number, tree, prefix), folder, text)
+             for number, (prefix, text) in enumerate(zip(found.parts, texts_of(tree, found)), 1)]
+    return next((part.cover for part in parts if part.cover), None), parts
+
+
+def status_of(cover: Optional[bytes], parts: list[Part], left: list[int]) -> int:
+    """The exit status."""
+    if cover:
+        return 0
+    if any(part.fault for part in parts):
+        return 3
+    return 4 if left else 1
+
+
+def main() -> int:
+    words = parser_of(__doc__)
+    words.add_argument("folder", metavar="FOLDER", help="the folder that split.py made")
+    words.add_argument("--left", action="store_true", help="write the paths of the parts that are still to be searched")
+    given = words.parse_args()
+    _, tree = read_tree(path_in(given.folder, WHOLE))
+    cover, parts = outcome(tree, given.folder)
+    left = [] if cover else [part.number for part in parts if not part.is_none and not part.fault]
+    status = status_of(cover, parts, left)
+    tell([part.fault for part in parts if part.fault])
+    if left:
+        complain(f"{len(left)} of {len(parts)} parts have no answer: {ranges(left)}")
+    if given.left:
+        print("".join(path_in(given.folder, part_name(number)) + "\n" for number in left), end="")
+    elif status != 3:
+        sys.stdout.buffer.write({0: cover or b"", 1: b"none\n", 4: b"no answer\n"}[status])
+    return status
+
+
+if __name__ == "__main__":
+    run(main)

@@ -1,0 +1,419 @@
+#!/usr/bin/env python3
+"""Tries split.py, join.py and run_part.sh.
+
+    python3 scripts/try_split.py [--short]
+
+Of 2,000 random problems (200 with --short), with secondary items and colours, the prefixes are compared with those of the branching of
+`plain_search.py`, and the covers of the parts, each with its prefix, with the covers of the whole: all of these are counted out. Two examples
+are compared with what was counted by hand. Then the parts of some problems are searched and joined, and `check` has to find the answer
+right; and parts and answers are deleted, changed, wrong, half written, and stopped by signals. Where GNU parallel is installed, it runs the parts
+too, is killed, and goes on.
+
+It wants the program: (cd crates/solve_cli && rt run -- --version) builds it. The last line is 'N passed, M failed'. The exit status is 0 where all
+passed, 1 where something failed, 2 for a mistake on the command line or where there is no program.
+"""
+from __future__ import annotations
+
+import glob
+import itertools
+import os
+import random
+import shutil
+import signal
+import subprocess
+import sys
+import tempfile
+import time
+from typing import NamedTuple, Optional
+
+from built import SOLVE_CLI, TOP, parser_of, want_program
+from cover_files import read_problem
+from expected import Trial
+from plain_search import Numbered, branching, live_options, read
+from search_parts import Split, Tree, list_text, places_in, split, texts_of
+
+PROGRAM = os.environ.get("ZARFEPOCH") or SOLVE_CLI
+RUN_PART = os.path.join(TOP, "scripts", "run_part.sh")
+EXAMPLES = os.path.join(TOP, "examples")
+trial = Trial()
+expect = trial.expect
+
+
+# ---- random problems
+
+def random_text(draw: random.Random) -> str:
+    """A problem of a few items, with comments, blank lines and ignored options; secondary items may have colours."""
+    primary = [f"p{k}" for k in range(draw.randint(1, 7))]
+    secondary = [f"s{k}" for k in range(draw.randint(0, 4))]
+    colours = draw.choice([[""], ["", ":a", ":a", ":b"], [":a", ":b"]])
+    size = draw.randint(1, 3)
+    lines = [primary + (["|"] + secondary if secondary else [])]
+    for place in range(draw.randint(len(primary), 13)):
+        others = draw.sample(primary, draw.randint(0, min(size, len(primary)) - 1))
+        words = list(dict.fromkeys([primary[place % len(primary)], *others])) if draw.random() < 0.95 else []
+        words += [item + draw.choice(colours) for item in draw.sample(secondary, draw.randint(0, min(3, len(secondary))))]
+        draw.shuffle(words)
+        lines += [words] + [words] * (draw.random() < 0.1) + [["| a comment"]] * (draw.random() < 0.1)
+    return "\n".join(draw.choice([" ", "\t", "  "]).join(words) for words in lines) + draw.choice(["", "\n", "\r\n\n"])
+
+
+def is_cover(primary: int, options: list[Numbered]) -> bool:
+    """Whether these options are an exact cover: each primary item once, each other once at most or always in one colour."""
+    uses: dict[int, list[Optional[bytes]]] = {}
+    for item, colour in (pair for option in options for pair in option.items()):
+        uses.setdefault(item, []).append(colour)
+    once = all(len(uses.get(item, [])) == 1 for item in range(primary))
+    return once and all(len(some) == 1 or None not in some and len(set(some)) == 1 for item, some in uses.items() if item >= primary)
+
+
+def covers_of(primary: int, options: list[Numbered]) -> list[frozenset[int]]:
+    """All exact covers, found by trying all sets of options."""
+    sets = itertools.chain.from_iterable(itertools.combinations(range(len(options)), size) for size in range(primary + 1))
+    return [frozenset(some) for some in sets if is_cover(primary, [options[place] for place in some])]
+
+
+class Taken(NamedTuple):
+    """What the plain branching takes a tree apart into."""
+    cover: Optional[list[int]]
+    parts: list[list[int]]
+    barren: list[list[int]]
+
+
+def taken_apart(primary: int, options: list[Numbered], number: int) -> Taken:
+    """The open and barren prefixes, breadth first, until there are so many open ones; or the first cover that is met."""
+    waiting, barren, born = [], [], [[]]  # type: list[list[int]], list[list[int]], list[list[int]]
+    while True:
+        for prefix in born:
+            choices = branching(primary, options, prefix)
+            if choices is None:
+                return Taken(prefix, [], [])
+            (waiting if choices else barren).append(prefix)
+        if not waiting or len(waiting) >= number:
+            return Taken(None, sorted(waiting), sorted(barren))
+        front = waiting.pop(0)
+        born = [front + [option] for option in branching(primary, options, front) or []]
+
+
+def numbers_of(found: Split) -> Taken:
+    """The prefixes of a split by the numbers of their options."""
+    parts, barren = ([list(prefix.options) for prefix in some] for some in (found.parts, found.barren))
+    return Taken(list(found.cover.options) if found.cover else None, parts, barren)
+
+
+def try_random(draw: random.Random) -> str:
+    """Tries one problem, and answers what its split came to."""
+    text, number = random_text(draw).encode(), draw.choice([1, 2, 2, 3, 3, 4, 30])
+    names, primary, options, _ = read(text)
+    tree = Tree(read_problem(text))
+    found, wanted = split(tree, number), taken_apart(primary, options, number)
+    expect(f"the prefixes of\n{text!r}", numbers_of(found) == wanted)
+    if numbers_of(found) != wanted:
+        return "other prefixes"
+    if wanted.cover is not None:
+        expect(f"the cover of\n{text!r}", is_cover(primary, [options[place] for place in wanted.cover]))
+        return "a cover"
+    covers = []
+    for prefix, part in zip(wanted.parts, texts_of(tree, found)):
+        live = live_options(primary, options, prefix)
+        refused = read_problem(part).faults
+        expect(f"a part that can be read: {part!r}", not refused)
+        if refused:
+            return "a refused part"
+        part_names, part_primary, part_options, ignored = read(part)
+        expect(f"no ignored option: {part!r}", not ignored)
+        expect(f"names and options as they were: {part!r}", [{part_names[item]: colour for item, colour in option.items()} for option in part_options]
+               == [{names[item]: colour for item, colour in options[place].items()} for place in live])
+        covers += [frozenset(prefix) | {live[place] for place in cover} for cover in covers_of(part_primary, part_options)]
+    whole = covers_of(primary, options)
+    expect(f"the covers of the parts of\n{text!r}", set(covers) == set(whole) and len(covers) == len(whole))
+    return "parts with covers" if covers else "parts without one" if wanted.parts else "no part"
+
+
+# ---- counts by hand
+
+COLOURED = b"""a b c d | x y
+a x:1 y
+a x:2
+b x:1
+b x:2 y
+c d
+c x:1
+d y
+"""
+COLOURED_PARTS = [
+    b"| part 1 of 2; its covers are completed by these options:\n| a x:1 y\nb c d | x\nb x:1\nc d\nc x:1\n",
+    b"| part 2 of 2; its covers are completed by these options:\n| a x:2\nb c d | x y\nb x:2 y\nc d\nd y\n",
+]
+COLOURED_LIST = b"at least 2 parts\npart 1: options 0\npart 2: options 1\n"
+LANGFORD_PREFIXES = [["4 s1 s6", "3 s3 s7"], ["4 s1 s6", "3 s4 s8"], ["4 s2 s7", "3 s1 s5"], ["4 s2 s7", "3 s4 s8"], ["4 s3 s8"]]
+# what the first prefix bars is gone: 4, 3, and all that name s1, s6, s3 or s7
+LANGFORD_FIRST = [b"1 2 s2 s4 s5 s8", b"1 s2 s4", b"2 s2 s5", b"2 s5 s8"]
+
+
+def by_hand() -> None:
+    """Two examples that were taken apart on paper."""
+    tree = Tree(read_problem(COLOURED))
+    found = split(tree, 2)
+    expect("the parts of the coloured example", list(texts_of(tree, found)) == COLOURED_PARTS)
+    expect("the list of the coloured example", list_text(found, 2) == COLOURED_LIST)
+    with open(os.path.join(EXAMPLES, "langford-4.dlx"), "rb") as file:
+        tree = Tree(read_problem(file.read()))
+    found = split(tree, 5)
+    words = [[tree.words(place).decode() for place in prefix.options] for prefix in found.parts]
+    expect("five prefixes of Langford pairs", words == LANGFORD_PREFIXES)
+    expect("the first part of Langford pairs", next(texts_of(tree, found)).split(b"\n")[3:-1] == LANGFORD_FIRST)
+    closed = split(Tree(read_problem(b"a b c\na\na b\nb\n")), 3)
+    expect("a file with an item in no option", list_text(closed, 3) == b"at least 3 parts\nclosed: options , no option is left for c\n")
+    expect("places in a set", places_in(0b10110) == [1, 2, 4])
+
+
+# ---- folders of parts
+
+class Ran(NamedTuple):
+    """How a command ended, and what it wrote."""
+    status: int
+    output: str
+    errors: str
+
+
+def ran(*words: str, program: str = PROGRAM) -> Ran:
+    """Runs a command, for which this is the program."""
+    done = subprocess.run(words, capture_output=True, text=True, env={**os.environ, "ZARFEPOCH": program}, stdin=subprocess.DEVNULL)
+    return Ran(done.returncode, done.stdout, done.stderr)
+
+
+def script(name: str, *words: str) -> Ran:
+    return ran(sys.executable, os.path.join(TOP, "scripts", name), *words)
+
+
+def example(name: str) -> str:
+    return os.path.join(EXAMPLES, name + ".dlx")
+
+
+def made(top: str, name: str, number: int) -> str:
+    """A folder with the parts of an example."""
+    folder = tempfile.mktemp(prefix="parts-", dir=top)
+    expect(f"{name} in {number} parts", script("split.py", example(name), "--parts", str(number), "--into", folder).status == 0)
+    return folder
+
+
+def parts_in(folder: str) -> list[str]:
+    """The parts of a folder by their numbers."""
+    return [os.path.join(folder, f"part-{number}.dlx") for number in range(1, 1 + len(glob.glob(os.path.join(folder, "part-*.dlx"))))]
+
+
+def answer_of(part: str) -> str:
+    return part[:-4] + ".answer"
+
+
+def write(path: str, text: str) -> None:
+    with open(path, "w", encoding="ascii") as file:
+        file.write(text)
+
+
+def text_of(path: str) -> str:
+    with open(path, encoding="ascii") as file:
+        return file.read()
+
+
+def joined(folder: str, top: str) -> Ran:
+    """What join.py says of a folder; `check` has to find an answer right."""
+    said = script("join.py", folder)
+    if said.status in (0, 1):
+        answer = os.path.join(top, "answer")
+        write(answer, said.output)
+        checked = ran(PROGRAM, "check", os.path.join(folder, "whole.dlx"), answer)
+        expect(f"the joined answer of {folder}: {checked}", (checked.status, checked.output) == (0, "right\n"))
+    return said
+
+
+def whole_searches(top: str) -> None:
+    """Examples of which all parts are searched, and joined: the answer is that of `alone`."""
+    for name, number in (("mutilated-chessboard", 30), ("tetrominoes-4x5", 20), ("langford-5", 6), ("queens-8", 20), ("fano-plane", 20),
+                         ("killer", 10), ("word-square", 3), ("squares-3x3", 2), ("sudoku", 500)):
+        folder = made(top, name, number)
+        ended = [ran(RUN_PART, part).status for part in parts_in(folder)]
+        alone, said = ran(PROGRAM, "alone", example(name)), joined(folder, top)
+        expect(f"{name} joined: {said}", said.status == alone.status and said.output.split("\n")[0].split()[0] == alone.output.split()[0])
+        expect(f"{name} by its parts: {ended}", not ended or (0 in ended) == (said.status == 0))
+        expect(f"nothing left of {name}", script("join.py", folder, "--left").output == "")
+        shutil.rmtree(folder)
+
+
+def damaged_parts(top: str) -> None:
+    """A board without a cover, of whose parts one is damaged at a time."""
+    folder = made(top, "mutilated-chessboard", 6)
+    parts = parts_in(folder)
+    expect("no answer yet", joined(folder, top)[:2] == (4, "no answer\n"))
+    expect("all are left", script("join.py", folder, "--left").output.split() == parts)
+    for part in parts[:-1]:
+        expect("a part", ran(RUN_PART, part).status == 1)
+    said = joined(folder, top)
+    expect(f"one is left: {said}", (said.status, f"1 of {len(parts)} parts have no answer: {len(parts)}\n" in said.errors) == (4, True))
+    expect("one path", script("join.py", folder, "--left").output.split() == parts[-1:])
+    expect("the last part", ran(RUN_PART, parts[-1]).status == 1)
+    expect("none", joined(folder, top) == (1, "none\n", ""))
+    whole, listed = os.path.join(folder, "whole.dlx"), os.path.join(folder, "parts.txt")
+    for path in (parts[2], whole, listed):
+        was = text_of(path)
+        for what, text in (("a line less", "\n".join(was.split("\n")[:-2]) + "\n"), ("a line more", was + "x\n"), ("nothing", "")):
+            write(path, text)
+            said = joined(folder, top)
+            expect(f"{path} with {what}: {said}", (said.status, said.output) == (3, "") and (path in said.errors or what == "a line less"))
+        os.remove(path)
+        said = joined(folder, top)
+        expect(f"{path} is missing: {said}", (said.status, said.output) == (3, "") and path in said.errors)
+        write(path, was)
+    expect("all as it was", joined(folder, top) == (1, "none\n", ""))
+    shutil.rmtree(folder)
+
+
+def damaged_answers(top: str) -> None:
+    """Answers that are none, each in place of a part's `none`."""
+    folder = made(top, "mutilated-chessboard", 6)
+    parts = parts_in(folder)
+    for part in parts:
+        write(answer_of(part), "none\n")
+    path, first = answer_of(parts[3]), text_of(os.path.join(folder, "whole.dlx")).split("\n")[-2]
+    clashing = text_of(parts[3]).split("\n")[1][2:]
+    for text, said, status in (
+            ("", "4", 4), ("no answer\n", "4", 4), ("\n\n", "4", 4), ("none\naudit clean\n", "", 1), ("none", "", 1),
+            ("non", "refused: BadHead", 3), ("cover 5\n" + first + "\n", "refused: WrongCount", 3), ("none\nnone\n", "refused: WrongCount", 3),
+            ("none\naudit unclean: MissingBook node 1 incarnation 1\n", "refused: WrongCount", 3),
+            ("cover 1\nx y\n", "refused: UnknownOption line 2", 3), ("cover 1\n" + first + "\n", "wrong: Uncovered", 3),
+            ("cover 0\n", "wrong: Uncovered", 3), ("cover 1\n" + clashing + "\n", "wrong: ", 3)):
+        write(path, text)
+        got = joined(folder, top)
+        expect(f"{text!r}: {got}", got.status == status and said in got.errors and (path in got.errors) == (status == 3))
+    os.remove(path)
+    os.mkdir(path)
+    got = joined(folder, top)
+    expect(f"a folder for an answer: {got}", got.status == 3 and path in got.errors)
+    shutil.rmtree(folder)
+
+
+def covers_win(top: str) -> None:
+    """A cover of one part is one of the whole, whatever there is of the others."""
+    folder = made(top, "queens-8", 20)
+    parts = parts_in(folder)
+    found = next(part for part in parts if ran(RUN_PART, part).status == 0)
+    for part in parts:
+        if part != found and os.path.exists(answer_of(part)):
+            os.remove(answer_of(part))
+    said = joined(folder, top)
+    expect(f"a cover: {said}", said[::2] == (0, "") and said.output.startswith("cover 8\n"))
+    os.remove(parts[-1])
+    write(answer_of(parts[-2]), "cover 1\n")
+    said = joined(folder, top)
+    expect(f"a cover beside two that are damaged: {said}", said.status == 0 and parts[-1] in said.errors and answer_of(parts[-2]) in said.errors)
+    os.remove(found)
+    expect("a cover of a part that is missing", joined(folder, top).status == 0)
+    text = text_of(answer_of(found))
+    os.remove(answer_of(found))
+    write(answer_of(parts[-3]), text)
+    said = joined(folder, top)
+    expect(f"a cover of another part: {said}", said.status == 3 and "wrong: " in said.errors)
+    shutil.rmtree(folder)
+
+
+def odd_words(top: str) -> None:
+    """Mistakes on the command lines, and files and folders that can't be used."""
+    file, folder, missing = example("queens-8"), os.path.join(top, "odd"), os.path.join(top, "missing")
+    for number in ("0", "-1", "x", "10001", "1.5"):
+        expect(f"{number} parts", script("split.py", file, "--parts", number, "--into", folder).status == 2)
+    expect("no number", script("split.py", file, "--into", folder).status == 2)
+    expect("no folder", script("split.py", file, "--parts", "3").status == 2)
+    refused = os.path.join(top, "refused.dlx")
+    write(refused, "a b\na c\n")
+    said = script("split.py", refused, "--parts", "3", "--into", folder)
+    expect(f"a refused file: {said}", said.status == 3 and "UnknownItem line 2" in said.errors and not os.path.exists(folder))
+    expect("no file", script("split.py", missing, "--parts", "3", "--into", folder).status == 3)
+    expect("a folder of no folder", script("split.py", file, "--parts", "3", "--into", os.path.join(missing, "x")).status == 3)
+    os.mkdir(folder)
+    expect("an empty folder", script("split.py", file, "--parts", "3", "--into", folder).status == 0)
+    before = {name: text_of(os.path.join(folder, name)) for name in os.listdir(folder)}
+    said = script("split.py", example("langford-4"), "--parts", "3", "--into", folder)
+    expect(f"a folder in use: {said}", said.status == 3 and before == {name: text_of(os.path.join(folder, name)) for name in os.listdir(folder)})
+    expect("nothing else was made", sorted(os.listdir(top)) == ["odd", "refused.dlx"])
+    for words in ((), (folder, folder), ("--right", folder)):
+        expect(f"join.py {words}", script("join.py", *words).status == 2)
+    expect("no folder to join", script("join.py", missing).status == 3)
+    for words in ((), ("--help",), (file[:-4],)):
+        expect(f"run_part.sh {words}", ran(RUN_PART, *words).status == 2)
+    expect("no part", ran(RUN_PART, missing + ".dlx").status == 3)
+    expect("no program", ran(RUN_PART, parts_in(folder)[0], program=missing).status == 2)
+    expect("words for the program", ran(RUN_PART, parts_in(folder)[0], "solve", "--nodes", "1").status in (0, 1))
+    expect("a search without an answer", ran(RUN_PART, parts_in(folder)[1], "alone", "--fuel", "1").status == 4)
+    expect("leaves nothing", sorted(os.listdir(folder)) == sorted([*before, "part-1.answer"]))
+    shutil.rmtree(folder)
+
+
+# ---- searches that are stopped
+
+SLOW = """#!/bin/sh
+echo cover 5
+sleep {seconds}
+exec {program} "$@"
+"""
+
+
+def stopped(top: str) -> None:
+    """Searches that a signal ends in the middle of an answer, and that go on afterwards."""
+    folder, slow = made(top, "mutilated-chessboard", 6), os.path.join(top, "slow")
+    write(slow, SLOW.format(seconds=60, program=PROGRAM))
+    os.chmod(slow, 0o755)
+    for number, kill in ((1, signal.SIGTERM), (2, signal.SIGINT), (3, signal.SIGHUP), (4, signal.SIGKILL)):
+        part = os.path.join(folder, f"part-{number}.dlx")
+        with subprocess.Popen([RUN_PART, part], env={**os.environ, "ZARFEPOCH": slow}, start_new_session=True) as run:
+            while not any(map(os.path.getsize, glob.glob(answer_of(part) + ".*"))):
+                time.sleep(0.02)
+            os.killpg(run.pid, kill) if kill == signal.SIGKILL else run.send_signal(kill)
+            status = run.wait(10)
+        expect(f"no answer after {kill.name}", status == (-9 if kill == signal.SIGKILL else 143) and not os.path.exists(answer_of(part)))
+        expect(f"what {kill.name} leaves", len(glob.glob(answer_of(part) + ".*")) == (kill == signal.SIGKILL))
+    expect("still none", joined(folder, top)[:2] == (4, "no answer\n"))
+    for part in parts_in(folder):
+        expect("the search goes on", ran(RUN_PART, part).status == 1)
+        expect("no part is searched twice", ran(RUN_PART, part, program="/bin/false").status == 1)
+    expect("joined after a stop", joined(folder, top) == (1, "none\n", ""))
+    shutil.rmtree(folder)
+
+
+def by_parallel(top: str) -> None:
+    """GNU parallel runs the parts, is stopped, and goes on where it was."""
+    folder, slow = made(top, "mutilated-chessboard", 12), os.path.join(top, "slow")
+    write(slow, "#!/bin/sh\nsleep 0.3\nexec " + PROGRAM + ' "$@"\n')
+    os.chmod(slow, 0o755)
+    words = (f"{sys.executable} {TOP}/scripts/join.py {folder} --left | "
+             f"parallel --will-cite --jobs 2 --joblog +{folder}/log --halt now,success=1 {RUN_PART}")
+    with subprocess.Popen(["sh", "-c", words], env={**os.environ, "ZARFEPOCH": slow}, stderr=subprocess.DEVNULL, start_new_session=True) as run:
+        while run.poll() is None and len(glob.glob(os.path.join(folder, "*.answer"))) < 3:
+            time.sleep(0.02)
+        os.killpg(run.pid, signal.SIGTERM)
+    expect("some are left", joined(folder, top).status == 4)
+    again = ran("sh", "-c", words, program=slow)
+    expect(f"all parts were run: {again}", joined(folder, top) == (1, "none\n", ""))
+    runs = [line.split("\t")[8] for line in text_of(os.path.join(folder, "log")).split("\n") if line.count("\t") == 8 and line[0] != "S"]
+    expect(f"no part twice in the log: {runs}", len(runs) == len(set(runs)) >= len(parts_in(folder)) - 2)
+    shutil.rmtree(folder)
+
+
+def main() -> int:
+    parser = parser_of(__doc__)
+    parser.add_argument("--short", action="store_true", help="200 random problems in place of 2,000")
+    count = 200 if parser.parse_args().short else 2000
+    want_program(PROGRAM)
+    came_to = [try_random(random.Random(seed)) for seed in range(count)]
+    by_hand()
+    if not shutil.which("parallel"):
+        print("GNU parallel isn't installed, and isn't tried")
+    with_parallel = [by_parallel] if shutil.which("parallel") else []
+    for trials in (odd_words, whole_searches, damaged_parts, damaged_answers, covers_win, stopped, *with_parallel):
+        with tempfile.TemporaryDirectory() as top:
+            trials(top)
+    print(f"{count} random problems:", ", ".join(f"{came_to.count(what)} {what}" for what in sorted(set(came_to))))
+    return trial.end()
+
+
+if __name__ == "__main__":
+    sys.exit(main())
