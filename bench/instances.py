@@ -11,10 +11,10 @@ import random
 import sys
 
 HERE = os.path.dirname(os.path.abspath(__file__))
-sys.path[:0] = [os.path.join(HERE, "..", folder) for folder in ("examples", "scripts")]
+sys.path.insert(0, os.path.join(HERE, "..", "scripts"))
 from built import parser_of, stop  # noqa: E402
-from generate import PENTOMINOES, langford, orientations, rectangle, shape  # noqa: E402
-import generate  # noqa: E402
+from zarfepoch.generate import PENTOMINOES, langford, orientations, rectangle, shape  # noqa: E402
+from zarfepoch import generate  # noqa: E402
 
 
 # 479 words of four letters

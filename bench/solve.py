@@ -21,9 +21,9 @@ import tempfile
 import time
 
 HERE = os.path.dirname(os.path.abspath(__file__))
-sys.path[:0] = [os.path.join(HERE, "..", folder) for folder in ("examples", "scripts")]
-import generate  # noqa: E402
+sys.path.insert(0, os.path.join(HERE, "..", "scripts"))
 from built import number_from_one, parser_of, SOLVE_CLI, stop, want_program  # noqa: E402
+from zarfepoch import generate  # noqa: E402
 
 NAMES = ["langford-13", "langford-13-long", "torus-queens-15", "skewed", "skewed-long", "diamond", "pentominoes-3x20", "sudoku-hard", "mutilated-chessboard"]
 # nodes, workers

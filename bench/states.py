@@ -21,9 +21,9 @@ import sys
 import tempfile
 
 HERE = os.path.dirname(os.path.abspath(__file__))
-sys.path[:0] = [os.path.join(HERE, "..", folder) for folder in ("examples", "scripts")]
-import generate  # noqa: E402
+sys.path.insert(0, os.path.join(HERE, "..", "scripts"))
 from built import SOLVE_CLI, TWO_SEARCHES, number_from_one, parser_of, stop, want_program  # noqa: E402
+from zarfepoch import generate  # noqa: E402
 
 GREATEST = str(2 ** 64 - 1)
 BOARDS = (8, 10, 12, 14, 16, 18, 20)

@@ -1,15 +1,17 @@
-"""Where the built programs are, and what a script prints if one is missing. For the scripts and benches that run them."""
+"""Where the built programs are, and what a script prints if one is missing. For the scripts and benches that run them.
+
+It puts the folder python on the path, so that a script imports it before the package zarfepoch.
+"""
 from __future__ import annotations
 
-import argparse
 import os
-import re
 import shutil
-from typing import Optional
-
-from cover_files import stop as stop
+import sys
 
 TOP = os.path.dirname(os.path.dirname(os.path.abspath(__file__)))
+sys.path.insert(0, os.path.join(TOP, "python"))
+from zarfepoch.command_words import number_from_one as number_from_one, parser_of as parser_of  # noqa: E402
+from zarfepoch.cover_files import stop as stop  # noqa: E402
 
 
 def program_of(crate: str) -> str:
@@ -19,18 +21,6 @@ def program_of(crate: str) -> str:
 
 SOLVE_CLI, WORKBENCH, RUN_TALLY, WORLD_STORY = map(program_of, ("solve_cli", "workbench", "run_tally", "world_story"))
 TWO_SEARCHES = program_of("two_searches")
-
-
-def parser_of(text: Optional[str]) -> argparse.ArgumentParser:
-    """A command line whose help is this text as it stands."""
-    return argparse.ArgumentParser(description=text, formatter_class=argparse.RawDescriptionHelpFormatter)
-
-
-def number_from_one(text: str) -> int:
-    """A number from 1 on the command line."""
-    if not re.fullmatch("[1-9][0-9]*", text):
-        raise argparse.ArgumentTypeError(f"'{text}' is no number from 1")
-    return int(text)
 
 
 def want_program(program: str, crate: str = "solve_cli") -> None:

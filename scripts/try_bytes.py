@@ -15,7 +15,7 @@ import re
 import sys
 
 from built import parser_of, TOP
-from cover_files import read_answer, read_problem
+from zarfepoch.cover_files import read_answer, read_problem
 
 PACKETS = """
     434e0104 0000000001 0200000001 00000000 00000001 0000

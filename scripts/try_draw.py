@@ -21,14 +21,13 @@ import tempfile
 import xml.etree.ElementTree as tree
 
 from built import parser_of, SOLVE_CLI, TOP, want_program
+from expected import Trial
+from zarfepoch import generate
+from zarfepoch.cover_files import read_problem
+from zarfepoch.picture_kinds import picture_of
+from zarfepoch.svg_paper import Paper
 
 EXAMPLES = os.path.join(TOP, "examples")
-sys.path.insert(0, EXAMPLES)
-import generate  # noqa: E402
-from cover_files import read_problem  # noqa: E402
-from expected import Trial  # noqa: E402
-from picture_kinds import picture_of  # noqa: E402
-from svg_paper import Paper  # noqa: E402
 
 HOLE = ["pentominoes", "8x8", "--without", "3,3", "3,4", "4,3", "4,4"]
 SUDOKU = "..............3.85..1.2.......5.7.....4...1...9.......5......73..2.1........4...9"

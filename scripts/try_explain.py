@@ -23,8 +23,8 @@ import subprocess
 import sys
 import tempfile
 
-import explain
 from built import parser_of, SOLVE_CLI, TOP, want_program
+from zarfepoch import explain
 
 FAULTS = ["NoItems", "IllegalByte", "NameTooLong", "BadColour", "DuplicateItem", "SecondBar", "UnknownItem", "DuplicateInOption",
           "ColourOnPrimary", "TooManyItems", "TooManyOptions", "TooManyNodes", "TooManyColours", "BadHead", "WrongCount",

@@ -19,7 +19,7 @@ import tempfile
 import drawn_puzzles
 from built import number_from_one, parser_of, SOLVE_CLI, TOP, want_program
 from expected import Trial
-from full_names import full_name, full_names, named_numbers
+from zarfepoch.full_names import full_name, full_names, named_numbers
 from school_rules import faults, school
 
 HEAD = "lesson,teacher,class,rooms,periods"

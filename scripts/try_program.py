@@ -16,8 +16,8 @@ import subprocess
 import sys
 import tempfile
 
-import zarfepoch
 from built import parser_of, SOLVE_CLI, TOP, want_program
+import zarfepoch
 from expected import Trial
 
 PROGRAM = SOLVE_CLI

@@ -20,10 +20,10 @@ import subprocess
 import sys
 import tempfile
 
-import check_reason
 from built import SOLVE_CLI, TOP, number_from_one, parser_of, want_program
-from cover_files import read_problem
-from cover_reason import Reason
+from zarfepoch import check_reason
+from zarfepoch.cover_files import read_problem
+from zarfepoch.cover_reason import Reason
 from expected import Trial
 from plain_search import read, search
 

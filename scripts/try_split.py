@@ -27,10 +27,10 @@ import time
 from typing import NamedTuple, Optional
 
 from built import SOLVE_CLI, TOP, parser_of, want_program
-from cover_files import read_problem
+from zarfepoch.cover_files import read_problem
 from expected import Trial
 from plain_search import Numbered, branching, live_options, read
-from search_parts import Split, Tree, list_text, places_in, split, texts_of
+from zarfepoch.search_parts import Split, Tree, list_text, places_in, split, texts_of
 
 PROGRAM = os.environ.get("ZARFEPOCH") or SOLVE_CLI
 RUN_PART = os.path.join(TOP, "scripts", "run_part.sh")

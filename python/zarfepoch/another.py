@@ -1,4 +1,3 @@
-#!/usr/bin/env python3
 """Writes a problem whose covers are those of a file that aren't given: it has none where the given ones are all.
 
     python3 examples/another.py FILE ANSWER .. > OTHER
@@ -11,14 +10,12 @@ can't be written.
 """
 from __future__ import annotations
 
-import argparse
-import os
 import sys
 from collections.abc import Iterator
 
-sys.path.insert(0, os.path.join(os.path.dirname(os.path.abspath(__file__)), "..", "scripts"))
-from cover_files import lines_of, MAX_ITEMS, MAX_OPTIONS, Problem, read_audited, read_bytes, read_problem, refusal, run  # noqa: E402
-from cover_files import stop, Unreadable  # noqa: E402
+from .command_words import parser_of
+from .cover_files import lines_of, MAX_ITEMS, MAX_OPTIONS, Problem, read_audited, read_bytes, read_problem, refusal, run
+from .cover_files import stop, Unreadable
 
 # the words of an option
 Words = tuple[bytes, ...]
@@ -62,7 +59,7 @@ def other_lines(problem: Problem, answers: list[list[Words]], other: bytes) -> I
 
 
 def main() -> int:
-    parser = argparse.ArgumentParser(description=__doc__, formatter_class=argparse.RawDescriptionHelpFormatter)
+    parser = parser_of(__doc__)
     parser.add_argument("file", metavar="FILE", help="the problem's file")
     parser.add_argument("answers", metavar="ANSWER", nargs="+", help="an answer's file, or - for the standard input")
     given = parser.parse_args()

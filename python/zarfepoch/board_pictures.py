@@ -5,8 +5,8 @@ import functools
 import re
 from collections.abc import Callable
 
-from picture_base import Cell, CELL, cell_of, is_connected, Kind, LARGEST, sheet_cell_of, without_order
-from svg_paper import Board, FILLS, MARGIN, Paper, WIDEST
+from .picture_base import Cell, CELL, cell_of, is_connected, Kind, LARGEST, sheet_cell_of, without_order
+from .svg_paper import Board, FILLS, MARGIN, Paper, WIDEST
 
 
 def piece_of(name: str) -> str:

@@ -1,4 +1,3 @@
-#!/usr/bin/env python3
 """Adds up a reason that `solve_cli why FILE` gives for `none`, and says whether it holds.
 
     python3 scripts/check_reason.py FILE REASON
@@ -9,8 +8,9 @@ each option brings as much room as it needs, all needs together are at most all 
 
 The exit status is 0 where the reason holds, 1 where it doesn't, 2 for a mistake on the command line, 3 for a file that can't be read.
 """
-import argparse
 import sys
+
+from .command_words import parser_of
 
 
 def check(problem, reason):
@@ -50,7 +50,7 @@ def lines_of(path):
 
 
 def main():
-    parser = argparse.ArgumentParser(description=__doc__, formatter_class=argparse.RawDescriptionHelpFormatter)
+    parser = parser_of(__doc__)
     parser.add_argument("file", metavar="FILE")
     parser.add_argument("reason", metavar="REASON")
     given = parser.parse_args()

@@ -13,6 +13,8 @@ import signal
 import sys
 from typing import BinaryIO, Callable, Iterator, NamedTuple, NoReturn, Optional, Sequence, Union
 
+from .command_words import as_called
+
 BAR, COLON, ILLEGAL = b"|", b":", b"\0:|"
 WITHOUT_LINE = {"NoItems", "BadHead", "WrongCount"}
 # kept options take some 15 MB at the limits below; a file of far more, by comments and options that are ignored, is not read here
@@ -346,15 +348,20 @@ def refusal(faults: Sequence[Fault]) -> str:
 
 
 def put(path: str, text: str) -> None:
+    """Writes a text into a file, whole or not at all."""
+    put_bytes(path, text.encode("utf-8"))
+
+
+def put_bytes(path: str, text: bytes) -> None:
     """Writes a file whole or not at all; what is no plain file, as a device or a pipe, is written as it stands."""
     if os.path.exists(path) and not os.path.isfile(path):
-        with open(path, "w", encoding="utf-8") as file:
+        with open(path, "wb") as file:
             file.write(text)
         return
     path = os.path.realpath(path)
     part = path + ".part"
     try:
-        with open(part, "w", encoding="utf-8") as file:
+        with open(part, "wb") as file:
             file.write(text)
         if os.path.exists(path):
             shutil.copymode(path, part)
@@ -367,7 +374,7 @@ def put(path: str, text: str) -> None:
 def complain(why: object) -> None:
     """Writes a line on standard error, if that is open."""
     if sys.stderr is not None:
-        print(f"{os.path.basename(sys.argv[0]).removesuffix('.py')}: {why}", file=sys.stderr)
+        print(as_called(f"{os.path.basename(sys.argv[0]).removesuffix('.py')}: {why}"), file=sys.stderr)
 
 
 def stop(why: object, status: int = 2) -> NoReturn:

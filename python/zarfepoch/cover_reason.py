@@ -7,8 +7,8 @@ import re
 import subprocess
 from math import gcd
 
-from cover_files import shown, stop
-from fault_words import listed, plural, quoted
+from .cover_files import shown, stop
+from .fault_words import listed, plural, quoted
 
 SHOWN = 12
 LINE = re.compile(rb"(weigh|need|room) ([0-9]+) (\S+)")

@@ -1,4 +1,3 @@
-#!/usr/bin/env python3
 """Draws an answer to a problem file: as text in the terminal, and as a picture in SVG.
 
     python3 scripts/draw.py FILE ANSWER [--svg OUT] [--plan NAME ..]
@@ -23,13 +22,13 @@ numbers mean (`| name 7: Mathematics for beginners`). Where a comment contradict
 The picture shows what the answer says; whether that is right is for the program to say (solve_cli check FILE ANSWER). The
 exit status is 0, 2 for a mistake on the command line, 3 for a file or an answer that can't be read, or a picture that can't be written.
 """
-import argparse
 import sys
 
-from cover_files import Unreadable, complain, put, read_audited, read_bytes, read_problem, refusal, run, shown, stop
-from picture_kinds import picture_of
-from svg_paper import Paper
-from timetable_pictures import Timetable
+from .command_words import parser_of
+from .cover_files import Unreadable, complain, put, read_audited, read_bytes, read_problem, refusal, run, shown, stop
+from .picture_kinds import picture_of
+from .svg_paper import Paper
+from .timetable_pictures import Timetable
 
 
 def title_of(text, file):
@@ -80,7 +79,7 @@ def planned(picture, words):
 
 
 def main():
-    parser = argparse.ArgumentParser(description=__doc__, formatter_class=argparse.RawDescriptionHelpFormatter)
+    parser = parser_of(__doc__)
     parser.add_argument("file", metavar="FILE", help="the problem's file, or - for the standard input")
     parser.add_argument("answer", metavar="ANSWER", help="the answer's file, or - for the standard input")
     parser.add_argument("--svg", metavar="OUT", help="where the picture is written, - for the standard output")

@@ -2,8 +2,8 @@
 other items that count; or these alone, where the items are no cells of a board."""
 import re
 
-from cover_files import shown
-from svg_paper import FAINT, FILLS, Paper, text_width
+from .cover_files import shown
+from .svg_paper import FAINT, FILLS, Paper, text_width
 
 CELL, CHIP, SIZE = 34, 26, 13
 A_ROW, LARGEST = 8, 1_000

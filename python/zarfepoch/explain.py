@@ -1,4 +1,3 @@
-#!/usr/bin/env python3
 """Explains a problem file, and an answer to it: lists the mistakes, or what the file has.
 
     python3 scripts/explain.py FILE [ANSWER]
@@ -14,15 +13,15 @@ item that is covered twice the options that do it, with the colours that they gi
 It explains and decides nothing: whether an answer is right, and above all `none`, only the program can say. The exit status is 0 if
 nothing is wrong, 1 if something is, 2 for a mistake on the command line, 3 for a file that can't be read.
 """
-import argparse
 import os
 
-from built import SOLVE_CLI
-from cover_files import MAX_COLOURS, MAX_ITEMS, MAX_OCCURRENCES, MAX_OPTIONS, TooLarge, Unreadable
-from cover_files import is_comment, lines_of, Problem, read_answer, read_bytes, read_problem, refusal, run, shown
-from cover_reason import found_reason
-from fault_words import answer_fault_words, fault_words, grouped, listed, plural, quoted
-from full_names import named_numbers
+from .command_words import parser_of
+from .cover_files import MAX_COLOURS, MAX_ITEMS, MAX_OCCURRENCES, MAX_OPTIONS, TooLarge, Unreadable
+from .cover_files import is_comment, lines_of, Problem, read_answer, read_bytes, read_problem, refusal, run, shown
+from .cover_reason import found_reason
+from .fault_words import answer_fault_words, fault_words, grouped, listed, plural, quoted
+from .full_names import named_numbers
+from .programs import known_program
 
 SAYS = "the program says: "
 BY_SEARCH = "that there is no cover is decided by the program's search alone"
@@ -155,7 +154,8 @@ def forced_clashes(problem, by_item):
 
 def room_words(problem, text):
     """Lines on primary items that need more than there is room for, where the program finds such."""
-    reason = found_reason(SOLVE_CLI, text) if os.access(SOLVE_CLI, os.X_OK) else None
+    program = known_program()
+    reason = found_reason(program, text) if program else None
     if reason and not reason.modulus and reason.rooms and reason.holds(problem):
         first, *others = reason.words(problem)
         yield f"{first}, so there is no cover"
@@ -329,7 +329,7 @@ def explain(text, answer_text=None):
 
 
 def main(words=None):
-    parser = argparse.ArgumentParser(description=__doc__, formatter_class=argparse.RawDescriptionHelpFormatter)
+    parser = parser_of(__doc__)
     parser.add_argument("file", metavar="FILE", help="the problem's file, or - for the standard input")
     parser.add_argument("answer", metavar="ANSWER", nargs="?", help="an answer to it, as the program writes or checks it, or -")
     given = parser.parse_args(words)

@@ -1,7 +1,7 @@
 """What each fault of a problem file or of an answer means, in words, with what was expected and the nearest name there is."""
 import difflib
 
-from cover_files import MAX_COLOURS, MAX_ITEMS, MAX_NAME, MAX_OCCURRENCES, MAX_OPTIONS, is_audit, name_part, option_of, parts_of, shown
+from .cover_files import MAX_COLOURS, MAX_ITEMS, MAX_NAME, MAX_OCCURRENCES, MAX_OPTIONS, is_audit, name_part, option_of, parts_of, shown
 
 FEW = 12
 # faults that aren't told where the same word has an earlier one

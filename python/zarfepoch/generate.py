@@ -1,4 +1,3 @@
-#!/usr/bin/env python3
 """Makes problem files of the kinds that stand in this folder.
 
     python3 examples/generate.py KIND .. > FILE    writes a problem of this kind on the standard output
@@ -49,18 +48,17 @@ import os
 import re
 import sys
 
-HERE = os.path.dirname(os.path.abspath(__file__))
-sys.path.insert(0, os.path.join(HERE, "..", "scripts"))
-import grids  # noqa: E402
-import puzzles  # noqa: E402
-import sudokus  # noqa: E402
-import timetables  # noqa: E402
-from cover_files import MAX_COLOURS, MAX_ITEMS, MAX_NAME, MAX_OCCURRENCES, MAX_OPTIONS, put, run, shown, stop  # noqa: E402
-from pieces import filled, named_pieces, read_board, read_pieces  # noqa: E402
-from puzzle_texts import blocks_of, no_cover, read_text, refuse, rows_of, UNREADABLE, words_of  # noqa: E402
+from .command_words import parser_of
+from . import grids
+from . import puzzles
+from . import sudokus
+from . import timetables
+from .cover_files import MAX_COLOURS, MAX_ITEMS, MAX_NAME, MAX_OCCURRENCES, MAX_OPTIONS, put, run, shown, stop
+from .pieces import filled, named_pieces, read_board, read_pieces
+from .puzzle_texts import blocks_of, no_cover, read_text, refuse, rows_of, UNREADABLE, words_of
 
-# where the texts are that examples are made from
-TEXTS = HERE
+# where examples are written in a clone, and where the texts are that they are made from
+HERE = TEXTS = os.path.join(os.path.dirname(os.path.abspath(__file__)), "..", "..", "examples")
 # where the command line wants the problem, if not on the standard output
 OUT = []
 # the exit status for a problem that is refused: 3 where it was made of a file
@@ -515,7 +513,7 @@ def make(given, given_words):
 
 
 def command_line():
-    parser = argparse.ArgumentParser(description=__doc__, formatter_class=argparse.RawDescriptionHelpFormatter)
+    parser = parser_of(__doc__)
     kinds = parser.add_subparsers(dest="kind", metavar="KIND")
     for kind, what in (("queens", "rows and columns"), ("langford", "the greatest number"), ("triples", "the number of points")):
         kinds.add_parser(kind).add_argument("n", metavar="N", type=whole_number, help=what)
@@ -591,8 +589,10 @@ def main():
         OUT[:] = [given.out] if given.out else []
         STATUS[0] = UNREADABLE if hasattr(given, "file") or given.kind == "sudoku" else 2
         make(given, sys.argv[1:])
-    else:
+    elif os.path.isdir(TEXTS):
         examples()
+    else:
+        stop("a KIND is missing; --help lists all of them")
     return 0
 
 

@@ -4,8 +4,8 @@ from __future__ import annotations
 import itertools
 import re
 
-from picture_base import Cell, CELL, cell_of, Kind, LARGEST, Names
-from svg_paper import ACCENT, Board, FAINT, INK, Paper
+from .picture_base import Cell, CELL, cell_of, Kind, LARGEST, Names
+from .svg_paper import ACCENT, Board, FAINT, INK, Paper
 
 WHITE, BLACK = "#fffdf8", "#3a3f47"
 

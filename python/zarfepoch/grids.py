@@ -6,10 +6,10 @@ import re
 from collections.abc import Iterable
 from typing import Optional
 
-from cover_files import MAX_OPTIONS
-from puzzle_texts import blocks_of, no_cover, Puzzle, refuse
-from puzzles import cell_names
-from sudokus import cells_by_letter, letters_of
+from .cover_files import MAX_OPTIONS
+from .puzzle_texts import blocks_of, no_cover, Puzzle, refuse
+from .puzzles import cell_names
+from .sudokus import cells_by_letter, letters_of
 
 # a cell by row and column; the sum below a black cell and the one on its right
 Cell = tuple[int, int]

@@ -1,4 +1,3 @@
-#!/usr/bin/env python3
 """Joins the answers of a search's parts, which scripts/split.py wrote, to the answer of the whole.
 
     python3 scripts/join.py FOLDER [--left]
@@ -21,9 +20,9 @@ import re
 import sys
 from typing import NamedTuple, Optional
 
-from built import parser_of
-from cover_files import Answer, Unreadable, complain, lines_of, read_bytes, refusal, run, shown, stop
-from search_parts import LIST, WHOLE, Prefix, Tree, answer_name, cover_text, list_text, part_name, path_in, read_tree, split, texts_of
+from .command_words import parser_of
+from .cover_files import Answer, Unreadable, complain, lines_of, read_bytes, refusal, run, shown, stop
+from .search_parts import LIST, WHOLE, Prefix, Tree, answer_name, cover_text, list_text, part_name, path_in, read_tree, split, texts_of
 
 # so many faults are named; of the others only the number is given
 MOST_NAMED = 20

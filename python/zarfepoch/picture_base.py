@@ -4,8 +4,8 @@ from __future__ import annotations
 import re
 from collections.abc import Iterable
 
-from cover_files import Option, Problem, shown
-from svg_paper import folded, MARGIN, Paper, WIDEST
+from .cover_files import Option, Problem, shown
+from .svg_paper import folded, MARGIN, Paper, WIDEST
 
 # the names of an option; a cell by row and column
 Names = tuple[str, ...]

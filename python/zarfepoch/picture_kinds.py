@@ -3,14 +3,14 @@ import itertools
 import math
 import re
 
-from board_pictures import Layers, Tiling
-from full_names import full_names
-from grid_pictures import Kakuro, Nonogram, Stars, Words
-from picture_base import CELL, cell_of, draw_lines, Kind, KNOWN_COLOURS
-from planar import places
-from sudoku_pictures import Sudoku
-from svg_paper import ACCENT, BACKGROUND, FAINT, FILLS, INK, on_circle, table_text, text_width, WIDEST
-from timetable_pictures import Timetable
+from .board_pictures import Layers, Tiling
+from .full_names import full_names
+from .grid_pictures import Kakuro, Nonogram, Stars, Words
+from .picture_base import CELL, cell_of, draw_lines, Kind, KNOWN_COLOURS
+from .planar import places
+from .sudoku_pictures import Sudoku
+from .svg_paper import ACCENT, BACKGROUND, FAINT, FILLS, INK, on_circle, table_text, text_width, WIDEST
+from .timetable_pictures import Timetable
 
 
 # a map of more places, or one that needs a larger radius, is drawn as a list

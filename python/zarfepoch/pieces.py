@@ -10,8 +10,8 @@ import itertools
 import re
 from collections.abc import Iterable
 
-from cover_files import MAX_ITEMS
-from puzzle_texts import blocks_of, no_cover, Puzzle, refuse
+from .cover_files import MAX_ITEMS
+from .puzzle_texts import blocks_of, no_cover, Puzzle, refuse
 
 # a cell by layer, row and column
 Cell = tuple[int, int, int]

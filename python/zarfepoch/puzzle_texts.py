@@ -7,9 +7,7 @@ import sys
 from dataclasses import dataclass, field
 from typing import NoReturn
 
-HERE = os.path.dirname(os.path.abspath(__file__))
-sys.path.insert(0, os.path.join(HERE, "..", "scripts"))
-from cover_files import stop  # noqa: E402
+from .cover_files import stop
 
 NO_COVER, MISTAKE, UNREADABLE = 1, 2, 3
 # what a puzzle is called that stands on the command line itself

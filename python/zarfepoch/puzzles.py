@@ -5,7 +5,7 @@ import math
 import re
 from collections import Counter
 
-from cover_files import MAX_ITEMS, MAX_OPTIONS
+from .cover_files import MAX_ITEMS, MAX_OPTIONS
 
 
 class Refused(Exception):

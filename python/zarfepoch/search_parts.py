@@ -10,7 +10,7 @@ import collections
 import os
 from typing import Callable, Iterator, NamedTuple, NoReturn, Optional, Sequence
 
-from cover_files import Option, Problem, Unreadable, read_bytes, read_problem, refusal, stop
+from .cover_files import Option, Problem, Unreadable, read_bytes, read_problem, refusal, stop
 
 WHOLE, LIST = "whole.dlx", "parts.txt"
 MOST_PARTS = 10_000

@@ -1,4 +1,3 @@
-#!/usr/bin/env python3
 """Takes a search apart into parts, each a problem file of its own, which may be searched anywhere and at any time.
 
     python3 scripts/split.py FILE --parts N --into FOLDER
@@ -22,9 +21,9 @@ import shutil
 import tempfile
 from typing import Iterable
 
-from built import number_from_one, parser_of
-from cover_files import run, stop
-from search_parts import LIST, MOST_PARTS, WHOLE, Split, list_text, part_name, path_in, read_tree, split, texts_of
+from .command_words import number_from_one, parser_of
+from .cover_files import run, stop
+from .search_parts import LIST, MOST_PARTS, WHOLE, Split, list_text, part_name, path_in, read_tree, split, texts_of
 
 
 def number_of_parts(text: str) -> int:

@@ -12,8 +12,8 @@ import re
 from collections.abc import Iterator, Sequence
 from typing import NoReturn, Optional
 
-from puzzle_texts import blocks_of, no_cover, Puzzle, read_text, refuse, TYPED
-from sudoku_pictures import BOXES, MARKS
+from .puzzle_texts import blocks_of, no_cover, Puzzle, read_text, refuse, TYPED
+from .sudoku_pictures import BOXES, MARKS
 
 # a cell by row and column; the cells and the sum of a cage; lines with their numbers; rows of marks, and the places of their lines
 Cell = tuple[int, int]

@@ -12,7 +12,7 @@ from collections import Counter
 from collections.abc import Iterator
 from dataclasses import dataclass
 
-from puzzle_texts import called, read_text, refuse
+from .puzzle_texts import called, read_text, refuse
 
 WANTED = ("lesson", "teacher", "class", "rooms", "periods")
 OTHER = {"hours", "length", "note"}

@@ -6,10 +6,10 @@ import itertools
 import re
 from collections.abc import Callable, Iterator
 
-from cover_files import Option, Problem
-from full_names import full_names
-from picture_base import Kind, Names, without_order
-from svg_paper import BACKGROUND, draw_table, FAINT, FILLS, folded, INK, MARGIN, Paper, table_text, text_width, WIDEST
+from .cover_files import Option, Problem
+from .full_names import full_names
+from .picture_base import Kind, Names, without_order
+from .svg_paper import BACKGROUND, draw_table, FAINT, FILLS, folded, INK, MARGIN, Paper, table_text, text_width, WIDEST
 
 # rows of cells, each a lesson and who else is busy with it
 Rows = list[list[tuple[str, str]]]

@@ -15,11 +15,11 @@ import re
 from collections.abc import Iterable
 from dataclasses import dataclass
 
-from always_busy import Shortage, always_busy
-from cover_files import MAX_ITEMS, MAX_NAME
-from fault_words import plural
-from puzzle_texts import no_cover, Puzzle, refuse
-from timetable_files import Lesson, read_lessons
+from .always_busy import Shortage, always_busy
+from .cover_files import MAX_ITEMS, MAX_NAME
+from .fault_words import plural
+from .puzzle_texts import no_cover, Puzzle, refuse
+from .timetable_files import Lesson, read_lessons
 
 ROLES = ("teachers", "classes", "rooms")
 # from so many options on their order is drawn by lot: a search that tries each lesson at Monday's first period first seldom ends

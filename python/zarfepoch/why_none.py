@@ -1,4 +1,3 @@
-#!/usr/bin/env python3
 """Says why a problem file has no cover, in words that can be checked by hand, and draws it.
 
     python3 scripts/why_none.py FILE [--svg OUT] [--search] [--fuel N]
@@ -22,12 +21,13 @@ import os
 import subprocess
 import tempfile
 
-from built import parser_of, SOLVE_CLI, want_program
-from cover_files import Unreadable, put, read_bytes, read_problem, refusal, run, shown, stop
-from cover_reason import found_reason
-from draw_reason import reason_svg
-from fault_words import listed, plural, quoted
-from full_names import named_numbers
+from .command_words import parser_of
+from .cover_files import Unreadable, put, read_bytes, read_problem, refusal, run, shown, stop
+from .cover_reason import found_reason
+from .draw_reason import reason_svg
+from .fault_words import listed, plural, quoted
+from .full_names import named_numbers
+from .programs import is_program, known_program, missing_program
 
 # the exit status and the first word of each answer
 NONE, COVER, SPENT, OUT_OF_MEMORY = (1, b"none"), (0, b"cover"), (4, b"no"), (5, b"")
@@ -175,12 +175,13 @@ def main():
     words.add_argument("--svg", metavar="OUT", help="where a picture of the reason is written, - for the standard output")
     words.add_argument("--search", action="store_true", help="don't ask for a reason: search alone")
     words.add_argument("--fuel", type=int, default=1_000_000, help="how many visits each search may take (default 1,000,000)")
-    words.add_argument("--program", type=os.path.abspath, default=SOLVE_CLI, help="the built program (default crates/solve_cli/out/solve_cli)")
+    words.add_argument("--program", type=os.path.abspath, default=known_program(), help="the built program")
     given = words.parse_args()
     if not 1 <= given.fuel < 1 << 64:
         words.error("--fuel takes 1 to 18446744073709551615")
     text, problem = read(given.file)
-    want_program(given.program)
+    if given.program is None or not is_program(given.program):
+        stop(missing_program(given.program))
     reason = None if given.search else found_reason(given.program, text)
     if reason:
         return explain_reason(problem, reason, given.svg)

@@ -1,0 +1,78 @@
+"""Solves a problem that is given as JSON.
+
+    python3 -m zarfepoch --json FILE [--seconds N]
+
+FILE has an object with "options", "primary" and "secondary", in whose options a list of two is an item with its colour; the answer is printed as a
+list of places, or null. Items and colours are texts or numbers. FILE may be -, the standard input. The exit status is 0 where there is a cover, 1
+where there is none, 2 for a mistake on the command line, and 3 where the problem is refused or there is no answer.
+"""
+from __future__ import annotations
+
+import json
+import sys
+from typing import Optional, Union
+
+from . import Colored, Word, solve
+from .command_words import parser_of
+from .cover_files import Unreadable, read_bytes, run, stop
+
+# an item or a colour as JSON has it
+Name = Union[str, int, float]
+
+
+def is_name(value: object) -> bool:
+    """Whether a value of JSON may be an item or a colour; true and false would be equal to 1 and 0 here, and null to no colour."""
+    return isinstance(value, (str, int, float)) and not isinstance(value, bool)
+
+
+def item_of(word: Union[Name, list[Name]], place: int) -> Word:
+    """An item of an option that is given as JSON, in a list of two with its colour."""
+    parts = word if isinstance(word, list) and len(word) == 2 else [word]
+    if not all(map(is_name, parts)):
+        raise ValueError(f"option {place} has {json.dumps(word)}, which is neither an item nor an item with its colour")
+    return Colored(*parts) if len(parts) == 2 else parts[0]
+
+
+def solve_json(text: bytes, seconds: Optional[float] = None) -> Optional[list[int]]:
+    """The answer to a problem that is given as JSON."""
+    try:
+        given = json.loads(text)
+    except ValueError as why:
+        raise ValueError(f"this is no JSON: {why}") from None
+    lists = [given.get(what, default) for what, default in (("options", None), ("primary", None), ("secondary", []))] \
+        if isinstance(given, dict) else [None]
+    if not all(isinstance(one, list) for one in lists):
+        raise ValueError('an object with the lists "options" and "primary", and perhaps "secondary", is expected')
+    options, primary, secondary = lists
+    for place, option in enumerate(options):
+        if not isinstance(option, list):
+            raise ValueError(f"option {place} is no list")
+    if not all(map(is_name, primary + secondary)):
+        raise ValueError("an item is a text or a number")
+    return solve([[item_of(word, place) for word in option] for place, option in enumerate(options)], primary, secondary, seconds)
+
+
+def positive(text: str) -> float:
+    """A number above 0 on the command line."""
+    number = float(text)
+    if not number > 0:
+        raise ValueError
+    return number
+
+
+def main() -> int:
+    words = parser_of(__doc__)
+    words.add_argument("--json", metavar="FILE", required=True, help="the problem in JSON, or - for the standard input")
+    words.add_argument("--seconds", metavar="N", type=positive, help="how long it may search (no limit where it isn't given)")
+    given = words.parse_args()
+    try:
+        answer = solve_json(read_bytes(given.json), given.seconds)
+    except (Unreadable, OSError, ValueError, RuntimeError, MemoryError) as why:
+        stop(str(why) or "out of memory", 3)
+    print(json.dumps(answer))
+    return 1 if answer is None else 0
+
+
+if __name__ == "__main__":
+    sys.argv[0] = "zarfepoch"
+    run(main)

@@ -1,0 +1,257 @@
+"""Problems of exact covering, as items and options of Python, and how the program answers them."""
+from __future__ import annotations
+
+import math
+import os
+import subprocess
+from collections.abc import Hashable, Iterable, Iterator
+from typing import NamedTuple, Optional, Union
+
+from . import cover_files, cover_reason
+from .cover_files import MAX_COLOURS, MAX_ITEMS, MAX_NAME, MAX_OCCURRENCES, MAX_OPTIONS
+from .errors import (
+    ColoredPrimary, NoAnswer, OutOfMemory, ProblemError, ProgramError, RepeatedItem, TimeIsUp, TooLarge, UncleanAudit, UnknownItem)
+from .programs import find_program
+
+# a limit of so many seconds is none: Python waits for a program 24 days at most
+LONGEST = 2_000_000
+
+
+class Colored(NamedTuple):
+    """A secondary item with the colour that an option gives it."""
+    item: Hashable
+    colour: Hashable
+
+
+# an item, or one with its colour
+Word = Union[Hashable, Colored]
+
+
+def parts_of(word: Word) -> tuple[Hashable, Optional[Hashable]]:
+    """The item of a word, and its colour, if it has one."""
+    return (word.item, word.colour) if isinstance(word, Colored) else (word, None)
+
+
+class Reason(NamedTuple):
+    """Why there is no cover, so that anybody can add it up.
+
+    With a `modulus`, the `weights` of each option's items add up to a multiple of it, and all weights together don't. Without one, each option
+    brings at least as much room as it needs, and all `needs` together are more than all `rooms`. The rest of the items count as 0.
+    """
+    modulus: Optional[int]
+    weights: dict[Hashable, int]
+    needs: dict[Hashable, int]
+    rooms: dict[Hashable, int]
+
+    def __str__(self) -> str:
+        if self.modulus:
+            return (f"the weights of each option's items add up to a multiple of {self.modulus}, "
+                    f"and all weights together are {sum(self.weights.values())}")
+        return f"too little room: {sum(self.needs.values())} needed, {sum(self.rooms.values())} there"
+
+
+class Problem:
+    """Primary and secondary items, and options, which are lists of them.
+
+    Items are whatever can be a key of a dict. `problem[place]` is an option, `len(problem)` how many there are, and a loop goes over all of
+    them. Each option is checked as it is added.
+    """
+
+    def __init__(self, primary: Iterable[Hashable], secondary: Iterable[Hashable] = (), options: Iterable[Iterable[Word]] = ()) -> None:
+        self.primary, self.secondary = tuple(primary), tuple(secondary)
+        self._places: dict[Hashable, int] = {}
+        self._options: list[tuple[Word, ...]] = []
+        if not self.primary:
+            raise ProblemError("there is no primary item")
+        for item in (*self.primary, *self.secondary):
+            if item in self._places:
+                raise RepeatedItem(f"{item!r} stands twice among the items", item=item)
+            self._places[item] = len(self._places)
+        for option in options:
+            self.add(*option)
+
+    def add(self, *words: Word) -> int:
+        """Adds an option, and answers its place."""
+        place, seen = len(self._options), set()
+        for item, colour in map(parts_of, words):
+            if item not in self._places:
+                raise UnknownItem(f"option {place} names {item!r}, which is neither primary nor secondary", option=place, item=item)
+            if item in seen:
+                raise RepeatedItem(f"option {place} names {item!r} twice", option=place, item=item)
+            if colour is not None and self.is_primary(item):
+                raise ColoredPrimary(f"option {place} gives a colour to {item!r}, which is primary", option=place, item=item)
+            seen.add(item)
+        self._options.append(words)
+        return place
+
+    def is_primary(self, item: Hashable) -> bool:
+        """Whether an item is primary."""
+        return self._places.get(item, len(self.primary)) < len(self.primary)
+
+    def __len__(self) -> int:
+        return len(self._options)
+
+    def __getitem__(self, place: int) -> tuple[Word, ...]:
+        return self._options[place]
+
+    def __iter__(self) -> Iterator[tuple[Word, ...]]:
+        return iter(self._options)
+
+    def __repr__(self) -> str:
+        return f"<Problem: {len(self.primary)} primary items, {len(self.secondary)} secondary, {len(self)} options>"
+
+    # ---- answers
+
+    def solve(self, seconds: Optional[float] = None, *, nodes: Optional[int] = None, workers: Optional[int] = None,
+              audit: bool = False) -> Optional[list[int]]:
+        """The places of the options of one exact cover, in rising order, or None where there is none.
+
+        One thread searches, or with `nodes` and `workers` several, as `solve_cli solve` does; with `audit` their run is audited, so that None is
+        right whatever the network did. Raises `TimeIsUp` after so many seconds, `OutOfMemory`, or a `ProgramError`.
+        """
+        threads = [word for name, number in (("--nodes", nodes), ("--workers", workers)) if number is not None for word in (name, str(number))]
+        words = ["solve", "-", *threads, *["--audit"] * audit] if threads or audit else ["alone", "-"]
+        lines = self._numbered_lines()
+        status, answer, why = self._ask(words, lines, seconds)
+        if audit and answer and answer[-1].startswith("audit "):
+            answer.pop()
+        if (status, answer[:1]) == (0, [f"cover {len(answer) - 1}"]):
+            return chosen_of(answer[1:], lines)
+        if (status, answer) == (1, ["none"]):
+            return None
+        raise failure(status, answer[-1] if status == 6 and answer else why)
+
+    def reason(self, seconds: Optional[float] = None) -> Optional[Reason]:
+        """Why there is no cover, if the program finds a reason without a search. None says nothing."""
+        status, answer, why = self._ask(["why", "-"], self._numbered_lines(), seconds)
+        if (status, answer) == (4, ["no reason found"]):
+            return None
+        if status != 1:
+            raise failure(status, why)
+        text = "\n".join(answer).encode()
+        found = cover_reason.Reason(text)
+        if not found.holds(cover_files.read_problem(self._numbered_text(self._numbered_lines()))):
+            raise ProgramError("the program's reason doesn't hold", status)
+        items = (*self.primary, *self.secondary)
+        weights, needs, rooms = ({items[int(name)]: number for name, number in some.items()} for some in (found.weights, found.needs, found.rooms))
+        return Reason(found.modulus or None, weights, needs, rooms)
+
+    def is_cover(self, places: Iterable[int]) -> bool:
+        """Whether the options at these places are an exact cover, by counting."""
+        uses: dict[Hashable, list[Optional[Hashable]]] = {}
+        for item, colour in (parts_of(word) for place in places for word in self[place]):
+            uses.setdefault(item, []).append(colour)
+        once = all(len(uses.get(item, ())) == 1 for item in self.primary)
+        return once and all(len(some) == 1 or (None not in some and len(set(some)) == 1) for some in uses.values())
+
+    # ---- what the program reads
+
+    def _numbered_lines(self) -> list[str]:
+        """The options as the program gets them: items and colours go by their numbers, so that every name is lawful there."""
+        colours: dict[Hashable, int] = {}
+        lines = []
+        for option in self._options:
+            parts = [(self._places[item], colour) for item, colour in map(parts_of, option)]
+            lines.append(" ".join(str(item) if colour is None else f"{item}:{colours.setdefault(colour, len(colours))}" for item, colour in parts))
+        return lines
+
+    def _numbered_text(self, lines: list[str]) -> bytes:
+        """The problem as the program gets it. Options without a primary item are left out: no cover has them."""
+        kept = [line for option, line in zip(self._options, lines) if any(self.is_primary(parts_of(word)[0]) for word in option)]
+        words = [word for line in kept for word in line.split()]
+        colours = {word.partition(":")[2] for word in words if ":" in word}
+        for number, most, what in ((len(self._places), MAX_ITEMS, "items"), (len(kept), MAX_OPTIONS, "options"),
+                                   (len(words), MAX_OCCURRENCES, "items in all options together"), (len(colours), MAX_COLOURS, "colours")):
+            if number > most:
+                raise TooLarge(f"there are {number:,} {what}, and the program reads at most {most:,}")
+        names = [str(place) for place in range(len(self._places))]
+        names[len(self.primary):len(self.primary)] = ["|"] * bool(self.secondary)
+        return "".join(line + "\n" for line in [" ".join(names), *kept]).encode()
+
+    def _ask(self, words: list[str], lines: list[str], seconds: Optional[float]) -> tuple[int, list[str], str]:
+        """The program's exit status, the lines that it writes, and what it says on standard error. It reads its standard input, so that no file
+        is left behind, whatever ends Python."""
+        limit = None if seconds is None or seconds >= LONGEST else seconds
+        if limit is not None and not limit > 0:
+            raise TimeIsUp(f"no answer after {seconds} seconds")
+        text = self._numbered_text(lines)
+        try:
+            ran = subprocess.run([find_program(), *words], input=text, capture_output=True, timeout=limit)
+        except subprocess.TimeoutExpired:
+            raise TimeIsUp(f"no answer after {seconds} seconds") from None
+        except OSError as why:
+            raise ProgramError(f"the program can't be run: {why}") from None
+        return ran.returncode, ran.stdout.decode().splitlines(), ran.stderr.decode(errors="replace").strip()
+
+    # ---- files
+
+    @classmethod
+    def parse(cls, text: bytes) -> Problem:
+        """The problem that the text of a file says. Items and colours are texts; options without a primary item are kept too."""
+        read = cover_files.read_problem(text)
+        if read.faults:
+            first = read.faults[0]
+            raise ProblemError(f"the file is refused: {cover_files.refusal(read.faults)}", line=first.line,
+                               item=first.word and named(first.word.text))
+        names = [named(name) for name in read.items]
+        options = sorted([*read.options, *read.ignored], key=lambda option: option.line)
+        words = ([named(name) if colour is None else Colored(named(name), named(colour)) for name, colour in zip(option.names, option.colours)]
+                 for option in options)
+        return cls(names[:read.primary], names[read.primary:], words)
+
+    @classmethod
+    def read(cls, path: Union[str, os.PathLike[str]]) -> Problem:
+        """The problem of a file; an OSError where it can't be read."""
+        with open(path, "rb") as file:
+            return cls.parse(file.read())
+
+    def text(self) -> bytes:
+        """The text of the problem's file. Items and colours have to be texts that can be names there (docs/FORMAT.md)."""
+        for item in self._places:
+            checked_name(item, None)
+        head = [*map(str, self.primary), *["|"] * bool(self.secondary), *map(str, self.secondary)]
+        lines = [[name_of_word(word, place) for word in option] for place, option in enumerate(self._options)]
+        return "".join(" ".join(line) + "\n" for line in [head, *lines]).encode("utf-8", "surrogateescape")
+
+    def write(self, path: Union[str, os.PathLike[str]]) -> None:
+        """Writes the problem's file, whole or not at all."""
+        cover_files.put_bytes(os.fspath(path), self.text())
+
+
+def named(name: bytes) -> str:
+    """A name of a file as a text, from which the same bytes come again."""
+    return name.decode("utf-8", "surrogateescape")
+
+
+def checked_name(name: Hashable, option: Optional[int]) -> str:
+    """A text that can be a name in a file."""
+    if not isinstance(name, str):
+        raise ProblemError(f"{name!r} is no text, and can't be a name in a file", option=option, item=name)
+    spelled = name.encode("utf-8", "surrogateescape")
+    if not 1 <= len(spelled) <= MAX_NAME or any(byte in b"\0:|\t\n\v\f\r " for byte in spelled):
+        raise ProblemError(f"{name!r} can't be a name in a file: 1 to {MAX_NAME} bytes without white space, ':' and '|'", option=option, item=name)
+    return name
+
+
+def name_of_word(word: Word, place: int) -> str:
+    """A word of an option as a file has it."""
+    item, colour = parts_of(word)
+    name = checked_name(item, place)
+    return name if colour is None else f"{name}:{checked_name(colour, place)}"
+
+
+def chosen_of(answer: list[str], lines: list[str]) -> list[int]:
+    """The places of the options in the lines of an answer; of equal options the first that is free."""
+    places: dict[str, list[int]] = {}
+    for place in reversed(range(len(lines))):
+        places.setdefault(lines[place], []).append(place)
+    return sorted(places[line].pop() for line in answer)
+
+
+def failure(status: int, why: str) -> Exception:
+    """What is raised where the program has ended so."""
+    if status == 5:
+        return OutOfMemory("the program ran out of memory")
+    kind, what = {4: (NoAnswer, "no answer"), 6: (UncleanAudit, "the audit is unclean")}.get(
+        status, (ProgramError, f"the program ended with status {status}"))
+    return kind(f"{what}: {why}" if why else what, status)

@@ -1,0 +1,36 @@
+"""Where the program solve_cli is: what ZARFEPOCH names in the environment, else what is on the path, else what was built in this clone."""
+from __future__ import annotations
+
+import os
+import shutil
+from typing import Optional
+
+from .errors import NoProgram
+
+BUILT_HERE = os.path.join(os.path.dirname(os.path.abspath(__file__)), "..", "..", "crates", "solve_cli", "out", "solve_cli")
+
+
+def is_program(path: str) -> bool:
+    """Whether there is a file that may be run."""
+    return os.path.isfile(path) and os.access(path, os.X_OK)
+
+
+def known_program() -> Optional[str]:
+    """The program's path, or None where there is none."""
+    named = os.environ.get("ZARFEPOCH")
+    path = named or shutil.which("solve_cli") or BUILT_HERE
+    return os.path.abspath(path) if is_program(path) else None
+
+
+def missing_program(named: Optional[str]) -> str:
+    """What is said where there is no program, at the place that is named, if one is."""
+    where = named or "solve_cli, neither named by ZARFEPOCH nor on the path"
+    return f"there is no program {where}; at the top of a clone (cd crates/solve_cli && rt run -- --version) builds it"
+
+
+def find_program() -> str:
+    """The program's path; `NoProgram` where there is none."""
+    path = known_program()
+    if path is None:
+        raise NoProgram(missing_program(os.environ.get("ZARFEPOCH")))
+    return path

@@ -1,0 +1,11 @@
+#!/usr/bin/env python3
+"""Runs zarfepoch.join, a module of the folder python: --help describes it."""
+import os
+import sys
+
+sys.path.insert(0, os.path.join(os.path.dirname(os.path.abspath(__file__)), "..", "python"))
+from zarfepoch.cover_files import run  # noqa: E402
+from zarfepoch.join import main  # noqa: E402
+
+if __name__ == "__main__":
+    run(main)

@@ -1,0 +1,241 @@
+#!/usr/bin/env python3
+"""Tries the package zarfepoch: its examples, what it raises, its files, and what `pip install .` puts in place.
+
+    python3 scripts/try_python.py [--program PROGRAM]
+
+The examples of the package and those of python/README.md are run as they stand. Of random problems, with items that aren't texts, secondary items
+and colours, each answer is compared with a plain search. Problems are written and read again. Then the package is installed into an environment of
+its own, without a network and as an archive too, and the examples are run there: from another folder, without HOME, with the program on the path
+alone. A killed Python leaves no file behind. A line says how long a call takes, over 200 calls.
+
+It wants the program: (cd crates/solve_cli && rt run -- --version) builds it. The last line is 'N passed, M failed'. The exit status is 0 where all
+passed, 1 where something failed, 2 for a mistake on the command line or where there is no program.
+"""
+from __future__ import annotations
+
+import contextlib
+import doctest
+import os
+import random
+import shutil
+import signal
+import stat
+import subprocess
+import sys
+import tempfile
+import time
+from typing import Callable, Optional
+
+from built import SOLVE_CLI, TOP, parser_of, want_program
+from expected import Trial
+from plain_search import read, search
+import zarfepoch
+from zarfepoch import Colored, Problem
+
+README = os.path.join(TOP, "python", "README.md")
+EXAMPLES = os.path.join(TOP, "examples")
+trial = Trial()
+expect = trial.expect
+
+
+def raised(kind: type[BaseException], call: Callable[[], object]) -> Optional[BaseException]:
+    """What a call raises, which is expected to be of this kind."""
+    came: object = "an answer"
+    try:
+        call()
+    except Exception as why:
+        came = why
+    expect(f"{kind.__name__}, and not {came!r}", isinstance(came, kind))
+    return came if isinstance(came, BaseException) else None
+
+
+def examples() -> None:
+    """The examples of the package and of its page."""
+    for found in (doctest.testmod(zarfepoch), doctest.testfile(README, module_relative=False)):
+        expect(f"the examples: {found}", found.attempted > 5 and not found.failed)
+
+
+# ---- answers
+
+def random_problem(draw: random.Random) -> Problem:
+    """A problem of a few items of several kinds, whose options are short."""
+    primary = [draw.choice([k, ("p", k), f"p{k}", float(k) + 0.5]) for k in range(draw.randint(1, 6))]
+    secondary = [("s", k) for k in range(draw.randint(0, 3))]
+    problem = Problem(primary, secondary)
+    for _ in range(draw.randint(1, 10)):
+        words = draw.sample(primary, draw.randint(0, min(3, len(primary))))
+        colours = [draw.choice([item, Colored(item, "red"), Colored(item, 7)]) for item in draw.sample(secondary, draw.randint(0, len(secondary)))]
+        problem.add(*words, *colours)
+    return problem
+
+
+def random_answers() -> None:
+    for seed in range(100):
+        problem = random_problem(random.Random(seed))
+        names, primary, options, _ = read(problem._numbered_text(problem._numbered_lines()))
+        wanted = search(primary, options, [])[0]
+        ways = [problem.solve(), problem.solve(60), *([problem.solve(nodes=2, workers=1, audit=True)] if seed % 10 == 0 else [])]
+        for chosen in ways:
+            expect(f"{list(problem)}: {chosen}", (chosen is None) == (wanted is None) and (chosen is None or problem.is_cover(chosen)))
+            expect("places in order", chosen is None or chosen == sorted(set(chosen)))
+        reason = problem.reason()
+        expect(f"a reason of {list(problem)}", reason is None or wanted is None)
+
+
+def errors() -> None:
+    """What is raised, with the option and the item."""
+    for kind, call, option, item in (
+            (zarfepoch.UnknownItem, lambda: Problem(["a"], options=[["a"], ["b"]]), 1, "b"),
+            (zarfepoch.RepeatedItem, lambda: Problem(["a"], options=[["a", "a"]]), 0, "a"),
+            (zarfepoch.RepeatedItem, lambda: Problem(["a"], ["x", "a"]), None, "a"),
+            (zarfepoch.ColoredPrimary, lambda: Problem(["a"], options=[[Colored("a", 1)]]), 0, "a"),
+            (zarfepoch.ProblemError, lambda: Problem([]), None, None),
+            (zarfepoch.ProblemError, lambda: Problem(["a b"]).text(), None, "a b"),
+            (zarfepoch.ProblemError, lambda: Problem(["a"], ["x"], [["a", Colored("x", "1:2")]]).text(), 0, "1:2"),
+            (zarfepoch.ProblemError, lambda: Problem([3]).text(), None, 3),
+            (zarfepoch.TooLarge, lambda: Problem(range(1001)).solve(), None, None),
+            (zarfepoch.TooLarge, lambda: Problem([0], options=[[0]] * 20_001).solve(), None, None)):
+        why = raised(kind, call)
+        expect(f"{kind.__name__}: {why!r}", isinstance(why, (zarfepoch.ProblemError, ValueError)) and (why.option, why.item) == (option, item))
+    why = raised(zarfepoch.ProblemError, lambda: Problem.parse(b"a b\na c\n"))
+    expect(f"the line: {why!r}", isinstance(why, zarfepoch.ProblemError) and (why.line, why.item) == (2, "c"))
+    raised(FileNotFoundError, lambda: Problem.read(os.path.join(TOP, "nothing")))
+    hard = langford(15)
+    for kind in (zarfepoch.TimeIsUp, TimeoutError, zarfepoch.Error):
+        begun = time.monotonic()
+        raised(kind, lambda: hard.solve(seconds=0.3))
+        expect("ended in time", time.monotonic() - begun < 5)
+    raised(zarfepoch.TimeIsUp, lambda: hard.solve(0))
+    for program, kind in (("/bin/true", zarfepoch.ProgramError), ("/bin/false", zarfepoch.ProgramError), ("/dev/null", zarfepoch.NoProgram),
+                          (os.path.join(TOP, "nothing"), zarfepoch.NoProgram)):
+        with_program(program, lambda: raised(kind, lambda: Problem(["a"], options=[["a"]]).solve()))
+
+
+def stub_answers(folder: str) -> None:
+    """Programs that end otherwise than ours would here."""
+    path = os.path.join(folder, "stub")
+    for status, output, kind in (
+            (4, "no answer", zarfepoch.NoAnswer), (5, "", zarfepoch.OutOfMemory), (5, "", MemoryError), (3, "", zarfepoch.ProgramError),
+            (6, "none\naudit unclean: MissingBook node 1 incarnation 1", zarfepoch.UncleanAudit), (0, "none", zarfepoch.ProgramError),
+            (1, "cover 1\n0", zarfepoch.ProgramError), (0, "cover 2\n0", zarfepoch.ProgramError)):
+        with open(path, "w", encoding="ascii") as file:
+            file.write(f"#!/bin/sh\ncat > /dev/null\necho '{output}'\nexit {status}\n")
+        os.chmod(path, 0o755)
+        with_program(path, lambda: raised(kind, lambda: Problem(["a"], options=[["a"]]).solve(audit=True)))
+
+
+def with_program(path: str, call: Callable[[], object]) -> None:
+    """Calls with this program in place of ours."""
+    ours = os.environ["ZARFEPOCH"]
+    os.environ["ZARFEPOCH"] = path
+    try:
+        call()
+    finally:
+        os.environ["ZARFEPOCH"] = ours
+
+
+def langford(size: int) -> Problem:
+    """Langford pairs of 1 to a number; with 13, 14, 17 or 18 there are none, and a search takes long."""
+    problem = Problem([*range(1, size + 1), *(("s", place) for place in range(2 * size))])
+    for number in range(1, size + 1):
+        for place in range(2 * size - number - 1):
+            problem.add(number, ("s", place), ("s", place + number + 1))
+    return problem
+
+
+def files(folder: str) -> None:
+    """Each example is read, written, read again, and is the same."""
+    for name in sorted(os.listdir(EXAMPLES)):
+        if not name.endswith(".dlx"):
+            continue
+        problem, path = Problem.read(os.path.join(EXAMPLES, name)), os.path.join(folder, name)
+        problem.write(path)
+        again = Problem.read(path)
+        same = (problem.primary, problem.secondary, list(problem)) == (again.primary, again.secondary, list(again))
+        expect(f"{name} written and read", same and stat.S_IMODE(os.stat(path).st_mode) & 0o600 == 0o600)
+    odd = Problem.parse("ä \udcff | x\nä \udcff x:é\nx\n".encode("utf-8", "surrogateescape"))
+    expect("names of all bytes", odd.primary == ("ä", "\udcff") and odd[0][2] == Colored("x", "é") and len(odd) == 2)
+    expect("all bytes come again", Problem.parse(odd.text()).primary == odd.primary)
+
+
+# ---- installed
+
+CALL = "import zarfepoch; print(zarfepoch.__version__, zarfepoch.solve([['a'], ['b', 'a']], ['a', 'b']), zarfepoch.__file__)"
+
+
+def ran(*words: str, **how: object) -> str:
+    """The output of a command, which has to succeed."""
+    ended = subprocess.run(words, capture_output=True, text=True, **how)  # type: ignore[call-overload]
+    expect(f"{words}: {ended.returncode} {ended.stderr}", ended.returncode == 0)
+    return str(ended.stdout)
+
+
+def installed(folder: str) -> None:
+    """The package in an environment of its own."""
+    place, elsewhere = os.path.join(folder, "environment"), os.path.join(folder, "elsewhere")
+    python, offline = os.path.join(place, "bin", "python"), {**os.environ, "PIP_NO_INDEX": "1", "PIP_DISABLE_PIP_VERSION_CHECK": "1"}
+    os.mkdir(elsewhere)
+    ran(sys.executable, "-m", "venv", place)
+    ran(python, "-m", "pip", "install", TOP, cwd=elsewhere, env=offline)
+    version = zarfepoch.__version__
+    said = ran(python, "-c", CALL, cwd=elsewhere)
+    expect(f"a call of what is installed: {said}", said.startswith(f"{version} [1] {place}"))
+    shutil.copy(os.environ["ZARFEPOCH"], os.path.join(elsewhere, "solve_cli"))
+    said = ran(python, "-c", CALL, cwd="/", env={"PATH": elsewhere})
+    expect(f"the program on the path alone, without HOME: {said}", said.startswith(f"{version} [1] {place}"))
+    ended = subprocess.run([python, "-c", CALL], cwd="/", env={"PATH": "/nowhere"}, capture_output=True, text=True)
+    expect(f"no program: {ended.stderr}", ended.returncode == 1 and "NoProgram: there is no program solve_cli" in ended.stderr)
+    said = ran(python, "-c", f"import doctest; print(doctest.testfile({README!r}, module_relative=False).failed)", cwd=TOP)
+    expect(f"the page's examples: {said}", said == "0\n")
+    for module in ("explain", "why_none", "draw", "check_reason", "generate", "another", "split", "join"):
+        expect(f"the command {module}", ran(python, "-m", f"zarfepoch.{module}", "--help", cwd=elsewhere).startswith("usage: "))
+    expect("a problem that is made", ran(python, "-m", "zarfepoch.generate", "langford", "4", cwd=elsewhere).startswith("| Langford"))
+    ran(python, "-m", "pip", "uninstall", "--yes", "zarfepoch", cwd=elsewhere, env=offline)
+    left = [name for _, _, names in os.walk(place) for name in names if "zarfepoch" in name]
+    expect(f"nothing is left: {left}", not left)
+    ran(python, "-m", "pip", "install", "--editable", TOP, cwd=elsewhere, env=offline)
+    expect("installed to be edited", ran(python, "-c", CALL, cwd=elsewhere).rstrip().endswith(os.path.join(TOP, "python", "zarfepoch", "__init__.py")))
+
+
+def killed(folder: str) -> None:
+    """A Python that is killed while the program searches leaves no file behind."""
+    code = "import sys; sys.path.insert(0, sys.argv[1]); import try_python; print(flush=True); try_python.langford(15).solve()"
+    words, environment = [sys.executable, "-c", code, os.path.join(TOP, "scripts")], {**os.environ, "TMPDIR": folder}
+    with subprocess.Popen(words, stdout=subprocess.PIPE, env=environment, cwd=folder, start_new_session=True) as run:
+        assert run.stdout
+        run.stdout.readline()
+        time.sleep(0.5)
+        run.send_signal(signal.SIGKILL)
+        run.wait()
+        expect("no file is left", os.listdir(folder) == [])
+        with contextlib.suppress(ProcessLookupError):
+            os.killpg(run.pid, signal.SIGKILL)
+
+
+def a_call() -> None:
+    """How long a call takes."""
+    problem, begun = Problem(["a", "b"], options=[["a"], ["b"]]), time.monotonic()
+    for _ in range(200):
+        expect("a call", problem.solve() == [0, 1])
+    print(f"a call takes {(time.monotonic() - begun) / 200 * 1000:.1f} ms")
+
+
+def main() -> int:
+    parser = parser_of(__doc__)
+    parser.add_argument("--program", type=os.path.abspath, default=SOLVE_CLI, metavar="PROGRAM", help="the built program")
+    program = parser.parse_args().program
+    want_program(program)
+    os.environ["ZARFEPOCH"] = program
+    os.chdir(TOP)
+    examples()
+    random_answers()
+    errors()
+    for trials in (stub_answers, files, installed, killed):
+        with tempfile.TemporaryDirectory() as folder:
+            trials(folder)
+    a_call()
+    return trial.end()
+
+
+if __name__ == "__main__":
+    sys.exit(main())
