@@ -10,14 +10,12 @@ from __future__ import annotations
 
 import json
 import sys
-from typing import Optional, Union
+from collections.abc import Hashable
+from typing import Any, Optional
 
 from . import Colored, Word, solve
 from .command_words import parser_of
 from .cover_files import Unreadable, read_bytes, run, stop
-
-# an item or a colour as JSON has it
-Name = Union[str, int, float]
 
 
 def is_name(value: object) -> bool:
@@ -25,12 +23,13 @@ def is_name(value: object) -> bool:
     return isinstance(value, (str, int, float)) and not isinstance(value, bool)
 
 
-def item_of(word: Union[Name, list[Name]], place: int) -> Word:
+def item_of(word: Any, place: int) -> Word:
     """An item of an option that is given as JSON, in a list of two with its colour."""
     parts = word if isinstance(word, list) and len(word) == 2 else [word]
     if not all(map(is_name, parts)):
         raise ValueError(f"option {place} has {json.dumps(word)}, which is neither an item nor an item with its colour")
-    return Colored(*parts) if len(parts) == 2 else parts[0]
+    item: Hashable = parts[0]
+    return Colored(item, parts[1]) if len(parts) == 2 else item
 
 
 def solve_json(text: bytes, seconds: Optional[float] = None) -> Optional[list[int]]:
@@ -39,11 +38,10 @@ def solve_json(text: bytes, seconds: Optional[float] = None) -> Optional[list[in
         given = json.loads(text)
     except ValueError as why:
         raise ValueError(f"this is no JSON: {why}") from None
-    lists = [given.get(what, default) for what, default in (("options", None), ("primary", None), ("secondary", []))] \
-        if isinstance(given, dict) else [None]
-    if not all(isinstance(one, list) for one in lists):
+    parts: dict[str, Any] = {"secondary": [], **given} if isinstance(given, dict) else {}
+    options, primary, secondary = (parts.get(what) for what in ("options", "primary", "secondary"))
+    if not (isinstance(options, list) and isinstance(primary, list) and isinstance(secondary, list)):
         raise ValueError('an object with the lists "options" and "primary", and perhaps "secondary", is expected')
-    options, primary, secondary = lists
     for place, option in enumerate(options):
         if not isinstance(option, list):
             raise ValueError(f"option {place} is no list")

@@ -6,7 +6,7 @@ none, some lessons together have fewer places than they are (Hall's theorem). El
 from __future__ import annotations
 
 from collections.abc import Hashable, Sequence
-from typing import TypeVar
+from typing import Any, TypeVar
 
 Place = TypeVar("Place", bound=Hashable)
 
@@ -14,7 +14,7 @@ Place = TypeVar("Place", bound=Hashable)
 class Shortage(Exception):
     """Lessons that together have fewer places than they are; `wanting` are their numbers."""
 
-    def __init__(self, wanting: list[int], places: list[Place]) -> None:
+    def __init__(self, wanting: list[int], places: Sequence[Any]) -> None:
         super().__init__("too few places")
         self.wanting, self.places = wanting, places
 

@@ -4,6 +4,7 @@ from __future__ import annotations
 import functools
 import re
 from collections.abc import Callable
+from typing import Any
 
 from .picture_base import Cell, CELL, cell_of, is_connected, Kind, LARGEST, sheet_cell_of, without_order
 from .svg_paper import Board, FILLS, MARGIN, Paper, WIDEST
@@ -12,6 +13,11 @@ from .svg_paper import Board, FILLS, MARGIN, Paper, WIDEST
 def piece_of(name: str) -> str:
     """A piece's name without the number of its copy."""
     return re.sub(r"(?<=.)\.\d+$", "", name)
+
+
+def fill_of(area: object) -> str:
+    """The colour of a piece by its number from 1; 0 is none."""
+    return FILLS[(area - 1) % len(FILLS)] if isinstance(area, int) and area else "#fffdf8"
 
 
 class Tiling(Kind):
@@ -29,12 +35,12 @@ class Tiling(Kind):
                                    is_connected([cell for cell in found if cell]) for found in cells)
 
     def board(self) -> Board:
-        areas = {self.cell_of(name): 0 for name in self.items if self.cell_of(name)}
-        labels = {}
+        areas = {cell: 0 for cell in map(self.cell_of, self.items) if cell}
+        labels: dict[Cell, str] = {}
         for k, option in enumerate(self.chosen, 1):
             piece = next((piece_of(name) for name in without_order(option) if self.cell_of(name) is None), "")
-            areas.update((self.cell_of(name), k) for name in option if self.cell_of(name))
-            labels.update((self.cell_of(name), piece) for name in option if self.cell_of(name))
+            areas.update((cell, k) for cell in map(self.cell_of, option) if cell)
+            labels.update((cell, piece) for cell in map(self.cell_of, option) if cell)
         return Board(labels, areas)
 
     def lines(self) -> list[str]:
@@ -46,7 +52,7 @@ class Tiling(Kind):
         def fill(cell: Cell) -> str:
             if self.is_none:
                 return "#e3dccd" if sum(cell) % 2 else "#fffdf8"
-            return FILLS[(board.areas[cell] - 1) % len(FILLS)]
+            return fill_of(board.areas[cell])
 
         board.draw(paper, CELL, fill)
         self.caption(paper)
@@ -58,9 +64,9 @@ class Layers(Kind):
 
     CELL_NAME = re.compile(r"(\d{1,2})-(\d{1,2})-(\d{1,2})")
 
-    def cell(self, name: str) -> tuple[int, ...] | None:
+    def cell(self, name: str) -> tuple[int, int, int] | None:
         found = self.CELL_NAME.fullmatch(name)
-        return tuple(map(int, found.groups())) if found else None
+        return (int(found[1]), int(found[2]), int(found[3])) if found else None
 
     def is_known(self) -> bool:
         cells = [[self.cell(name) for name in without_order(option)] for option in self.options]
@@ -68,42 +74,43 @@ class Layers(Kind):
 
     def boards(self) -> list[Board]:
         """The board of each layer."""
-        areas = {self.cell(name): 0 for name in self.items if self.cell(name)}
-        labels = {}
+        areas = {cell: 0 for cell in map(self.cell, self.items) if cell}
+        labels: dict[tuple[int, int, int], str] = {}
         for k, option in enumerate(self.chosen, 1):
             piece = next((piece_of(name) for name in without_order(option) if not self.cell(name)), str(k))
-            areas.update((self.cell(name), k) for name in option if self.cell(name))
-            labels.update((self.cell(name), piece) for name in option if self.cell(name))
-        return [Board({cell[1:]: label for cell, label in labels.items() if cell[0] == layer},
-                      {cell[1:]: area for cell, area in areas.items() if cell[0] == layer}) for layer in sorted({cell[0] for cell in areas})]
+            areas.update((cell, k) for cell in map(self.cell, option) if cell)
+            labels.update((cell, piece) for cell in map(self.cell, option) if cell)
+        return [Board({(r, c): label for (at, r, c), label in labels.items() if at == layer},
+                      {(r, c): area for (at, r, c), area in areas.items() if at == layer}) for layer in sorted({cell[0] for cell in areas})]
 
     def lines(self) -> list[str]:
         return [line for k, board in enumerate(self.boards(), 1) for line in [f"layer {k}", *board.text()]]
 
     def draw(self, paper: Paper) -> None:
-        left = top = high = 0
+        left = top = high = 0.0
         for k, board in enumerate(self.boards(), 1):
             wide = (board.columns[-1] + 1.5) * CELL
             if left and left + wide > WIDEST - 2 * MARGIN:
-                left, top, high = 0, top + high, 0
+                left, top, high = 0.0, top + high, 0.0
             paper.text(left, top + 8, f"layer {k}", 13, "start")
-            board.draw(Shifted(paper, left, top + 24), CELL,
-                       lambda cell, areas=board.areas: FILLS[(areas[cell] - 1) % len(FILLS)] if areas[cell] else "#fffdf8")
+            fills = {cell: fill_of(area) for cell, area in board.areas.items()}
+            board.draw(Shifted(paper, left, top + 24), CELL, fills.__getitem__)
             left, high = left + wide, max(high, (board.rows[-1] + 1.5) * CELL + 24)
         self.caption(paper)
 
 
-class Shifted:
-    """A sheet whose shapes are moved."""
+class Shifted(Paper):
+    """A sheet whose boxes, texts and lines are moved and drawn on another."""
 
     def __init__(self, paper: Paper, right: float, down: float) -> None:
-        self.paper, self.right, self.down = paper, right, down
+        super().__init__(paper.title)
+        self.paper, self.right_by, self.down_by = paper, right, down
 
-    def box(self, x: float, y: float, *shape) -> None:
-        self.paper.box(x + self.right, y + self.down, *shape)
+    def box(self, x: float, y: float, *shape: Any, **style: Any) -> None:
+        self.paper.box(x + self.right_by, y + self.down_by, *shape, **style)
 
-    def text(self, x: float, y: float, *words, **style) -> None:
-        self.paper.text(x + self.right, y + self.down, *words, **style)
+    def text(self, x: float, y: float, *words: Any, **style: Any) -> None:
+        self.paper.text(x + self.right_by, y + self.down_by, *words, **style)
 
-    def line(self, x: float, y: float, to_x: float, to_y: float, *style) -> None:
-        self.paper.line(x + self.right, y + self.down, to_x + self.right, to_y + self.down, *style)
+    def line(self, x: float, y: float, to_x: float, to_y: float, *style: Any, **more: Any) -> None:
+        self.paper.line(x + self.right_by, y + self.down_by, to_x + self.right_by, to_y + self.down_by, *style, **more)

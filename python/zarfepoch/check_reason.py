@@ -8,18 +8,23 @@ each option brings as much room as it needs, all needs together are at most all 
 
 The exit status is 0 where the reason holds, 1 where it doesn't, 2 for a mistake on the command line, 3 for a file that can't be read.
 """
+from __future__ import annotations
+
 import sys
 
 from .command_words import parser_of
 
+# the words of each line
+Lines = list[list[bytes]]
 
-def check(problem, reason):
+
+def check(problem: Lines, reason: Lines) -> str:
     """What is wrong with a reason; nothing where it holds. Both are lists of lines, these lists of words."""
     items, *options = [words for words in problem if words and not words[0].startswith(b"|")]
     bar = next((place for place, word in enumerate(items) if word.startswith(b"|")), len(items))
     primary = set(items[:bar])
     options = [option for option in options if primary.intersection(option)]    # the others are in no cover
-    amounts = {b"weigh": {}, b"need": {}, b"room": {}}
+    amounts: dict[bytes, dict[bytes, int]] = {b"weigh": {}, b"need": {}, b"room": {}}
     for kind, number, name in reason[2:]:
         if not number.isdigit():
             return "a weight, a need or a room isn't a number from 0"
@@ -43,13 +48,13 @@ def check(problem, reason):
     return "" if sum(needs.values()) > sum(rooms.values()) else "all needs together are no more than all rooms"
 
 
-def lines_of(path):
+def lines_of(path: str) -> Lines:
     """The words of each line of a file."""
     text = sys.stdin.buffer.read() if path == "-" else open(path, "rb").read()
     return [line.split() for line in text.split(b"\n")]
 
 
-def main():
+def main() -> int:
     parser = parser_of(__doc__)
     parser.add_argument("file", metavar="FILE")
     parser.add_argument("reason", metavar="REASON")

@@ -3,12 +3,19 @@
 A reason is either weights of primary items modulo a number, or what primary items need and the room that items have for it.
 `docs/FORMAT.md` has the text; `holds` is all that has to be believed.
 """
+from __future__ import annotations
+
 import re
 import subprocess
+from collections.abc import Iterable, Iterator
 from math import gcd
+from typing import Optional
 
-from .cover_files import shown, stop
+from .cover_files import Problem, shown, stop
 from .fault_words import listed, plural, quoted
+
+# numbers by the names of their items
+Amounts = dict[bytes, int]
 
 SHOWN = 12
 LINE = re.compile(rb"(weigh|need|room) ([0-9]+) (\S+)")
@@ -17,16 +24,21 @@ LINE = re.compile(rb"(weigh|need|room) ([0-9]+) (\S+)")
 class Reason:
     """The weights, needs and rooms of a reason, by names, and its modulus, 0 where it has none."""
 
-    def __init__(self, text):
+    def __init__(self, text: bytes) -> None:
         head, *lines = text.removeprefix(b"none\n").rstrip(b"\n").split(b"\n")
         self.modulus = int(head.rpartition(b" ")[2]) if head.startswith(b"weights modulo ") else 0
-        self.weights, self.needs, self.rooms = {}, {}, {}
+        self.weights: Amounts = {}
+        self.needs: Amounts = {}
+        self.rooms: Amounts = {}
         kinds = {b"weigh": self.weights, b"need": self.needs, b"room": self.rooms}
         for line in lines:
-            kind, number, name = LINE.fullmatch(line).groups()
+            found = LINE.fullmatch(line)
+            if not found:
+                raise ValueError(f"this is no line of a reason: {shown(line)}")
+            kind, number, name = found.groups()
             kinds[kind][name] = int(number)
 
-    def holds(self, problem):
+    def holds(self, problem: Problem) -> bool:
         """Whether the reason shows that the problem has no cover."""
         primary = set(problem.primary_names())
         if not primary.issuperset([*self.weights, *self.needs]):
@@ -38,11 +50,11 @@ class Reason:
         return (coloured.isdisjoint(self.rooms) and sum(self.rooms.values()) < sum(self.needs.values())
                 and all(added(self.needs, option.names) <= added(self.rooms, option.names) for option in problem.options))
 
-    def words(self, problem):
+    def words(self, problem: Problem) -> list[str]:
         """Lines that say why there is no cover."""
         return list(weight_words(self, problem) if self.modulus else room_words(self, problem))
 
-    def line(self, problem):
+    def line(self, problem: Problem) -> str:
         """The same in one line."""
         if not self.modulus:
             return f"{sum(self.needs.values()):,} needed, and room for {sum(self.rooms.values()):,}: there is no cover"
@@ -50,22 +62,22 @@ class Reason:
         zero = "0" if is_exact(weights, problem) else f"a multiple of {self.modulus}"
         return f"each option weighs {zero}, all items together {sum(weights.values()):,}: there is no cover"
 
-    def signed(self):
+    def signed(self) -> Amounts:
         """The weights, those above half of the modulus as what is less than 0."""
         return {name: weight if 2 * weight <= self.modulus else weight - self.modulus for name, weight in self.weights.items()}
 
 
-def added(amounts, names):
+def added(amounts: Amounts, names: Iterable[bytes]) -> int:
     return sum(amounts.get(name, 0) for name in names)
 
 
-def names_line(names, most=SHOWN):
+def names_line(names: Iterable[bytes], most: int = SHOWN) -> str:
     return f"  {listed([shown(name) for name in names], most)}"
 
 
 # ---- too little room
 
-def room_words(reason, problem):
+def room_words(reason: Reason, problem: Problem) -> Iterator[str]:
     if len(reason.needs) == 1 and not reason.rooms:
         yield f"no option names {quoted(*reason.needs)}"
         return
@@ -80,14 +92,14 @@ def room_words(reason, problem):
 
 # ---- weights
 
-def is_exact(weights, problem):
+def is_exact(weights: Amounts, problem: Problem) -> bool:
     """Whether each option weighs 0, and not only a multiple of the modulus."""
     return all(added(weights, option.names) == 0 for option in problem.options)
 
 
-def weight_words(reason, problem):
+def weight_words(reason: Reason, problem: Problem) -> Iterator[str]:
     weights = reason.signed()
-    groups = {}
+    groups: dict[int, list[bytes]] = {}
     for name, weight in weights.items():
         groups.setdefault(weight, []).append(name)
     groups = dict(sorted(groups.items(), reverse=True))
@@ -104,7 +116,7 @@ def weight_words(reason, problem):
             yield f"  {weight:+d} each: {listed([shown(name) for name in group], SHOWN)}"
 
 
-def one_group(modulus, group):
+def one_group(modulus: int, group: tuple[int, list[bytes]]) -> Iterator[str]:
     """Where all that weigh something weigh the same."""
     weight, names = group
     step = modulus // gcd(modulus, weight)
@@ -114,7 +126,7 @@ def one_group(modulus, group):
 
 # ---- from the program
 
-def found_reason(program, text):
+def found_reason(program: str, text: bytes) -> Optional[Reason]:
     """The reason that the program gives for the bytes of a problem file, or None where it finds none; ends the script where it can't be run."""
     try:
         ran = subprocess.run([program, "why", "-"], input=text, capture_output=True)

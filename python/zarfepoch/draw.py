@@ -22,16 +22,20 @@ numbers mean (`| name 7: Mathematics for beginners`). Where a comment contradict
 The picture shows what the answer says; whether that is right is for the program to say (solve_cli check FILE ANSWER). The
 exit status is 0, 2 for a mistake on the command line, 3 for a file or an answer that can't be read, or a picture that can't be written.
 """
+from __future__ import annotations
+
 import sys
+from argparse import Namespace
 
 from .command_words import parser_of
-from .cover_files import Unreadable, complain, put, read_audited, read_bytes, read_problem, refusal, run, shown, stop
+from .cover_files import Answer, Problem, Unreadable, complain, put, read_audited, read_bytes, read_problem, refusal, run, shown, stop
+from .picture_base import Kind
 from .picture_kinds import picture_of
 from .svg_paper import Paper
 from .timetable_pictures import Timetable
 
 
-def title_of(text, file):
+def title_of(text: bytes, file: str) -> str:
     """The file's first comment, else its name."""
     for line in text.split(b"\n"):
         if line.strip():
@@ -40,7 +44,7 @@ def title_of(text, file):
     return file
 
 
-def read_files(given):
+def read_files(given: Namespace) -> tuple[Problem, str, Answer]:
     """The problem, its title, and the answer."""
     try:
         text = read_bytes(given.file)
@@ -56,7 +60,7 @@ def read_files(given):
     return problem, title_of(text, given.file), answer
 
 
-def write_svg(path, svg):
+def write_svg(path: str, svg: str) -> None:
     if path == "-":
         sys.stdout.write(svg)
         return
@@ -66,19 +70,20 @@ def write_svg(path, svg):
         stop(f"{path} can't be written: {why.strerror}", 3)
 
 
-def planned(picture, words):
+def planned(picture: Kind, words: list[str]) -> Kind:
     """The picture with the plans that are wanted; ends the script where it has none of these."""
-    if words and not isinstance(picture, Timetable):
+    if not words:
+        return picture
+    if not isinstance(picture, Timetable):
         stop("--plan is for timetables, and this is none")
-    if words:
-        picture.plans = words
-        if picture.unknown_plans():
-            names = [picture.full(name) for name in picture.everybody()]
-            stop(f"--plan takes classes, teachers, rooms, all, or a name of {', '.join(names)}; '{picture.unknown_plans()[0]}' is none of these")
+    picture.plans = words
+    if picture.unknown_plans():
+        names = [picture.full(name) for name in picture.everybody()]
+        stop(f"--plan takes classes, teachers, rooms, all, or a name of {', '.join(names)}; '{picture.unknown_plans()[0]}' is none of these")
     return picture
 
 
-def main():
+def main() -> int:
     parser = parser_of(__doc__)
     parser.add_argument("file", metavar="FILE", help="the problem's file, or - for the standard input")
     parser.add_argument("answer", metavar="ANSWER", help="the answer's file, or - for the standard input")

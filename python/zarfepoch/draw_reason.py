@@ -1,16 +1,20 @@
 """A picture of a reason for `none`: a board whose cells have the colours of what they weigh, need or have room for, and below it the
 other items that count; or these alone, where the items are no cells of a board."""
-import re
+from __future__ import annotations
 
-from .cover_files import shown
-from .svg_paper import FAINT, FILLS, Paper, text_width
+import re
+from typing import Optional
+
+from .cover_files import Problem, shown
+from .cover_reason import Amounts, Reason
+from .svg_paper import FAINT, FILLS, Cell, Paper, text_width
 
 CELL, CHIP, SIZE = 34, 26, 13
 A_ROW, LARGEST = 8, 1_000
 EMPTY = "#ffffff"
 
 
-def cell_of(name):
+def cell_of(name: bytes) -> Optional[Cell]:
     """The row and the column that a name says, as 07, 0011 or 3-12; None where it says none."""
     text = shown(name)
     if re.fullmatch("[0-9]+", text) and len(text) % 2 == 0:
@@ -22,20 +26,20 @@ def cell_of(name):
 class Group:
     """Items that count alike: what their cells say, what all of them do, and their names."""
 
-    def __init__(self, mark, words, names, fill):
+    def __init__(self, mark: str, words: str, names: list[bytes], fill: str) -> None:
         self.mark, self.words, self.names, self.fill = mark, words, names, fill
 
 
-def kinds_of(reason):
+def kinds_of(reason: Reason) -> list[tuple[str, str, str, Amounts]]:
     """Of each kind of number what one item of it does, what several do, how the number is written, and the numbers by names."""
     if reason.modulus:
         return [("weighs", "weigh", "{:+d}", reason.signed())]
     return [("needs", "need", "{}", reason.needs), ("has room for", "have room for", "{}", reason.rooms)]
 
 
-def groups_of(reason):
+def groups_of(reason: Reason) -> list[Group]:
     """The items that count, those alike together: the largest number of each kind first."""
-    groups = []
+    groups: list[Group] = []
     for one, several, form, amounts in kinds_of(reason):
         for amount in sorted(set(amounts.values()), reverse=True):
             names = [name for name, own in amounts.items() if own == amount]
@@ -45,7 +49,7 @@ def groups_of(reason):
     return groups
 
 
-def board_of(problem):
+def board_of(problem: Problem) -> dict[bytes, Cell]:
     """The cells of a board by the names of its items; none where the items are no cells."""
     cells = {name: cell for name in problem.names() if (cell := cell_of(name))}
     places = set(cells.values())
@@ -53,7 +57,7 @@ def board_of(problem):
     return cells if len(places) == len(cells) > 1 and 2 * len(cells) > problem.primary and largest < LARGEST else {}
 
 
-def draw_board(paper, cells, groups):
+def draw_board(paper: Paper, cells: dict[bytes, Cell], groups: list[Group]) -> None:
     """The board, each cell in the colour of its group."""
     marks = {name: group for group in groups for name in group.names}
     for name, (row, column) in sorted(cells.items(), key=lambda named: named[1]):
@@ -63,7 +67,7 @@ def draw_board(paper, cells, groups):
             paper.text((column + 0.5) * CELL, (row + 0.5) * CELL, group.mark, SIZE)
 
 
-def draw_names(paper, group, top):
+def draw_names(paper: Paper, group: Group, top: float) -> float:
     """The names of a group in boxes, row by row; where the next thing begins."""
     wide = max(text_width(shown(name), SIZE) for name in group.names) + 12
     a_row = max(1, min(A_ROW, int(640 / wide)))
@@ -74,10 +78,9 @@ def draw_names(paper, group, top):
     return top + ((len(group.names) - 1) // a_row + 1) * CHIP
 
 
-def draw_groups(paper, cells, groups):
+def draw_groups(paper: Paper, cells: dict[bytes, Cell], groups: list[Group]) -> float:
     """Below the board a line on each group, and the names that aren't on it."""
-    top = (paper.bottom if cells else 0) + (24 if cells else 0)
-    left = paper.left if cells else 0
+    top, left = (paper.bottom + 24, paper.left) if cells else (0, 0)
     for group in groups:
         paper.box(left, top - 9, 18, 18, group.fill, FAINT, 0.8)
         paper.text(left + 26, top, group.words, SIZE, anchor="start")
@@ -89,7 +92,7 @@ def draw_groups(paper, cells, groups):
     return top
 
 
-def reason_svg(problem, reason):
+def reason_svg(problem: Problem, reason: Reason) -> str:
     """The picture of a reason as SVG."""
     cells, groups = board_of(problem), groups_of(reason)
     if not any(name in cells for group in groups for name in group.names):

@@ -13,10 +13,13 @@ item that is covered twice the options that do it, with the colours that they gi
 It explains and decides nothing: whether an answer is right, and above all `none`, only the program can say. The exit status is 0 if
 nothing is wrong, 1 if something is, 2 for a mistake on the command line, 3 for a file that can't be read.
 """
-import os
+from __future__ import annotations
+
+from collections.abc import Iterator, Sequence
+from typing import Optional
 
 from .command_words import parser_of
-from .cover_files import MAX_COLOURS, MAX_ITEMS, MAX_OCCURRENCES, MAX_OPTIONS, TooLarge, Unreadable
+from .cover_files import MAX_COLOURS, MAX_ITEMS, MAX_OCCURRENCES, MAX_OPTIONS, Answer, Fault, Line, TooLarge, Unreadable, Word
 from .cover_files import is_comment, lines_of, Problem, read_answer, read_bytes, read_problem, refusal, run, shown
 from .cover_reason import found_reason
 from .fault_words import answer_fault_words, fault_words, grouped, listed, plural, quoted
@@ -26,6 +29,9 @@ from .programs import known_program
 SAYS = "the program says: "
 BY_SEARCH = "that there is no cover is decided by the program's search alone"
 BYTE_ORDER_MARK = b"\xef\xbb\xbf"
+# for each item the places of the options that name it
+Places = dict[bytes, list[int]]
+
 MANY = 10
 # so many faults are explained; of the others only the number is given
 MOST = 200
@@ -33,17 +39,17 @@ MOST = 200
 
 # ---- what a file was perhaps meant to be
 
-def without_hashes(lines):
+def without_hashes(lines: list[Line]) -> list[Line]:
     return [words for words in lines if not words[0].text.startswith(b"#")]
 
 
-def first_word(lines):
+def first_word(lines: list[Line]) -> Optional[Word]:
     """The first word of the item line, as the program finds it."""
     content = [words for words in lines if not is_comment(words)]
     return content[0][0] if content else None
 
 
-def repaired_text(text):
+def repaired_text(text: bytes) -> tuple[bytes, list[str]]:
     """The text without what editors put in unseen, and a remark on each such thing."""
     remarks = []
     if text[:2] in (b"\xff\xfe", b"\xfe\xff") and b"\0" in text:
@@ -59,7 +65,7 @@ def repaired_text(text):
     return text, remarks
 
 
-def as_meant(text):
+def as_meant(text: bytes) -> tuple[Problem, list[str]]:
     """The problem that was perhaps meant, and a remark on each thing that was passed over to read it."""
     text, remarks = repaired_text(text)
     lines = lines_of(text)
@@ -71,7 +77,7 @@ def as_meant(text):
     return Problem(lines), remarks
 
 
-def is_item_line_missing(problem):
+def is_item_line_missing(problem: Problem) -> bool:
     """Whether most words of options are no items, so that the item line is perhaps an option."""
     options = [option for option in problem.options + problem.ignored if not option.names[0].startswith(b"#")]
     words = [name for option in options for name in option.names]
@@ -81,18 +87,18 @@ def is_item_line_missing(problem):
 
 # ---- a file that is refused
 
-def place_of(fault):
+def place_of(fault: Fault) -> str:
     if fault.word is None:
         return f"line {fault.line}" if fault.line else "the file"
     return f"line {fault.word.line}, column {fault.word.column}, {quoted(fault.word.text)}"
 
 
-def fault_line(problem, fault, further):
+def fault_line(problem: Problem, fault: Fault, further: list[int]) -> str:
     again = f" (the same in {plural(len(further), 'more line')}: {listed(further, MANY)})" if further else ""
     return f"{place_of(fault)}: {fault.name}: {fault_words(problem, fault)}{again}"
 
 
-def explain_refused(problem, meant, remarks):
+def explain_refused(problem: Problem, meant: Problem, remarks: list[str]) -> list[str]:
     """Lines on a file that is refused: the program's fault first, then the others of what was meant."""
     told = [fault_line(problem, problem.faults[0], [])] if remarks else []
     told += remarks
@@ -109,21 +115,21 @@ def explain_refused(problem, meant, remarks):
 
 # ---- a file that is right
 
-def near_limits(problem):
+def near_limits(problem: Problem) -> Iterator[str]:
     for count, limit, what in ((len(problem.items), MAX_ITEMS, "items"), (len(problem.options), MAX_OPTIONS, "options"),
                                (problem.occurrences, MAX_OCCURRENCES, "occurrences"), (len(problem.colours), MAX_COLOURS, "colours")):
         if 10 * count >= 9 * limit:
             yield f"near a limit: {count:,} {what}, at most {limit:,} are read"
 
 
-def counts(problem):
+def counts(problem: Problem) -> str:
     secondary = len(problem.items) - problem.primary
     colours = f", {plural(len(problem.colours), 'colour')}" if problem.colours else ""
     return (f"{plural(len(problem.items), 'item')} ({problem.primary:,} primary, {secondary:,} secondary), "
             f"{plural(len(problem.options), 'option')}, {plural(problem.occurrences, 'occurrence')} of items in them{colours}")
 
 
-def rare_items(problem, by_item):
+def rare_items(problem: Problem, by_item: Places) -> Iterator[str]:
     """Lines on items that stand in no option, or in one alone."""
     primary = problem.primary_names()
     missing = [quoted(name) for name in primary if not by_item[name]]
@@ -137,9 +143,9 @@ def rare_items(problem, by_item):
         yield f"in no option, and without effect: secondary {plural(len(idle), 'item', False)} {listed(idle, MANY)}"
 
 
-def forced_clashes(problem, by_item):
+def forced_clashes(problem: Problem, by_item: Places) -> Iterator[str]:
     """Lines on items that two options need, each the only one of some primary item."""
-    needed = {}
+    needed: dict[bytes, dict[int, tuple[bytes, Optional[bytes]]]] = {}
     for name in problem.primary_names():
         if len(by_item[name]) == 1:
             option = problem.options[by_item[name][0]]
@@ -152,7 +158,7 @@ def forced_clashes(problem, by_item):
             yield f"{listed(each, MANY)} are each in one option alone, and these options clash in {quoted(item)}, so there is no cover"
 
 
-def room_words(problem, text):
+def room_words(problem: Problem, text: bytes) -> Iterator[str]:
     """Lines on primary items that need more than there is room for, where the program finds such."""
     program = known_program()
     reason = found_reason(program, text) if program else None
@@ -162,22 +168,22 @@ def room_words(problem, text):
         yield from others
 
 
-def items_together(by_item):
+def items_together(by_item: Places) -> Iterator[str]:
     """Lines on items that the same options name."""
-    groups = {}
+    groups: dict[tuple[int, ...], list[str]] = {}
     for name, places in by_item.items():
         if places:
             groups.setdefault(tuple(places), []).append(quoted(name))
-    together = [(places, names) for places, names in groups.items() if len(names) > 1]
-    for places, names in together[:MANY]:
-        yield f"always together, in {plural(len(places), 'option')}: {listed(names, MANY)}"
+    together = [(len(places), names) for places, names in groups.items() if len(names) > 1]
+    for count, names in together[:MANY]:
+        yield f"always together, in {plural(count, 'option')}: {listed(names, MANY)}"
     if len(together) > MANY:
         yield f"and {len(together) - MANY:,} more groups of items are always together"
 
 
-def equal_options(problem):
+def equal_options(problem: Problem) -> Iterator[str]:
     """Lines on options that name the same items in the same colours, in whatever order."""
-    groups = {}
+    groups: dict[frozenset[bytes], list[int]] = {}
     for option in problem.options:
         groups.setdefault(frozenset(option.words), []).append(option.line)
     equal = [lines for lines in groups.values() if len(lines) > 1]
@@ -188,9 +194,9 @@ def equal_options(problem):
         yield f"and {len(equal) - MANY:,} more groups of options name {same}"
 
 
-def lines_by_colour(problem):
+def lines_by_colour(problem: Problem) -> dict[bytes, dict[Optional[bytes], list[int]]]:
     """For each secondary item the lines of the options that name it, by the colour that they give it."""
-    by_item = {name: {} for name in problem.names()[problem.primary:]}
+    by_item: dict[bytes, dict[Optional[bytes], list[int]]] = {name: {} for name in problem.names()[problem.primary:]}
     for option in problem.options:
         for name, colour in zip(option.names, option.colours):
             if name in by_item:
@@ -198,7 +204,7 @@ def lines_by_colour(problem):
     return by_item
 
 
-def colour_habits(problem):
+def colour_habits(problem: Problem) -> Iterator[str]:
     """Lines on colours that can't do what colours are for: to be given by several options."""
     if not problem.colours:
         return
@@ -214,7 +220,7 @@ def colour_habits(problem):
         yield f"given to no item by two options, and so without effect: {plural(len(alone), 'colour', False)} {listed(alone, MANY)}"
 
 
-def strange_names(problem):
+def strange_names(problem: Problem) -> Iterator[str]:
     """Lines on names that are allowed but perhaps not meant."""
     names = list(problem.items) + list(problem.colours)
     commas = [quoted(name) for name in names if name[-1:] in (b",", b";")]
@@ -225,7 +231,7 @@ def strange_names(problem):
         yield f"characters that can't be seen stand in the {plural(len(unseen), 'name', False)} {listed(unseen, MANY)}"
 
 
-def explain_good(problem, text):
+def explain_good(problem: Problem, text: bytes) -> Iterator[str]:
     by_item = problem.options_by_item()
     yield counts(problem)
     yield from near_limits(problem)
@@ -243,14 +249,14 @@ def explain_good(problem, text):
 
 # ---- an answer
 
-def colour_words(problem, name, places):
+def colour_words(problem: Problem, name: bytes, places: list[int]) -> list[str]:
     """What each of the options gives the item, behind its place; nothing where none of them gives it a colour."""
     options = [problem.options[place] for place in places]
     colours = [option.colours[option.names.index(name)] for option in options]
     return [(f" in {quoted(colour)}" if colour else " without a colour") if any(colours) else "" for colour in colours]
 
 
-def explain_cover(problem, answer):
+def explain_cover(problem: Problem, answer: Answer) -> Iterator[str]:
     """Lines on each item that the chosen options leave out or name twice."""
     by_item = problem.options_by_item()
     for name in answer.uncovered(problem):
@@ -265,7 +271,7 @@ def explain_cover(problem, answer):
         yield f"covered {'twice' if len(users) == 2 else f'{len(users)} times'}: {quoted(name)} by {listed(options, MANY)}"
 
 
-def verdict(problem, answer):
+def verdict(problem: Problem, answer: Answer) -> Optional[str]:
     """What the program says of an answer that it reads; None where only its search can tell."""
     if answer.kind == "none":
         by_item = problem.options_by_item()
@@ -276,7 +282,7 @@ def verdict(problem, answer):
     return "wrong: CoveredTwice " + shown(twice[0][0]) if twice else "right"
 
 
-def explain_answer(problem, answer):
+def explain_answer(problem: Problem, answer: Answer) -> Iterator[str]:
     for fault in answer.faults[:MOST]:
         place = f"line {fault.line}" if fault.line else "the answer"
         yield f"{place}: {fault.name}: {answer_fault_words(problem, answer, fault)}"
@@ -299,7 +305,7 @@ def explain_answer(problem, answer):
 
 # ---- the whole
 
-def program_lines(problem, answer):
+def program_lines(problem: Problem, answer: Optional[Answer]) -> list[str]:
     """What the program writes on standard error, and of an answer its verdict, so far as counting tells it."""
     if problem.faults:
         return ["refused: " + refusal(problem.faults)]
@@ -310,7 +316,7 @@ def program_lines(problem, answer):
     return ([told] if told else []) + ignored
 
 
-def explain(text, answer_text=None):
+def explain(text: bytes, answer_text: Optional[bytes] = None) -> tuple[list[str], bool]:
     """All lines on a problem's text and perhaps an answer's, and whether nothing is wrong."""
     problem = read_problem(text)
     meant, remarks = as_meant(text)
@@ -328,7 +334,7 @@ def explain(text, answer_text=None):
     return lines, not (answer and (answer.faults or (verdict(problem, answer) or "right") != "right"))
 
 
-def main(words=None):
+def main(words: Optional[Sequence[str]] = None) -> int:
     parser = parser_of(__doc__)
     parser.add_argument("file", metavar="FILE", help="the problem's file, or - for the standard input")
     parser.add_argument("answer", metavar="ANSWER", nargs="?", help="an answer to it, as the program writes or checks it, or -")

@@ -1,7 +1,12 @@
 """What each fault of a problem file or of an answer means, in words, with what was expected and the nearest name there is."""
-import difflib
+from __future__ import annotations
 
-from .cover_files import MAX_COLOURS, MAX_ITEMS, MAX_NAME, MAX_OCCURRENCES, MAX_OPTIONS, is_audit, name_part, option_of, parts_of, shown
+import difflib
+from collections.abc import Iterator, Sequence
+from typing import Callable, Optional
+
+from .cover_files import MAX_COLOURS, MAX_ITEMS, MAX_NAME, MAX_OCCURRENCES, MAX_OPTIONS, Answer, Fault, Line, Option, Problem, Word
+from .cover_files import is_audit, name_part, option_of, parts_of, shown
 
 FEW = 12
 # faults that aren't told where the same word has an earlier one
@@ -11,17 +16,17 @@ AUDIT = "the line of an audit is no part of the answer: leave it out, as by grep
 
 # ---- plain English
 
-def plural(count, what, with_count=True):
+def plural(count: int, what: str, with_count: bool = True) -> str:
     ending = what if count == 1 else what + "s"
     return f"{count:,} {ending}" if with_count else ending
 
 
-def quoted(name):
+def quoted(name: bytes) -> str:
     text = shown(name)
     return f"'{text}'" if len(text) <= 60 else f"'{text[:40]}..{text[-10:]}' ({len(name):,} bytes)"
 
 
-def listed(things, most):
+def listed(things: Sequence[object], most: int) -> str:
     """The first of some things, and how many more there are."""
     told = [str(thing) for thing in things[:most]]
     if len(things) > most:
@@ -31,14 +36,14 @@ def listed(things, most):
 
 # ---- names that exist
 
-def nearest(names, name):
+def nearest(names: list[bytes], name: bytes) -> list[str]:
     """Up to three of the names that look most like this one."""
     texts = {shown(there): there for there in names}
     folded = [text for text in texts if text.lower() == shown(name).lower()]
     return folded or difflib.get_close_matches(shown(name), texts, 3, 0.6)
 
 
-def instead(names, name):
+def instead(names: list[bytes], name: bytes) -> str:
     """What to write for a name that doesn't exist."""
     near = nearest(names, name)
     commas = [there for there in names if there.strip(b",;") == name]
@@ -51,7 +56,7 @@ def instead(names, name):
     return "no item has a name like it"
 
 
-def unknown_words(problem, word):
+def unknown_words(problem: Problem, word: Word) -> str:
     name, colour = parts_of(word.text)
     names, bare = problem.names(), name.strip(b",;")
     if name.startswith(b"#"):
@@ -62,7 +67,7 @@ def unknown_words(problem, word):
     return f"{which}; {instead(names, name)}"
 
 
-def illegal_words(problem, word):
+def illegal_words(problem: Problem, word: Word) -> str:
     if b"\0" in word.text:
         return "byte 0 stands in it, which no name has; is the file a text in UTF-8?"
     if b":" in word.text and word.line == problem.item_line:
@@ -74,7 +79,7 @@ def illegal_words(problem, word):
     return "an option has no '|'; it parts primary from secondary items on the item line, or begins a line that is a comment"
 
 
-def bad_colour_words(word):
+def bad_colour_words(word: Word) -> str:
     name, colour = parts_of(word.text)
     if name.startswith(b"#"):
         return "a ':' parts an item from its colour; if this is a note, a comment begins with '|', not with '#'"
@@ -88,7 +93,7 @@ def bad_colour_words(word):
     return f"a colour has at most {MAX_NAME} bytes, this one has {len(colour)}"
 
 
-def primary_words(problem, word):
+def primary_words(problem: Problem, word: Word) -> str:
     name, _ = parts_of(word.text)
     return (f"{quoted(name)} is a primary item, which one option of a cover alone names; only secondary items have colours, those behind "
             f"the '|' of line {problem.item_line}")
@@ -96,17 +101,19 @@ def primary_words(problem, word):
 
 # ---- faults of a problem
 
-def earlier_column(problem, fault):
-    return problem.places[name_part(fault.word.text)].column
+def earlier_column(problem: Problem, word: Word) -> int:
+    return problem.places[name_part(word.text)].column
 
 
-def no_items_words(problem):
+def no_items_words(problem: Problem) -> str:
     return "no line names items; lines that begin with '|' are comments, so at least one primary item must stand before the separator"
 
 
-def fault_words(problem, fault):
+def fault_words(problem: Problem, fault: Fault) -> str:
     """What a fault of a problem means, and what was expected."""
     name, word = fault.name, fault.word
+    if word is None:
+        return whole_words(problem, name)
     if name == "IllegalByte":
         return illegal_words(problem, word)
     if name == "UnknownItem":
@@ -119,26 +126,33 @@ def fault_words(problem, fault):
     if name == "ColourOnPrimary":
         return primary_words(problem, word)
     if name == "DuplicateItem":
-        return f"the item line names it already, at column {earlier_column(problem, fault)}"
+        return f"the item line names it already, at column {earlier_column(problem, word)}"
     return {
-        "NoItems": no_items_words(problem),
         "SecondBar": "the separator stands on the item line already; one is expected, between primary and secondary items",
         "DuplicateInOption": "this option names it already; an option names each of its items once",
         "TooManyItems": f"the item line has {len(problem.items):,} names, at most {MAX_ITEMS:,} are read",
+    }[name]
+
+
+def whole_words(problem: Problem, name: str) -> str:
+    """What a fault of a whole line or file means."""
+    return {
+        "NoItems": no_items_words(problem),
         "TooManyOptions": f"{len(problem.options):,} options name a primary item, at most {MAX_OPTIONS:,} are read",
         "TooManyNodes": f"the options have {problem.occurrences:,} items together, at most {MAX_OCCURRENCES:,} are read",
         "TooManyColours": f"the options have {len(problem.colours):,} different colours, at most {MAX_COLOURS:,} are read",
     }[name]
 
 
-def same_fault(fault):
+def same_fault(fault: Fault) -> tuple[str, Optional[bytes]]:
     """Faults that are told together: the same fault of the same word, and all of a line that begins with '#'."""
     return fault.name, fault.word.text if fault.word else None
 
 
-def plain_faults(problem):
+def plain_faults(problem: Problem) -> Iterator[Fault]:
     """The faults without those that follow from another one of the same word or line."""
-    hashed, cause = set(), {}
+    hashed: set[int] = set()
+    cause: dict[Word, str] = {}
     for fault in problem.faults:
         word = fault.word
         if word is None:
@@ -152,19 +166,19 @@ def plain_faults(problem):
             yield fault
 
 
-def grouped(problem):
+def grouped(problem: Problem) -> Iterator[tuple[Fault, list[int]]]:
     """Each fault that is told, with the further lines that have the same."""
-    groups = {}
+    groups: dict[tuple[str, Optional[bytes]], list[Fault]] = {}
     for fault in plain_faults(problem):
         groups.setdefault(same_fault(fault), []).append(fault)
     for faults in groups.values():
-        further = sorted({fault.line for fault in faults if fault.line != faults[0].line})
+        further = sorted({fault.line for fault in faults if fault.line is not None and fault.line != faults[0].line})
         yield faults[0], further
 
 
 # ---- faults of an answer
 
-def head_words(answer):
+def head_words(answer: Answer) -> str:
     if answer.head is None:
         return "the answer is empty; 'none' is expected, or 'cover' and a number, and then that many lines"
     first = " ".join(shown(word.text) for word in answer.head)
@@ -181,19 +195,19 @@ def head_words(answer):
     return f"'none' is expected, or 'cover' and a number, not '{first}'"
 
 
-def count_words(answer):
+def count_words(answer: Answer) -> str:
     if is_audit(answer.rest[-1] if answer.rest else []):
         return AUDIT
     if answer.kind == "none":
         return f"nothing stands behind 'none', but {plural(len(answer.rest), 'line')} here; did you mean 'cover {len(answer.rest)}'?"
-    return f"the head says {plural(answer.count, 'line')}, but there {'is' if len(answer.rest) == 1 else 'are'} {len(answer.rest):,}"
+    return f"the head says {plural(answer.count or 0, 'line')}, but there {'is' if len(answer.rest) == 1 else 'are'} {len(answer.rest):,}"
 
 
-def lines_where(options, is_so):
+def lines_where(options: list[Option], is_so: Callable[[Option], bool]) -> list[int]:
     return [option.line for option in options if is_so(option)]
 
 
-def option_words(problem, answer, words):
+def option_words(problem: Problem, answer: Answer, words: Line) -> str:
     """Why a line of an answer is no option that is left, and what may be meant."""
     line = option_of(words)
     if line.words[0].startswith((b"|", b"#")):
@@ -218,11 +232,11 @@ def option_words(problem, answer, words):
     return near_option_words(problem, line)
 
 
-def told(option):
+def told(option: Option) -> str:
     return " ".join(map(shown, option.words))
 
 
-def near_option_words(problem, line):
+def near_option_words(problem: Problem, line: Option) -> str:
     """The option that has most of these words and fewest others, where names count before colours."""
     names, words = set(line.names), set(line.words)
     others = [len(names.symmetric_difference(option.names)) for option in problem.options]
@@ -235,7 +249,7 @@ def near_option_words(problem, line):
     return f"no option of the file has {what}; nearest: '{told(near)}' (line {near.line})"
 
 
-def answer_fault_words(problem, answer, fault):
+def answer_fault_words(problem: Problem, answer: Answer, fault: Fault) -> str:
     """What a fault of an answer means, and what was expected."""
     if fault.name == "BadHead":
         return head_words(answer)

@@ -41,12 +41,17 @@ wants no built program. The exit status is 0; 1 where counting shows that there 
 mistake on the command line, a folder or file that can't be written, or a problem of a kind without a FILE that is refused; 3 for a FILE
 that can't be read or meant or makes too large a problem, or where the standard output can't be written.
 """
+from __future__ import annotations
+
 import argparse
 import itertools
 import math
 import os
 import re
 import sys
+from argparse import Namespace
+from collections.abc import Iterable, Iterator, Sequence
+from typing import Any, Callable, Optional
 
 from .command_words import parser_of
 from . import grids
@@ -55,23 +60,30 @@ from . import sudokus
 from . import timetables
 from .cover_files import MAX_COLOURS, MAX_ITEMS, MAX_NAME, MAX_OCCURRENCES, MAX_OPTIONS, put, run, shown, stop
 from .pieces import filled, named_pieces, read_board, read_pieces
-from .puzzle_texts import blocks_of, no_cover, read_text, refuse, rows_of, UNREADABLE, words_of
+from .puzzle_texts import Puzzle, blocks_of, no_cover, read_text, refuse, rows_of, UNREADABLE, words_of
+
+# a cell by row and column; two names; pieces by their names, as rows of x and dots or as words
+Cell = tuple[int, int]
+Pair = tuple[str, str]
+Pieces = dict[str, list[str]]
+# how a problem's first comment is made of what it is
+Note = Callable[[str], str]
 
 # where examples are written in a clone, and where the texts are that they are made from
 HERE = TEXTS = os.path.join(os.path.dirname(os.path.abspath(__file__)), "..", "..", "examples")
 # where the command line wants the problem, if not on the standard output
-OUT = []
+OUT: list[str] = []
 # the exit status for a problem that is refused: 3 where it was made of a file
 STATUS = [2]
 
 
-def check_count(count, most, what):
+def check_count(count: int, most: int, what: str) -> None:
     """Refuses what the program wouldn't read, best before it is made."""
     if count > most:
         stop(f"this would have {count:,} {what}, and the program reads at most {most:,}", STATUS[0])
 
 
-def check_range(names, options):
+def check_range(names: list[str], options: list[list[str]]) -> None:
     """Refuses what the program wouldn't read."""
     colours = list(dict.fromkeys(word.partition(":")[2] for option in options for word in option if ":" in word))
     for name in names + colours:
@@ -88,7 +100,7 @@ def check_range(names, options):
         stop("nothing is left to cover", STATUS[0])
 
 
-def write(name, note, primary, secondary, options, comments=()):
+def write(name: str, note: str, primary: list[str], secondary: list[str], options: list[list[str]], comments: Iterable[str] = ()) -> None:
     """Writes a problem into a file of this folder, or where the command line wants it if the name is `-`."""
     check_range(primary + secondary, options)
     line = " ".join(primary) + (" | " + " ".join(secondary) if secondary else "")
@@ -106,9 +118,9 @@ def write(name, note, primary, secondary, options, comments=()):
 
 # ---- the kinds
 
-def orientations(cells):
+def orientations(cells: Sequence[Cell]) -> list[list[Cell]]:
     """The different turns and flips of a piece, each moved to the origin, in a fixed order."""
-    seen = []
+    seen: list[list[Cell]] = []
     for flip in (False, True):
         piece = [(row, -column) if flip else (row, column) for row, column in cells]
         for _ in range(4):
@@ -120,7 +132,7 @@ def orientations(cells):
     return seen
 
 
-def shape(rows):
+def shape(rows: list[str]) -> list[Cell]:
     return [(r, c) for r, row in enumerate(rows) for c, mark in enumerate(row) if mark == "x"]
 
 
@@ -154,13 +166,13 @@ CUBES = ["one blue green red white blue green", "two blue red white white green 
          "four red blue blue red green white"]
 
 
-def names_of(cells):
+def names_of(cells: set[Cell]) -> dict[Cell, str]:
     """The names of cells by row and column, each with as many digits as the greatest has."""
     width = max(len(str(max(cell))) for cell in cells)
     return {(r, c): f"{r:0{width}}{c:0{width}}" for r, c in sorted(cells)}
 
 
-def placements(pieces, cells):
+def placements(pieces: Pieces, cells: set[Cell]) -> Iterator[list[str]]:
     names = names_of(cells)
     for name, rows in pieces.items():
         for piece in orientations(shape(rows)):
@@ -170,25 +182,26 @@ def placements(pieces, cells):
                     yield [name] + [names[cell] for cell in placed]
 
 
-def rectangle(rows, columns):
+def rectangle(rows: int, columns: int) -> set[Cell]:
     return {(r, c) for r in range(rows) for c in range(columns)}
 
 
-def tiling(name, note, pieces, cells):
+def tiling(name: str, note: str, pieces: Pieces, cells: set[Cell]) -> None:
     """Each piece stands once where they have as many cells as the board together, else at most once."""
     all_stand = sum(len(shape(rows)) for rows in pieces.values()) == len(cells)
     items = (list(pieces) if all_stand else []) + list(names_of(cells).values())
     write(name, note, items, [] if all_stand else list(pieces), list(placements(pieces, cells)))
 
 
-def dominoes(name, note, cells):
-    options, names = [], names_of(cells)
+def dominoes(name: str, note: str, cells: set[Cell]) -> None:
+    options: list[list[str]] = []
+    names = names_of(cells)
     for r, c in sorted(cells):
         options += [[names[r, c], names[to]] for to in ((r, c + 1), (r + 1, c)) if to in cells]
     write(name, note, list(names.values()), [], options)
 
 
-def queens(name, note, n):
+def queens(name: str, note: str, n: int) -> None:
     check_count(n * n, MAX_OPTIONS, "options")
     options = [[f"r{r}", f"c{c}", f"a{r + c}", f"b{r - c + n - 1}"] for r in range(n) for c in range(n)]
     lines = [f"{kind}{k}" for kind in "rc" for k in range(n)]
@@ -196,17 +209,17 @@ def queens(name, note, n):
     write(name, note, lines, diagonals, options)
 
 
-def langford(name, note, n):
+def langford(name: str, note: str, n: int) -> None:
     check_count(3 * n, MAX_ITEMS, "items")
     options = [[str(d), f"s{k}", f"s{k + d + 1}"] for d in range(1, n + 1) for k in range(1, 2 * n - d)]
     write(name, note, [str(d) for d in range(1, n + 1)] + [f"s{k}" for k in range(1, 2 * n + 1)], [], options)
 
 
-def sudoku(name, note, rows):
+def sudoku(name: str, note: str, rows: list[str]) -> None:
     put_down(note, sudokus.Sudoku([[int(mark) if mark != "." else 0 for mark in row] for row in rows]).puzzle(), name)
 
 
-def numbered(places, colors):
+def numbered(places: list[str], colors: list[str]) -> dict[str, str]:
     """Numbers for the places whose names would make those of borders too long."""
     most = (MAX_NAME - 2 - max(len(os.fsencode(color)) for color in colors)) // 2
     long = [place for place in places if len(os.fsencode(place)) > most]
@@ -214,9 +227,9 @@ def numbered(places, colors):
     return dict(zip(long, free))
 
 
-def coloring(name, note, borders, colors):
+def coloring(name: str, note: str, borders: list[Pair], colors: list[str]) -> None:
     numbers = numbered(sorted({place for border in borders for place in border}), colors)
-    borders = [tuple(numbers.get(place, place) for place in border) for border in borders]
+    borders = [(numbers.get(one, one), numbers.get(other, other)) for one, other in borders]
     places = sorted({place for border in borders for place in border})
     edges = ["-".join(sorted(border)) for border in borders]
     options = []
@@ -227,7 +240,7 @@ def coloring(name, note, borders, colors):
     write(name, note, places, [f"{edge}={color}" for edge in edges for color in colors], options, told)
 
 
-def triples(name, note, n):
+def triples(name: str, note: str, n: int) -> None:
     check_count(math.comb(n, 3), MAX_OPTIONS, "options")
     width = len(str(n))
     pairs = {pair: "".join(f"{point:0{width}}" for point in pair) for pair in itertools.combinations(range(1, n + 1), 2)}
@@ -235,24 +248,25 @@ def triples(name, note, n):
     write(name, note, list(pairs.values()), [], options)
 
 
-def matching(name, note, edges):
+def matching(name: str, note: str, edges: list[Pair]) -> None:
     write(name, note, list(dict.fromkeys(itertools.chain(*edges))), [], [list(edge) for edge in edges])
 
 
-def looks_outwards(cells, cell):
+def looks_outwards(cells: set[Cell], cell: Cell) -> tuple[bool, ...]:
     """Of each side of a cell, from the top on clockwise, whether no other cell lies behind it."""
     r, c = cell
     return tuple(other not in cells for other in ((r - 1, c), (r, c + 1), (r + 1, c), (r, c - 1)))
 
 
-def squares(name, note, cells, pieces, border=None):
+def squares(name: str, note: str, cells: set[Cell], pieces: Pieces, border: Optional[str] = None) -> None:
     """Squares with coloured sides, edge to edge; with a border, all sides that look outwards have this colour, and no others where
     the squares have no more of it."""
     names, grid = names_of(cells), names_of({(r + a, c + b) for r, c in cells for a in (0, 1) for b in (0, 1)})
     outwards = {cell: looks_outwards(cells, cell) for cell in cells}
-    no_more = sum(colours.count(border) for colours in pieces.values()) == sum(map(sum, outwards.values()))
+    of_border = sum(colour == border for colours in pieces.values() for colour in colours)
+    no_more = of_border == sum(is_outwards for sides in outwards.values() for is_outwards in sides)
 
-    def fits(colour, is_outwards):
+    def fits(colour: str, is_outwards: bool) -> bool:
         return border is None or (colour == border if is_outwards else not (no_more and colour == border))
 
     options = []
@@ -268,10 +282,11 @@ def squares(name, note, cells, pieces, border=None):
     write(name, note, list(pieces) + list(names.values()), sides, options)
 
 
-def word_squares(name, note, words, marks=("",), repeat=False):
+def word_squares(name: str, note: str, words: list[str], marks: Sequence[str] = ("",), repeat: bool = False) -> None:
     """Squares with a word in each row and in each column, all different unless `repeat` is set; a cell's colour is its letter. Behind
     each mark go the names of one square."""
-    n, slots = len(words[0]), {}
+    n = len(words[0])
+    slots: dict[str, list[str]] = {}
     names = names_of(rectangle(n, n))
     for mark in marks:
         slots.update((f"{mark}across{r}", [mark + names[r, c] for c in range(n)]) for r in range(n))
@@ -284,36 +299,36 @@ def word_squares(name, note, words, marks=("",), repeat=False):
 
 # ---- what the command line gives
 
-def whole_number(text):
+def whole_number(text: str) -> int:
     if not re.fullmatch(r"[1-9][0-9]{0,3}", text):
         raise argparse.ArgumentTypeError(f"'{text}' is no number from 1")
     return int(text)
 
 
-def size(text):
+def size(text: str) -> Cell:
     found = re.fullmatch(r"([1-9][0-9]{0,2})x([1-9][0-9]{0,2})", text)
     if not found:
         raise argparse.ArgumentTypeError(f"'{text}' is no size: rows and columns are expected, as in 5x12")
     return int(found[1]), int(found[2])
 
 
-def cell(text):
+def cell(text: str) -> Cell:
     found = re.fullmatch(r"([0-9]{1,3}),([0-9]{1,3})", text)
     if not found:
         raise argparse.ArgumentTypeError(f"'{text}' is no cell: row and column from 0 are expected, as in 0,7")
     return int(found[1]), int(found[2])
 
 
-def read_pairs(path):
+def read_pairs(path: str) -> list[Pair]:
     """The two names of each line."""
     lines = words_of(path)
     for number, words in lines:
         if len(words) != 2 or words[0] == words[1]:
             refuse(path, number, f"two different names are expected")
-    return list(dict.fromkeys(tuple(words) for _, words in lines))
+    return list(dict.fromkeys((words[0], words[1]) for _, words in lines))
 
 
-def read_squares(path):
+def read_squares(path: str) -> Pieces:
     """Squares by their names, each with its four colours."""
     lines = words_of(path)
     for number, words in lines:
@@ -326,16 +341,18 @@ def read_squares(path):
     return {words[0]: words[1:] for _, words in lines}
 
 
-def read_word_list(path):
+def read_word_list(path: str) -> list[str]:
     """Different words."""
-    words = list(dict.fromkeys(read_text(path).split())) or refuse(path, None, "there are no words")
+    words = list(dict.fromkeys(read_text(path).split()))
+    if not words:
+        refuse(path, None, "there are no words")
     for word in words:
         if re.search(r"[\d:|\0]", word):
             refuse(path, None, f"'{word}' has a digit, ':' or '|', which no word may have here")
     return words
 
 
-def read_words(path):
+def read_words(path: str) -> list[str]:
     """Different words of one length."""
     words = read_word_list(path)
     for word in words:
@@ -344,16 +361,18 @@ def read_words(path):
     return words
 
 
-def read_grid(path):
+def read_grid(path: str) -> tuple[list[str], list[int]]:
     """The rows of a crossword's grid, and the numbers of their lines."""
     lines = rows_of(path)
     for number, row in lines:
         if len(row) != len(lines[0][1]) or re.search(r"[\s\d:|\0]", row):
             refuse(path, number, "rows of one length are expected, of dots, letters and # for black cells")
-    return [row for _, row in lines] or refuse(path, None, "there are no rows"), [number for number, _ in lines]
+    if not lines:
+        refuse(path, None, "there are no rows")
+    return [row for _, row in lines], [number for number, _ in lines]
 
 
-def crossword(given, note):
+def crossword(given: Namespace, note: str) -> None:
     rows, numbers = read_grid(given.grid)
     try:
         problem = puzzles.crossword(rows, read_word_list(given.file), given.repeat)
@@ -364,7 +383,7 @@ def crossword(given, note):
     write("-", note, *problem, [f"grid: {' '.join(rows)}"])
 
 
-def numbers_of(path, number, line, width):
+def numbers_of(path: str, number: int, line: str, width: int) -> list[int]:
     """The lengths of a line's blocks, which fit into so many cells."""
     if not re.fullmatch(r"\s*\d{1,4}([\s,]+\d{1,4})*,?", line):
         refuse(path, number, "numbers are expected, with blanks or commas between")
@@ -374,7 +393,7 @@ def numbers_of(path, number, line, width):
     return blocks
 
 
-def read_nonogram(path):
+def read_nonogram(path: str) -> tuple[list[list[int]], list[list[int]]]:
     """The lengths of the blocks of each row and of each column."""
     parts = blocks_of(path)
     if len(parts) != 2:
@@ -382,12 +401,13 @@ def read_nonogram(path):
     if max(map(len, parts)) > 999:
         refuse(path, None, "1 to 999 rows and columns are expected")
     rows, columns = ([numbers_of(path, number, line, len(other)) for number, line in part] for part, other in zip(parts, reversed(parts)))
-    if sum(map(sum, rows)) != sum(map(sum, columns)):
-        no_cover(f"{path}: the rows have {sum(map(sum, rows))} black cells and the columns {sum(map(sum, columns))}")
+    across, down = (sum(sum(blocks) for blocks in lines) for lines in (rows, columns))
+    if across != down:
+        no_cover(f"{path}: the rows have {across} black cells and the columns {down}")
     return rows, columns
 
 
-def read_cubes(path):
+def read_cubes(path: str) -> Pieces:
     """Cubes by their names, each with its six colours."""
     lines = words_of(path)
     for number, words in lines:
@@ -396,28 +416,29 @@ def read_cubes(path):
     return {words[0]: words[1:] for _, words in lines}
 
 
-def put_down(note, puzzle, name="-"):
+def put_down(note: str, puzzle: Puzzle, name: str = "-") -> None:
     write(name, note, puzzle.primary, puzzle.secondary, puzzle.options, puzzle.comments)
 
 
-def made_by(kind, *given, **options):
+def made_by(kind: Callable[..., puzzles.Lists], *given: Any) -> puzzles.Lists:
     """The items and options of a puzzle."""
     try:
-        return kind(*given, **options)
+        return kind(*given)
     except puzzles.Refused as why:
-        return stop(str(why), UNREADABLE)
+        stop(str(why), UNREADABLE)
 
 
-def board(given):
+def board(given: Namespace) -> set[Cell]:
     cells = rectangle(*given.size)
     check_count(len(cells) - len(set(given.without)), MAX_ITEMS, "items")
     for left_out in given.without:
         if left_out not in cells:
             stop("the cell {},{} isn't on the board, whose rows and columns begin with 0".format(*left_out))
-    return cells - set(given.without) or stop("no cell is left")
+    left: set[Cell] = cells - set(given.without)
+    return left or stop("no cell is left")
 
 
-def pieces_on_board(given, pieces, note):
+def pieces_on_board(given: Namespace, pieces: Pieces, note: str) -> None:
     cells, each = board(given), len(shape(next(iter(pieces.values()))))
     if len(cells) > each * len(pieces) or len(cells) % each:
         stop(f"{len(pieces)} pieces of {each} cells can't fill {len(cells)} cells: that is more than {each * len(pieces)}, "
@@ -425,12 +446,12 @@ def pieces_on_board(given, pieces, note):
     tiling("-", note, pieces, cells)
 
 
-def filled_board(given):
+def filled_board(given: Namespace) -> Puzzle:
     found = read_pieces(given.pieces) if given.pieces == "-" or os.path.exists(given.pieces) else named_pieces(given.pieces)
     return filled(read_board(given.file), found, not given.no_flips)
 
 
-def colored_map(given, note):
+def colored_map(given: Namespace, note: str) -> None:
     borders = read_pairs(given.file)
     for place in itertools.chain(*borders):
         if "-" in place or "=" in place:
@@ -438,28 +459,29 @@ def colored_map(given, note):
     colors = [color.strip() for color in given.colors.split(",")]
     if "" in colors or len(set(colors)) < len(colors):
         stop(f"--colors takes different names with commas between, not '{given.colors}'")
-    coloring("-", note, list(dict.fromkeys(tuple(sorted(pair)) for pair in borders)), colors)
+    pairs = dict.fromkeys((min(pair), max(pair)) for pair in borders)
+    coloring("-", note, list(pairs), colors)
 
 
-def squares_on_board(given, note):
+def squares_on_board(given: Namespace, note: Note) -> None:
     cells, found = board(given), read_squares(given.file)
     if len(cells) != len(found):
         stop(f"{len(found)} squares can't fill {len(cells)} cells")
     squares("-", note("squares with coloured sides: where two meet, their sides have one colour"), cells, found, given.border)
 
 
-def polyominoes(given, note):
+def polyominoes(given: Namespace, note: Note) -> None:
     what, shapes = given.kind, PENTOMINOES if given.kind == "pentominoes" else TETROMINOES
     pieces_on_board(given, shapes, note(f"{what}, each at most once, fill a board"))
 
 
-def is_typed(given):
+def is_typed(given: str) -> bool:
     """Whether a sudoku is on the command line itself, and not in a file."""
     return bool(re.fullmatch(r"[0-9._\s]+|[0-9A-Pa-p._\s]{16,}", given)) and given != "-" and not os.path.exists(given)
 
 
 # how each kind is written, from what the command line gives and a note on what it is
-KINDS = {
+KINDS: dict[str, Callable[[Namespace, Note], None]] = {
     "queens": lambda given, note: queens(
         "-", note(f"{given.n} queens that attack nobody: rows and columns are primary, diagonals secondary"), given.n),
     "langford": lambda given, note: langford("-", note(f"Langford pairs of 1 to {given.n}: two d's stand d places apart"), given.n),
@@ -498,13 +520,13 @@ KINDS = {
 }
 
 
-def told_word(word):
+def told_word(word: str) -> str:
     """A word of the command line as a comment has it: a sudoku without its blanks, others in quotes if they have any."""
     parts = word.split()
     return "".join(parts) if is_typed(word) else f"'{' '.join(parts)}'" if len(parts) > 1 else "".join(parts)
 
 
-def make(given, given_words):
+def make(given: Namespace, given_words: list[str]) -> None:
     """Writes the problem that these words of a command line ask for; its comment tells how it was made."""
     told = [word for before, word in zip(["", *given_words], given_words) if "--out" not in (before, word.partition("=")[0])]
     words = [os.path.basename(word) if os.path.exists(word) else told_word(word) for word in told]
@@ -512,7 +534,7 @@ def make(given, given_words):
     KINDS["word-square" if given.kind == "words" else given.kind](given, lambda what: f"{what} (generate.py {' '.join(words)})")
 
 
-def command_line():
+def command_line() -> argparse.ArgumentParser:
     parser = parser_of(__doc__)
     kinds = parser.add_subparsers(dest="kind", metavar="KIND")
     for kind, what in (("queens", "rows and columns"), ("langford", "the greatest number"), ("triples", "the number of points")):
@@ -547,12 +569,12 @@ def command_line():
     kinds.choices["squares"].add_argument("--border", metavar="COLOUR", help="the colour of all sides that look outwards")
     kinds.choices["timetable"].add_argument("--seed", metavar="N", type=whole_number,
                                             help="draws the order of the options by lot: where a search doesn't end, another N may help")
-    for kind in dict.fromkeys(kinds.choices.values()):
-        kind.add_argument("--out", metavar="FILE", help="where the problem is written, in place of the standard output")
+    for words in dict.fromkeys(kinds.choices.values()):
+        words.add_argument("--out", metavar="FILE", help="where the problem is written, in place of the standard output")
     return parser
 
 
-def examples():
+def examples() -> None:
     tiling("pentominoes-6x10.dlx", "the twelve pentominoes fill a rectangle of 6 by 10", PENTOMINOES, rectangle(6, 10))
     tiling("tetrominoes-4x5.dlx", "the five tetrominoes can't fill a rectangle of 4 by 5: none", TETROMINOES, rectangle(4, 5))
     board = rectangle(8, 8) - {(0, 0), (7, 7)}
@@ -564,7 +586,7 @@ def examples():
         "8........", "..36.....", ".7..9.2..", ".5...7...", "....457..", "...1...3.", "..1....68", "..85...1.", ".9....4.."])
     borders = ["WA NT", "WA SA", "NT SA", "NT Q", "SA Q", "SA NSW", "SA V", "Q NSW", "NSW V"]
     coloring("australia.dlx", "three colours for the states of Australia on its mainland",
-             [tuple(border.split()) for border in borders], ["red", "green", "blue"])
+             [(one, other) for one, other in map(str.split, borders)], ["red", "green", "blue"])
     triples("fano-plane.dlx", "seven lines of three points, so that any two of seven points lie on one line", 7)
     squares("squares-3x3.dlx", "nine squares, edge to edge in one colour, and grey all round", rectangle(3, 3),
             {line[0]: line.split()[1:] for line in SQUARES}, "grey")
@@ -583,7 +605,7 @@ def examples():
     OUT.clear()
 
 
-def main():
+def main() -> int:
     given = command_line().parse_args()
     if given.kind:
         OUT[:] = [given.out] if given.out else []

@@ -4,7 +4,7 @@ from __future__ import annotations
 import itertools
 import re
 
-from .picture_base import Cell, CELL, cell_of, Kind, LARGEST, Names
+from .picture_base import Cell, CELL, cell_of, Kind, known_cell, LARGEST, Names
 from .svg_paper import ACCENT, Board, FAINT, INK, Paper
 
 WHITE, BLACK = "#fffdf8", "#3a3f47"
@@ -16,7 +16,7 @@ class Kakuro(Kind):
     def is_known(self) -> bool:
         cells, runs = self.cells(), [option for option in self.options if re.fullmatch(r"[ad]\d+", option[0])]
         return bool(runs) and not self.secondary() and bool(cells) and len(cells) + len(runs) == len(self.options) and max(
-            map(max, map(cell_of, {option[0] for option in cells}))) < LARGEST and all(map(self.is_run, runs)) and all(
+            max(known_cell(option[0])) for option in cells) < LARGEST and all(map(self.is_run, runs)) and all(
             len({name.partition(".")[2] for name in option[1:]}) == 1 for option in cells)
 
     def cells(self) -> list[Names]:
@@ -30,7 +30,9 @@ class Kakuro(Kind):
 
     def sums(self) -> dict[str, tuple[int, set[Cell]]]:
         """For each run its sum, and the cells that it has."""
-        possible, left, cells = {}, {}, {}
+        possible: dict[str, int] = {}
+        left: dict[str, int] = {}
+        cells: dict[str, set[Cell]] = {}
         for item in self.items:
             run, dot, digit = item.partition(".")
             if dot:
@@ -40,12 +42,12 @@ class Kakuro(Kind):
                 left[option[0]] = sum(int(name.partition(".")[2]) for name in option[1:])
         for option in self.cells():
             for name in option[1:]:
-                cells.setdefault(name.partition(".")[0], set()).add(cell_of(option[0]))
+                cells.setdefault(name.partition(".")[0], set()).add(known_cell(option[0]))
         return {run: (possible.get(run, 0) - left[run], its_cells) for run, its_cells in cells.items() if run in left}
 
     def clues(self) -> dict[Cell, list[str]]:
         """The sums below and on the right of black cells."""
-        found = {}
+        found: dict[Cell, list[str]] = {}
         for run, (total, cells) in self.sums().items():
             r, c = min(cells)
             at = (r, c - 1) if run[0] == "a" else (r - 1, c)
@@ -54,13 +56,13 @@ class Kakuro(Kind):
 
     def size(self) -> list[int]:
         told = next((re.fullmatch(r"\|\s*size: (\d+) (\d+)", comment) for comment in self.comments if re.match(r"\|\s*size: \d", comment)), None)
-        cells = [cell_of(option[0]) for option in self.cells()]
+        cells = [known_cell(option[0]) for option in self.cells()]
         least = [max(cell[k] for cell in cells) + 1 for k in (0, 1)]
         return [max(number, int(told[k + 1]) if told and int(told[k + 1]) < LARGEST else 0) for k, number in enumerate(least)]
 
     def digits(self) -> dict[Cell, str]:
         """The digit of each white cell that has one."""
-        return {cell_of(option[0]): option[1].partition(".")[2] for option in self.chosen if cell_of(option[0])}
+        return {cell: option[1].partition(".")[2] for option in self.chosen if (cell := cell_of(option[0]))}
 
     def lines(self) -> list[str]:
         digits, clues, (rows, columns) = self.digits(), self.clues(), self.size()
@@ -101,18 +103,18 @@ class Stars(Kind):
     def is_known(self) -> bool:
         return bool(self.options) and self.all_match(r"(row|column|region)\d+", self.primary) and bool(self.regions()) and all(
             cell_of(name) and colour in ("star", "blank") for colours in self.option_colours for name, colour in colours.items()) and max(
-            max(cell_of(name)) for colours in self.option_colours for name in colours) < LARGEST
+            max(known_cell(name)) for colours in self.option_colours for name in colours) < LARGEST
 
     def regions(self) -> dict[Cell, str]:
         """The region of each cell, by its options."""
-        return {cell_of(name): option[0] for option, colours in zip(self.options, self.option_colours) if option[0].startswith("region")
-                for name in colours if cell_of(name)}
+        return {cell: option[0] for option, colours in zip(self.options, self.option_colours) if option[0].startswith("region")
+                for cell in map(cell_of, colours) if cell}
 
     def stars(self) -> set[Cell]:
-        return {cell_of(name) for colours in self.chosen_colours for name, colour in colours.items() if colour == "star"}
+        return {known_cell(name) for colours in self.chosen_colours for name, colour in colours.items() if colour == "star"}
 
     def board(self) -> Board:
-        cells = {cell_of(name) for colours in self.option_colours for name in colours}
+        cells = {known_cell(name) for colours in self.option_colours for name in colours}
         return Board({cell: "*" for cell in self.stars()}, {**dict.fromkeys(cells, ""), **self.regions()})
 
     def lines(self) -> list[str]:
@@ -134,22 +136,22 @@ class Nonogram(Kind):
 
     def is_known(self) -> bool:
         are_lines = self.all_match(r"(row|column)\d+", self.primary)
-        cells = [cell_of(item) for item in self.secondary()]
-        return are_lines and bool(cells) and all(cells) and max(map(max, cells)) < LARGEST and all(
+        cells = [cell for cell in map(cell_of, self.secondary()) if cell]
+        return are_lines and bool(cells) and len(cells) == len(self.secondary()) and max(max(cell) for cell in cells) < LARGEST and all(
             colour in ("black", "white") for colours in self.option_colours for colour in colours.values())
 
     def cells(self) -> set[Cell]:
-        return {cell_of(item) for item in self.secondary()}
+        return {known_cell(item) for item in self.secondary()}
 
     def black(self) -> set[Cell]:
-        return {cell_of(name) for colours in self.chosen_colours for name, colour in colours.items() if colour == "black"}
+        return {known_cell(name) for colours in self.chosen_colours for name, colour in colours.items() if colour == "black"}
 
     def clues(self) -> dict[str, list[int]]:
         """The lengths of the blocks of each line that has an option, by its first one."""
-        found = {}
+        found: dict[str, list[int]] = {}
         for option, colours in zip(self.options, self.option_colours):
             if option[0] not in found:
-                blacks = [colour == "black" for _, colour in sorted((cell_of(name), colour) for name, colour in colours.items())]
+                blacks = [colour == "black" for _, colour in sorted((known_cell(name), colour) for name, colour in colours.items())]
                 found[option[0]] = [len(list(block)) for is_black, block in itertools.groupby(blacks) if is_black] or [0]
         return found
 
@@ -189,25 +191,25 @@ class Words(Kind):
             cell_of(name) and len(letter) == 1 for colours in self.option_colours for name, letter in colours.items())
 
     def cells(self) -> set[Cell]:
-        return {cell_of(name) for colours in self.option_colours for name in colours}
+        return {known_cell(name) for colours in self.option_colours for name in colours}
 
     def letters(self) -> dict[Cell, str]:
-        return {cell_of(name): letter for colours in self.chosen_colours for name, letter in colours.items()}
+        return {known_cell(name): letter for colours in self.chosen_colours for name, letter in colours.items()}
 
     def open_cells(self) -> set[Cell]:
         """The cells that aren't black: those of words, and where a comment tells the grid, those without a word too."""
-        told = next((comment.partition("grid: ")[2].split() for comment in self.comments if re.match(r"\|\s*grid: ", comment)), [])
+        told: list[str] = next((comment.partition("grid: ")[2].split() for comment in self.comments if re.match(r"\|\s*grid: ", comment)), [])
         found = {(r, c) for r, row in enumerate(told) for c, mark in enumerate(row) if mark != "#"}
         return found if self.cells() <= found else self.cells()
 
     def numbers(self) -> dict[Cell, str]:
         """The number of each place for a word, by its first cell; none where places aren't numbered from 1, as in a square of words."""
-        found = {}
+        found: dict[Cell, str] = {}
         for option, colours in zip(self.options, self.option_colours):
             place = re.fullmatch(r"(?:across|down)(\d+)", option[0])
             if not place or not colours or place[1] == "0":
                 return {}
-            found[min(map(cell_of, colours))] = place[1]
+            found[min(map(known_cell, colours))] = place[1]
         return found
 
     def lines(self) -> list[str]:

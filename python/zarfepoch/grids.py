@@ -41,7 +41,8 @@ def clue_of(path: str, number: int, word: str) -> Clue | None:
     if not found and word not in ("#", "x", "X", "-"):
         refuse(path, number, f"'{word}' is no cell: . is a white cell, # a black one, and 16\\24 a black one with the sum 16 below, and 24 on "
                "its right")
-    return tuple(int(part) if part else None for part in found.groups()) if found else (None, None)
+    down, across = (int(part) if part else None for part in found.groups()) if found else (None, None)
+    return down, across
 
 
 def read_kakuro(path: str) -> tuple[list[list[Clue | None]], list[int]]:
@@ -65,7 +66,8 @@ def behind(rows: list[list[Clue | None]], cell: Cell, step: Cell) -> list[Cell]:
 
 def runs_of(path: str, rows: list[list[Clue | None]], numbers: list[int]) -> tuple[list[Run], dict[Cell, set[Cell]]]:
     """All runs with their sums; white cells without a clue, and clues without white cells, are refused."""
-    runs, clued = [], {(1, 0): set(), (0, 1): set()}
+    runs: list[Run] = []
+    clued: dict[Cell, set[Cell]] = {(1, 0): set(), (0, 1): set()}
     for (r, row), (step, way) in itertools.product(enumerate(rows), (((1, 0), "d"), ((0, 1), "a"))):
         for c, clue in enumerate(row):
             total = None if clue is None else clue[way == "a"]
@@ -88,7 +90,8 @@ def kakuro(path: str) -> Puzzle:
     """Each white cell has a digit, each run different ones with its sum."""
     rows, numbers = read_kakuro(path)
     runs, clued = runs_of(path, rows, numbers)
-    names, run_of = cell_names(len(rows), len(rows[0])), {}
+    names = cell_names(len(rows), len(rows[0]))
+    run_of: dict[Cell, list[Run]] = {}
     for run in runs:
         for cell in run.cells:
             run_of.setdefault(cell, []).append(run)

@@ -58,6 +58,14 @@ class Kind:
     def secondary(self) -> list[str]:
         return [item for item in self.items if item not in self.primary]
 
+    def lines(self) -> list[str]:
+        """The answer as lines of text."""
+        raise NotImplementedError
+
+    def draw(self, paper: Paper) -> None:
+        """Draws the answer."""
+        raise NotImplementedError
+
     def text(self) -> list[str]:
         return ([NONE] if self.is_none else []) + self.lines()
 
@@ -77,6 +85,14 @@ def cell_of(name: str) -> Cell | None:
     return (int(found[1]), int(found[2])) if found else None
 
 
+def known_cell(name: str) -> Cell:
+    """The same of a name that is known to be one of a cell."""
+    cell = cell_of(name)
+    if cell is None:
+        raise ValueError(f"{name} is no cell")
+    return cell
+
+
 def sheet_cell_of(name: str) -> Cell | None:
     """The same of a name as A1 or C12, whose letter is the column and whose number the row, as in a spreadsheet."""
     found = re.fullmatch(r"([A-Z])([1-9]\d{0,2})", name)
@@ -85,8 +101,9 @@ def sheet_cell_of(name: str) -> Cell | None:
 
 def is_connected(cells: Iterable[Cell]) -> bool:
     """Whether the cells hang together by their edges."""
-    left, reached = set(cells), []
-    while left and (reached or len(left) == len(set(cells))):
+    left = set(cells)
+    count, reached = len(left), list[Cell]()
+    while left and (reached or len(left) == count):
         r, c = reached.pop() if reached else left.pop()
         near = {(r + a, c + b) for a, b in ((0, 1), (1, 0), (0, -1), (-1, 0))} & left
         left -= near

@@ -1,15 +1,19 @@
 """The kinds of pictures: each is known by the names of a problem's items, and draws an answer as text and on a sheet."""
+from __future__ import annotations
+
 import itertools
 import math
 import re
+from typing import Optional
 
 from .board_pictures import Layers, Tiling
+from .cover_files import Option, Problem
 from .full_names import full_names
 from .grid_pictures import Kakuro, Nonogram, Stars, Words
-from .picture_base import CELL, cell_of, draw_lines, Kind, KNOWN_COLOURS
+from .picture_base import CELL, Cell, cell_of, draw_lines, Kind, known_cell, KNOWN_COLOURS, Names
 from .planar import places
 from .sudoku_pictures import Sudoku
-from .svg_paper import ACCENT, BACKGROUND, FAINT, FILLS, INK, on_circle, table_text, text_width, WIDEST
+from .svg_paper import ACCENT, BACKGROUND, FAINT, FILLS, INK, on_circle, Paper, Point, table_text, text_width, WIDEST
 from .timetable_pictures import Timetable
 
 
@@ -21,21 +25,21 @@ CROWN = [(0.24, 0.74), (0.18, 0.36), (0.34, 0.52), (0.5, 0.26), (0.66, 0.52), (0
 class Queens(Kind):
     """Queens by row and column; of the diagonals nothing is drawn."""
 
-    def is_known(self):
+    def is_known(self) -> bool:
         return self.all_match(r"[rcab]\d+") and bool(self.options) and all(
             {"r", "c"} <= {name[0] for name in option} for option in self.options)
 
-    def places(self):
+    def places(self) -> tuple[list[int], list[int], set[Cell]]:
         """The rows, the columns, and where queens stand."""
         rows, columns = ([int(item[1:]) for item in self.items if item[0] == kind] for kind in "rc")
-        queens = {tuple(int(next(name for name in option if name[0] == kind)[1:]) for kind in "rc") for option in self.chosen}
-        return sorted(rows), sorted(columns), queens
+        queens = [[int(next(name for name in option if name[0] == kind)[1:]) for kind in "rc"] for option in self.chosen]
+        return sorted(rows), sorted(columns), {(r, c) for r, c in queens}
 
-    def lines(self):
+    def lines(self) -> list[str]:
         rows, columns, queens = self.places()
         return [" ".join("Q" if (r, c) in queens else "." for c in columns) for r in rows]
 
-    def draw(self, paper):
+    def draw(self, paper: Paper) -> None:
         rows, columns, queens = self.places()
         for r in rows:
             for c in columns:
@@ -49,27 +53,27 @@ class Queens(Kind):
 class Langford(Kind):
     """A row of places; each number stands in two of them."""
 
-    def is_known(self):
-        def is_pair(option):
+    def is_known(self) -> bool:
+        def is_pair(option: Names) -> bool:
             found = re.fullmatch(r"(\d+) s(\d+) s(\d+)", " ".join(option))
-            return found and int(found[3]) - int(found[2]) == int(found[1]) + 1
+            return found is not None and int(found[3]) - int(found[2]) == int(found[1]) + 1
 
         return self.all_match(r"s?\d{1,3}") and bool(self.options) and all(map(is_pair, self.options))
 
-    def places(self):
+    def places(self) -> range:
         """The places from the first, which is 1 unless there is a place 0, to the last."""
         named = [int(item[1:]) for item in self.items if item[0] == "s"]
         return range(min(1, *named), max(named) + 1)
 
-    def row(self):
+    def row(self) -> list[str]:
         """The number at each place, or a dot."""
         at = {int(name[1:]): option[0] for option in self.chosen for name in option[1:]}
         return [at.get(place, ".") for place in self.places()]
 
-    def lines(self):
+    def lines(self) -> list[str]:
         return [" ".join(self.row())]
 
-    def draw(self, paper):
+    def draw(self, paper: Paper) -> None:
         for k, mark in enumerate(self.row()):
             fill = "#fffdf8" if mark == "." else FILLS[(int(mark) - 1) % len(FILLS)]
             paper.box(k * CELL, 0, CELL, CELL, fill, INK, 1.2)
@@ -85,36 +89,38 @@ class Langford(Kind):
 class Colouring(Kind):
     """Places, each with a colour that none of its neighbours has."""
 
-    def is_known(self):
+    def is_known(self) -> bool:
         return bool(self.secondary()) and self.all_match(r".+-.+=.+", self.secondary()) and all(
             option[0] in self.primary and self.primary.isdisjoint(option[1:]) for option in self.options)
 
-    def colours(self):
+    def colours(self) -> dict[str, str]:
         """The colour of each place that an option gives one, by its name."""
         return {option[0]: option[1].rsplit("=", 1)[1] for option in self.chosen if len(option) > 1}
 
-    def lines(self):
+    def lines(self) -> list[str]:
         names = full_names(self.comments)
         wide = max(len(names.get(item, item)) for item in self.primary)
         return [f"{names.get(place, place).ljust(wide)}  {colour}" for place, colour in self.colours().items()]
 
-    def borders(self):
+    def borders(self) -> list[tuple[str, str]]:
         """The pairs of places that have a border, so far as both are items."""
         names = self.primary
-        pairs = (border.partition("-")[::2] for border in dict.fromkeys(item.rsplit("=", 1)[0] for item in self.secondary()))
-        return [pair for pair in pairs if set(pair) <= names and len(set(pair)) == 2]
+        pairs = (border.partition("-") for border in dict.fromkeys(item.rsplit("=", 1)[0] for item in self.secondary()))
+        return [(one, other) for one, _, other in pairs if {one, other} <= names and one != other]
 
-    def fill_of(self, colour):
+    def fill_of(self, colour: Optional[str]) -> str:
         names = sorted({item.rsplit("=", 1)[1] for item in self.secondary()})
-        return KNOWN_COLOURS.get(colour) or (FILLS[names.index(colour) % len(FILLS)] if colour in names else BACKGROUND)
+        if colour not in names:
+            return BACKGROUND
+        return KNOWN_COLOURS.get(colour) or FILLS[names.index(colour) % len(FILLS)]
 
-    def draw(self, paper):
+    def draw(self, paper: Paper) -> None:
         names, colours, full = [item for item in self.items if item in self.primary], self.colours(), full_names(self.comments)
         found = places(names, self.borders()) if len(names) <= MOST_PLACES else None
         texts = [full.get(name, name) for name in names], [str(k) for k in range(1, len(names) + 1)]
         sizes = [max(20, max(text_width(text, 14) for text in some) / 2 + 4) for some in texts]
         radii = [max(90, (size + 8) / found[1]) if found and found[1] > 0 else WIDEST for size in sizes]
-        if radii[1] > WIDEST_RADIUS:
+        if found is None or radii[1] > WIDEST_RADIUS:
             self.draw_list(paper, names, texts[0])
             return
         some = 0 if radii[0] <= WIDEST_RADIUS else 1
@@ -131,7 +137,7 @@ class Colouring(Kind):
             paper.text(right, middle + (k - len(names) / 2 + 0.5) * 22, told, 14, "start")
         self.caption(paper)
 
-    def draw_list(self, paper, names, texts):
+    def draw_list(self, paper: Paper, names: list[str], texts: list[str]) -> None:
         """A list of places, where the map isn't planar or doesn't fit on a sheet."""
         colours = self.colours()
         for k, (name, text) in enumerate(zip(names, texts)):
@@ -143,22 +149,23 @@ class Colouring(Kind):
 class Matching(Kind):
     """A graph whose options are edges; names with the same letters at the front stand on one ring."""
 
-    def is_known(self):
+    def is_known(self) -> bool:
         return bool(self.options) and not self.secondary() and all(len(option) == 2 for option in self.options)
 
-    def lines(self):
+    def lines(self) -> list[str]:
         return [" - ".join(option) for option in self.chosen]
 
-    def rings(self):
+    def rings(self) -> list[list[str]]:
         """The names by the letters at their front, the outer ring first; one ring where these don't make rings of one size."""
-        rings = {}
+        rings: dict[str, list[str]] = {}
         for item in self.items:
             rings.setdefault(item.rstrip("0123456789"), []).append(item)
         sizes = set(map(len, rings.values()))
         return list(rings.values()) if len(sizes) == 1 and min(sizes) > 2 and len(rings) < 4 else [self.items]
 
-    def draw(self, paper):
-        rings, at = self.rings(), {}
+    def draw(self, paper: Paper) -> None:
+        rings = self.rings()
+        at: dict[str, Point] = {}
         size = max(15, max(text_width(item, 12) for item in self.items) / 2 + 3)
         greatest = max(110, len(rings) * (2 * size + 10), len(rings[0]) * size * 0.4 * len(rings))
         for ring, items in enumerate(rings):
@@ -173,13 +180,13 @@ class Matching(Kind):
 
 
 TOP, LEFT, RIGHT = ((math.sin(k * 2 * math.pi / 3), -math.cos(k * 2 * math.pi / 3)) for k in (0, 2, 1))
-PLANE = [TOP, LEFT, RIGHT] + [((a[0] + b[0]) / 2, (a[1] + b[1]) / 2) for a, b in ((TOP, LEFT), (LEFT, RIGHT), (RIGHT, TOP))] + [(0, 0)]
+PLANE = [TOP, LEFT, RIGHT] + [((a[0] + b[0]) / 2, (a[1] + b[1]) / 2) for a, b in ((TOP, LEFT), (LEFT, RIGHT), (RIGHT, TOP))] + [(0.0, 0.0)]
 LINE_COLOURS = ["#1f5fa8", "#a8321f", "#2f7d3b", "#7a4fa3", "#b0741a", "#0f7f86", "#b03a7c"]
 # each with its two ends first; the last is the circle
 PLANE_LINES = [(0, 1, 3), (1, 2, 4), (2, 0, 5), (0, 4, 6), (1, 5, 6), (2, 3, 6), (3, 4, 5)]
 
 
-def halves(name):
+def halves(name: str) -> tuple[str, str]:
     """The two points that a name of digits tells, one in each half."""
     return name[:len(name) // 2], name[len(name) // 2:]
 
@@ -187,20 +194,20 @@ def halves(name):
 class Triples(Kind):
     """Lines of three points, each option the three pairs of its line; any two points lie on one line."""
 
-    def is_known(self):
-        def is_triple(option):
+    def is_known(self) -> bool:
+        def is_triple(option: Names) -> bool:
             pairs = {frozenset(halves(name)) for name in option}
             return len(option) == len(pairs) == len(frozenset().union(*pairs)) == 3 and all(len(pair) == 2 for pair in pairs)
 
         return self.all_match(r"(\d\d)+") and bool(self.options) and all(map(is_triple, self.options))
 
-    def triples(self):
+    def triples(self) -> list[Names]:
         return [tuple(sorted({point for name in option for point in halves(name)})) for option in self.chosen]
 
-    def lines(self):
+    def lines(self) -> list[str]:
         return [" ".join(triple) for triple in self.triples()]
 
-    def in_plane(self):
+    def in_plane(self) -> Optional[Names]:
         """The points of a plane of seven points in the order of its usual picture; None where it is no such plane."""
         points = sorted({point for item in self.items for point in halves(item)})
         lines = {frozenset(triple) for triple in self.triples()}
@@ -209,14 +216,15 @@ class Triples(Kind):
         return next((order for order in itertools.permutations(points)
                      if all(frozenset(order[k] for k in line) in lines for line in PLANE_LINES)), None)
 
-    def draw(self, paper):
+    def draw(self, paper: Paper) -> None:
         order, size = self.in_plane(), 150
         if order is None:
             draw_lines(paper, self.text())
             return
         paper.circle(0, 0, size / 2, "none", LINE_COLOURS[6], 3)
         for k, (a, b, _) in enumerate(PLANE_LINES[:6]):
-            paper.line(*(size * value for end in (PLANE[a], PLANE[b]) for value in end), LINE_COLOURS[k], 3)
+            (x, y), (to_x, to_y) = PLANE[a], PLANE[b]
+            paper.line(size * x, size * y, size * to_x, size * to_y, LINE_COLOURS[k], 3)
         for point, (x, y) in zip(order, PLANE):
             paper.circle(size * x, size * y, 16, "#fffdf8", INK, 1.5)
             paper.text(size * x, size * y, point, 15)
@@ -225,54 +233,58 @@ class Triples(Kind):
 class Plain(Kind):
     """Anything else: the chosen options, one on a line."""
 
-    def is_known(self):
+    def is_known(self) -> bool:
         return True
 
-    def lines(self):
+    def lines(self) -> list[str]:
         head = [] if self.is_none else [f"cover {len(self.chosen)}"]
         return head + [" ".join(name + (f":{colours[name]}" if name in colours else "") for name in option)
                        for option, colours in zip(self.chosen, self.chosen_colours)]
 
-    def draw(self, paper):
+    def draw(self, paper: Paper) -> None:
         draw_lines(paper, self.text())
 
 
 # ---- boards with colours
+
+# where a square lies, its name, and the colours of its sides from the top on clockwise
+Laid = tuple[Cell, str, list[str]]
+
 
 class Squares(Kind):
     """Squares with coloured sides, edge to edge: of the cell 12 h12 is the side above, v12 the one on its left."""
 
     with_colours = True
 
-    def is_known(self):
+    def is_known(self) -> bool:
         are_sides = self.all_match(r"[hv]\d+", self.secondary())
         return bool(self.options) and are_sides and all(map(self.laid, self.options, self.option_colours))
 
     @staticmethod
-    def laid(option, colours):
+    def laid(option: Names, colours: dict[str, str]) -> Optional[Laid]:
         """The cell of an option, the square's name, and the colours of its sides from the top on clockwise; None where it has no
         such form."""
         cells, names = ([name for name in option if name not in colours and bool(cell_of(name)) == is_cell] for is_cell in (True, False))
         sides = {(name[0], cell_of(name[1:])): colour for name, colour in colours.items()}
         if len(cells) != 1 or len(names) > 1 or len(sides) != 4:
             return None
-        r, c = cell_of(cells[0])
-        around = [sides.get(side) for side in (("h", (r, c)), ("v", (r, c + 1)), ("h", (r + 1, c)), ("v", (r, c)))]
+        r, c = known_cell(cells[0])
+        around = [sides.get(side, "") for side in (("h", (r, c)), ("v", (r, c + 1)), ("h", (r + 1, c)), ("v", (r, c)))]
         return ((r, c), "".join(names), around) if all(around) else None
 
-    def laid_by_cell(self):
+    def laid_by_cell(self) -> dict[Cell, tuple[str, list[str]]]:
         """For each cell the name of its square and the colours of its sides; nothing where none lies."""
-        cells = {cell_of(item): ("", ["", "", "", ""]) for item in self.items if item in self.primary and cell_of(item)}
-        cells.update((cell, (name, sides)) for cell, name, sides in map(self.laid, self.chosen, self.chosen_colours))
-        return cells
+        cells = {cell: ("", ["", "", "", ""]) for item in self.items if item in self.primary and (cell := cell_of(item))}
+        laid = map(self.laid, self.chosen, self.chosen_colours)
+        return {**cells, **{cell: (name, sides) for cell, name, sides in filter(None, laid)}}
 
-    def marks(self):
+    def marks(self) -> dict[str, str]:
         """A letter for each colour, its first where these differ."""
         names = sorted({colour for colours in self.option_colours for colour in colours.values()})
         firsts = [name[0] for name in names]
         return {"": " ", **dict(zip(names, firsts if len(set(firsts)) == len(firsts) else "abcdefghijklmnopqrstuvwxyz" * len(names)))}
 
-    def lines(self):
+    def lines(self) -> list[str]:
         cells, marks = self.laid_by_cell(), self.marks()
         rows, columns = ({cell[k] for cell in cells} for k in (0, 1))
         wide = max(len(name) for name, _ in cells.values())
@@ -284,7 +296,7 @@ class Squares(Kind):
             lines += ["|" + "|".join(marks[sides[2]].center(wide + 4) for _, sides in row) + "|"]
         return lines + [wall]
 
-    def draw(self, paper):
+    def draw(self, paper: Paper) -> None:
         names, size = [name for name in self.marks() if name], 1.8 * CELL
         for (r, c), (name, sides) in sorted(self.laid_by_cell().items()):
             corners = [(c * size, r * size), ((c + 1) * size, r * size), ((c + 1) * size, (r + 1) * size), (c * size, (r + 1) * size)]
@@ -302,20 +314,20 @@ class Cubes(Kind):
 
     SIDES = ("front", "right", "back", "left")
 
-    def is_known(self):
-        def is_turned(option):
+    def is_known(self) -> bool:
+        def is_turned(option: Names) -> bool:
             return [name.partition("-")[0] for name in option[1:]] == list(self.SIDES)
 
         return bool(self.options) and all(map(is_turned, self.options))
 
-    def shown(self):
+    def shown(self) -> dict[str, list[str]]:
         """For each cube the colours that it shows, in the order of the sides."""
         return {option[0]: [name.partition("-")[2] for name in option[1:]] for option in self.chosen}
 
-    def lines(self):
+    def lines(self) -> list[str]:
         return table_text([["cube", *self.SIDES]] + [[cube, *colours] for cube, colours in self.shown().items()])
 
-    def draw(self, paper):
+    def draw(self, paper: Paper) -> None:
         names = sorted({name.partition("-")[2] for option in self.options for name in option[1:]})
         for k, side in enumerate(self.SIDES):
             paper.text((k + 1.5) * 2 * CELL, -CELL / 2, side, 14)
@@ -328,10 +340,11 @@ class Cubes(Kind):
         self.caption(paper)
 
 
-KINDS = [Sudoku, Queens, Langford, Kakuro, Triples, Cubes, Layers, Tiling, Timetable, Colouring, Matching, Squares, Nonogram, Stars, Words]
+KINDS: list[type[Kind]] = [Sudoku, Queens, Langford, Kakuro, Triples, Cubes, Layers, Tiling, Timetable, Colouring, Matching, Squares, Nonogram, Stars, Words]
 
 
-def picture_of(problem, chosen, is_none):
+def picture_of(problem: Problem, chosen: list[Option], is_none: bool) -> Kind:
     """The answer with these options as the first kind that knows the problem's names."""
     kinds = (kind(problem, chosen, is_none) for kind in KINDS if kind.with_colours == bool(problem.colours))
-    return next((kind for kind in kinds if kind.is_known()), None) or Plain(problem, chosen, is_none)
+    known = next((kind for kind in kinds if kind.is_known()), None)
+    return known or Plain(problem, chosen, is_none)

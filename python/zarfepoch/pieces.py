@@ -8,7 +8,7 @@ from __future__ import annotations
 
 import itertools
 import re
-from collections.abc import Iterable
+from collections.abc import Iterable, Sequence
 
 from .cover_files import MAX_ITEMS
 from .puzzle_texts import blocks_of, no_cover, Puzzle, refuse
@@ -51,7 +51,8 @@ def read_board(text: str) -> set[Cell]:
     """The cells of a board: a size as 5x12 or 3x3x3, or a file of x and dots; blocks of lines, or words side by side, are layers."""
     found = re.fullmatch(r"(?:([1-9]\d?)x)?([1-9]\d{0,2})x([1-9]\d{0,2})", text)
     if found:
-        return set(itertools.product(*(range(int(size or 1)) for size in found.groups())))
+        deep, high, wide = (range(int(size or 1)) for size in found.groups())
+        return set(itertools.product(deep, high, wide))
     cells, layers = set(), 0
     for block in blocks_of(text):
         for number, line in block:
@@ -85,14 +86,15 @@ def named_pieces(text: str) -> list[Piece]:
     pieces = []
     for word in text.split():
         found = re.fullmatch(r"(?:(\d{1,3})\*)?(.+)", word)
-        for name in SETS.get(found[2], [found[2]]):
-            pieces.append(Piece(name, known("--pieces", None, name), int(found[1] or 1)))
+        number, what = (found[1] or "1", found[2]) if found else ("1", word)
+        for name in SETS.get(what, [what]):
+            pieces.append(Piece(name, known("--pieces", None, name), int(number)))
     return pieces
 
 
 def read_pieces(path: str) -> list[Piece]:
     """Pieces from a file: each a line with its name and perhaps a number of copies, and rows of x and dots; an empty line parts them."""
-    pieces = []
+    pieces: list[Piece] = []
     for block in blocks_of(path):
         number, line = block[0]
         head = [] if is_rows(line) else line.split()
@@ -136,13 +138,18 @@ def turns(is_flat: bool, flips: bool) -> list[tuple[tuple[int, ...], tuple[int, 
     return ways
 
 
+def minus(cell: Sequence[int], other: Sequence[int]) -> Cell:
+    """What leads from one cell to another."""
+    return cell[0] - other[0], cell[1] - other[1], cell[2] - other[2]
+
+
 def orientations(cells: list[Cell], is_flat: bool, flips: bool) -> list[list[Cell]]:
     """The different turns of a piece, each moved to the origin."""
-    seen = []
+    seen: list[list[Cell]] = []
     for order, signs in turns(is_flat, flips):
         turned = [tuple(sign * cell[axis] for axis, sign in zip(order, signs)) for cell in cells]
         least = [min(cell[k] for cell in turned) for k in range(3)]
-        moved = sorted(tuple(value - low for value, low in zip(cell, least)) for cell in turned)
+        moved = sorted(minus(cell, least) for cell in turned)
         if moved not in seen:
             seen.append(moved)
     return sorted(seen)
@@ -153,7 +160,7 @@ def placements(piece: Piece, board: set[Cell], is_flat: bool, flips: bool) -> li
     found = []
     for turned in orientations(piece.cells, is_flat, flips):
         for at in board:
-            cells = [tuple(a + b - c for a, b, c in zip(at, cell, turned[0])) for cell in turned]
+            cells = [minus(at, minus(turned[0], cell)) for cell in turned]
             if all(cell in board for cell in cells):
                 found.append(sorted(cells))
     return sorted(found)
@@ -174,7 +181,7 @@ def settled(pieces: list[Piece], cells: int) -> list[Piece]:
     """The pieces whose number the number of cells settles, so that they need no item."""
     if sum(piece.count * len(piece.cells) for piece in pieces) > cells:
         return [piece for piece in pieces if piece.count >= cells // len(piece.cells)]
-    chosen = []
+    chosen: list[Piece] = []
     for piece in sorted(pieces, key=lambda one: -one.count):
         some = chosen + [piece]
         if piece.count > 1 and ways_to_sum([len(one.cells) for one in some], sum(one.count * len(one.cells) for one in some)) == 1:
@@ -219,7 +226,9 @@ def filled(cells: set[Cell], pieces: list[Piece], flips: bool = True) -> Puzzle:
     counts = sum(piece.count - 1 for piece in pieces if piece not in alike)
     room = min(MOST_ORDERED, MAX_ITEMS - len(board) - sum(piece.count for piece in pieces if piece not in alike))
     parts = max(1, min(PARTS, room // counts + 1 if counts else 1))
-    items, ordering, options = [], [], []
+    items: list[str] = []
+    ordering: list[str] = []
+    options: list[list[str]] = []
     for piece in pieces:
         laid = placements(piece, set(board), is_flat, flips)
         if piece in alike:

@@ -8,7 +8,7 @@ from __future__ import annotations
 
 import itertools
 import math
-from collections.abc import Hashable, Iterable, Iterator
+from collections.abc import Hashable, Iterable, Iterator, Sequence
 
 Vertex = Hashable
 Edges = list[tuple[Vertex, Vertex]]
@@ -20,7 +20,7 @@ ROUNDS, STEPS = 300, 40
 
 
 def neighbours_of(vertices: list[Vertex], edges: Edges) -> Near:
-    near = {vertex: [] for vertex in vertices}
+    near: Near = {vertex: [] for vertex in vertices}
     for one, other in edges:
         near[one].append(other)
         near[other].append(one)
@@ -54,10 +54,12 @@ def joined(vertices: list[Vertex], edges: Edges) -> Edges:
             edges.append((parts[0][0], parts[1][0]))
             continue
         cuts = ((vertex, parts_of(vertices, near, (vertex,))) for vertex in vertices)
-        vertex, parts = next(((vertex, parts) for vertex, parts in cuts if len(parts) > 1), (None, None))
-        if vertex is None:
+        cut = next(((vertex, parts) for vertex, parts in cuts if len(parts) > 1), None)
+        if cut is None:
             return edges
-        edges.append(tuple(next(other for other in near[vertex] if other in part) for part in parts[:2]))
+        vertex, parts = cut
+        one, two = (next(other for other in near[vertex] if other in part) for part in parts[:2])
+        edges.append((one, two))
 
 
 def cycle_of(vertices: list[Vertex], near: Near) -> list[Vertex]:
@@ -68,7 +70,8 @@ def cycle_of(vertices: list[Vertex], near: Near) -> list[Vertex]:
 
 def path_between(begin: Vertex, end: Vertex, near: Near) -> list[Vertex]:
     """A shortest path."""
-    came, queue = {begin: None}, [begin]
+    came: dict[Vertex, Vertex] = {begin: begin}
+    queue = [begin]
     for vertex in queue:
         for other in near[vertex]:
             if other not in came:
@@ -139,7 +142,8 @@ def laid_out(vertices: list[Vertex], edges: Edges, faces: list[list[Vertex]], ou
     free = [vertex for vertex in near if vertex not in outer]
     for _ in range(ROUNDS if free else 0):
         for vertex in free:
-            at[vertex] = tuple(sum(at[other][k] for other in near[vertex]) / len(near[vertex]) for k in (0, 1))
+            x, y = (sum(at[other][k] for other in near[vertex]) / len(near[vertex]) for k in (0, 1))
+            at[vertex] = x, y
     return {vertex: at[vertex] for vertex in vertices}
 
 
@@ -173,17 +177,24 @@ def spread(at: Places, edges: Edges) -> Places:
             here, room = at[vertex], room_of(vertex, at, edges)
             for k in range(6):
                 angle = 2 * math.pi * (k + 0.37 * turn) / 6
-                moved = tuple(max(-1.0, min(1.0, old + 0.9 * room * new)) for old, new in zip(here, (math.cos(angle), math.sin(angle))))
-                at[vertex] = moved
+                x, y = (max(-1.0, min(1.0, old + 0.9 * room * new)) for old, new in zip(here, (math.cos(angle), math.sin(angle))))
+                at[vertex] = x, y
                 if room_of(vertex, at, edges) > room:
                     break
                 at[vertex] = here
     return at
 
 
-def places(vertices: list[Vertex], edges: Edges) -> tuple[Places, float] | None:
+def in_order(vertices: list[Vertex], edge: tuple[Vertex, Vertex]) -> tuple[Vertex, Vertex]:
+    """An edge with the vertex first that comes first."""
+    one, other = edge
+    return edge if vertices.index(one) < vertices.index(other) else (other, one)
+
+
+def places(names: Sequence[Vertex], pairs: Iterable[tuple[Vertex, Vertex]]) -> tuple[Places, float] | None:
     """A place for each vertex within a circle of radius one, and the clearance; None where straight edges would cross."""
-    different = {tuple(sorted(edge, key=vertices.index)) for edge in edges if edge[0] != edge[1]}
+    vertices = list(names)
+    different = {in_order(vertices, (one, other)) for one, other in pairs if one != other}
     edges = sorted(different, key=lambda edge: [vertices.index(vertex) for vertex in edge])
     if len(vertices) < 3:
         at = {vertex: (2.0 * k - (len(vertices) - 1), 0.0) for k, vertex in enumerate(vertices)}

@@ -1,11 +1,19 @@
 """Crosswords, nonograms and cubes with coloured faces, as exact covers: each function gives the primary items, the secondary items and
 the options of a problem. `generate.py` reads the puzzles and writes the problems."""
+from __future__ import annotations
+
 import itertools
 import math
 import re
 from collections import Counter
+from collections.abc import Iterable, Iterator
+from typing import Optional
 
 from .cover_files import MAX_ITEMS, MAX_OPTIONS
+
+# a cell by row and column; the primary items, the secondary items and the options of a problem
+Cell = tuple[int, int]
+Lists = tuple[list[str], list[str], list[list[str]]]
 
 
 class Refused(Exception):
@@ -15,12 +23,12 @@ class Refused(Exception):
 class NoSolution(Exception):
     """Why a puzzle plainly has no solution, and the row in which this is seen."""
 
-    def __init__(self, why, row):
+    def __init__(self, why: str, row: int) -> None:
         super().__init__(why)
         self.row = row
 
 
-def cell_names(rows, columns):
+def cell_names(rows: int, columns: int) -> dict[Cell, str]:
     """The name of each cell, by row and column, with the same number of digits in all."""
     width = len(str(max(rows, columns) - 1))
     return {(r, c): f"{r:0{width}}{c:0{width}}" for r in range(rows) for c in range(columns)}
@@ -28,13 +36,13 @@ def cell_names(rows, columns):
 
 # ---- crosswords
 
-def runs_of(cells):
+def runs_of(cells: Iterable[Optional[Cell]]) -> list[list[Cell]]:
     """The runs of two or more neighbours in a line of cells, of which None parts them."""
-    runs = [list(run) for is_cell, run in itertools.groupby(cells, lambda cell: cell is not None) if is_cell]
+    runs = [[cell for cell in run if cell is not None] for _, run in itertools.groupby(cells, lambda cell: cell is not None)]
     return [run for run in runs if len(run) > 1]
 
 
-def slots_of(grid):
+def slots_of(grid: list[str]) -> dict[str, list[Cell]]:
     """The places for words, by their names: across and down, numbered as a crossword is."""
     rows, columns = len(grid), len(grid[0])
     open_cell = [[(r, c) if grid[r][c] != "#" else None for c in range(columns)] for r in range(rows)]
@@ -45,12 +53,12 @@ def slots_of(grid):
     return {f"{way}{number}": run for number, way, run in sorted(numbered, key=lambda slot: slot[:2])}
 
 
-def fits(word, run, grid):
+def fits(word: str, run: list[Cell], grid: list[str]) -> bool:
     """Whether a word has the length of a run and the letters that are given there."""
     return len(word) == len(run) and all(grid[r][c] in (".", letter) for (r, c), letter in zip(run, word))
 
 
-def crossword(grid, words, repeat=False):
+def crossword(grid: list[str], words: list[str], repeat: bool = False) -> Lists:
     """A word of the list in each place; a cell's colour is its letter. No word comes twice, unless `repeat` allows it: a word that fits into
     two places has an item for this."""
     slots, names = slots_of(grid), cell_names(len(grid), len(grid[0]))
@@ -59,7 +67,7 @@ def crossword(grid, words, repeat=False):
     fitting = {slot: [word for word in words if fits(word, run, grid)] for slot, run in slots.items()}
     for slot, run in slots.items():
         if not fitting[slot]:
-            way, number = re.fullmatch(r"(\D+)(\d+)", slot).groups()
+            way, number = slot.rstrip("0123456789"), slot.lstrip("acdnorsw")
             raise NoSolution(f"no word of the list fits {number} {way}, '{''.join(grid[r][c] for r, c in run)}'", run[0][0])
     places = Counter(word for some in fitting.values() for word in some)
     twice = {word for word, count in places.items() if count > 1 and not repeat}
@@ -70,7 +78,7 @@ def crossword(grid, words, repeat=False):
     return list(slots), cells + [word for word in words if word in twice], options
 
 
-def want_room(places, words, options):
+def want_room(places: int, words: int, options: int) -> None:
     """Refuses a crossword beyond what the program reads, and tells what would fit."""
     if places + words > MAX_ITEMS:
         room = f"with --repeat, so that a word may come twice, it has {places:,}" if places <= MAX_ITEMS else "so large a grid never fits"
@@ -86,16 +94,17 @@ def want_room(places, words, options):
 class Line:
     """A row or column of a nonogram: the lengths of its blocks, and of each cell whether it is black, None where that isn't settled."""
 
-    def __init__(self, blocks, width):
-        self.blocks, self.known = blocks, [None] * width
+    def __init__(self, blocks: list[int], width: int) -> None:
+        self.blocks = blocks
+        self.known: list[Optional[bool]] = [None] * width
 
-    def fits_block(self, place, length):
+    def fits_block(self, place: int, length: int) -> bool:
         """Whether a block can lie here, with a white cell or the end behind it."""
         cells = self.known[place:place + length]
         behind = self.known[place + length:place + length + 1]
         return len(cells) == length and False not in cells and True not in behind
 
-    def rests(self):
+    def rests(self) -> list[list[bool]]:
         """For each cell and block, whether the cells from here on can have the blocks from this one on."""
         width, count = len(self.known), len(self.blocks)
         rest = [[False] * (count + 1) for _ in range(width + 2)]
@@ -107,10 +116,10 @@ class Line:
                 rest[place][k] = bool(white or black)
         return rest
 
-    def ways(self):
+    def ways(self) -> Iterator[tuple[bool, ...]]:
         """The ways to fill it that agree with the settled cells; True is black."""
         rest, width = self.rests(), len(self.known)
-        begun = [((), 0)] if rest[0][0] else []
+        begun: list[tuple[tuple[bool, ...], int]] = [((), 0)] if rest[0][0] else []
         while begun:
             line, k = begun.pop()
             place = len(line)
@@ -122,7 +131,7 @@ class Line:
             if k < len(self.blocks) and self.fits_block(place, self.blocks[k]) and rest[place + self.blocks[k] + 1][k + 1]:
                 begun.append((line + (True,) * self.blocks[k] + (False,), k + 1))
 
-    def settle(self):
+    def settle(self) -> bool:
         """Settles the cells that have one colour in all ways, and says whether there were any new ones."""
         before = list(self.known)
         for place, known in enumerate(before):
@@ -135,7 +144,7 @@ class Line:
         return self.known != before
 
 
-def settle_all(rows, columns):
+def settle_all(rows: list[Line], columns: list[Line]) -> None:
     """Settles cells by one line alone, in rows and columns by turns, as long as any is new."""
     changed = True
     while changed:
@@ -147,17 +156,17 @@ def settle_all(rows, columns):
                     others[place].known[k] = colour
 
 
-def line_names(rows, columns):
+def line_names(rows: list[list[int]], columns: list[list[int]]) -> list[str]:
     return [f"row{r}" for r in range(len(rows))] + [f"column{c}" for c in range(len(columns))]
 
 
-def way_count(line):
+def way_count(line: Line) -> int:
     """In how many ways a line can be filled, if no cell is settled."""
     spare = len(line.known) - sum(line.blocks) - max(0, len(line.blocks) - 1)
     return math.comb(spare + len(line.blocks), len(line.blocks))
 
 
-def nonogram(rows, columns):
+def nonogram(rows: list[list[int]], columns: list[list[int]]) -> Lists:
     """Each row and each column is filled in one of its ways; a cell's colour is black or white, and both its lines agree on it. Where these
     ways are too many, those are left out that a cell contradicts which one line alone settles."""
     names = cell_names(len(rows), len(columns))
@@ -181,7 +190,7 @@ SIDES = ("front", "right", "back", "left")
 ROUND = ((0, 1, 2, 3), (0, 4, 2, 5), (1, 4, 3, 5))
 
 
-def turned(faces):
+def turned(faces: list[str]) -> list[tuple[str, ...]]:
     """The different ways in which four faces of a cube can be seen round it."""
     ways = []
     for belt in ROUND:
@@ -191,7 +200,7 @@ def turned(faces):
     return list(dict.fromkeys(ways))
 
 
-def cubes(faces_of):
+def cubes(faces_of: dict[str, list[str]]) -> Lists:
     """Each cube is turned so that on each of the four sides of the row no colour comes twice."""
     colours = sorted({colour for faces in faces_of.values() for colour in faces})
     seen = [f"{side}-{colour}" for side in SIDES for colour in colours]

@@ -104,9 +104,12 @@ class Sudoku(Kind):
             return told
         if self.size in BOXES and self.fits(boxes(self.size)):
             return boxes(self.size)
-        found = {cell: -1 for cell in itertools.product(range(self.size), repeat=2)}
+        found = {cell: -1 for cell in self.board_cells()}
         found.update((self.cell(option), int(option[3][1:1 + self.width])) for option in self.placing)
         return found
+
+    def board_cells(self) -> list[Cell]:
+        return [(r, c) for r in range(self.size) for c in range(self.size)]
 
     def has_boxes(self) -> bool:
         return self.size in BOXES and self.regions == boxes(self.size)
@@ -119,7 +122,7 @@ class Sudoku(Kind):
             return {(r, c): mark for r, row in enumerate(self.rows_told) for c, mark in enumerate(row) if mark != "."}
         open_cells = {self.cell(option) for option in self.placing} | {
             (int(item[1:1 + self.width]), int(item[1 + self.width:])) for item in self.items if item[0] == "p"}
-        cells = [cell for cell in itertools.product(range(self.size), repeat=2) if cell not in open_cells]
+        cells = [cell for cell in self.board_cells() if cell not in open_cells]
         return self.commented(cells) or self.derived(cells)
 
     def commented(self, cells: list[Cell]) -> dict[Cell, str] | None:
@@ -174,7 +177,8 @@ class Sudoku(Kind):
 
     def cages(self) -> dict[str, tuple[set[Cell], int | None]]:
         """The cells of each cage, and its sum, which is the same for all choices of its digits."""
-        cells, sums = {}, {}
+        cells: dict[str, set[Cell]] = {}
+        sums: dict[str, int] = {}
         for option in self.options:
             cage = next((name[1:].partition(".")[0] for name in option if name[0] == "k"), None)
             if cage is not None and option[0][0] == "p":
@@ -188,8 +192,7 @@ class Sudoku(Kind):
 
     def lines(self) -> list[str]:
         given, found = self.labels()
-        cells = itertools.product(range(self.size), repeat=2)
-        labels = {cell: found.get(cell) or given.get(cell, ".") or "?" for cell in cells}
+        labels = {cell: found.get(cell) or given.get(cell, ".") or "?" for cell in self.board_cells()}
         if not self.has_boxes():
             return Regions(labels, self.regions).text()
         high, wide = BOXES[self.size]

@@ -35,7 +35,7 @@ class Sudoku:
         self.cage_of = {cell: k for k, (cells, _) in enumerate(cages) for cell in cells}
 
     def cells(self) -> Iterator[Cell]:
-        return itertools.product(range(self.size), repeat=2)
+        return ((r, c) for r in range(self.size) for c in range(self.size))
 
     def number(self, value: int) -> str:
         return f"{value:0{1 if self.size < 10 else 2}}"
@@ -101,7 +101,8 @@ def bare_lines(text: str) -> list[tuple[int, str]]:
 def square_of(text: str) -> Square | None:
     """Rows of marks of a square text, by words or by characters, and the places of their lines; None where it is none."""
     lines = [line for _, line in bare_lines(text)]
-    for rows in ([line.split() for line in lines], ["".join(line.split()) for line in lines], lines):
+    ways: list[Sequence[Sequence[str]]] = [[line.split() for line in lines], ["".join(line.split()) for line in lines], lines]
+    for rows in ways:
         if len(rows) > 1 and all(len(row) == len(rows) for row in rows):
             return [list(row) for row in rows], [place for place, _ in bare_lines(text)]
     for marks in (re.sub(r"[^0-9._]", "", text), "".join(text.split())):
@@ -161,12 +162,11 @@ def digits_of(path: str, text: str, numbers: Sequence[int] | None = None) -> tup
         refuse(path, None, f"a sudoku has at most {len(MARKS)} rows")
     symbols = symbols_of([mark for row in rows for mark in row], size)
     digits = [[digit_of(mark, size, symbols) for mark in row] for row in rows]
-    for r, row in enumerate(digits):
-        if None in row:
+    for r, c in itertools.product(range(size), repeat=2):
+        if digits[r][c] is None:
             line = numbers[places[r]] if places else None
-            c = row.index(None)
             refuse(path, line, f"'{rows[r][c]}' in row {r + 1}, column {c + 1} is no digit of a sudoku of {size} by {size}")
-    return digits, symbols
+    return [[digit or 0 for digit in row] for row in digits], symbols
 
 
 def checked(path: str, sudoku: Sudoku) -> Sudoku:

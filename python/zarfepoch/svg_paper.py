@@ -1,5 +1,13 @@
 """A sheet on which pictures are drawn as SVG, and the text forms that go with them."""
+from __future__ import annotations
+
 import math
+from collections.abc import Iterable, Mapping, Sequence
+from typing import Any, Callable, Optional
+
+# a point of a sheet; a cell by row and column
+Point = tuple[float, float]
+Cell = tuple[int, int]
 
 BACKGROUND, INK, FAINT, ACCENT = "#fbfaf7", "#23272e", "#9aa0a8", "#1f5fa8"
 FILLS = ["#f4c7ab", "#b8d8ba", "#c9cbe8", "#f3e2a0", "#a9d6e5", "#e6b8cf", "#d3c1a5", "#c4e3d3", "#efb0a1", "#bcd0f0", "#dce3a4", "#d9c2e9"]
@@ -11,53 +19,55 @@ WIDEST = 1_200
 class Paper:
     """Shapes on a sheet whose size grows with what is drawn, so that nothing is cut off."""
 
-    def __init__(self, title):
-        self.title, self.shapes = title, []
-        self.left = self.top = self.right = self.bottom = None
+    def __init__(self, title: str) -> None:
+        self.title = title
+        self.shapes: list[str] = []
+        self.left = self.top = math.inf
+        self.right = self.bottom = -math.inf
 
-    def reach(self, x, y):
-        self.left, self.top = (x, y) if self.left is None else (min(self.left, x), min(self.top, y))
-        self.right, self.bottom = (x, y) if self.right is None else (max(self.right, x), max(self.bottom, y))
+    def reach(self, x: float, y: float) -> None:
+        self.left, self.top = min(self.left, x), min(self.top, y)
+        self.right, self.bottom = max(self.right, x), max(self.bottom, y)
 
-    def add(self, kind, reached, content=None, **attributes):
+    def add(self, kind: str, reached: Iterable[Point], content: Optional[str] = None, **attributes: object) -> None:
         """Adds a shape that reaches these points."""
         for point in reached:
             self.reach(*point)
         told = "".join(f' {name.replace("_", "-")}="{value}"' for name, value in attributes.items())
         self.shapes.append(f"<{kind}{told}/>" if content is None else f"<{kind}{told}>{escaped(content)}</{kind}>")
 
-    def box(self, x, y, wide, high, fill="none", stroke="none", thick=1.0):
+    def box(self, x: float, y: float, wide: float, high: float, fill: str = "none", stroke: str = "none", thick: float = 1.0) -> None:
         self.add("rect", [(x, y), (x + wide, y + high)], x=number(x), y=number(y), width=number(wide), height=number(high),
                  fill=fill, stroke=stroke, stroke_width=number(thick))
 
-    def line(self, x, y, to_x, to_y, stroke=INK, thick=1.0, dashes=""):
+    def line(self, x: float, y: float, to_x: float, to_y: float, stroke: str = INK, thick: float = 1.0, dashes: str = "") -> None:
         """A line; with dashes, as "3 3", a broken one."""
         broken = {"stroke_dasharray": dashes} if dashes else {}
         self.add("line", [(x, y), (to_x, to_y)], x1=number(x), y1=number(y), x2=number(to_x), y2=number(to_y), stroke=stroke,
                  stroke_width=number(thick), stroke_linecap="round", **broken)
 
-    def circle(self, x, y, radius, fill="none", stroke=INK, thick=1.0):
+    def circle(self, x: float, y: float, radius: float, fill: str = "none", stroke: str = INK, thick: float = 1.0) -> None:
         self.add("circle", [(x - radius, y - radius), (x + radius, y + radius)], cx=number(x), cy=number(y), r=number(radius), fill=fill,
                  stroke=stroke, stroke_width=number(thick))
 
-    def shape(self, points, fill="none", stroke=INK, thick=1.0):
+    def shape(self, points: Sequence[Point], fill: str = "none", stroke: str = INK, thick: float = 1.0) -> None:
         self.add("polygon", points, points=" ".join(f"{number(x)},{number(y)}" for x, y in points), fill=fill, stroke=stroke,
                  stroke_width=number(thick), stroke_linejoin="round")
 
-    def arc(self, x, to_x, y, stroke=INK, thick=1.5):
+    def arc(self, x: float, to_x: float, y: float, stroke: str = INK, thick: float = 1.5) -> None:
         """A half circle above the line from one place to another."""
         radius = (to_x - x) / 2
         curve = f"M {number(x)} {number(y)} A {number(radius)} {number(radius)} 0 0 1 {number(to_x)} {number(y)}"
         self.add("path", [(x, y - radius), (to_x, y)], d=curve, fill="none", stroke=stroke, stroke_width=number(thick))
 
-    def text(self, x, y, content, size=14, anchor="middle", fill=INK, bold=False):
+    def text(self, x: float, y: float, content: str, size: float = 14, anchor: str = "middle", fill: str = INK, bold: bool = False) -> None:
         """A text whose middle line lies at y."""
         wide = text_width(content, size)
         begin = {"start": x, "middle": x - wide / 2, "end": x - wide}[anchor]
         self.add("text", [(begin, y - size * 0.6), (begin + wide, y + size * 0.6)], content, x=number(x), y=number(y + size * 0.35),
                  font_size=number(size), text_anchor=anchor, fill=fill, font_weight="bold" if bold else "normal")
 
-    def svg(self):
+    def svg(self) -> str:
         left, top = self.left - MARGIN, self.top - MARGIN
         wide, high = self.right - self.left + 2 * MARGIN, self.bottom - self.top + 2 * MARGIN
         scale = min(1.0, WIDEST / wide)
@@ -68,21 +78,21 @@ class Paper:
             f"<title>{escaped(self.title)}</title>", f'<rect {frame} fill="{BACKGROUND}"/>', *self.shapes, "</svg>"]) + "\n"
 
 
-def number(value):
+def number(value: float) -> str:
     return f"{value:.2f}".rstrip("0").rstrip(".")
 
 
-def escaped(text):
+def escaped(text: str) -> str:
     text = "".join(c if c.isprintable() else "\ufffd" for c in text)
     return text.replace("&", "&amp;").replace("<", "&lt;").replace(">", "&gt;")
 
 
-def text_width(text, size):
+def text_width(text: str, size: float) -> float:
     """A width that a text surely keeps."""
     return len(text) * size * 0.68
 
 
-def on_circle(count, radius, place):
+def on_circle(count: int, radius: float, place: float) -> Point:
     """The place of one of so many points on a circle, the first at the top."""
     turn = 2 * math.pi * place / count - math.pi / 2
     return radius * math.cos(turn), radius * math.sin(turn)
@@ -93,34 +103,35 @@ def on_circle(count, radius, place):
 class Board:
     """Cells by row and column, each with a label and the area that it belongs to; walls part different areas."""
 
-    def __init__(self, labels, areas):
+    def __init__(self, labels: dict[Cell, str], areas: Mapping[Cell, object]) -> None:
         self.labels, self.areas = labels, areas
         self.rows = range(min(r for r, _ in areas), max(r for r, _ in areas) + 1)
         self.columns = range(min(c for _, c in areas), max(c for _, c in areas) + 1)
 
-    def differ(self, cell, other):
+    def differ(self, cell: Cell, other: Cell) -> bool:
         return self.areas.get(cell) != self.areas.get(other)
 
-    def corner(self, r, c):
+    def corner(self, r: int, c: int) -> str:
         around = [(r - 1, c - 1), (r - 1, c), (r, c - 1), (r, c)]
         return "+" if len({self.areas.get(cell) for cell in around}) > 1 else " "
 
-    def wall_line(self, r, wide):
+    def wall_line(self, r: int, wide: int) -> str:
         walls = ["".join([self.corner(r, c), ("-" if self.differ((r - 1, c), (r, c)) else " ") * wide]) for c in self.columns]
         return "".join(walls) + self.corner(r, self.columns[-1] + 1)
 
-    def cell_line(self, r, wide):
+    def cell_line(self, r: int, wide: int) -> str:
         cells = [("|" if self.differ((r, c - 1), (r, c)) else " ") + self.labels.get((r, c), "").center(wide) for c in self.columns]
         return "".join(cells) + ("|" if (r, self.columns[-1]) in self.areas else " ")
 
-    def text(self):
+    def text(self) -> list[str]:
         wide = max([1] + [len(label) for label in self.labels.values()]) + 2
         lines = []
         for r in self.rows:
             lines += [self.wall_line(r, wide), self.cell_line(r, wide)]
         return [line.rstrip() for line in lines + [self.wall_line(self.rows[-1] + 1, wide)]]
 
-    def draw(self, paper, size, fill_of, text_size=None, style_of=lambda cell: {}):
+    def draw(self, paper: Paper, size: float, fill_of: Callable[[Cell], str], text_size: Optional[float] = None,
+             style_of: Callable[[Cell], dict[str, Any]] = lambda cell: {}) -> None:
         """Fills, labels and walls of all cells."""
         for (r, c) in sorted(self.areas):
             paper.box(c * size, r * size, size, size, fill_of((r, c)), FAINT, 0.5)
@@ -130,7 +141,7 @@ class Board:
         for (r, c) in sorted(self.areas):
             self.draw_walls(paper, size, r, c)
 
-    def draw_walls(self, paper, size, r, c):
+    def draw_walls(self, paper: Paper, size: float, r: int, c: int) -> None:
         """The walls above and before a cell, and those behind which there is none."""
         x, y = c * size, r * size
         for other, ends in (((r - 1, c), (x, y, x + size, y)), ((r, c - 1), (x, y, x, y + size))):
@@ -143,7 +154,7 @@ class Board:
 
 # ---- tables
 
-def folded(text, wide, size):
+def folded(text: str, wide: float, size: float) -> list[str]:
     """A text in lines that fit; a word that doesn't fit is cut in pieces."""
     most = max(4, int(wide / (size * 0.68)))
     lines = [""] if text else []
@@ -155,14 +166,14 @@ def folded(text, wide, size):
     return lines
 
 
-def table_text(rows):
+def table_text(rows: list[list[str]]) -> list[str]:
     """Lines of a table whose first row is its head."""
     widths = [max(len(row[k]) for row in rows) for k in range(len(rows[0]))]
     lines = ["  ".join(cell.ljust(wide) for cell, wide in zip(row, widths)).rstrip() for row in rows]
     return [lines[0], "  ".join("-" * wide for wide in widths)] + lines[1:]
 
 
-def draw_table(paper, rows, fill_of, size=14):
+def draw_table(paper: Paper, rows: list[list[str]], fill_of: Callable[[str], str], size: float = 14) -> None:
     """A table whose first row and first column are heads; `fill_of` tells the colour of a cell's text."""
     high = size * 2.2
     widths = [max(text_width(row[k], size) for row in rows) + 20 for k in range(len(rows[0]))]

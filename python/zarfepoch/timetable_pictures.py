@@ -4,7 +4,7 @@ from __future__ import annotations
 import functools
 import itertools
 import re
-from collections.abc import Callable, Iterator
+from collections.abc import Callable, Iterator, Sequence
 
 from .cover_files import Option, Problem
 from .full_names import full_names
@@ -51,7 +51,7 @@ class Given:
 class Timetable(Kind):
     """Lessons, each with people, classes and rooms in some periods."""
 
-    plans = ()
+    plans: Sequence[str] = ()
 
     def __init__(self, problem: Problem, chosen: list[Option], is_none: bool) -> None:
         super().__init__(problem, chosen, is_none)
@@ -103,7 +103,9 @@ class Timetable(Kind):
         """All periods, by their numbers where these are numbers."""
         periods = list(dict.fromkeys(name.rsplit("-", 1)[1] for option in self.options for name in option[1:]))
         order = {item.rsplit("-", 1)[1]: k for k, item in reversed(list(enumerate(self.items))) if "-" in item}
-        return sorted(periods, key=int if all(map(str.isdecimal, periods)) else order.get)
+        if all(map(str.isdecimal, periods)):
+            return sorted(periods, key=int)
+        return sorted(periods, key=order.__getitem__)
 
     def given(self) -> Iterator[Given]:
         """All lessons of the answer."""
@@ -112,7 +114,7 @@ class Timetable(Kind):
             pairs = [name.rsplit("-", 1) for name in option[1:]]
             who = list(dict.fromkeys(name for name, _ in pairs))
             base = base_of(option[0])
-            lost = also.get(option[0]) or also.get(base, [])
+            lost = also.get(option[0]) or also.get(base) or []
             yield Given(self.full(option[0]), who + lost, list(dict.fromkeys(period for _, period in pairs)))
 
     # ---- plans
@@ -134,7 +136,7 @@ class Timetable(Kind):
 
     def entries(self, who: str) -> dict[str, tuple[str, str]]:
         """For each period of somebody's the lesson and who else is busy with it."""
-        found = {}
+        found: dict[str, tuple[str, str]] = {}
         for lesson in self.given():
             if who in lesson.who:
                 roles = self.everybody()
@@ -150,7 +152,7 @@ class Timetable(Kind):
         numbers = list(dict.fromkeys(number for _, number in at))
         numbers = sorted(numbers) if all(map(day_and_number, periods)) else numbers
         rows = [[(self.full(who), "")] + [(day.strip(" .:_") or "lesson", "") for day in days]]
-        return rows + [[(str(number), "")] + [entries.get(at.get((day, number)), ("", "")) for day in days] for number in numbers]
+        return rows + [[(str(number), "")] + [entries.get(at.get((day, number), ""), ("", "")) for day in days] for number in numbers]
 
     # ---- one table of all
 
@@ -178,10 +180,10 @@ class Timetable(Kind):
             return
         names = list(dict.fromkeys(names))
         plans = [Plan(self.plan(who)) for who in wanted]
-        x = y = high = 0
+        x = y = high = 0.0
         for plan in plans:
             if x and x + plan.wide > WIDEST - 2 * MARGIN:
-                x, y, high = 0, y + high + GAP, 0
+                x, y, high = 0.0, y + high + GAP, 0.0
             plan.draw(paper, x, y, lambda lesson: FILLS[names.index(lesson) % len(FILLS)])
             x, high = x + plan.wide + GAP, max(high, plan.high)
         self.caption(paper)

@@ -55,8 +55,8 @@ def runs_of(lesson: Lesson) -> list[tuple[str, ...]]:
     at = {day_and_number(period): period for period in lesson.periods}
     runs = []
     for day, number in filter(None, at):
-        run = [at.get((day, number + k)) for k in range(lesson.length)]
-        if None not in run:
+        run = [at[day, number + k] for k in range(lesson.length) if (day, number + k) in at]
+        if len(run) == lesson.length:
             runs.append(tuple(run))
     return runs
 

@@ -16,14 +16,17 @@ It wants the program: (cd crates/solve_cli && rt run -- --version) builds it. Th
 were found, 1 where there is a cover or the search wasn't finished, 2 for a mistake on the command line or where the program can't be
 run, 3 for a file that can't be read or is refused, or a picture that can't be written.
 """
+from __future__ import annotations
+
 import itertools
 import os
 import subprocess
-import tempfile
+from collections.abc import Iterator
+from typing import Callable, Optional
 
 from .command_words import parser_of
-from .cover_files import Unreadable, put, read_bytes, read_problem, refusal, run, shown, stop
-from .cover_reason import found_reason
+from .cover_files import Option, Problem, Unreadable, put, read_bytes, read_problem, refusal, run, shown, stop
+from .cover_reason import Reason, found_reason
 from .draw_reason import reason_svg
 from .fault_words import listed, plural, quoted
 from .full_names import named_numbers
@@ -34,7 +37,7 @@ NONE, COVER, SPENT, OUT_OF_MEMORY = (1, b"none"), (0, b"cover"), (4, b"no"), (5,
 SHOWN = 12
 
 
-def text_without(problem, kept):
+def text_without(problem: Problem, kept: list[bytes]) -> bytes:
     """The problem's text with these primary items alone; the secondary ones stay."""
     gone = set(problem.primary_names()) - set(kept)
     secondary = problem.names()[problem.primary:]
@@ -46,26 +49,24 @@ def text_without(problem, kept):
 class Questions:
     """What the program answers of a problem with some of its primary items."""
 
-    def __init__(self, problem, program, fuel):
+    def __init__(self, problem: Problem, program: str, fuel: int) -> None:
         self.problem, self.program, self.fuel, self.asked = problem, program, str(fuel), 0
 
-    def answer(self, kept):
+    def answer(self, kept: list[bytes]) -> tuple[int, bytes]:
         """The exit status of the search with these primary items, and the first word of its answer."""
         self.asked += 1
+        text = text_without(self.problem, kept)
         try:
-            with tempfile.NamedTemporaryFile(suffix=".dlx") as file:
-                file.write(text_without(self.problem, kept))
-                file.flush()
-                ran = subprocess.run([self.program, "alone", file.name, "--fuel", self.fuel], capture_output=True)
-                return ran.returncode, ran.stdout.partition(b" ")[0].strip()
+            ran = subprocess.run([self.program, "alone", "-", "--fuel", self.fuel], input=text, capture_output=True)
         except OSError as why:
-            return stop(f"the program can't be run on a temporary file: {why}")
+            stop(f"the program can't be run: {why}")
+        return ran.returncode, ran.stdout.partition(b" ")[0].strip()
 
-    def is_none(self, kept):
+    def is_none(self, kept: list[bytes]) -> bool:
         return bool(kept) and self.answer(kept) == NONE
 
 
-def least(kept, is_none):
+def least(kept: list[bytes], is_none: Callable[[list[bytes]], bool]) -> list[bytes]:
     """A part of these items of which none can be taken away: larger pieces are tried before smaller ones."""
     size = len(kept) // 2
     while size:
@@ -80,20 +81,20 @@ def least(kept, is_none):
     return kept
 
 
-def clash(one, other):
+def clash(one: Option, other: Option) -> bool:
     """Whether two options can't stand together."""
     colours = dict(zip(one.names, one.colours))
     return any(name in colours and (colour is None or colours[name] != colour) for name, colour in zip(other.names, other.colours))
 
 
-def clash_always(problem, by_item, one, other):
+def clash_always(problem: Problem, by_item: dict[bytes, list[int]], one: bytes, other: bytes) -> bool:
     """Whether any two options that name these items clash, and no option names both."""
     places = by_item[one], by_item[other]
     return set(places[0]).isdisjoint(places[1]) and all(
         clash(problem.options[a], problem.options[b]) for a in places[0] for b in places[1])
 
 
-def reasons(problem, kept):
+def reasons(problem: Problem, kept: list[bytes]) -> Iterator[str]:
     """Lines that say in words why these items can't be covered together, where that is plain."""
     by_item = problem.options_by_item()
     for name in kept:
@@ -104,7 +105,7 @@ def reasons(problem, kept):
             yield f"each option that names {quoted(one)} clashes with each that names {quoted(other)}"
 
 
-def explain(problem, kept, asked):
+def explain(problem: Problem, kept: list[bytes], asked: int) -> Iterator[str]:
     """All lines on the items that were found."""
     by_item = problem.options_by_item()
     searches = f"{asked:,} {'search' if asked == 1 else 'searches'}"
@@ -116,12 +117,12 @@ def explain(problem, kept, asked):
     yield from reasons(problem, kept)
 
 
-def put_lines(problem, lines):
+def put_lines(problem: Problem, lines: list[str]) -> None:
     """Prints these lines, and behind them what numbers in them mean."""
     print("\n".join(lines + named_numbers(list(map(shown, problem.comments)), list(map(shown, problem.items)), lines)))
 
 
-def read(path):
+def read(path: str) -> tuple[bytes, Problem]:
     """The bytes and the problem of a file; ends the script where it can't be read or is refused."""
     try:
         text = read_bytes(path)
@@ -133,7 +134,7 @@ def read(path):
     return text, problem
 
 
-def draw(path, problem, reason):
+def draw(path: str, problem: Problem, reason: Reason) -> None:
     """Writes the picture of a reason."""
     svg = reason_svg(problem, reason)
     if path == "-":
@@ -145,7 +146,7 @@ def draw(path, problem, reason):
         stop(f"{path} can't be written: {why.strerror}", 3)
 
 
-def explain_reason(problem, reason, path):
+def explain_reason(problem: Problem, reason: Reason, path: Optional[str]) -> int:
     """Prints why there is no cover, and draws it; the exit status."""
     if not reason.holds(problem):
         stop("the program's reason doesn't hold: added up again, its numbers don't show that there is no cover")
@@ -156,7 +157,7 @@ def explain_reason(problem, reason, path):
     return 0
 
 
-def explain_by_search(problem, program, fuel):
+def explain_by_search(problem: Problem, program: str, fuel: int) -> int:
     """Prints a few items that can't be covered together; the exit status."""
     questions = Questions(problem, program, fuel)
     answer = questions.answer(problem.primary_names())
@@ -169,13 +170,13 @@ def explain_by_search(problem, program, fuel):
     return 0
 
 
-def main():
+def main() -> int:
     words = parser_of(__doc__)
     words.add_argument("file", metavar="FILE", help="the problem's file, or - for the standard input")
     words.add_argument("--svg", metavar="OUT", help="where a picture of the reason is written, - for the standard output")
     words.add_argument("--search", action="store_true", help="don't ask for a reason: search alone")
     words.add_argument("--fuel", type=int, default=1_000_000, help="how many visits each search may take (default 1,000,000)")
-    words.add_argument("--program", type=os.path.abspath, default=known_program(), help="the built program")
+    words.add_argument("--program", default=known_program(), help="the built program")
     given = words.parse_args()
     if not 1 <= given.fuel < 1 << 64:
         words.error("--fuel takes 1 to 18446744073709551615")
