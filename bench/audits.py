@@ -11,6 +11,8 @@ that of one without.
 It wants the program: (cd crates/audit_trials && rt run) builds it. The exit status is 0, 1 where an audit is unclean, or 2 for a
 mistake on the command line or where the program is missing.
 """
+from __future__ import annotations
+
 import os
 import subprocess
 import sys
@@ -19,23 +21,24 @@ import tempfile
 HERE = os.path.dirname(os.path.abspath(__file__))
 sys.path.insert(0, os.path.join(HERE, "..", "scripts"))
 from built import parser_of, program_of, want_program  # noqa: E402
-from instances import generate, torus_queens  # noqa: E402
+from instances import torus_queens  # noqa: E402
+from zarfepoch import generate  # noqa: E402
 
 PROGRAM = program_of("audit_trials")
 ROWS = [10, 12, 14]
 NODES = [4, 16]
 
 
-def run(file, nodes, what):
+def run(file: str, nodes: int, what: str) -> tuple[list[str], float]:
     """What a run prints, and its greatest memory in megabytes."""
     process = subprocess.Popen([PROGRAM, file, str(nodes), "1", "1", "1", "100000000", what], stdout=subprocess.PIPE, text=True)
-    text = process.stdout.read()
+    text = process.stdout.read() if process.stdout else ""
     _, status, usage = os.wait4(process.pid, 0)
     process.returncode = os.waitstatus_to_exitcode(status)
     return text.split(maxsplit=3), usage.ru_maxrss / 1024
 
 
-def main():
+def main() -> None:
     parser_of(__doc__).parse_args()
     want_program(PROGRAM, "audit_trials")
     print("| Books | Entries | Seconds | MB of the run | MB of the audit |")

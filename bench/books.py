@@ -15,6 +15,8 @@ takes some fifteen minutes on four processors, and prints a line each minute: ho
 It wants gcc, and the program: (cd crates/run_tally && rt run) builds it. The exit status is 0, or 2 for a mistake on the command
 line or where one of these is missing.
 """
+from __future__ import annotations
+
 import math
 import os
 import resource
@@ -29,23 +31,25 @@ from built import parser_of, RUN_TALLY, stop, want_command, want_program  # noqa
 from solve import behind  # noqa: E402
 
 NAMES = ["langford-13", "skewed", "torus-queens-15", "torus-queens-16"]
+# seconds, those of processors, whether an answer was published, and what each site and each book says
+Ran = tuple[float, float, bool, list[tuple[int, ...]], list[tuple[int, ...]]]
 # nodes, workers
 SITES = [(1, 1), (1, 4), (4, 1)]
 
 
-def visits_of(baseline, file):
+def visits_of(baseline: str, file: str) -> int:
     """How many visits a plain search makes."""
     return int(subprocess.run([baseline, file], capture_output=True, text=True, check=True).stdout.split()[1])
 
 
-def used(process):
+def used(process: subprocess.Popen[str]) -> float:
     """The seconds of processors that a process has used."""
     with open(f"/proc/{process.pid}/stat") as file:
         fields = file.read().rsplit(")", 1)[1].split()
     return (int(fields[11]) + int(fields[12])) / os.sysconf("SC_CLK_TCK")
 
 
-def watch(process):
+def watch(process: subprocess.Popen[str]) -> None:
     """Tells each minute how many processors a process used in it, until it ends."""
     before, minute = 0.0, 0
     while True:
@@ -58,7 +62,7 @@ def watch(process):
             before = now
 
 
-def run(file, nodes, workers, is_watched=False):
+def run(file: str, nodes: int, workers: int, is_watched: bool = False) -> Ran:
     """The seconds of a run, those of processors, whether an answer was published, what each site tells of its end (losses, turns,
     waits), and the entries, searches, lost visits and names of each book."""
     start, before = time.monotonic(), resource.getrusage(resource.RUSAGE_CHILDREN)
@@ -74,7 +78,7 @@ def run(file, nodes, workers, is_watched=False):
     return seconds, processors, lines[0] == "true", sites, books
 
 
-def tell(name, visits, nodes, workers, ran):
+def tell(name: str, visits: int, nodes: int, workers: int, ran: Ran) -> None:
     """Prints the row of a run."""
     seconds, processors, answered, sites, books = ran
     lost = sum(book[2] for book in books) / visits
@@ -84,7 +88,7 @@ def tell(name, visits, nodes, workers, ran):
           f"| {lost:.1%} | {searches:,} | {entries:,} | {names:,} | {turns:,} | {waits:,} |", flush=True)
 
 
-def main():
+def main() -> None:
     words = parser_of(__doc__)
     words.add_argument("--long", action="store_true", help="one run of some eleven minutes in place of the short ones")
     words.add_argument("names", nargs="*", metavar="NAME", help="instances, as those that are written by bench/instances.py")

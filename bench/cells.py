@@ -10,6 +10,8 @@ passed counts. The figures mean something where nothing else runs.
 It wants the program: (cd crates/workbench && rt run) builds it. The exit status is 0, or 2 for a mistake on the command line or
 where there is no program.
 """
+from __future__ import annotations
+
 import os
 import subprocess
 import sys
@@ -23,13 +25,13 @@ GREETINGS = 1_000_000
 THREADS = [0, 1, 2, 4, 8]
 
 
-def seconds(threads):
+def seconds(threads: int) -> float:
     start = time.monotonic()
     subprocess.run([WORKBENCH, "greet", str(threads), str(GREETINGS // max(threads, 1))], check=True)
     return time.monotonic() - start
 
 
-def main():
+def main() -> None:
     parser_of(__doc__).parse_args()
     want_program(WORKBENCH, "workbench")
     runs = [[seconds(threads) for threads in THREADS] for _ in range(3)]

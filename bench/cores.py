@@ -12,6 +12,8 @@ counts.
 It wants the program: (cd crates/workbench && rt run) builds it. The exit status is 0, or 2 for a mistake on the command line or
 where there is no program.
 """
+from __future__ import annotations
+
 import os
 import resource
 import subprocess
@@ -30,13 +32,13 @@ ROWS = [("cycle", 8, 1_000), ("cycle", 8, 10_000)] + [
 ]
 
 
-def seconds(words):
+def seconds(words: list[str]) -> float:
     before = resource.getrusage(resource.RUSAGE_CHILDREN).ru_utime
     subprocess.run([WORKBENCH, *words], check=True)
     return resource.getrusage(resource.RUSAGE_CHILDREN).ru_utime - before
 
 
-def main():
+def main() -> None:
     parser_of(__doc__).parse_args()
     want_program(WORKBENCH, "workbench")
     print("| Kind | Events | Copies, s | Cores, s | Events a second |")

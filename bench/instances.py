@@ -5,6 +5,8 @@
 
 It wants no built program. The exit status is 0, or 2 for a mistake on the command line or a folder that can't be written.
 """
+from __future__ import annotations
+
 import itertools
 import os
 import random
@@ -42,11 +44,11 @@ what when whom wide wife wild will wind wine wing wire wise wish with wood word 
 """
 
 
-def write(name, primary, secondary, options):
+def write(name: str, primary: list[str], secondary: list[str], options: list[list[str]]) -> None:
     generate.write(name, "an instance of the benchmark", primary, secondary, options)
 
 
-def shuffled(name, cells, seed):
+def shuffled(name: str, cells: set[tuple[int, int]], seed: int) -> None:
     """The twelve pentominoes on these cells, with items and options in a random order."""
     draw = random.Random(seed)
     items = list(PENTOMINOES) + [f"{r}-{c}" for r, c in sorted(cells)]
@@ -62,20 +64,19 @@ def shuffled(name, cells, seed):
     write(name, items, [], options)
 
 
-def diamond():
+def diamond() -> set[tuple[int, int]]:
     """Sixty cells in the form of a diamond, whose rows grow from two cells to ten and shrink again."""
     return {(r, c) for r in range(10) for c in range(10) if abs(2 * r - 9) + abs(2 * c - 9) <= 10}
 
 
-def torus_queens(name, n, kinds_primary=2):
+def torus_queens(name: str, n: int, kinds_primary: int = 2) -> None:
     """Queens that attack nobody on a board whose edges meet. Rows and columns are primary, or diagonals too: n queens use each of them."""
-    kinds = [("r", lambda r, c: r), ("c", lambda r, c: c), ("a", lambda r, c: (r + c) % n), ("b", lambda r, c: (r - c) % n)]
-    options = [[kind + str(line(r, c)) for kind, line in kinds] for r in range(n) for c in range(n)]
-    primary, secondary = ([kind + str(k) for kind, _ in some for k in range(n)] for some in (kinds[:kinds_primary], kinds[kinds_primary:]))
+    options = [[f"r{r}", f"c{c}", f"a{(r + c) % n}", f"b{(r - c) % n}"] for r in range(n) for c in range(n)]
+    primary, secondary = ([f"{kind}{k}" for kind in some for k in range(n)] for some in ("rcab"[:kinds_primary], "rcab"[kinds_primary:]))
     write(name, primary, secondary, options)
 
 
-def crowd(name, choices):
+def crowd(name: str, choices: int) -> None:
     """Two hundred long options behind one item, at the end of each way through some choices between two options: all of
     them take the item that each option of the last primary item wants."""
     tails = [f"t{k}" for k in range(990 - choices)]
@@ -84,20 +85,20 @@ def crowd(name, choices):
     write(name, [f"c{k}" for k in range(choices)] + ["many", "last"], tails, options)
 
 
-def scattered(name, items, size, count, seed):
+def scattered(name: str, items: int, size: int, count: int, seed: int) -> None:
     """Options of this size, drawn at random."""
     draw = random.Random(seed)
     names = [f"i{k}" for k in range(items)]
     write(name, names, [], [sorted(draw.sample(names, size), key=names.index) for _ in range(count)])
 
 
-def three_coloured():
+def three_coloured() -> dict[str, list[str]]:
     """MacMahon's 24 squares: all whose four sides have three colours, where a turned square is the same."""
     turns = ({sides[k:] + sides[:k] for k in range(4)} for sides in itertools.product("abc", repeat=4))
     return {"".join(min(turned)): list(min(turned)) for turned in turns}
 
 
-def instances():
+def instances() -> None:
     langford("langford-13.dlx", "no pairing", 13)
     shuffled("pentominoes-6x10.dlx", rectangle(6, 10), 7)
     shuffled("pentominoes-3x20.dlx", rectangle(3, 20), 3)
@@ -117,7 +118,7 @@ def instances():
         "..............3.85..1.2.......5.7.....4...1...9.......5......73..2.1........4...9"[k:k + 9] for k in range(0, 81, 9)])
 
 
-def main():
+def main() -> None:
     parser = parser_of(__doc__)
     parser.add_argument("folder", metavar="FOLDER", help="where the instances are written")
     generate.HERE = parser.parse_args().folder

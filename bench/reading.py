@@ -11,6 +11,8 @@ length.
 It wants the program: (cd crates/solve_cli && rt run -- --version) builds it. The exit status is 0, 1 where a run ends otherwise than without
 an answer, 2 for a mistake on the command line or where there is no program.
 """
+from __future__ import annotations
+
 import os
 import random
 import string
@@ -25,21 +27,21 @@ ITEMS, OPTIONS, EACH = 1000, 20000, 10
 LETTERS = string.ascii_lowercase + string.digits
 
 
-def random_names(draw, length):
+def random_names(draw: random.Random, length: int) -> list[str]:
     """Different names of so many random bytes."""
-    names = set()
+    names: set[str] = set()
     while len(names) < ITEMS:
         names.add("".join(draw.choice(LETTERS) for _ in range(length)))
     return draw.sample(sorted(names), ITEMS)
 
 
-def common_names(draw, length):
+def common_names(draw: random.Random, length: int) -> list[str]:
     """Names of so many bytes, of which all but two are the same."""
     ends = [a + b for a in LETTERS for b in LETTERS]
     return ["n" * (length - 2) + end for end in draw.sample(ends, ITEMS)]
 
 
-def write(path, names, draw):
+def write(path: str, names: list[str], draw: random.Random) -> None:
     """The greatest file in range with these names."""
     with open(path, "w") as out:
         print(*names, file=out)
@@ -47,7 +49,7 @@ def write(path, names, draw):
             print(*draw.sample(names, EACH), file=out)
 
 
-def measured(file):
+def measured(file: str) -> tuple[int, float]:
     """The exit status of one run, and its seconds of user time."""
     quiet = [(os.POSIX_SPAWN_OPEN, stream, os.devnull, os.O_WRONLY, 0) for stream in (1, 2)]
     process = os.posix_spawn(SOLVE_CLI, [SOLVE_CLI, "alone", file, "--fuel", "1"], os.environ, file_actions=quiet)
@@ -55,7 +57,7 @@ def measured(file):
     return os.waitstatus_to_exitcode(status), usage.ru_utime
 
 
-def main():
+def main() -> int:
     parser = parser_of(__doc__)
     parser.add_argument("--times", metavar="N", type=number_from_one, default=9, help="how often each file is read (default 9)")
     times = parser.parse_args().times
@@ -64,11 +66,11 @@ def main():
     kinds = {"random, 7 bytes": random_names(draw, 7), "random, 32 bytes": random_names(draw, 32),
              "30 of 32 bytes the same": common_names(draw, 32)}
     with tempfile.TemporaryDirectory() as folder:
-        files = {}
+        files: dict[str, str] = {}
         for kind, names in kinds.items():
             files[kind] = os.path.join(folder, f"{len(files)}.dlx")
             write(files[kind], names, draw)
-        runs = {kind: [] for kind in files}
+        runs: dict[str, list[tuple[int, float]]] = {kind: [] for kind in files}
         for _ in range(times):
             for kind, file in files.items():
                 runs[kind].append(measured(file))

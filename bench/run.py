@@ -14,6 +14,9 @@ python3-sage` and then `dpkg-deb -x python3-sage_*.deb HERE` put it into HERE/us
 It wants gcc, with SageMath g++ too, and the program: (cd crates/solve_cli && rt run -- --version) builds it. The exit status is 0, 1 where
 two come to other outcomes, 2 for a mistake on the command line or where something is missing.
 """
+from __future__ import annotations
+
+import argparse
 import glob
 import math
 import os
@@ -30,13 +33,13 @@ HEADER = "dancing_links_c.h"
 INSTALLED = "/usr/lib/python3/dist-packages/sage/combinat/matrices"
 
 
-def timed(words):
+def timed(words: list[str]) -> tuple[str, float]:
     before = resource.getrusage(resource.RUSAGE_CHILDREN).ru_utime
     ended = subprocess.run(words, capture_output=True, text=True)
     return ended.stdout, resource.getrusage(resource.RUSAGE_CHILDREN).ru_utime - before
 
 
-def compare(programs, file, times):
+def compare(programs: list[list[str]], file: str, times: int) -> tuple[str, int, list[float]]:
     """The outcome, the visits, and the least time of each program, ours first and the baseline next."""
     best = [math.inf] * len(programs)
     for _ in range(times):
@@ -51,13 +54,13 @@ def compare(programs, file, times):
     return outcome, int(visits), best
 
 
-def has_colours(file):
+def has_colours(file: str) -> bool:
     """Whether an option gives an item a colour, which SageMath's header doesn't know."""
     with open(file, "rb") as opened:
         return any(b":" in line for line in opened if not line.lstrip().startswith(b"|"))
 
 
-def build(folder, sage):
+def build(folder: str, sage: str) -> list[list[str]]:
     """Builds what the program is compared with, and answers how each is run."""
     baseline = os.path.join(folder, "baseline")
     subprocess.run(["gcc", "-O3", "-march=native", "-o", baseline, os.path.join(HERE, "baseline.c")], check=True)
@@ -68,7 +71,7 @@ def build(folder, sage):
     return [[baseline], [search]]
 
 
-def given_words():
+def given_words() -> argparse.Namespace:
     words = parser_of(__doc__)
     words.add_argument("files", nargs="*", metavar="FILE", help="problem files, which the program reads")
     words.add_argument("--times", type=number_from_one, default=3, metavar="N", help="how often each is run (default 3)")
@@ -86,7 +89,7 @@ def given_words():
     return given
 
 
-def main():
+def main() -> None:
     given = given_words()
     with tempfile.TemporaryDirectory() as folder:
         others = build(folder, given.sage or INSTALLED)

@@ -12,15 +12,17 @@ that the program takes to the time of the other.
 It wants the program: (cd crates/two_searches && rt run) builds it. The exit status is 0, 1 where the two come to other outcomes, 2 for
 a mistake on the command line or where there is no program.
 """
+from __future__ import annotations
+
 import math
 import os
 import random
-import re
 import resource
 import shutil
 import subprocess
 import sys
 import tempfile
+from typing import Optional
 
 HERE = os.path.dirname(os.path.abspath(__file__))
 sys.path.insert(0, os.path.join(HERE, "..", "scripts"))
@@ -30,14 +32,14 @@ from zarfepoch import generate  # noqa: E402
 KINDS = ["links", "sets"]
 
 
-def near(draw, places):
+def near(draw: random.Random, places: int) -> list[int]:
     """Items next to one another, all or some of ten of these places."""
     first = draw.randrange(-9, places)
     row = [place for place in range(first, first + 10) if 0 <= place < places]
     return row if draw.random() < 0.3 else sorted(draw.sample(row, draw.randrange(1, min(7, len(row)) + 1)))
 
 
-def sparse_instances(folder):
+def sparse_instances(folder: str) -> None:
     """Hundreds of items, and options that bar few others."""
     generate.HERE = folder
     for rows, columns in ((12, 10), (20, 20)):
@@ -50,7 +52,7 @@ def sparse_instances(folder):
     generate.write("primary-1000.dlx", "six options of one to three items for each item", names, [], few)
 
 
-def uneven_instances(folder):
+def uneven_instances(folder: str) -> None:
     """Options that agree where they meet, and a hard core that averages hide."""
     generate.HERE = folder
     names = [f"c{row}-{column}" for row in range(33) for column in range(30)]
@@ -64,7 +66,7 @@ def uneven_instances(folder):
                    core + [[item] for item in easy for _ in range(40)])
 
 
-def told(file, kind, fuel):
+def told(file: str, kind: str, fuel: int) -> tuple[list[str], float]:
     """What the program writes of a search, in words, and its processor seconds."""
     before = resource.getrusage(resource.RUSAGE_CHILDREN)
     text = subprocess.run([TWO_SEARCHES, file, kind, "plain", str(fuel)], capture_output=True, text=True).stdout
@@ -72,7 +74,7 @@ def told(file, kind, fuel):
     return text.split(), after.ru_utime + after.ru_stime - before.ru_utime - before.ru_stime
 
 
-def instructions(file, kind, fuel):
+def instructions(file: str, kind: str, fuel: int) -> Optional[int]:
     """How many instructions a search takes, without what one visit takes; none without valgrind."""
     if not shutil.which("valgrind"):
         return None
@@ -80,11 +82,11 @@ def instructions(file, kind, fuel):
     for visits in (fuel, 1):
         words = ["valgrind", "--tool=callgrind", "--callgrind-out-file=/dev/null", TWO_SEARCHES, file, kind, "plain", str(visits)]
         errors = subprocess.run(words, capture_output=True, text=True).stderr
-        counts.append(int(re.search(r"refs:\s+([\d,]+)", errors)[1].replace(",", "")))
+        counts.append(int(errors.partition("refs:")[2].split()[0].replace(",", "")))
     return counts[0] - counts[1]
 
 
-def row(file, times, fuel):
+def row(file: str, times: int, fuel: int) -> tuple[str, str, dict[str, float]]:
     """The kind that the program takes, the outcome, and the least seconds of both kinds."""
     suited, outcome = told(file, "suited", fuel)[0]
     best = dict.fromkeys(KINDS, math.inf)
@@ -97,7 +99,7 @@ def row(file, times, fuel):
     return suited, outcome, best
 
 
-def main():
+def main() -> None:
     words = parser_of(__doc__)
     words.add_argument("--times", metavar="N", type=number_from_one, default=5, help="how often each is timed (default 5)")
     words.add_argument("--fuel", metavar="N", type=number_from_one, default=100000, help="how many visits a search makes at most (default 100000)")

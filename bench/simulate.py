@@ -11,12 +11,15 @@ visit, so its table grows: to 26,000 children in 400,000 turns.
 It wants the program: (cd crates/world_story && rt run) builds it. The exit status is 0, 1 where the program failed, 2 for a mistake
 on the command line or where there is no program.
 """
+from __future__ import annotations
+
 import os
 import resource
 import subprocess
 import sys
 import tempfile
 import time
+from typing import Optional
 
 HERE = os.path.dirname(os.path.abspath(__file__))
 sys.path.insert(0, os.path.join(HERE, "..", "scripts"))
@@ -37,7 +40,7 @@ ROWS = [
 LONG = [("langford-13", 16, 1_000, 1_000_000), ("langford-13", 1, 1, 1_700_000)]
 
 
-def most_memory(pid):
+def most_memory(pid: int) -> Optional[int]:
     """The most memory that a process has had so far, in bytes, or none once it has ended."""
     try:
         with open(f"/proc/{pid}/status") as status:
@@ -47,7 +50,7 @@ def most_memory(pid):
     return int(kilobytes[0]) * 1024 if kilobytes else None
 
 
-def run(words):
+def run(words: list[str]) -> tuple[str, float, int]:
     """The output of the program, its user time, and its greatest memory in bytes, which is looked at each 2 milliseconds."""
     before = resource.getrusage(resource.RUSAGE_CHILDREN).ru_utime
     memory = 0
@@ -55,13 +58,13 @@ def run(words):
         while child.poll() is None:
             memory = max(memory, most_memory(child.pid) or 0)
             time.sleep(0.002)
-        text = child.stdout.read()
+        text = child.stdout.read() if child.stdout else ""
     if child.returncode:
         sys.exit(f"the program failed: {words}")
     return text, resource.getrusage(resource.RUSAGE_CHILDREN).ru_utime - before, memory
 
 
-def main():
+def main() -> None:
     words = parser_of(__doc__)
     words.add_argument("--long", action="store_true",
                        help="adds a million turns of 16 nodes, and a table that grows further; both take minutes")

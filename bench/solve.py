@@ -13,6 +13,8 @@ mean something on a machine with four processors and nothing else to do.
 It wants the program: (cd crates/solve_cli && rt run -- --version) builds it. The exit status is 0, 1 where an answer is wrong, 2 for a mistake
 on the command line or where there is no program.
 """
+from __future__ import annotations
+
 import math
 import os
 import subprocess
@@ -38,10 +40,10 @@ PAIRS = [[str(d), f"s{place}", f"s{place + d + 1}"] for d in range(1, 14) for pl
 
 # thirty choices, each of which leaves all of the work to one of its two options
 SKEWED = [f"z{k}" for k in range(30)]
-SKEWED_WAYS = [[choice] + rest for choice in SKEWED for rest in (PLACES, [])]
+SKEWED_WAYS = [way for choice in SKEWED for way in ([choice, *PLACES], [choice])]
 
 
-def behind(folder, name, counts, skewed=False):
+def behind(folder: str, name: str, counts: list[int], skewed: bool = False) -> None:
     """Langford pairs of 13 behind choices with so many options each: the product of these counts times the work."""
     choices = [f"x{k}" for k in range(len(counts))]
     marks = [f"y{k}.{way}" for k, count in enumerate(counts) for way in range(count)]
@@ -53,14 +55,14 @@ def behind(folder, name, counts, skewed=False):
                    marks, ways + PAIRS)
 
 
-def timed(words):
+def timed(words: list[str]) -> tuple[str, float]:
     """What the program writes, and how many seconds passed."""
     start = time.monotonic()
     text = subprocess.run([SOLVE_CLI, *words], capture_output=True, text=True).stdout
     return text, time.monotonic() - start
 
 
-def at_once(file, count):
+def at_once(file: str, count: int) -> float:
     """The seconds until so many processes of `alone`, started at once, have all ended."""
     start = time.monotonic()
     for process in [subprocess.Popen([SOLVE_CLI, "alone", file], stdout=subprocess.DEVNULL) for _ in range(count)]:
@@ -68,7 +70,7 @@ def at_once(file, count):
     return time.monotonic() - start
 
 
-def is_right(file, text, folder):
+def is_right(file: str, text: str, folder: str) -> bool:
     """Whether `check` calls the answer right."""
     answer = os.path.join(folder, "answer")
     with open(answer, "w") as out:
@@ -77,9 +79,9 @@ def is_right(file, text, folder):
     return told == "right\n"
 
 
-def row(file, times, folder):
+def row(file: str, times: int, folder: str) -> tuple[str, float, float, list[float]]:
     """The outcome and the least seconds of `alone`, of four of it at once, and of each `solve`."""
-    alone, least, four, best = None, math.inf, math.inf, [math.inf] * len(SITES)
+    alone, least, four, best = "", math.inf, math.inf, [math.inf] * len(SITES)
     for turn in range(times):
         text, seconds = timed(["alone", file])
         alone, least, four = text.split()[0], min(least, seconds), min(four, at_once(file, 4))
@@ -94,7 +96,7 @@ def row(file, times, folder):
     return alone, least, four, best
 
 
-def main():
+def main() -> None:
     words = parser_of(__doc__)
     words.add_argument("--times", metavar="N", type=number_from_one, default=3, help="how often each is run (default 3)")
     words.add_argument("names", nargs="*", metavar="NAME", help="instances, as those that are written by bench/instances.py")

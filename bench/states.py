@@ -12,13 +12,16 @@ without those of a search of one visit.
 It wants the programs: (cd crates/two_searches && rt run) and (cd crates/solve_cli && rt run -- --version) build them. The exit
 status is 0, 1 where two come to other outcomes, 2 for a mistake on the command line or where there is no program.
 """
+from __future__ import annotations
+
 import os
-import re
 import resource
 import shutil
 import subprocess
 import sys
 import tempfile
+from collections.abc import Iterator
+from typing import Optional
 
 HERE = os.path.dirname(os.path.abspath(__file__))
 sys.path.insert(0, os.path.join(HERE, "..", "scripts"))
@@ -32,14 +35,14 @@ OTHERS = ("langford-13", "torus-queens-14", "torus-queens-15", "torus-queens-16"
 WORDS = {"cover": "cover", "none": "none", "spent": "spent", "SATISFIABLE": "cover", "UNSATISFIABLE": "none"}
 
 
-def pigeons(name, count):
+def pigeons(name: str, count: int) -> None:
     """So many pigeons, and one hole less."""
     holes = [f"h{hole}" for hole in range(count - 1)]
     options = [[f"p{pigeon}", hole] for pigeon in range(count) for hole in holes]
     generate.write(name, "none", [f"p{pigeon}" for pigeon in range(count)], holes, options)
 
 
-def straight(name, side):
+def straight(name: str, side: int) -> None:
     """Straight pieces of four cells on a square board."""
     rows = [[(row, column + k) for k in range(4)] for row in range(side) for column in range(side - 3)]
     columns = [[(row + k, column) for k in range(4)] for row in range(side - 3) for column in range(side)]
@@ -48,7 +51,7 @@ def straight(name, side):
     generate.write(name, "none", list(names.values()), [], options)
 
 
-def write_instances(folder):
+def write_instances(folder: str) -> None:
     """The benchmark's instances, and families in which states repeat."""
     subprocess.run([sys.executable, os.path.join(HERE, "instances.py"), folder], check=True)
     generate.HERE = folder
@@ -60,7 +63,7 @@ def write_instances(folder):
     straight("straight-14x14.dlx", 14)
 
 
-def program_of(file):
+def program_of(file: str) -> Iterator[str]:
     """The problem for clingo: each primary item by one option, each secondary one by at most one or by several of one colour."""
     lines = [line.split() for line in open(file, encoding="ascii") if line.strip() and not line.lstrip().startswith("|")]
     names = lines[0]
@@ -70,7 +73,7 @@ def program_of(file):
     yield ":- s(I), x(O), x(P), O < P, u(O,I), u(P,I), not t(O,I). :- s(I), x(O), x(P), O < P, u(O,I), u(P,I), not t(P,I). #show."
     for name, place in number.items():
         yield f"{'i' if place < bar else 's'}({place})."
-    colours = {}
+    colours: dict[str, int] = {}
     for option, line in enumerate(lines[1:]):
         yield f"o({option})."
         for name, _, colour in (word.partition(":") for word in line):
@@ -79,7 +82,7 @@ def program_of(file):
                 yield f"t({option},{number[name]}). c({option},{number[name]},{colours.setdefault(colour, len(colours))})."
 
 
-def run(words, seconds, text=None):
+def run(words: list[str], seconds: float, text: Optional[str] = None) -> Optional[tuple[str, float]]:
     """The outcome that a command writes, in a word, and its processor seconds; none where it doesn't end in time."""
     before = resource.getrusage(resource.RUSAGE_CHILDREN)
     try:
@@ -91,9 +94,9 @@ def run(words, seconds, text=None):
     return told[0] if told else "no answer", after.ru_utime + after.ru_stime - before.ru_utime - before.ru_stime
 
 
-def least(words, times, seconds, text=None):
+def least(words: list[str], times: int, seconds: float, text: Optional[str] = None) -> Optional[tuple[str, float]]:
     """The outcome and the least processor seconds of several runs."""
-    best = None
+    best: Optional[tuple[str, float]] = None
     for _ in range(times):
         found = run(words, seconds, text)
         if found is None:
@@ -104,17 +107,17 @@ def least(words, times, seconds, text=None):
     return best
 
 
-def instructions(file, keeping):
+def instructions(file: str, keeping: str) -> int:
     """How many instructions a search takes, without what one visit takes."""
     counts = []
     for fuel in (GREATEST, "1"):
         words = ["valgrind", "--tool=callgrind", "--callgrind-out-file=/dev/null", TWO_SEARCHES, file, "suited", keeping, fuel]
         errors = subprocess.run(words, capture_output=True, text=True).stderr
-        counts.append(int(re.search(r"refs:\s+([\d,]+)", errors)[1].replace(",", "")))
+        counts.append(int(errors.partition("refs:")[2].split()[0].replace(",", "")))
     return counts[0] - counts[1]
 
 
-def cells_of(file, times, seconds):
+def cells_of(file: str, times: int, seconds: float) -> Iterator[str]:
     """The cells of an instance's row."""
     commands = [[TWO_SEARCHES, file, "suited", word, GREATEST] for word in ("plain", "kept")] + [[SOLVE_CLI, "alone", file, "--unlimited"]]
     found = [least(words, times, seconds) for words in commands]
@@ -133,7 +136,7 @@ def cells_of(file, times, seconds):
         yield "-"
 
 
-def main():
+def main() -> None:
     words = parser_of(__doc__)
     words.add_argument("--seconds", metavar="N", type=number_from_one, default=60, help="how long each may take (default 60)")
     words.add_argument("--times", metavar="N", type=number_from_one, default=3, help="how often each is timed (default 3)")

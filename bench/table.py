@@ -13,9 +13,12 @@ microseconds that a call took on the average of its calls, the least of three ru
 It wants the program: (cd crates/workbench && rt run) builds it. The exit status is 0, or 2 for a mistake on the command line or
 where there is no program.
 """
+from __future__ import annotations
+
 import os
 import subprocess
 import sys
+from collections.abc import Sequence
 
 HERE = os.path.dirname(os.path.abspath(__file__))
 sys.path.insert(0, os.path.join(HERE, "..", "scripts"))
@@ -26,19 +29,19 @@ GUESTS = (10_000,)
 UNITS = {"table": "children", "guests": "guests"}
 
 
-def micros(what, units):
+def micros(what: str, units: int) -> dict[str, float]:
     """What each call took in one run, by its name."""
     told = subprocess.run([WORKBENCH, what, str(units)], check=True, capture_output=True, text=True).stdout
     rows = (line.split(",") for line in told.splitlines())
     return {name: int(nanos) / max(int(calls), 1) / 1_000 for name, calls, nanos in rows}
 
 
-def least(what, units):
+def least(what: str, units: int) -> dict[str, float]:
     runs = [micros(what, units) for _ in range(3)]
     return {name: min(run[name] for run in runs) for name in runs[0]}
 
 
-def table(what, sizes):
+def table(what: str, sizes: Sequence[int]) -> None:
     columns = [least(what, units) for units in sizes]
     print("| Call | " + " | ".join(f"{units:,} {UNITS[what]}" for units in sizes) + " |")
     print("|---|" + "---|" * len(sizes))
@@ -46,7 +49,7 @@ def table(what, sizes):
         print(f"| {name} | " + " | ".join(f"{column[name]:.2f}" for column in columns) + " |")
 
 
-def main():
+def main() -> None:
     parser_of(__doc__).parse_args()
     want_program(WORKBENCH, "workbench")
     table("table", CHILDREN)

@@ -23,6 +23,11 @@ SOLVE_CLI, WORKBENCH, RUN_TALLY, WORLD_STORY = map(program_of, ("solve_cli", "wo
 TWO_SEARCHES = program_of("two_searches")
 
 
+def path_of(text: str) -> str:
+    """A path on the command line, from the root on."""
+    return os.path.abspath(text)
+
+
 def want_program(program: str, crate: str = "solve_cli") -> None:
     """Goes on only where there is a program at this place; else tells what builds that of the crate."""
     if not (os.path.isfile(program) and os.access(program, os.X_OK)):

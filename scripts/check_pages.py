@@ -19,10 +19,14 @@ The options in the tables of README, SOLVE and SIMULATE are those of the program
 Each mistake is printed with its page and line, and a last line counts them. The exit status is 1 if there is any, else 0, or 2 for a
 mistake on the command line.
 """
+from __future__ import annotations
+
 import glob
 import os
 import re
 import sys
+from collections.abc import Iterator
+from typing import Optional
 
 from built import TOP, parser_of, stop
 
@@ -43,10 +47,12 @@ LIMITS = {
 CRATE_LIMIT, CRATES_LIMIT = 750, 8000
 # the command whose options a page's table lists, and the file that has the help
 TABLES = {"docs/SOLVE.md": "solve", "docs/SIMULATE.md": "simulate"}
+# the number of a line and what is wrong there
+Mistake = tuple[int, str]
 COMMANDS = "crates/command_line/src/commands.rt"
 
 
-def all_paths():
+def all_paths() -> list[str]:
     """The paths of all files and folders, from the top on."""
     found = []
     for folder, folders, files in os.walk(TOP):
@@ -55,13 +61,13 @@ def all_paths():
     return found
 
 
-def without_comments(path, text):
+def without_comments(path: str, text: str) -> str:
     """A file's text without its comments: what only they name isn't there."""
     mark = {".rt": "//", ".antt": "--"}.get(os.path.splitext(path)[1])
     return re.sub(rf"{mark}.*", "", text) if mark else text
 
 
-def words_of_files(paths):
+def words_of_files(paths: list[str]) -> dict[str, set[str]]:
     """The words of each file of code."""
     words = {}
     for path in paths:
@@ -72,7 +78,7 @@ def words_of_files(paths):
     return words
 
 
-def clauses_of(crate):
+def clauses_of(crate: str) -> set[str]:
     """The names of the clauses in the contracts of a crate."""
     names = set()
     for path in glob.glob(os.path.join(TOP, "crates", crate, "src", "*.rt")):
@@ -84,7 +90,7 @@ def clauses_of(crate):
 class Repository:
     """What there is to be named."""
 
-    def __init__(self):
+    def __init__(self) -> None:
         self.paths = all_paths()
         self.files = words_of_files(self.paths)
         self.words = set().union(*self.files.values())
@@ -92,26 +98,26 @@ class Repository:
         self.crates = set(os.listdir(os.path.join(TOP, "crates")))
         self.clauses = {crate: clauses_of(crate) for crate in self.crates}
 
-    def lacks_clause(self, page, name):
+    def lacks_clause(self, page: str, name: str) -> bool:
         """Whether the page is that of a crate without a clause of this name."""
         crate = re.fullmatch(r"crates/(\w+)/README\.md", os.path.relpath(page, TOP).replace(os.sep, "/"))
-        return bool(crate) and name not in self.clauses[crate[1]]
+        return crate is not None and name not in self.clauses[crate[1]]
 
-    def has_path(self, path):
+    def has_path(self, path: str) -> bool:
         """Whether some path ends so, at the beginning of a name."""
         parts = path.strip("/").split("/")
         pattern = "/".join("[^/]+" if part.isupper() else re.escape(part) for part in parts)
         ends = re.compile(rf"(^|/){pattern}(\.antt)?$")
         return any(ends.search(known) for known in self.paths)
 
-    def has_both(self, first, second):
+    def has_both(self, first: str, second: str) -> bool:
         """Whether both words stand in one file, or the second in the crate that is the first."""
         if first in self.crates:
             inside = f"crates/{first}/"
             return any(second in words for path, words in self.files.items() if path.startswith(inside))
         return any(first in words and second in words for words in self.files.values())
 
-    def has_name(self, name):
+    def has_name(self, name: str) -> bool:
         """Whether a name is there, with those that it belongs to."""
         parts = name.split("::")
         if len(parts) == 1:
@@ -119,19 +125,19 @@ class Repository:
         return all(self.has_both(first, second) for first, second in zip(parts, parts[1:]))
 
 
-def is_name(word):
+def is_name(word: str) -> bool:
     """Whether a word looks like a name of the code."""
     if not re.fullmatch(r"[A-Za-z_]\w*(::\w+)*", word):
         return False
     return "_" in word.strip("_") or "::" in word or bool(re.search("[a-z]", word) and re.search("[A-Z]", word))
 
 
-def is_path(word):
+def is_path(word: str) -> bool:
     """Whether a word looks like the path of a file."""
     return bool(re.fullmatch(r"[\w./-]+", word)) and (word.endswith(ENDINGS) or "/" in word.strip("/"))
 
 
-def named_in(quoted):
+def named_in(quoted: str) -> Iterator[tuple[str, bool]]:
     """The names and paths in what stands between backquotes."""
     for word in quoted.split():
         word = word.strip(",:;()[]{}<>&'\"=")
@@ -143,14 +149,14 @@ def named_in(quoted):
                 yield name, False
 
 
-def heading_slugs(path):
+def heading_slugs(path: str) -> set[str]:
     """The names under which the headings of a page are linked."""
     with open(path, encoding="utf-8") as file:
         heads = [line.lstrip("#").strip().lower() for line in file if line.startswith("#")]
     return {re.sub(r"[^\w -]", "", head).replace(" ", "-") for head in heads}
 
 
-def is_link_there(page, target):
+def is_link_there(page: str, target: str) -> bool:
     """Whether the target of a link of a page is there."""
     path, _, heading = target.partition("#")
     full = os.path.join(os.path.dirname(page), path) if path else page
@@ -159,7 +165,7 @@ def is_link_there(page, target):
     return not heading or heading in heading_slugs(full)
 
 
-def prose_of(page):
+def prose_of(page: str) -> str:
     """The text of a page, with empty lines in place of blocks of code: what is indented behind an empty line."""
     lines = ["\n"]
     with open(page, encoding="utf-8") as file:
@@ -169,13 +175,13 @@ def prose_of(page):
     return "".join(lines[1:])
 
 
-def found_in(prose, pattern):
+def found_in(prose: str, pattern: str) -> Iterator[tuple[int, str]]:
     """What a pattern's group finds, each with the number of its line."""
     for found in re.finditer(pattern, prose):
         yield prose.count("\n", 0, found.start()) + 1, found[1]
 
 
-def missing_in(page, prose, repository):
+def missing_in(page: str, prose: str, repository: Repository) -> Iterator[Mistake]:
     """What a page names that isn't there, with the number of the line."""
     for number, quoted in found_in(prose, r"`((?:[^`\n]|\n(?!\n))+)`"):
         for name, path in named_in(quoted):
@@ -190,7 +196,7 @@ def missing_in(page, prose, repository):
             yield number, target
 
 
-def refused_in(prose):
+def refused_in(prose: str) -> Iterator[Mistake]:
     """The words of a page that nobody would say, with the number of the line."""
     plain = re.sub(r"`(?:[^`\n]|\n(?!\n))+`", lambda quoted: "\n" * quoted[0].count("\n"), prose)
     words = "|".join(re.sub(" ", r"\\s+", word) for word in REFUSED)
@@ -198,25 +204,25 @@ def refused_in(prose):
         yield number, f'"{" ".join(word.split())}" is no plain English'
 
 
-def length_of(page):
+def length_of(page: str) -> int:
     """How many words a page has."""
     with open(page, encoding="utf-8") as file:
         return len(file.read().split())
 
 
-def limit_of(name):
+def limit_of(name: str) -> Optional[int]:
     """How many words a page may have, if there is a limit."""
     return CRATE_LIMIT if re.fullmatch(r"crates/\w+/README\.md", name) else LIMITS.get(name)
 
 
-def lengths_in(page, name):
+def lengths_in(page: str, name: str) -> Iterator[Mistake]:
     """A page that is too long."""
     limit, length = limit_of(name), length_of(page)
     if limit and length > limit:
         yield 1, f"{length} words, more than {limit}"
 
 
-def options_of(function, bodies):
+def options_of(function: str, bodies: dict[str, str]) -> set[str]:
     """The options that a function of the program's help adds, with those of the functions that it calls."""
     body = bodies[function]
     called = set(re.findall(r"\b(\w+)\(", body)) & set(bodies) - {function}
@@ -224,7 +230,7 @@ def options_of(function, bodies):
     return {name for pair in own for name in pair if name}.union(*(options_of(other, bodies) for other in called))
 
 
-def options_in_help():
+def options_in_help() -> dict[str, set[str]]:
     """The options of each subcommand, as the code of the help has them."""
     with open(os.path.join(TOP, COMMANDS), encoding="utf-8") as file:
         parts = re.split(r"^(?:pub )?fn (\w+)", file.read(), flags=re.MULTILINE)
@@ -232,13 +238,13 @@ def options_in_help():
     return {name[:-8]: options_of(name, bodies) for name in bodies if name.endswith("_command")}
 
 
-def commands():
+def commands() -> set[str]:
     """The subcommands, as the code names them."""
     with open(os.path.join(TOP, COMMANDS), encoding="utf-8") as file:
         return set(re.findall(r'Mode::\w+ => "(\w+)"', file.read()))
 
 
-def options_in_page(page, name):
+def options_in_page(page: str, name: str) -> Iterator[tuple[int, str, set[str]]]:
     """The options of each subcommand in the tables of a page, with the number of the line."""
     with open(page, encoding="utf-8") as file:
         text = file.read()
@@ -249,7 +255,7 @@ def options_in_page(page, name):
             yield number, row.split()[0], set(re.findall(r"--([\w-]+)", row))
 
 
-def options_wrong_in(page, name):
+def options_wrong_in(page: str, name: str) -> Iterator[Mistake]:
     """Options in a page's tables that the help lacks, or the other way round."""
     helped, rows = options_in_help(), list(options_in_page(page, name))
     for number, command, options in rows:
@@ -260,7 +266,7 @@ def options_wrong_in(page, name):
             yield 1, f"{command} is not in the table"
 
 
-def mistakes_in(page, repository):
+def mistakes_in(page: str, repository: Repository) -> tuple[list[Mistake], list[Mistake]]:
     """The names of a page that aren't there, and its other mistakes, each with the number of the line."""
     name = os.path.relpath(page, TOP).replace(os.sep, "/")
     prose = prose_of(page)
@@ -269,7 +275,7 @@ def mistakes_in(page, repository):
     return names, others
 
 
-def main():
+def main() -> int:
     parser = parser_of(__doc__)
     parser.add_argument("pages", nargs="*", metavar="PAGE", help="a page to read, in place of all")
     given = parser.parse_args().pages

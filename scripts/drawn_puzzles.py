@@ -2,8 +2,19 @@
 
 Nothing here knows of items, options and covers, or of the scripts that make them: that is what generate.py and draw.py are tested with.
 """
+from __future__ import annotations
+
 import itertools
+import random
 import re
+from collections.abc import Iterable, Sequence
+from typing import Callable
+
+# a cell by row and column; a number for each cell; a text with a test of the lines that are drawn; two texts with one
+Cell = tuple[int, int]
+Grid = dict[Cell, int]
+Drawn = tuple[str, Callable[[list[str]], bool]]
+DrawnTwice = tuple[tuple[str, str], Callable[[list[str]], bool]]
 
 # rows and columns of a box, by the size of the sudoku
 BOXES = {4: (2, 2), 6: (2, 3), 9: (3, 3), 12: (3, 4), 16: (4, 4)}
@@ -13,19 +24,19 @@ LETTERS = "abcdefghijklmnopqrstuvwxyzABCDEFGHIJKLMNOPQRSTUVWXYZ"
 DIAGONAL = ["639251748", "458367912", "172849365", "967435281", "824176593", "315928476", "796583124", "541692837", "283714659"]
 
 
-def houses(size, regions):
+def houses(size: int, regions: Grid) -> list[list[Cell]]:
     """The cells of each row, column and region."""
     found = [[(r, c) for c in range(size)] for r in range(size)] + [[(r, c) for r in range(size)] for c in range(size)]
-    cells = list(itertools.product(range(size), repeat=2))
+    cells = [(r, c) for r in range(size) for c in range(size)]
     return found + [[cell for cell in cells if regions[cell] == region] for region in sorted(set(regions.values()))]
 
 
-def boxes(size):
+def boxes(size: int) -> Grid:
     high, wide = BOXES[size]
     return {(r, c): r // high * (size // wide) + c // wide for r in range(size) for c in range(size)}
 
 
-def filled(draw, size):
+def filled(draw: random.Random, size: int) -> Grid:
     """A filled sudoku: rows of one pattern, whose bands, rows, columns and digits are shuffled."""
     high, wide = BOXES[size]
     rows = [band * high + row for band in draw.sample(range(size // high), size // high) for row in draw.sample(range(high), high)]
@@ -34,23 +45,23 @@ def filled(draw, size):
     return {(r, c): digits[(wide * (row % high) + row // high + column) % size] for r, row in enumerate(rows) for c, column in enumerate(columns)}
 
 
-def thinned(draw, solution, share):
+def thinned(draw: random.Random, solution: Grid, share: float) -> Grid:
     """A part of the digits of a solution."""
     return {cell: digit for cell, digit in solution.items() if draw.random() < share}
 
 
-def as_rows(size, values, empty, apart=""):
+def as_rows(size: int, values: dict[Cell, str], empty: str, apart: str = "") -> str:
     return "\n".join(apart.join(values.get((r, c), empty) for c in range(size)) for r in range(size)) + "\n"
 
 
-def is_filled(size, digits, regions, given, further=()):
+def is_filled(size: int, digits: Grid, regions: Grid, given: Grid, further: Sequence[list[Cell]] = ()) -> bool:
     """Whether each row, column and region has each digit, and the given ones stand."""
     every = set(range(1, size + 1))
     return all({digits.get(cell) for cell in house} == every for house in [*houses(size, regions), *further]) and all(
         digits[cell] == digit for cell, digit in given.items())
 
 
-def digits_of(lines, size):
+def digits_of(lines: list[str], size: int) -> Grid:
     """The digits of a drawn sudoku, with boxes or with walls round regions."""
     rows = [re.findall(r"\d+|[A-G]", line) for line in lines]
     rows = [row for row in rows if row]
@@ -59,14 +70,14 @@ def digits_of(lines, size):
 
 # ---- each gives a text and a test of the lines that are drawn
 
-def sudoku(draw, size):
+def sudoku(draw: random.Random, size: int) -> Drawn:
     given = thinned(draw, filled(draw, size), 0.5)
     words = size == 12
     marks = {cell: str(digit) if words else MARKS[digit - 1] for cell, digit in given.items()}
     return as_rows(size, marks, ".", " " if words else ""), lambda lines: is_filled(size, digits_of(lines, size), boxes(size), given)
 
 
-def diagonals(draw):
+def diagonals(draw: random.Random) -> Drawn:
     digits = draw.sample(range(1, 10), 9)
     solution = {(r, c): digits[int(mark) - 1] for r, row in enumerate(DIAGONAL) for c, mark in enumerate(row)}
     given = thinned(draw, solution, 0.35)
@@ -75,7 +86,7 @@ def diagonals(draw):
         9, digits_of(lines, 9), boxes(9), given, further)
 
 
-def jigsaw(draw):
+def jigsaw(draw: random.Random) -> Drawn:
     """Two cells with one digit in neighbouring boxes change their regions: each region has each digit still."""
     solution, regions = filled(draw, 9), boxes(9)
     for _ in range(30):
@@ -88,9 +99,9 @@ def jigsaw(draw):
     return text, lambda lines: is_filled(9, digits_of(lines, 9), regions, given)
 
 
-def cages_of(draw, solution):
+def cages_of(draw: random.Random, solution: Grid) -> Grid:
     """Cages of one to four cells side by side, without a digit twice."""
-    cage_of = {}
+    cage_of: Grid = {}
     for cell in sorted(solution):
         cage, wanted = [cell], draw.randint(2, 4)
         while cell not in cage_of and len(cage) < wanted:
@@ -105,7 +116,7 @@ def cages_of(draw, solution):
     return cage_of
 
 
-def killer(draw):
+def killer(draw: random.Random) -> Drawn:
     solution = filled(draw, 9)
     cage_of = cages_of(draw, solution)
     while max(cage_of.values()) >= len(LETTERS):
@@ -115,7 +126,7 @@ def killer(draw):
     text = as_rows(9, {cell: LETTERS[number] for cell, number in cage_of.items()}, ".") + "\n" + " ".join(
         f"{LETTERS[number]}={total}" for number, total in sums.items()) + "\n"
 
-    def is_right(lines):
+    def is_right(lines: list[str]) -> bool:
         digits = digits_of(lines, 9)
         return is_filled(9, digits, boxes(9), {}) and all(
             sum(digits[cell] for cell in cells) == sums[number] and len({digits[cell] for cell in cells}) == len(cells)
@@ -124,9 +135,9 @@ def killer(draw):
     return text, is_right
 
 
-def runs(white, step):
+def runs(white: set[Cell], step: Cell) -> dict[Cell, list[Cell]]:
     """The runs of white cells in one direction, by the black cell before them."""
-    found = {}
+    found: dict[Cell, list[Cell]] = {}
     for r, c in sorted(white):
         before = (r - step[0], c - step[1])
         if before not in white:
@@ -137,28 +148,30 @@ def runs(white, step):
     return found
 
 
-def white_cells(draw, size):
+def white_cells(draw: random.Random, size: int) -> set[Cell]:
     """White cells by lot; those alone in a row or column are taken away, as long as there are any."""
     white = {(r, c) for r in range(1, size) for c in range(1, size) if draw.random() < 0.7}
-    alone = True
+    alone = white
     while alone:
         alone = {cells[0] for step in ((1, 0), (0, 1)) for cells in runs(white, step).values() if len(cells) == 1}
         white -= alone
     return white
 
 
-def digits_in(draw, white):
+def digits_in(draw: random.Random, white: set[Cell]) -> Grid:
     """A digit for each white cell, by lot, and different ones in each run; 0 where none is left."""
-    every, digits = [cells for step in ((1, 0), (0, 1)) for cells in runs(white, step).values()], {}
+    every = [cells for step in ((1, 0), (0, 1)) for cells in runs(white, step).values()]
+    digits: Grid = {}
     for cell in sorted(white):
         taken = {digits.get(one) for cells in every if cell in cells for one in cells}
         digits[cell] = draw.choice([digit for digit in range(1, 10) if digit not in taken] or [0])
     return digits
 
 
-def kakuro(draw, size=7):
+def kakuro(draw: random.Random, size: int = 7) -> Drawn:
     """A grid by lot, with the sums of digits by lot."""
-    white, digits = set(), {}
+    white: set[Cell] = set()
+    digits: Grid = {}
     while len(white) < 12 or 0 in digits.values():
         white = white_cells(draw, size)
         digits = digits_in(draw, white)
@@ -168,7 +181,7 @@ def kakuro(draw, size=7):
     for cell in set(sums[1, 0]) | set(sums[0, 1]):
         marks[cell] = f"{sums[1, 0].get(cell, '')}\\{sums[0, 1].get(cell, '')}"
 
-    def is_right(lines):
+    def is_right(lines: list[str]) -> bool:
         drawn = {(r, c): word for r, line in enumerate(lines) for c, word in enumerate(line.split())}
         return all(drawn[cell].isdecimal() for cell in white) and all(
             sum(int(drawn[cell]) for cell in cells) == sums[step][before] and len({drawn[cell] for cell in cells}) == len(cells)
@@ -177,13 +190,13 @@ def kakuro(draw, size=7):
     return as_rows(size, marks, "#", " "), is_right
 
 
-def touch(one, other):
+def touch(one: Cell, other: Cell) -> bool:
     return max(abs(one[0] - other[0]), abs(one[1] - other[1])) < 2
 
 
-def stars(draw, size=8):
+def stars(draw: random.Random, size: int = 8) -> Drawn:
     """One star in each row and column, and regions that grow round them."""
-    found = []
+    found: list[Cell] = []
     while not found or any(touch(one, other) for one, other in itertools.combinations(found, 2)):
         found = list(enumerate(draw.sample(range(size), size)))
     regions = {cell: k for k, cell in enumerate(found)}
@@ -192,7 +205,7 @@ def stars(draw, size=8):
         near = [cell for cell in ((r, c + 1), (r + 1, c), (r, c - 1), (r - 1, c)) if cell not in regions and 0 <= min(cell) <= max(cell) < size]
         regions.update({cell: region for cell in near[:1]})
 
-    def is_right(lines):
+    def is_right(lines: list[str]) -> bool:
         drawn = [(r, c) for r, line in enumerate(lines[1::2]) for c in range(size) if line[4 * c + 2:4 * c + 3] == "*"]
         return all(sum(cell in house for cell in drawn) == 1 for house in houses(size, regions)) and not any(
             touch(one, other) for one, other in itertools.combinations(drawn, 2))
@@ -200,13 +213,13 @@ def stars(draw, size=8):
     return as_rows(size, {cell: LETTERS[region] for cell, region in regions.items()}, "."), is_right
 
 
-def blocks(line):
+def blocks(line: str) -> list[int]:
     return [len(block) for block in line.replace(".", " ").split()]
 
 
-def nonogram(draw, size=10):
+def nonogram(draw: random.Random, size: int = 10) -> Drawn:
     """Black cells by lot, in a picture that is rather coherent; numbers with commas or blanks."""
-    rows = []
+    rows: list[str] = []
     for _ in range(size):
         before = rows[-1] if rows else "." * size
         rows.append("".join(draw.choice("#" if before[c] == "#" else ".#.") if draw.random() < 0.5 else before[c] for c in range(size)))
@@ -217,7 +230,7 @@ def nonogram(draw, size=10):
         blocks("".join(column)) for column in zip(*lines)] == [blocks(line) for line in columns]
 
 
-def crossword(draw, size=6):
+def crossword(draw: random.Random, size: int = 6) -> DrawnTwice:
     """A grid and a list of words, of which some stand in the grid from which they are read off."""
     grid = [["#" if draw.random() < 0.2 else draw.choice("aeinrst") for _ in range(size)] for _ in range(size)]
     lines = ["".join(row) for row in grid] + ["".join(column) for column in zip(*grid)]
@@ -228,7 +241,7 @@ def crossword(draw, size=6):
     listed = draw.sample(sorted(set(words + further)), len(set(words + further)))
     text = "\n".join("".join("#" if mark == "#" else "." for mark in row) for row in grid) + "\n"
 
-    def is_right(drawn):
+    def is_right(drawn: list[str]) -> bool:
         marks = [line.ljust(2 * size)[::2] for line in drawn + [""] * (size - len(drawn))]
         rows = ["".join("#" if mark == " " else mark for mark in row) for row in marks]
         lines = rows + ["".join(column) for column in zip(*rows)]
@@ -240,9 +253,9 @@ def crossword(draw, size=6):
 
 # ---- boards
 
-def shapes_of(lines, rows, columns):
+def shapes_of(lines: list[str], rows: int, columns: int) -> list[list[Cell]]:
     """The shapes on a drawn rectangle: cells that no wall parts."""
-    cells, shapes = set(itertools.product(range(rows), range(columns))), []
+    cells, shapes = set(itertools.product(range(rows), range(columns))), list[list[Cell]]()
     while cells:
         reached = [min(cells)]
         cells -= set(reached)
@@ -256,7 +269,7 @@ def shapes_of(lines, rows, columns):
     return shapes
 
 
-def normal(cells):
+def normal(cells: Iterable[Cell]) -> list[Cell]:
     """The least of a shape's turns and flips, at the origin."""
     ways = []
     for flip, turn in itertools.product((1, -1), range(4)):
@@ -268,9 +281,9 @@ def normal(cells):
     return min(ways)
 
 
-def board(draw, rows=5, columns=6):
+def board(draw: random.Random, rows: int = 5, columns: int = 6) -> DrawnTwice:
     """A board that is cut into pieces by lot; equal pieces are one with a number. Pieces of one cell aren't wanted."""
-    cells, shapes = set(itertools.product(range(rows), range(columns))), []
+    cells, shapes = set(itertools.product(range(rows), range(columns))), list[list[Cell]]()
     while cells:
         shape, wanted = [min(cells)], draw.randint(3, 5)
         while len(shape) < wanted:
@@ -284,9 +297,9 @@ def board(draw, rows=5, columns=6):
         return board(draw, rows, columns)
     counts = {tuple(shape): shapes.count(shape) for shape in shapes}
     pieces = []
-    for k, (shape, count) in enumerate(counts.items()):
-        high, wide = (max(cell[a] for cell in shape) + 1 for a in (0, 1))
+    for k, (piece, count) in enumerate(counts.items()):
+        high, wide = (max(cell[a] for cell in piece) + 1 for a in (0, 1))
         pieces.append(f"{LETTERS[k].upper()} {count}\n" + "\n".join(
-            "".join("x" if (r, c) in shape else "." for c in range(wide)) for r in range(high)) + "\n")
+            "".join("x" if (r, c) in piece else "." for c in range(wide)) for r in range(high)) + "\n")
     text = "\n".join(["x" * columns] * rows) + "\n"
     return (text, "\n".join(pieces)), lambda lines: sorted(map(normal, shapes_of(lines, rows, columns))) == sorted(shapes)

@@ -9,6 +9,8 @@ built program prints for `--help`, so they can't differ from it. scripts/install
 It wants the program: (cd crates/solve_cli && rt run -- --version) builds it. The exit status is 0, or 2 for a mistake on the command line,
 where there is no program, or where its help doesn't read as expected.
 """
+from __future__ import annotations
+
 import os
 import re
 import subprocess
@@ -22,7 +24,7 @@ NAME = "solve_cli"
 @dataclass
 class Option:
     """An option: its names, with `--long` last, the name of its value if it takes one, and what it is for."""
-    names: list
+    names: list[str]
     value: str
     text: str
 
@@ -32,13 +34,13 @@ class Help:
     """What the help of a command says."""
     about: str = ""
     usage: str = ""
-    commands: dict = field(default_factory=dict)
-    arguments: dict = field(default_factory=dict)
-    options: list = field(default_factory=list)
-    tail: list = field(default_factory=list)
+    commands: dict[str, str] = field(default_factory=dict)
+    arguments: dict[str, str] = field(default_factory=dict)
+    options: list[Option] = field(default_factory=list)
+    tail: list[str] = field(default_factory=list)
 
 
-def printed(words):
+def printed(words: list[str]) -> str:
     """What the program prints for these words and `--help`."""
     ran = subprocess.run([SOLVE_CLI, *words, "--help"], capture_output=True, text=True)
     if ran.returncode != 0:
@@ -46,20 +48,20 @@ def printed(words):
     return ran.stdout
 
 
-def option_of(line):
+def option_of(line: str) -> Option:
     """The option that a line of help shows."""
-    shown, text = re.fullmatch(r"\s*(.*?)(?:\s{2,}(.*))?", line).groups()
+    shown, _, text = re.sub(r"\s{2,}", "\n", line.strip(), count=1).partition("\n")
     names = re.findall(r"--?[A-Za-z][A-Za-z-]*", shown)
     value = re.search(r"<(.*?)>", shown)
-    return Option(names, value.group(1) if value else "", text or "")
+    return Option(names, value[1] if value else "", text)
 
 
-def read_help(words):
+def read_help(words: list[str]) -> Help:
     """The help of a command, read paragraph by paragraph."""
     help = Help()
     for number, paragraph in enumerate(printed(words).strip().split("\n\n")):
         head, *lines = paragraph.splitlines()
-        rows = dict(re.fullmatch(r"\s*(\S+)\s*(.*)", line).groups() for line in lines if line.strip())
+        rows = {name: text.strip() for name, _, text in (line.strip().partition(" ") for line in lines if line.strip())}
         if head.startswith("Usage: "):
             help.usage = head.removeprefix("Usage: ")
         elif head == "Commands:":
@@ -77,13 +79,13 @@ def read_help(words):
     return help
 
 
-def quoted(text):
+def quoted(text: str) -> str:
     """Text as troff takes it."""
     text = text.replace("\\", "\\e").replace("-", "\\-")
     return "\\&" + text if text[:1] in (".", "'") else text
 
 
-def man_rows(help):
+def man_rows(help: Help) -> list[str]:
     """The arguments and options of a command, as troff."""
     rows = [f".TP\n.I {quoted(name)}\n{quoted(text)}" for name, text in help.arguments.items()]
     for option in help.options:
@@ -93,7 +95,7 @@ def man_rows(help):
     return rows
 
 
-def man_page(top, commands):
+def man_page(top: Help, commands: dict[str, Help]) -> str:
     """The man page."""
     version = subprocess.run([SOLVE_CLI, "--version"], capture_output=True, text=True).stdout.split()[-1]
     lines = [f'.TH {NAME.upper()} 1 "" "{NAME} {version}" "User Commands"', ".SH NAME", f"{NAME} \\- {quoted(top.about)}", ".SH SYNOPSIS"]
@@ -105,7 +107,7 @@ def man_page(top, commands):
     return "\n".join(lines) + "\n"
 
 
-def bash_completion(top, commands):
+def bash_completion(top: Help, commands: dict[str, Help]) -> str:
     """The completion for bash: subcommands first, then options, and files in every place of an argument."""
     cases = "\n".join(f'        {name}) options="{" ".join(longs(help))}" ;;' for name, help in commands.items())
     valued = "|".join(sorted({name for help in commands.values() for option in help.options if option.value for name in option.names}))
@@ -128,19 +130,19 @@ complete -o filenames -F _{NAME} {NAME}
 """
 
 
-def longs(help):
+def longs(help: Help) -> list[str]:
     """The options of a command, by their long names."""
     return [option.names[-1] for option in help.options]
 
 
-def zsh_row(option):
+def zsh_row(option: Option) -> str:
     """An option as `_arguments` of zsh takes it."""
     text = re.sub(r"([\[\]:'])", r"\\\1", option.text).replace("\\'", "'\\''")
     value = f":{option.value}:" if option.value else ""
     return "\n".join(f"                '{name}[{text}]{value}' \\" for name in option.names)
 
 
-def zsh_completion(top, commands):
+def zsh_completion(top: Help, commands: dict[str, Help]) -> str:
     """The completion for zsh."""
     named = " ".join(f"'{name}:{help.about.replace(chr(39), chr(39) + chr(92) + chr(39) + chr(39))}'" for name, help in commands.items())
     cases = ""
@@ -162,7 +164,7 @@ _{NAME} "$@"
 """
 
 
-def main():
+def main() -> None:
     words = parser_of(__doc__)
     words.add_argument("folder", metavar="FOLDER")
     folder = words.parse_args().folder

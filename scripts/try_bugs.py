@@ -19,12 +19,15 @@ and a last line counts them. With --short nothing is proved: only those that no 
 command `rt` on the path, and builds no program. The exit status is 1 if any was proved, else 2 if any no longer applies or couldn't be
 tried, else 0.
 """
+from __future__ import annotations
+
 import os
 import re
 import shutil
 import subprocess
 import sys
 import tempfile
+from collections.abc import Iterable
 
 from built import parser_of, stop, TOP, want_command
 from edits import BUGS, name_stale
@@ -35,9 +38,9 @@ REFUSED, SHAPE, TEST, PROVED, STALE = "refused", "by its shape", "by a test", "P
 MEMORY, BENCH = "by refused memory", "by a bench"
 
 
-def chosen_bugs(words):
+def chosen_bugs(words: list[str]) -> dict[str, list[str]]:
     """The names of the bugs to try, by crate."""
-    chosen = {}
+    chosen: dict[str, list[str]] = {}
     for word in words or sorted(os.listdir(BUGS)):
         crate, _, name = word.removesuffix(".edit").partition("/")
         folder = os.path.join(BUGS, crate)
@@ -49,7 +52,7 @@ def chosen_bugs(words):
     return chosen
 
 
-def left_to_tests(chosen, named):
+def left_to_tests(chosen: dict[str, list[str]], named: list[str]) -> list[str]:
     """Takes out the bugs that tests find and that aren't named themselves, prints a line of each, and answers their kinds."""
     found = [(f"{crate}/{bug}", TEST, f"{tests}, {test}") for crate, bug, tests, test in claims()]
     found += [(name, MEMORY, tests) for name, tests in STARVED.items()]
@@ -64,12 +67,12 @@ def left_to_tests(chosen, named):
     return kinds
 
 
-def below(crates):
+def below(crates: Iterable[str]) -> set[str]:
     """All crates of the repository that these are built on, by crates.txt."""
     with open(os.path.join(TOP, "crates.txt"), encoding="utf-8") as opened:
         lines = [line.partition("#")[0].partition(":") for line in opened]
     uses = {head.split()[0]: rest.split() for head, _, rest in lines if head.split()}
-    found, left = set(), list(crates)
+    found, left = set[str](), list(crates)
     while left:
         more = [it for it in uses[left.pop()] if it in uses and it not in found]
         found.update(more)
@@ -77,11 +80,11 @@ def below(crates):
     return found
 
 
-def copy_repository(to, crates):
+def copy_repository(to: str, crates: Iterable[str]) -> None:
     """Copies what the check reads, and of the crates below what earlier checks have kept."""
     kept = below(crates)
 
-    def left_out(folder, names):
+    def left_out(folder: str, names: list[str]) -> set[str]:
         inside = os.path.relpath(folder, TOP).split(os.sep)
         if inside == ["."]:
             return {it for it in names if it not in ("crates", "crates.txt", "HANDLES")}
@@ -92,7 +95,7 @@ def copy_repository(to, crates):
     shutil.copytree(TOP, to, ignore=left_out, symlinks=True)
 
 
-def kind_of(told):
+def kind_of(told: str) -> tuple[str, str]:
     """What a line of `rt must-fail` says of a bug, and the place that it names."""
     if told.startswith("refused, as it must be (only because"):
         return SHAPE, told.partition("): ")[2]
@@ -101,7 +104,7 @@ def kind_of(told):
     return (PROVED, "") if told.startswith("NOT REFUSED") else (STALE, told.partition(": ")[2])
 
 
-def try_crate(top, crate, names):
+def try_crate(top: str, crate: str, names: list[str]) -> list[str]:
     """Tries the bugs of a crate in the copy, prints a line of each, and answers their kinds."""
     folder = os.path.join(top, "crates", crate, "must-fail")
     os.makedirs(folder)
@@ -121,7 +124,7 @@ def try_crate(top, crate, names):
     return kinds
 
 
-def main():
+def main() -> int:
     parser = parser_of(__doc__)
     parser.add_argument("--short", action="store_true", help="prove nothing: only name the bugs that no longer apply")
     parser.add_argument("bugs", nargs="*", metavar="CRATE | CRATE/BUG", help="whose bugs are tried; all where none is named")

@@ -10,9 +10,13 @@ same by the code; --print prints them.
 
 It wants no program. The exit status is 0, 1 where a row isn't in its table, 2 for a mistake on the command line.
 """
+from __future__ import annotations
+
 import os
 import re
 import sys
+from collections.abc import Iterator
+from typing import Callable, Optional
 
 from built import parser_of, TOP
 from zarfepoch.cover_files import read_answer, read_problem
@@ -49,7 +53,7 @@ HELLO, MEMBERS, STEAL, GIVE, NO_WORK, RETURN, ACCEPT, REFUSE, ABORT, OVER = rang
 TO_REGISTRY, FROM_REGISTRY, TO_NODE = {HELLO}, {MEMBERS, OVER}, {GIVE, NO_WORK, ACCEPT, REFUSE, ABORT}
 
 
-def varied(text):
+def varied(text: bytes) -> Iterator[bytes]:
     """Each beginning of the bytes, then each with a byte more, then each with another byte at a place."""
     yield from (text[:end] for end in range(len(text)))
     yield from (text + bytes([byte]) for byte in range(256))
@@ -66,10 +70,10 @@ class Fault(Exception):
 class Fields:
     """The fields of a packet, from the first on."""
 
-    def __init__(self, text):
+    def __init__(self, text: bytes) -> None:
         self.left = text
 
-    def take(self, size, may=lambda number: True, fault="Field"):
+    def take(self, size: int, may: Callable[[int], object] = lambda number: True, fault: str = "Field") -> int:
         """The number in the next so many bytes."""
         if len(self.left) < size:
             raise Fault("Short")
@@ -78,29 +82,29 @@ class Fields:
             raise Fault(fault)
         return number
 
-    def site(self):
+    def site(self) -> int:
         node = self.take(1, lambda number: number <= 16)
         self.take(4, lambda number: number == 1 or node and number)
         return node
 
-    def options(self, least, most):
+    def options(self, least: int, most: int) -> None:
         for _ in range(self.take(2, lambda number: least <= number <= most)):
             self.take(2, is_option)
 
-    def result(self):
+    def result(self) -> None:
         if self.take(1, lambda number: number <= 1):
             self.options(1, 1000)
 
 
-def is_option(number):
+def is_option(number: int) -> bool:
     return number <= 19999
 
 
-def is_some(number):
+def is_some(number: int) -> bool:
     return number >= 1
 
 
-def may_go(version, kind, sender, receiver):
+def may_go(version: int, kind: int, sender: int, receiver: int) -> bool:
     """Whether a packet of this kind goes from one node to another."""
     if sender == receiver or (version == 2 and not (sender and receiver)):
         return False
@@ -111,7 +115,7 @@ def may_go(version, kind, sender, receiver):
     return receiver > 0 if kind in TO_NODE else sender > 0
 
 
-def siblings(fields):
+def siblings(fields: Fields) -> None:
     """The body of a packet that gives several children."""
     count, last = fields.take(1, lambda number: 2 <= number <= 8), -1
     fields.options(0, 999)
@@ -122,7 +126,7 @@ def siblings(fields):
         fields.take(2, is_option)
 
 
-def body(fields, kind):
+def body(fields: Fields, kind: int) -> None:
     """The body of a packet of the first version."""
     if kind == MEMBERS:
         for _ in range(fields.take(1, lambda number: 1 <= number <= 16)):
@@ -138,7 +142,7 @@ def body(fields, kind):
         fields.take(1, lambda number: 1 <= number <= 3)
 
 
-def first_fault(text):
+def first_fault(text: bytes) -> Optional[str]:
     """The first fault of a packet's bytes, or None."""
     fields = Fields(text)
     try:
@@ -153,7 +157,7 @@ def first_fault(text):
         return str(fault)
 
 
-def packet_row(text):
+def packet_row(text: bytes) -> list[int]:
     """How many are read, and how many have each fault."""
     told = [first_fault(one) for one in varied(text)]
     return [told.count(fault) for fault in (None, *WIRE_FAULTS)]
@@ -161,7 +165,7 @@ def packet_row(text):
 
 # ---- problems and answers
 
-def problem_row(text):
+def problem_row(text: bytes) -> list[int]:
     """How many are read, and how many have each fault; the faults' lines; items, primary ones, options, nodes, colours, options ignored."""
     row = [0] * (1 + len(FAULTS)) + [0] * 7
     for one in varied(text):
@@ -175,7 +179,7 @@ def problem_row(text):
     return row
 
 
-def answer_row(file, text):
+def answer_row(file: bytes, text: bytes) -> list[int]:
     """How many say a cover, and none, and how many have each fault; the faults' lines; each option by its place in the cover."""
     problem, row = read_problem(file), [0] * 7
     for one in varied(text):
@@ -183,7 +187,7 @@ def answer_row(file, text):
         if answer.faults:
             first = answer.faults[0]
             row[2 + ANSWER_FAULTS.index(first.name)] += 1
-            row[5] += first.line if first.name == "UnknownOption" else 0
+            row[5] += first.line or 0 if first.name == "UnknownOption" else 0
         elif answer.kind == "none":
             row[1] += 1
         else:
@@ -192,11 +196,11 @@ def answer_row(file, text):
     return row
 
 
-def spelled(text):
+def spelled(text: str) -> bytes:
     return text.replace("/", "\n").encode("ascii")
 
 
-def tables():
+def tables() -> Iterator[tuple[str, list[list[int]]]]:
     """Of each file of tests the rows that it has to have."""
     packets = [bytes.fromhex(line) for line in PACKETS.strip().splitlines()]
     yield "wire_tests/src/tests/packets.rt", [packet_row(text) for text in packets]
@@ -204,7 +208,7 @@ def tables():
     yield "file_tests/src/tests/changed.rt", [answer_row(spelled(file), spelled(text)) for file, text in ANSWERS]
 
 
-def main():
+def main() -> int:
     parser = parser_of(__doc__)
     parser.add_argument("--print", action="store_true", help="print the rows")
     given = parser.parse_args()

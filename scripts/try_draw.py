@@ -10,6 +10,8 @@ so on. Each SVG must be well formed, with all its shapes on the sheet. The last 
 It wants the program: (cd crates/solve_cli && rt run -- --version) builds it. The exit status is 0 where all passed, 1 where something
 failed, 2 for a mistake on the command line or where there is no program.
 """
+from __future__ import annotations
+
 import itertools
 import os
 import random
@@ -19,8 +21,9 @@ import subprocess
 import sys
 import tempfile
 import xml.etree.ElementTree as tree
+from typing import Optional
 
-from built import parser_of, SOLVE_CLI, TOP, want_program
+from built import parser_of, SOLVE_CLI, TOP, want_program, path_of
 from expected import Trial
 from zarfepoch import generate
 from zarfepoch.cover_files import read_problem
@@ -28,6 +31,7 @@ from zarfepoch.picture_kinds import picture_of
 from zarfepoch.svg_paper import Paper
 
 EXAMPLES = os.path.join(TOP, "examples")
+Point = tuple[float, float]
 
 HOLE = ["pentominoes", "8x8", "--without", "3,3", "3,4", "4,3", "4,4"]
 SUDOKU = "..............3.85..1.2.......5.7.....4...1...9.......5......73..2.1........4...9"
@@ -53,21 +57,21 @@ MAP = "anna berta\nberta clara\nclara dora\ndora anna\nanna clara\nemil frieda\n
 
 
 class Drawing(Trial):
-    def __init__(self, program, folder):
+    def __init__(self, program: str, folder: str) -> None:
         super().__init__()
         self.program, self.folder = program, folder
 
-    def path(self, name, text=None):
+    def path(self, name: str, text: Optional[bytes] = None) -> str:
         path = os.path.join(self.folder, name)
         if text is not None:
             with open(path, "wb") as opened:
                 opened.write(text)
         return path
 
-    def python(self, script, *words):
+    def python(self, script: str, *words: str) -> subprocess.CompletedProcess[bytes]:
         return subprocess.run([sys.executable, os.path.join(TOP, script), *words], stdout=subprocess.PIPE, stderr=subprocess.PIPE)
 
-    def drawn(self, file, svg):
+    def drawn(self, file: str, svg: str) -> list[str]:
         """What draw.py prints of the program's answer to a file, by lines."""
         answered = subprocess.run([self.program, "alone", file], stdout=subprocess.PIPE, stderr=subprocess.PIPE, timeout=300)
         answer = self.path("answer", answered.stdout)
@@ -76,23 +80,23 @@ class Drawing(Trial):
         self.expect(f"the sheet of {file}", on_sheet(svg))
         return ended.stdout.decode().split("\n")[:-1]
 
-    def made(self, *words):
+    def made(self, *words: str) -> list[str]:
         """The same of a problem that generate.py makes."""
         ended = self.python("examples/generate.py", *words)
         self.expect(f"generate.py {words}: {ended.stderr.decode()}", ended.returncode == 0)
         return self.drawn(self.path("made.dlx", ended.stdout), self.path("made.svg"))
 
 
-def content(path):
+def content(path: str) -> bytes:
     with open(path, "rb") as opened:
         return opened.read()
 
 
-def points_of(shape):
+def points_of(shape: tree.Element) -> list[Point]:
     """The outmost points of a shape; of an arc its ends."""
     value = {name: float(text) for name, text in shape.attrib.items() if re.fullmatch(r"-?[\d.]+", text)}
     if "points" in shape.attrib:
-        return [tuple(map(float, point.split(","))) for point in shape.attrib["points"].split()]
+        return [(float(x), float(y)) for x, y in (point.split(",") for point in shape.attrib["points"].split())]
     if "cx" in value:
         return [(value["cx"] + k * value["r"], value["cy"] + k * value["r"]) for k in (1, -1)]
     if "x1" in value:
@@ -100,7 +104,7 @@ def points_of(shape):
     return [(value["x"] + k * value.get("width", 0), value["y"] + k * value.get("height", 0)) for k in (0, 1)] if "x" in value else []
 
 
-def on_sheet(svg):
+def on_sheet(svg: str) -> bool:
     """Whether the SVG is well formed, and all its shapes lie on the sheet."""
     root = tree.parse(svg).getroot()
     left, top, wide, high = map(float, root.attrib["viewBox"].split())
@@ -110,18 +114,18 @@ def on_sheet(svg):
 
 # ---- the rules of each kind, by what was drawn
 
-def are_queens(lines, n):
+def are_queens(lines: list[str], n: int) -> bool:
     queens = [(r, c) for r, line in enumerate(lines) for c, mark in enumerate(line.split()) if mark == "Q"]
-    lines_used = [{f(r, c) for r, c in queens} for f in (lambda r, c: r, lambda r, c: c, lambda r, c: r + c, lambda r, c: r - c)]
+    lines_used = [{r for r, _ in queens}, {c for _, c in queens}, {r + c for r, c in queens}, {r - c for r, c in queens}]
     return len(lines) == n and all(len(used) == len(queens) == n for used in lines_used)
 
 
-def are_pairs(lines, n):
+def are_pairs(lines: list[str], n: int) -> bool:
     row = lines[0].split()
     return len(row) == 2 * n and all(row.count(str(d)) == 2 and row[row.index(str(d)) + d + 1] == str(d) for d in range(1, n + 1))
 
 
-def is_sudoku(lines, given):
+def is_sudoku(lines: list[str], given: str) -> bool:
     rows = ["".join(re.findall(r"\d", line)) for line in lines if "+" not in line]
     columns = ["".join(column) for column in zip(*rows)]
     boxes = ["".join(rows[r][c:c + 3] for r in range(top, top + 3)) for top in (0, 3, 6) for c in (0, 3, 6)]
@@ -129,22 +133,22 @@ def is_sudoku(lines, given):
     return stand and len(rows) == 9 and all(sorted(house) == sorted("123456789") for house in rows + columns + boxes)
 
 
-def letters(lines):
+def letters(lines: list[str]) -> list[str]:
     return sorted(re.findall("[A-Z]", "".join(lines)))
 
 
-def walls(lines):
+def walls(lines: list[str]) -> tuple[int, int]:
     """How many pieces of wall are drawn across and down."""
     return sum(line.count("---") for line in lines), sum(line.count("|") for line in lines)
 
 
-def join_all(lines, n):
+def join_all(lines: list[str], n: int) -> bool:
     """Whether any two of the points stand in exactly one of the triples."""
     pairs = [pair for a, b, c in (line.split() for line in lines) for pair in ((a, b), (a, c), (b, c))]
     return len(pairs) == len(set(pairs)) == n * (n - 1) // 2
 
 
-def are_squares(lines, border=None):
+def are_squares(lines: list[str], border: Optional[str] = None) -> bool:
     """Whether the letters of sides that meet are equal, and those all round the border's, of squares with a name of one letter."""
     rows = [[cell for cell in line.strip("|").split("|")] for line in lines if line.startswith("|")]
     above, middle, below = ([[cell.strip() for cell in row] for row in rows[k::3]] for k in range(3))
@@ -154,20 +158,20 @@ def are_squares(lines, border=None):
     return meet and (border is None or set(around) == {border})
 
 
-def are_words(lines, words):
+def are_words(lines: list[str], words: list[str]) -> bool:
     """Whether different words stand in the rows and in the columns."""
     rows = [line.split() for line in lines]
     found = ["".join(row) for row in rows + [list(column) for column in zip(*rows)]]
     return len(set(found)) == 2 * len(rows) and set(found) <= set(words)
 
 
-def are_blocks(lines, rows, columns):
+def are_blocks(lines: list[str], rows: list[list[int]], columns: list[list[int]]) -> bool:
     """Whether rows and columns of `#` and dots have blocks of these lengths."""
     lengths = [[len(block) for block in line.replace(".", " ").split()] for line in lines]
     return lengths == rows and [[len(block) for block in "".join(line).replace(".", " ").split()] for line in zip(*lines)] == columns
 
 
-def are_turned(lines, cubes):
+def are_turned(lines: list[str], cubes: dict[str, list[str]]) -> bool:
     """Whether a table of cubes shows each colour once on each side, and of each cube opposite faces opposite."""
     shown = {line.split()[0]: line.split()[1:] for line in lines[2:]}
     opposite = {cube: [set(faces[a:b + 1:b - a]) for a, b in ((0, 2), (1, 3), (4, 5))] for cube, faces in cubes.items()}
@@ -177,7 +181,7 @@ def are_turned(lines, cubes):
 
 # ---- the tests
 
-def examples(trial):
+def examples(trial: Drawing) -> None:
     generate.HERE = trial.folder
     generate.examples()
     written = [name for name in sorted(os.listdir(trial.folder)) if name.endswith(".dlx")]
@@ -192,13 +196,13 @@ def examples(trial):
         trial.expect(f"the picture {name} as it stands", content(svg) == content(os.path.join(EXAMPLES, "pictures", name)))
 
 
-def beginnings(trial):
+def beginnings(trial: Drawing) -> None:
     for name, lines in BEGINNINGS.items():
         drawn = trial.drawn(os.path.join(EXAMPLES, name + ".dlx"), trial.path("again.svg"))
         trial.expect(f"the text of {name}", drawn[:len(lines)] == lines)
 
 
-def kinds(trial):
+def kinds(trial: Drawing) -> None:
     for n in (1, 4, 8, 12):
         trial.expect(f"queens {n}", are_queens(trial.made("queens", str(n)), n))
     for n in (3, 4, 8, 12):
@@ -219,7 +223,7 @@ def kinds(trial):
         trial.expect(f"triples {n}", join_all(trial.made("triples", str(n)), n))
 
 
-def tables_and_graphs(trial):
+def tables_and_graphs(trial: Drawing) -> None:
     borders = trial.path("map", MAP.encode())
     colours = dict(line.split() for line in trial.made("coloring", borders, "--colors", "red,blue,white"))
     trial.expect("a map", len(colours) == 6 and all(colours[a] != colours[b] for a, b in (line.split() for line in MAP.splitlines())))
@@ -231,24 +235,24 @@ def tables_and_graphs(trial):
                                              for lesson in ("maths-5a", "maths-5b", "music-5a", "music-5b", "art-5a")))
 
 
-def side(a, b, c):
+def side(a: Point, b: Point, c: Point) -> float:
     """On which side of a line through two points a third one is."""
     return (b[0] - a[0]) * (c[1] - a[1]) - (b[1] - a[1]) * (c[0] - a[0])
 
 
-def crossings(svg):
+def crossings(svg: str) -> tuple[int, int]:
     """How many pairs of lines of a picture cross, and how many lines there are."""
     lines = [points_of(shape) for shape in tree.parse(svg).getroot() if shape.tag.endswith("line")]
     pairs = [(a, b, c, d) for (a, b), (c, d) in itertools.combinations(lines, 2) if not {a, b} & {c, d}]
     return sum(side(a, b, c) * side(a, b, d) < 0 and side(c, d, a) * side(c, d, b) < 0 for a, b, c, d in pairs), len(lines)
 
 
-def maps(trial):
+def maps(trial: Drawing) -> None:
     """Planar maps by lot are drawn without crossing borders, and what isn't planar as a list."""
     draw = random.Random(3)
     for size in (4, 9, 16, 25):
         at = {f"p{k}": (draw.random(), draw.random()) for k in range(size)}
-        borders = []
+        borders: list[tuple[str, str]] = []
         for a, b in draw.sample(list(itertools.combinations(at, 2)), size * (size - 1) // 2):
             others = [(at[c], at[d]) for c, d in borders if not {a, b} & {c, d}]
             if not any(side(at[a], at[b], c) * side(at[a], at[b], d) < 0 and side(c, d, at[a]) * side(c, d, at[b]) < 0 for c, d in others):
@@ -263,7 +267,7 @@ def maps(trial):
     trial.expect("long names", {line.split()[0] for line in lines} == set(names.split()))
 
 
-def boards_with_colours(trial):
+def boards_with_colours(trial: Drawing) -> None:
     nine = trial.path("nine", "\n".join(generate.SQUARES).encode())
     trial.expect("squares", are_squares(trial.made("squares", "3x3", nine, "--border", "grey"), "g"))
     trial.expect("squares without a border", are_squares(trial.made("squares", "2x2", trial.path("four", FOUR))))
@@ -275,7 +279,7 @@ def boards_with_colours(trial):
     trial.expect("a crossword with a given letter", crossword == ["c a", "  t"])
 
 
-def puzzles(trial):
+def puzzles(trial: Drawing) -> None:
     rows, columns = generate.NONOGRAM
     text = "\n\n".join("\n".join(" ".join(map(str, line)) for line in lines) for lines in (rows, columns))
     for name, file in (("a nonogram", text), ("a nonogram with Windows line ends", text.replace("\n", "\r\n") + "\r\n \r\n")):
@@ -292,8 +296,8 @@ def puzzles(trial):
     blank = "\n".join(SUDOKU[k:k + 9].replace(".", " ").rstrip() for k in range(0, 81, 9))
     trial.expect("blanks", is_sudoku(trial.made("sudoku", trial.path("blank", blank.encode())), SUDOKU))
     trial.expect("underscores", is_sudoku(trial.made("sudoku", SUDOKU.replace(".", "_")), SUDOKU))
-    for name, text in (("blank", blank.encode()), ("nine", SUDOKU.encode())):
-        ended = trial.made("sudoku", trial.path(name, text.replace(b"\n", b"\r\n") + b"\r\n"))
+    for name, text in (("blank", blank), ("nine", SUDOKU)):
+        ended = trial.made("sudoku", trial.path(name, (text.replace("\n", "\r\n") + "\r\n").encode()))
         trial.expect(f"{name} with Windows line ends", is_sudoku(ended, SUDOKU))
     dos = trial.made("crossword", trial.path("grid", b"\r\n.a\r\n#.\r\n\r\n"), trial.path("two", b"ca at\r\nat\r\nta"))
     trial.expect("a crossword with Windows line ends", dos == ["c a", "  t"])
@@ -311,7 +315,7 @@ def puzzles(trial):
     trial.expect("the line in a table", b", line 3: rooms is missing" in trial.python("examples/generate.py", "timetable", late).stderr)
 
 
-def written(trial):
+def written(trial: Drawing) -> None:
     """A problem that is refused leaves no file, and one that is not is whole."""
     for words, status in ((["queens", "142"], 2), (["queens", "4"], 0)):
         out = trial.path(f"out-{status}.dlx")
@@ -344,7 +348,7 @@ def written(trial):
         trial.expect(f"{words[0]} leaves no part", not os.path.exists(old + ".part"))
 
 
-def strange_names(trial):
+def strange_names(trial: Drawing) -> None:
     """Random problems whose names mix those of all kinds, some of them with colours: each is drawn, if only as a list."""
     draw, drawn = random.Random(1), 0
     for _ in range(5000):
@@ -364,7 +368,7 @@ def strange_names(trial):
     trial.expect("strange names", drawn == 5000)
 
 
-def refusals(trial):
+def refusals(trial: Drawing) -> None:
     for words in (["queens", "142"], ["queens", "0"], ["langford", "200"], ["pentominoes", "7x9"], ["pentominoes", "5"],
                   ["sudoku", "8......."], ["sudoku", "11" + "." * 79], ["dominoes", "2x2", "--without", "2,0"],
                   ["timetable", trial.folder], ["coloring", "nothing"],
@@ -399,9 +403,9 @@ def refusals(trial):
     trial.expect("no exact cover", b"no exact cover" in trial.python("scripts/draw.py", letters_file, wrong).stderr)
 
 
-def main():
+def main() -> int:
     parser = parser_of(__doc__)
-    parser.add_argument("--program", type=os.path.abspath, default=SOLVE_CLI, help="the built program (default crates/solve_cli/out/solve_cli)")
+    parser.add_argument("--program", type=path_of, default=SOLVE_CLI, help="the built program (default crates/solve_cli/out/solve_cli)")
     given = parser.parse_args()
     want_program(given.program)
     with tempfile.TemporaryDirectory(prefix="try-draw-") as folder:

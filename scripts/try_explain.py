@@ -12,6 +12,8 @@ met. What else it says is tested by a table of files with lines that were worked
 It wants the program: (cd crates/solve_cli && rt run -- --version) builds it. The exit status is 0 where all agree, 1 where one differs, a
 line is missing or a kind of fault was never met, 2 for a mistake on the command line or where there is no program.
 """
+from __future__ import annotations
+
 import collections
 import contextlib
 import glob
@@ -22,9 +24,12 @@ import re
 import subprocess
 import sys
 import tempfile
+from collections.abc import Iterator
+from typing import Optional
 
-from built import parser_of, SOLVE_CLI, TOP, want_program
+from built import parser_of, SOLVE_CLI, TOP, want_program, path_of
 from zarfepoch import explain
+from zarfepoch.cover_files import shown
 
 FAULTS = ["NoItems", "IllegalByte", "NameTooLong", "BadColour", "DuplicateItem", "SecondBar", "UnknownItem", "DuplicateInOption",
           "ColourOnPrimary", "TooManyItems", "TooManyOptions", "TooManyNodes", "TooManyColours", "BadHead", "WrongCount",
@@ -34,22 +39,22 @@ FUEL = "100000"
 
 # ---- files
 
-def joined(draw, words):
+def joined(draw: random.Random, words: list[bytes]) -> bytes:
     return draw.choice([b" ", b" ", b" ", b"  ", b"\t", b" \v"]).join(words)
 
 
-def some_names(draw, count):
+def some_names(draw: random.Random, count: int) -> list[bytes]:
     letters = [b"a", b"b", b"c", b"item", b"Z9", b"\xc3\xa9", b"#x", b"x-1", b"\xff", b"k" * 30]
     return [draw.choice(letters) + (b"%d" % k if draw.random() < 0.8 else b"." * k) for k in range(count)]
 
 
-def coloured(draw, name, is_primary, colours):
+def coloured(draw: random.Random, name: bytes, is_primary: bool, colours: list[bytes]) -> bytes:
     """A word of an option; a secondary name has a colour where one is drawn."""
     colour = b"" if is_primary else draw.choice(colours)
     return name + b":" + colour if colour else name
 
 
-def random_problem(draw):
+def random_problem(draw: random.Random) -> bytes:
     """A lawful problem's text, half the time with colours."""
     names = some_names(draw, draw.randint(1, 9))
     primary, colours = draw.randint(1, len(names)), draw.choice([[b""], [b"", b"red", b"red", b"2", b"\xc3\xa9" * 16]])
@@ -63,7 +68,7 @@ def random_problem(draw):
     return draw.choice([b"\n", b"\n", b"\r\n"]).join(lines) + draw.choice([b"\n", b"", b"\n\n"])
 
 
-def spoil_word(draw, text):
+def spoil_word(draw: random.Random, text: bytes) -> bytes:
     words = [(found.start(), found.end()) for found in re.finditer(rb"[^\s]+", text)]
     if not words:
         return b"a"
@@ -76,7 +81,7 @@ def spoil_word(draw, text):
     return text[:begin] + new + text[end:]
 
 
-def spoil_line(draw, text):
+def spoil_line(draw: random.Random, text: bytes) -> bytes:
     lines = text.split(b"\n")
     k = draw.randrange(len(lines))
     what = draw.randrange(5)
@@ -95,23 +100,23 @@ def spoil_line(draw, text):
     return b"\n".join(lines)
 
 
-def spoil_bytes(draw, text):
+def spoil_bytes(draw: random.Random, text: bytes) -> bytes:
     place = draw.randint(0, len(text))
     return text[:place] + draw.choice([b"", b"\0", b":", b"|", b" ", b"\n", b"\r", b"\xff", b"e", b"1"]) + text[place + draw.randint(0, 2):]
 
 
-def spoil_all(draw, text):
-    return draw.choice([lambda: b"\xef\xbb\xbf" + text, lambda: text.decode("latin-1").encode("utf-16"), lambda: b"# first\n" + text,
-                        lambda: text.replace(b"\n", b"\r"), lambda: b"", lambda: re.sub(rb"(?m)^", b"|", text)])()
+def spoil_all(draw: random.Random, text: bytes) -> bytes:
+    return draw.choice([b"\xef\xbb\xbf" + text, text.decode("latin-1").encode("utf-16"), b"# first\n" + text, text.replace(b"\n", b"\r"), b"",
+                        re.sub(rb"(?m)^", b"|", text)])
 
 
-def spoilt(draw, text, times):
+def spoilt(draw: random.Random, text: bytes, times: int) -> bytes:
     for _ in range(times):
         text = draw.choice([spoil_word, spoil_word, spoil_word, spoil_line, spoil_line, spoil_bytes, spoil_all])(draw, text)
     return text
 
 
-def outside_cases():
+def outside_cases() -> Iterator[bytes]:
     """Files at the limits, one step below and above each."""
     for count in (1000, 1001):
         names = b" ".join(b"i%d" % k for k in range(count))
@@ -126,7 +131,7 @@ def outside_cases():
     yield from many_colours()
 
 
-def many_colours():
+def many_colours() -> Iterator[bytes]:
     """Files with as many colours as may be, and with more, in options that are kept and in others."""
     for count in (10000, 10001):
         lines = [b"x:c%d\n" % k for k in range(count)]
@@ -140,14 +145,14 @@ def many_colours():
 
 # ---- answers
 
-def random_answer(draw, text):
+def random_answer(draw: random.Random, text: bytes) -> bytes:
     """A cover of some lines of the file, with its head."""
     lines = [line for line in text.split(b"\n") if line.split() and not line.split()[0].startswith(b"|")][1:]
     chosen = draw.sample(lines, draw.randint(0, min(4, len(lines))))
     return b"cover %d\n" % len(chosen) + b"".join(line + b"\n" for line in chosen)
 
 
-def some_answer(draw, text, own):
+def some_answer(draw: random.Random, text: bytes, own: bytes) -> bytes:
     """An answer to a file: the program's own, that one spoilt, or a random one."""
     what = draw.randrange(5)
     if what == 0:
@@ -165,7 +170,7 @@ COLOURS = b"p q r | x y\np q x y:A\np r x:A y\np x:B\nq x:A\nr y:B\n"
 AUDIT = "the line of an audit is no part of the answer: leave it out, as by grep -v '^audit '"
 ONE_WORD = "an item and its colour are one word, as in 'x:red'"
 # a file, an answer or none, and lines that have to be told
-TOLD = [
+TOLD: list[tuple[bytes, Optional[bytes], list[str]]] = [
     (GOOD, None, ["5 items (3 primary, 2 secondary), 3 options, 9 occurrences of items in them",
                   "2 options ignored for naming no primary item: lines 5 and 6",
                   "in one option alone, which every cover has: primary item 'c' (line 4)",
@@ -250,14 +255,14 @@ TOLD = [
 ]
 
 
-def by_hand():
+def by_hand() -> int:
     """How many of the lines that have to be told are missing."""
     missing = 0
     for text, answer, expected in TOLD:
         lines, _ = explain.explain(text, answer)
         for line in expected:
             if line not in lines:
-                print(f"not told of {text[:60]} and {answer}: {line}")
+                print(f"not told of {text[:60]!r} and {answer!r}: {line}")
                 missing += 1
     return missing
 
@@ -265,20 +270,21 @@ def by_hand():
 # ---- the comparison
 
 class Trial:
-    def __init__(self, program, folder):
+    def __init__(self, program: str, folder: str) -> None:
         self.program, self.folder = program, folder
-        self.agreed, self.differ, self.kinds = 0, 0, collections.Counter()
+        self.agreed, self.differ = 0, 0
+        self.kinds: collections.Counter[str] = collections.Counter()
 
-    def write(self, name, text):
+    def write(self, name: str, text: bytes) -> str:
         path = os.path.join(self.folder, name)
         with open(path, "wb") as opened:
             opened.write(text)
         return path
 
-    def run(self, *words):
+    def run(self, *words: str) -> subprocess.CompletedProcess[bytes]:
         return subprocess.run([self.program, *words, "--fuel", FUEL], stdout=subprocess.PIPE, stderr=subprocess.PIPE, timeout=120)
 
-    def explained(self, words):
+    def explained(self, words: list[str]) -> tuple[list[str], bool, Optional[tuple[str, str]]]:
         """What explain.py says that the program says, whether it leaves the verdict open, and the first fault that it explains."""
         said = io.StringIO()
         with contextlib.redirect_stdout(said):
@@ -289,14 +295,14 @@ class Trial:
         by_search = any(line.startswith(explain.BY_SEARCH) for line in lines)
         return program_says, by_search, next(((found[2], found[1]) for found in faults if found), None)
 
-    def compare(self, words, ran, with_verdict):
+    def compare(self, words: list[str], ran: subprocess.CompletedProcess[bytes], with_verdict: bool) -> None:
         told = ran.stderr.decode("utf-8", "backslashreplace").split("\n")[:-1]
-        verdict = [explain.shown(ran.stdout[:-1])] if with_verdict and ran.stdout.startswith((b"right", b"wrong: ")) else []
+        verdict = [shown(ran.stdout[:-1])] if with_verdict and ran.stdout.startswith((b"right", b"wrong: ")) else []
         says, by_search, first = self.explained(words)
         agrees = says == verdict + told or (by_search and says == told)
         refused = re.match(r"(?:answer )?refused: (\w+)(?: line (\d+))?", told[0] if told else "")
         if refused:
-            agrees = agrees and first and first[0] == refused[1] and refused[2] in (None, first[1])
+            agrees = agrees and first is not None and first[0] == refused[1] and refused[2] in (None, first[1])
         found = re.match(r"wrong: (Uncovered|CoveredTwice|a cover exists)", verdict[0] if verdict else "")
         self.kinds[refused[1] if refused else found[1] if found else "no fault"] += 1
         self.agreed, self.differ = self.agreed + bool(agrees), self.differ + (not agrees)
@@ -306,14 +312,14 @@ class Trial:
                 with open(word, "rb") as opened:
                     print("    " + repr(opened.read(500)))
 
-    def unreadable(self):
+    def unreadable(self) -> None:
         """Compares a folder and a missing file, as the problem's file and as the answer's."""
         letters, missing = self.write("letters", LETTERS), os.path.join(self.folder, "missing")
         for path in (self.folder, missing):
             self.compare([path], self.run("alone", path), False)
             self.compare([letters, path], self.run("check", letters, path), True)
 
-    def file(self, draw, text):
+    def file(self, draw: random.Random, text: bytes) -> None:
         """Compares a file, and where it can be read an answer to it."""
         file = self.write("file", text)
         ran = self.run("alone", file)
@@ -324,7 +330,7 @@ class Trial:
         self.compare([file, answer], self.run("check", file, answer), True)
 
 
-def texts(draw, files):
+def texts(draw: random.Random, files: int) -> Iterator[bytes]:
     """The texts of the examples, of the outside cases and of the random files."""
     examples = []
     for name in sorted(glob.glob(os.path.join(TOP, "examples", "*.dlx"))):
@@ -338,11 +344,11 @@ def texts(draw, files):
         yield spoilt(draw, text, draw.choice([0, 1, 1, 1, 2, 3]))
 
 
-def main():
+def main() -> int:
     parser = parser_of(__doc__)
     parser.add_argument("--files", type=int, default=1000, help="how many random files are tried (default 1000)")
     parser.add_argument("--seed", type=int, default=1, help="the seed of what is drawn (default 1)")
-    parser.add_argument("--program", type=os.path.abspath, default=SOLVE_CLI, help="the built program (default crates/solve_cli/out/solve_cli)")
+    parser.add_argument("--program", type=path_of, default=SOLVE_CLI, help="the built program (default crates/solve_cli/out/solve_cli)")
     given = parser.parse_args()
     want_program(given.program)
     draw = random.Random(given.seed)

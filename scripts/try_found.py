@@ -15,6 +15,8 @@ bug, which takes five to fifteen minutes, and then refused memory. With --short 
 Else it wants the toolchain's command `rt` on the path, and with --memory cc. The exit status is 1 if any was not found, else 2 if any
 could not be tried, else 0.
 """
+from __future__ import annotations
+
 import concurrent.futures
 import contextlib
 import glob
@@ -24,6 +26,8 @@ import shutil
 import subprocess
 import sys
 import tempfile
+from collections.abc import Iterator
+from typing import Optional
 
 from built import number_from_one, parser_of, stop, TOP, want_command
 from edits import edited, name_stale
@@ -37,11 +41,13 @@ SLOW = {
     "audit/the_path_forgets": "bench/audits.py",
     "run_book/idle_steps_are_never_shared": "bench/audits.py",
 }
+# a bug's crate and name, the test's crate and the test
+Claim = tuple[str, str, str, str]
 CLAIM = re.compile(r"Of the bugs of `(\w+)` that are kept outside the gate, (.*?\.)(?:\s|$)")
 PAIR = re.compile(r"`(\w+)`\s+finds\s+((?:`\w+`(?!\s+finds)(?:, | and )?)+)")
 
 
-def claims():
+def claims() -> Iterator[Claim]:
     """Of each bug that a test is said to find: its crate, its name, the test's crate and the test."""
     for file in sorted(glob.glob(os.path.join(TOP, "crates", "*", "src", "**", "*.rt"), recursive=True)):
         with open(file, encoding="utf-8") as opened:
@@ -53,7 +59,7 @@ def claims():
                     yield crate, bug, tests, test
 
 
-def put(top, crate, bug):
+def put(top: str, crate: str, bug: str) -> bool:
     """Puts a bug into a copy of the repository; whether it still applies."""
     texts = edited(crate, bug)
     for path, text in (texts or {}).items():
@@ -63,7 +69,7 @@ def put(top, crate, bug):
 
 
 @contextlib.contextmanager
-def copy_with(crate, bug, left_out):
+def copy_with(crate: str, bug: str, left_out: str) -> Iterator[Optional[str]]:
     """A copy of the repository with a bug in it, without the folders of a name; None if the bug no longer applies."""
     with tempfile.TemporaryDirectory(prefix="try-found-") as room:
         top = os.path.join(room, "copy")
@@ -71,7 +77,7 @@ def copy_with(crate, bug, left_out):
         yield top if put(top, crate, bug) else None
 
 
-def tried(claim):
+def tried(claim: Claim) -> str:
     """What came of a bug, by its test."""
     crate, bug, tests, test = claim
     with copy_with(crate, bug, "out") as top:
@@ -85,7 +91,7 @@ def tried(claim):
     return MISSED if lines[0].endswith("... ok") else FOUND
 
 
-def tried_without_memory(claim):
+def tried_without_memory(claim: Claim) -> str:
     """What came of a bug, by tests that are refused memory. They pass where they aren't, so they are proved and built."""
     crate, bug, tests, _ = claim
     with copy_with(crate, bug, "incremental") as top:
@@ -98,7 +104,7 @@ def tried_without_memory(claim):
     return {0: MISSED, 1: FOUND}.get(ended.returncode, UNTRIED)
 
 
-def main():
+def main() -> int:
     parser = parser_of(__doc__)
     how = parser.add_mutually_exclusive_group()
     how.add_argument("--short", action="store_true", help="run nothing: only name the bugs that no longer apply")
@@ -109,7 +115,7 @@ def main():
     known = list(claims()) or stop("no test says which bugs it finds")
     try_one = tried_without_memory if given.memory else tried
     if given.memory:
-        known = [(*name.split("/"), tests, "refused memory") for name, tests in STARVED.items()]
+        known = [(crate, bug, tests, "refused memory") for (crate, bug), tests in ((name.split("/"), tests) for name, tests in STARVED.items())]
     names = [f"{crate}/{bug}" for crate, bug, _, _ in known]
     for bug in given.bugs:
         if bug not in names:

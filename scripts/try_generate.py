@@ -10,14 +10,18 @@ meant must be refused with their line. The last line is 'N passed, M failed'.
 It wants the program: (cd crates/solve_cli && rt run -- --version) builds it. The exit status is 0 where all passed, 1 where something
 failed, 2 for a mistake on the command line or where there is no program.
 """
+from __future__ import annotations
+
+import functools
 import os
 import random
 import subprocess
 import sys
 import tempfile
+from typing import Callable, Optional, Union
 
 import drawn_puzzles
-from built import number_from_one, parser_of, SOLVE_CLI, TOP, want_program
+from built import number_from_one, parser_of, SOLVE_CLI, TOP, want_program, path_of
 from expected import Trial
 from zarfepoch.full_names import full_name, full_names, named_numbers
 from school_rules import faults, school
@@ -26,11 +30,11 @@ HEAD = "lesson,teacher,class,rooms,periods"
 
 
 class Generating(Trial):
-    def __init__(self, program, folder, times):
+    def __init__(self, program: str, folder: str, times: int) -> None:
         super().__init__()
         self.program, self.folder, self.times = program, folder, times
 
-    def path(self, name, text=None):
+    def path(self, name: str, text: Optional[str] = None) -> str:
         path = os.path.join(self.folder, name)
         if text is not None:
             with open(path, "w", encoding="utf-8") as opened:
@@ -38,17 +42,17 @@ class Generating(Trial):
         return path
 
     @staticmethod
-    def python(script, *words):
+    def python(script: str, *words: str) -> subprocess.CompletedProcess[str]:
         return subprocess.run([sys.executable, os.path.join(TOP, script), *words], capture_output=True, text=True)
 
-    def made(self, *words):
+    def made(self, *words: str) -> str:
         """A problem's file, made by generate.py."""
         path = self.path("made.dlx")
         ended = self.python("examples/generate.py", *words, "--out", path)
         self.expect(f"generate.py {words}: {ended.stderr}", ended.returncode == 0)
         return path
 
-    def drawn(self, file, *words, command="alone"):
+    def drawn(self, file: str, *words: str, command: str = "alone") -> list[str]:
         """What draw.py prints of the program's answer, by lines; the picture is at most 1,200 pixels wide."""
         answered = subprocess.run([self.program, command, file], capture_output=True, text=True, timeout=300)
         answer, svg = self.path("answer", answered.stdout), self.path("made.svg")
@@ -56,10 +60,10 @@ class Generating(Trial):
         self.expect(f"draw.py {file}: {ended.stderr}", ended.returncode == 0)
         return ended.stdout.split("\n")[:-1]
 
-    def solved(self, *words):
+    def solved(self, *words: str) -> list[str]:
         return self.drawn(self.made(*words))
 
-    def refused(self, what, status, line, *words):
+    def refused(self, what: str, status: int, line: Optional[str], *words: str) -> None:
         """Expects that generate.py refuses this with a status, and names a line where one is given."""
         out = self.path("refused.dlx")
         ended = self.python("examples/generate.py", *words, "--out", out)
@@ -70,7 +74,7 @@ class Generating(Trial):
 
 # ---- timetables
 
-def schools(trial):
+def schools(trial: Generating) -> None:
     for seed in range(1, trial.times + 1):
         table = school(seed)
         file = trial.made("timetable", trial.path("school.csv", table))
@@ -88,9 +92,13 @@ def schools(trial):
         trial.expect(f"one class, all periods, {seed}: {found[:3]}", not found)
 
 
-def exact_covers(primary, options, chosen=()):
+# all exact covers, each by its options
+Covers = set[frozenset[frozenset[str]]]
+
+
+def exact_covers(primary: list[str], options: list[frozenset[str]], chosen: tuple[frozenset[str], ...] = ()) -> Covers:
     """All exact covers, by their options: at each step the first primary item that isn't covered."""
-    covered = set().union(*chosen)
+    covered = frozenset[str]().union(*chosen)
     left = [item for item in primary if item not in covered]
     if not left:
         return {frozenset(chosen)}
@@ -98,7 +106,7 @@ def exact_covers(primary, options, chosen=()):
     return {cover for option in fitting for cover in exact_covers(primary, options, (*chosen, option))}
 
 
-def same_covers(trial):
+def same_covers(trial: Generating) -> None:
     """Primary periods change no cover: with all of them secondary the covers are the same."""
     draw, tight = random.Random(4), 0
     week = [f"{day}{number}" for day in ("Mon", "Tue") for number in (1, 2)]
@@ -117,7 +125,7 @@ def same_covers(trial):
     trial.expect(f"tables with primary periods: {tight}", tight > 3)
 
 
-def joint_lessons(trial):
+def joint_lessons(trial: Generating) -> None:
     """However several classes and teachers are parted, all of them are busy; one name with a blank stays one."""
     rows = ["a,ann,5a,r,1", "b,bob,5b,r,2", 'c,ann+bob,5a 5b,s,3', 'd,"ann;bob","5a;5b",s,4', 'e,"ann,bob",5a/5b,s,5', "f,Eva Maria Lang,5c,-,1"]
     file = trial.made("timetable", trial.path("joint.csv", "\n".join([HEAD, *rows]) + "\n"))
@@ -129,7 +137,7 @@ def joint_lessons(trial):
     trial.expect("one name with blanks", any(line.startswith("| name ") and line.endswith(": Eva Maria Lang") for line in lines))
 
 
-def long_names(trial):
+def long_names(trial: Generating) -> None:
     """Names that don't fit into 32 bytes have numbers in the file, and are whole in plans."""
     lesson, teacher = "Mathematics for those who like it", "\u041a\u043e\u043d\u0441\u0442\u0430\u043d\u0442\u0438\u043d\u043e\u0432\u0430" * 2
     table = f"lesson;teacher;class;rooms;periods;hours\n{lesson};{teacher};5a;room;Mon1-2;2\n"
@@ -143,7 +151,7 @@ def long_names(trial):
     trial.expect(f"long names: {lines}", text.count(f"{lesson} {teacher} room") == 2 and any(line.startswith(teacher + "  Mon") for line in lines))
 
 
-def rules_are_tested(trial):
+def rules_are_tested(trial: Generating) -> None:
     """The test of timetables finds what is wrong with one."""
     table = ";".join(HEAD.split(",")) + ";hours;length\na;ann;5a+5b;r;Mon1-3;1;2\nb;bob;5a;r;Mon1-3;1;1\n"
     lines = trial.drawn(trial.made("timetable", trial.path("small.csv", table)), "--plan", "all")
@@ -156,7 +164,7 @@ def rules_are_tested(trial):
     trial.expect("a double lesson in two pieces is found", faults(table, swapped) or faults(table, [line.replace("2", "4", 1) for line in lines]))
 
 
-def wrong_tables(trial):
+def wrong_tables(trial: Generating) -> None:
     """Tables of lessons that nobody can mean, each with the line that is told and the exit status."""
     rows = (("a class with more lessons than periods", 1, "2", ["a,ann,5a,r,1-3", "b,bob,5a,s,1-3", "c,cyd,5a,r,1-3", "d,dan,5a,s,1-3"]),
             ("a teacher with too few periods for some lessons", 1, "2", ["a,ann,5a,r,1", "b,ann,5b,s,1", "c,ann,5c,r,1-9"]),
@@ -185,8 +193,8 @@ def wrong_tables(trial):
 # ---- puzzles
 
 # how each kind is drawn by lot, and what generate.py wants behind the file
-PUZZLES = {
-    **{f"sudoku of {size}": (lambda draw, size=size: drawn_puzzles.sudoku(draw, size), ["sudoku"], []) for size in (4, 6, 9, 12, 16)},
+PUZZLES: dict[str, tuple[Callable[[random.Random], Union[drawn_puzzles.Drawn, drawn_puzzles.DrawnTwice]], list[str], list[str]]] = {
+    **{f"sudoku of {size}": (functools.partial(drawn_puzzles.sudoku, size=size), ["sudoku"], []) for size in (4, 6, 9, 12, 16)},
     "diagonals": (drawn_puzzles.diagonals, ["sudoku"], ["--diagonals"]), "jigsaw": (drawn_puzzles.jigsaw, ["jigsaw"], []),
     "killer": (drawn_puzzles.killer, ["killer"], []), "kakuro": (drawn_puzzles.kakuro, ["kakuro"], []), "stars": (drawn_puzzles.stars, ["stars"], []),
     "nonogram": (drawn_puzzles.nonogram, ["nonogram"], []), "large nonogram": (lambda draw: drawn_puzzles.nonogram(draw, 20), ["nonogram"], []),
@@ -194,7 +202,7 @@ PUZZLES = {
 }
 
 
-def puzzles(trial):
+def puzzles(trial: Generating) -> None:
     """Each kind, from a text to the drawn text of its solution."""
     draw = random.Random(1)
     for kind, (drawn, words, further) in PUZZLES.items():
@@ -207,27 +215,27 @@ def puzzles(trial):
             trial.expect(f"{kind} {number}: {texts} {lines}", is_right(lines))
 
 
-def other_answers(trial):
+def other_answers(trial: Generating) -> None:
     """What is drawn is tested: a changed digit, star or cell is seen."""
     draw = random.Random(2)
     for kind in ("sudoku of 9", "jigsaw", "killer", "kakuro", "stars", "nonogram"):
         drawn, words, further = PUZZLES[kind]
         text, is_right = drawn(draw)
-        lines = trial.solved(*words, trial.path("other.txt", text), *further)
+        lines = trial.solved(*words, trial.path("other.txt", str(text)), *further)
         changed = [line.translate(str.maketrans("1234#*", "2143. ")) for line in lines]
         trial.expect(f"{kind}: a change is seen", is_right(lines) and not is_right(lines[:1] + changed[1:2] + lines[2:]) or not is_right(changed))
 
 
-def solids(trial):
+def solids(trial: Generating) -> None:
     """Soma: seven pieces fill three layers, each of 27 cells once."""
     lines = trial.solved("board", "3x3x3", "--pieces", "soma")
     counts = {letter: "".join(lines).count(f" {letter} ") for letter in "VLTZABP"}
     trial.expect(f"Soma {counts}", sorted(counts.values()) == [3, 4, 4, 4, 4, 4, 4] and counts["V"] == 3)
 
 
-def covers(trial, file):
+def covers(trial: Generating, file: str) -> Optional[int]:
     """How many covers a problem has, by another.py."""
-    other, found = file, []
+    other, found = file, list[str]()
     while True:
         answered = subprocess.run([trial.program, "alone", other], capture_output=True, text=True, timeout=300)
         if answered.returncode:
@@ -237,7 +245,7 @@ def covers(trial, file):
         other = trial.path("other.dlx", ended.stdout)
 
 
-def all_covers(trial):
+def all_covers(trial: Generating) -> None:
     """Six queens have four solutions, Langford's four numbers one and its mirror image, and the example of a killer one."""
     for words, count in ((["queens", "6"], 4), (["langford", "4"], 2), (["killer", os.path.join(TOP, "examples", "killer.txt")], 1)):
         trial.expect(f"all covers of {words}", covers(trial, trial.made(*words)) == count)
@@ -268,7 +276,7 @@ WRONG_PIECES = (
     ("no such piece", 3, "1", "Q\n"), ("too few cells", 1, None, "A 3\nxx\n"))
 
 
-def wrong_boards(trial):
+def wrong_boards(trial: Generating) -> None:
     for what, status, line, words, text in WRONG:
         trial.refused(what, status, line, words[0], trial.path("wrong.txt", text), *words[1:])
     for what, status, line, text in WRONG_PIECES:
@@ -284,9 +292,9 @@ TESTS = (schools, same_covers, joint_lessons, long_names, rules_are_tested, wron
          wrong_boards)
 
 
-def main():
+def main() -> int:
     parser = parser_of(__doc__)
-    parser.add_argument("--program", type=os.path.abspath, default=SOLVE_CLI, help="the built program (default crates/solve_cli/out/solve_cli)")
+    parser.add_argument("--program", type=path_of, default=SOLVE_CLI, help="the built program (default crates/solve_cli/out/solve_cli)")
     parser.add_argument("--times", type=number_from_one, default=1, metavar="N", help="how many puzzles of each kind (default 1)")
     given = parser.parse_args()
     want_program(given.program)

@@ -24,11 +24,15 @@ growths, and refuses none; --short refuses every seventh growth of a test.
 It wants cc and the built tests: rt test in the folders of these crates builds them, and so does rt ci. The exit status is 0, 1 where a
 run went wrong, 2 for a mistake on the command line or where something is missing.
 """
+from __future__ import annotations
+
 import collections
 import os
 import subprocess
 import sys
 import tempfile
+from collections.abc import Iterator
+from typing import NamedTuple
 
 from built import parser_of, program_of, stop, TOP, want_command
 
@@ -53,12 +57,19 @@ BUGS = {
     "run_book/memory_stays_refused": "book_tests",
 }
 
-# What is told of a call: its kind, where it was, whether packets went to two lists, the growths that it asked for, which of them
-# was refused, or 0, and whether it was answered by want of memory.
-Told = collections.namedtuple("Told", "kind place both growths refused memory")
+
+class Told(NamedTuple):
+    """What is told of a call: its kind, where it was, whether packets went to two lists, the growths that it asked for, which of them
+    was refused, or 0, and whether it was answered by want of memory."""
+    kind: str
+    place: str
+    both: bool
+    growths: int
+    refused: int
+    memory: bool
 
 
-def told(line):
+def told(line: str) -> Told:
     """What a line of refuse_growth.c tells."""
     number, growths, refused, memory = map(int, line.split())
     name, place = KINDS[number // 4]
@@ -67,12 +78,12 @@ def told(line):
     return Told(name, place, number % 2 == 1, growths, refused, memory == 1)
 
 
-def tests_of(crate):
+def tests_of(crate: str) -> str:
     """The built tests of a crate."""
     return program_of(crate) + "_tests"
 
 
-def build(folder):
+def build(folder: str) -> str:
     """Builds what is loaded before the C library."""
     library = os.path.join(folder, "refuse_growth.so")
     source = os.path.join(TOP, "scripts", "refuse_growth.c")
@@ -80,7 +91,7 @@ def build(folder):
     return library
 
 
-def play(library, test, number):
+def play(library: str, test: Words, number: int) -> tuple[bool, list[Told]]:
     """Runs a test with this growth refused, none with 0: whether it passed, and what is told of its calls."""
     with tempfile.TemporaryDirectory() as folder:
         file = os.path.join(folder, "growths")
@@ -92,7 +103,7 @@ def play(library, test, number):
             return ran.returncode == 0, [told(line) for line in opened]
 
 
-def careful_tests(crate):
+def careful_tests(crate: str) -> list[Words]:
     """The tests of a crate that take care of refused memory, each as the words that run it."""
     program = tests_of(crate)
     listed = subprocess.run([program, "--list"], stdout=subprocess.PIPE, text=True).stdout
@@ -103,28 +114,36 @@ def careful_tests(crate):
     return tests
 
 
-def span(numbers):
+def span(numbers: list[int]) -> str:
     """The least and the most of some numbers."""
     if not numbers:
         return "-"
     return f"{min(numbers)}" if min(numbers) == max(numbers) else f"{min(numbers)} to {max(numbers)}"
 
 
+# the words that run a test
+Words = tuple[str, str]
+
+
 class Kind:
     """What was seen of one kind of calls."""
 
-    def __init__(self):
-        self.growths = {False: [], True: []}
+    def __init__(self) -> None:
+        self.growths: dict[bool, list[int]] = {False: [], True: []}
         self.refused = self.memory = self.wrong = 0
 
-    def take(self, event, passed):
+    def take(self, event: Told, passed: bool) -> None:
         """Counts a call one of whose growths was refused."""
         self.refused += 1
         self.memory += event.memory
         self.wrong += not passed
 
 
-def refuse_each(library, test, kinds, step):
+# what was seen of each kind of calls, by its name and place
+Kinds = dict[tuple[str, str], Kind]
+
+
+def refuse_each(library: str, test: Words, kinds: Kinds, step: int) -> int:
     """Refuses each growth of a test's calls, or each of some step, one in each run; how many runs went wrong."""
     _, before = play(library, test, 0)
     wrong = 0
@@ -142,7 +161,7 @@ def refuse_each(library, test, kinds, step):
     return wrong
 
 
-def count(library, test, kinds):
+def count(library: str, test: Words, kinds: Kinds) -> bool:
     """Takes down the growths of each call of a test, of which none is refused; whether it passed."""
     passed, events = play(library, test, 0)
     for event in events:
@@ -150,7 +169,7 @@ def count(library, test, kinds):
     return passed
 
 
-def table(kinds):
+def table(kinds: Kinds) -> Iterator[str]:
     """The rows of the table."""
     yield "| Call | At | Growths | With two lists | Refused | Answered Memory | Wrong |\n|---|---|---|---|---|---|---|"
     for (kind, place), seen in sorted(kinds.items()):
@@ -158,7 +177,7 @@ def table(kinds):
         yield f"| {' | '.join(cells)} | {seen.refused} | {seen.memory} | {seen.wrong} |"
 
 
-def main():
+def main() -> int:
     parser = parser_of(__doc__)
     how = parser.add_mutually_exclusive_group()
     how.add_argument("--list", action="store_true", help="list the calls with their growths, and refuse none")
@@ -170,7 +189,7 @@ def main():
     for crate in crates:
         if not os.access(tests_of(crate), os.X_OK):
             stop(f"{crate} has no built tests; at the top of the repository (cd crates/{crate} && rt test) builds them")
-    kinds = collections.defaultdict(Kind)
+    kinds: Kinds = collections.defaultdict(Kind)
     with tempfile.TemporaryDirectory() as folder:
         library = build(folder)
         tests = [test for crate in crates for test in careful_tests(crate)]

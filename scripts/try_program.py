@@ -7,6 +7,8 @@ It wants the program, which is crates/solve_cli/out/solve_cli where none is name
 Each cover of an example is given back to `check`, and counted here once more. The last line is 'N passed, M failed'. The exit
 status is 0 where all passed, 1 where something failed, 2 for a mistake on the command line or where there is no program.
 """
+from __future__ import annotations
+
 import doctest
 import glob
 import os
@@ -15,24 +17,27 @@ import re
 import subprocess
 import sys
 import tempfile
+from typing import IO, Any, Optional, Union
 
 from built import parser_of, SOLVE_CLI, TOP, want_program
-import zarfepoch
 from expected import Trial
+import zarfepoch
 
 PROGRAM = SOLVE_CLI
+# a word of a command line
+Word = Union[str, bytes]
 LINE = re.compile(r"\d+ s: \d+ visits, +\d+\.\d{4} % of the tree, \d+ jobs out")
 NONE = {"langford-5.dlx", "tetrominoes-4x5.dlx", "mutilated-chessboard.dlx"}
 trial = Trial()
 expect = trial.expect
 
 
-def run(*words, stdin=None, stdout=subprocess.PIPE):
+def run(*words: Word, stdin: Optional[bytes] = None, stdout: Union[int, IO[bytes]] = subprocess.PIPE) -> tuple[bytes, bytes, int]:
     ended = subprocess.run([PROGRAM, *words], input=stdin, stdout=stdout, stderr=subprocess.PIPE, timeout=120)
     return ended.stdout, ended.stderr, ended.returncode
 
 
-def on_terminal(*words):
+def on_terminal(*words: str) -> tuple[bytes, int]:
     """All that is written where both outputs are one terminal, and the status."""
     ours, its = pty.openpty()
     with subprocess.Popen([PROGRAM, *words], stdin=subprocess.DEVNULL, stdout=its, stderr=its) as process:
@@ -47,7 +52,7 @@ def on_terminal(*words):
     return text, process.returncode
 
 
-def is_exact(file, answer):
+def is_exact(file: str, answer: bytes) -> bool:
     """Whether the lines are options of the file in its order, and an exact cover, by counting."""
     with open(file, "rb") as opened:
         lines = [line.split() for line in opened.read().split(b"\n")]
@@ -62,7 +67,7 @@ def is_exact(file, answer):
     return shared and primary <= set(names) and places == sorted(places)
 
 
-def examples(folder):
+def examples(folder: str) -> None:
     for name in sorted(os.listdir(os.path.join(TOP, "examples"))):
         if not name.endswith(".dlx"):
             continue
@@ -81,8 +86,8 @@ def examples(folder):
         expect(name + " wrong answer", out.startswith(b"wrong: ") and status == 1)
 
 
-def bad_input(folder):
-    def file(name, content):
+def bad_input(folder: str) -> None:
+    def file(name: str, content: bytes) -> str:
         path = os.path.join(folder, name)
         with open(path, "wb") as opened:
             opened.write(content)
@@ -114,7 +119,7 @@ def bad_input(folder):
     expect("a closed pipe", (errors == b"cannot write\n" and status == 3) or status == -13)
 
 
-def progress():
+def progress() -> None:
     """Standard output is the same with `--progress`; a run that can't go on says why on standard error."""
     letters = os.path.join(TOP, "examples", "letters.dlx")
     cover = b"cover 3\nc e\na d f\nb g\n"
@@ -131,20 +136,23 @@ def progress():
     expect("one line on a terminal", status == 4 and re.fullmatch(rb"(\r\d+ s: [^\r\n]*)+\r\nended: the time is over\r\nno answer\r\n", text))
 
 
-def command_line():
-    for words, status in [((), 2), (("--help",), 0), (("--version",), 0), (("alone", "--help"), 0), (("alone",), 2),
+def command_line() -> None:
+    given: list[tuple[tuple[Word, ...], int]] = [
+        ((), 2), (("--help",), 0), (("--version",), 0), (("alone", "--help"), 0), (("alone",), 2),
                           (("alone", "x", "--fuel", "0"), 2), (("alone", "x", "--fuel", "+1"), 2),
-                          (("alone", "x", "--audit"), 2), (("solve", "x", "--audit"), 3), (("solve", "x"), 3), (("alone", b"\xff"), 2)]:
+                          (("alone", "x", "--audit"), 2), (("solve", "x", "--audit"), 3), (("solve", "x"), 3), (("alone", b"\xff"), 2)]
+    for words, status in given:
         out, errors, ended = run(*words)
         expect(f"words {words}", ended == status and (bool(out), bool(errors)) == (status == 0, status != 0))
 
 
-def installing(folder):
+def installing(folder: str) -> None:
     """What install.sh writes, with a prefix and without."""
     script, files = os.path.join(TOP, "scripts", "install.sh"), ["bin/solve_cli", "share/man/man1/solve_cli.1",
                                                                  "share/bash-completion/completions/solve_cli",
                                                                  "share/zsh/site-functions/_solve_cli"]
-    for words, prefix in (([], "/usr/local"), (["/opt"], "/opt")):
+    prefixes: tuple[tuple[list[str], str], ...] = (([], "/usr/local"), (["/opt"], "/opt"))
+    for words, prefix in prefixes:
         ended = subprocess.run(["sh", script, *words], env={**os.environ, "DESTDIR": folder}, capture_output=True, text=True)
         written = [f"{folder}{prefix}/{file}" for file in files]
         expect(f"install.sh {words}", ended.returncode == 0 and ended.stdout.split() == written and all(map(os.path.isfile, written)))
@@ -154,29 +162,30 @@ def installing(folder):
         file.write("#!/bin/sh\nkill -TERM $PPID\n")
     os.chmod(stopped, 0o755)
     path = folder + os.pathsep + os.environ["PATH"]
-    ended = subprocess.run(["sh", script], env={**os.environ, "DESTDIR": folder, "PATH": path, "TMPDIR": room}, capture_output=True)
+    ended = subprocess.run(["sh", script], env={**os.environ, "DESTDIR": folder, "PATH": path, "TMPDIR": room}, capture_output=True, text=True)
     expect("install.sh leaves nothing when it is stopped", ended.returncode == 1 and not os.listdir(room))
     for name in ("a b", "a*c", "axc"):
         open(os.path.join(room, name), "w", encoding="ascii").close()
     complete = 'source "$0"; COMP_WORDS=(solve_cli alone a); COMP_CWORD=2; _solve_cli; printf "%s\\n" "${COMPREPLY[@]}"'
     ended = subprocess.run(["bash", "-c", complete, f"{folder}/opt/{files[2]}"], cwd=room, capture_output=True, text=True)
     expect("files are completed", sorted(ended.stdout.splitlines()) == ["a b", "a*c", "axc"])
-    ended = subprocess.run(["sh", "scripts/install.sh", "/path"], cwd=TOP, env={**os.environ, "DESTDIR": folder, "CDPATH": TOP}, capture_output=True)
+    environment = {**os.environ, "DESTDIR": folder, "CDPATH": TOP}
+    ended = subprocess.run(["sh", "scripts/install.sh", "/path"], cwd=TOP, env=environment, capture_output=True, text=True)
     expect("install.sh with CDPATH", ended.returncode == 0 and os.path.isfile(os.path.join(folder, "path", files[0])))
     for words in ([""], ["-h"], ["/opt", "/usr"]):
-        ended = subprocess.run(["sh", script, *words], env={**os.environ, "DESTDIR": folder}, capture_output=True)
-        expect(f"install.sh {words} is refused", ended.returncode == 2 and ended.stderr.startswith(b"usage: "))
+        ended = subprocess.run(["sh", script, *words], env={**os.environ, "DESTDIR": folder}, capture_output=True, text=True)
+        expect(f"install.sh {words} is refused", ended.returncode == 2 and ended.stderr.startswith("usage: "))
 
 
-def by_json(text, *words, **how):
+def by_json(text: bytes, *words: str, **how: Any) -> tuple[bytes, int]:
     """What zarfepoch.py prints of a problem in JSON, and its status."""
     script = os.path.join(TOP, "scripts", "zarfepoch.py")
     ended = subprocess.run([sys.executable, script, "--json", "-", *words], input=text, capture_output=True, **how)
-    expect(f"JSON {text} {words}: {ended.stderr}", b"Traceback" not in ended.stderr and bool(ended.stderr) == (ended.returncode > 1))
+    expect(f"JSON {text!r} {words}: {ended.stderr!r}", b"Traceback" not in ended.stderr and bool(ended.stderr) == (ended.returncode > 1))
     return ended.stdout, ended.returncode
 
 
-def from_python():
+def from_python() -> None:
     """The examples of zarfepoch.py, and problems in JSON."""
     found = doctest.testmod(zarfepoch)
     expect("the examples of zarfepoch.py", found.attempted and not found.failed)
@@ -186,7 +195,7 @@ def from_python():
                                  (b'{"options": [[true]], "primary": [1]}', b"", 3), (b'{"options": [["a"]], "primary": ["a", null]}', b"", 3),
                                  (b'{"options": [["a", ["x", null]]], "primary": ["a"], "secondary": ["x"]}', b"", 3),
                                  (b'{"options": [["b"]], "primary": ["a"]}', b"", 3), (b'{"options": ["a"], "primary": ["a"]}', b"", 3)):
-        expect(f"JSON {text}", by_json(text) == (answer, status))
+        expect(f"JSON {text!r}", by_json(text) == (answer, status))
     small = b'{"options": [["a"]], "primary": ["a"]}'
     for seconds, answer, status in (("60", b"[0]\n", 0), ("1e9", b"[0]\n", 0), ("inf", b"[0]\n", 0), ("0", b"", 2), ("nan", b"", 2)):
         expect(f"{seconds} seconds", by_json(small, "--seconds", seconds) == (answer, status))
@@ -195,14 +204,14 @@ def from_python():
         expect(f"the program {program}", by_json(small, cwd=folder, env={**os.environ, "ZARFEPOCH": program}) == (answer, status))
 
 
-def help_on(output, *words):
+def help_on(output: Union[int, IO[bytes]], *words: str) -> tuple[int, str]:
     """The status of a script that writes its help on this output, and its standard error; its output is buffered, as it is for users."""
     buffered = {name: text for name, text in os.environ.items() if name != "PYTHONUNBUFFERED"}
     ended = subprocess.run([sys.executable, *words, "--help"], stdout=output, stderr=subprocess.PIPE, env=buffered, text=True)
     return ended.returncode, ended.stderr
 
 
-def many_visits(folder):
+def many_visits(folder: str) -> None:
     """A search of 10^15 visits ends, since few of its states differ, and its count is exact: with one visit less there is
     no answer. A count in C gave the visits, state by state."""
     cells = [(row, column) for row in range(12) for column in range(12) if (row, column) not in ((0, 0), (11, 11))]
@@ -218,7 +227,7 @@ def many_visits(folder):
     expect("no limit", run("alone", path, "--unlimited") == (b"none\n", b"", 1))
 
 
-def helps():
+def helps() -> None:
     """Each script that can be run writes its help, so that all it imports is there."""
     paths = [path for folder in ("scripts", "examples", "bench") for path in sorted(glob.glob(os.path.join(TOP, folder, "*.py")))]
     for path in filter(lambda path: os.access(path, os.X_OK), paths):
@@ -226,7 +235,7 @@ def helps():
         expect(f"the help of {path}: {ended.stderr}", ended.returncode == 0 and ended.stdout.startswith("usage: "))
 
 
-def failing_outputs():
+def failing_outputs() -> None:
     """What scripts say where their output takes no more, or nobody reads it."""
     for script in ("scripts/explain.py", "scripts/draw.py", "scripts/why_none.py", "scripts/zarfepoch.py", "examples/generate.py"):
         name, path = os.path.basename(script).removesuffix(".py"), os.path.join(TOP, script)
@@ -244,7 +253,7 @@ def failing_outputs():
         expect(f"{words} without standard error", (ended.stdout, ended.returncode) == (b"", status))
 
 
-def main():
+def main() -> int:
     global PROGRAM
     parser = parser_of(__doc__)
     parser.add_argument("program", nargs="?", metavar="PROGRAM", default=SOLVE_CLI, help="the built program")

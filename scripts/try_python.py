@@ -24,9 +24,9 @@ import subprocess
 import sys
 import tempfile
 import time
-from typing import Callable, Optional
+from typing import Callable, Optional, TypeVar
 
-from built import SOLVE_CLI, TOP, parser_of, want_program
+from built import SOLVE_CLI, TOP, parser_of, want_program, path_of
 from expected import Trial
 from plain_search import read, search
 import zarfepoch
@@ -36,9 +36,10 @@ README = os.path.join(TOP, "python", "README.md")
 EXAMPLES = os.path.join(TOP, "examples")
 trial = Trial()
 expect = trial.expect
+Raised = TypeVar("Raised", bound=BaseException)
 
 
-def raised(kind: type[BaseException], call: Callable[[], object]) -> Optional[BaseException]:
+def raised(kind: type[Raised], call: Callable[[], object]) -> Optional[Raised]:
     """What a call raises, which is expected to be of this kind."""
     came: object = "an answer"
     try:
@@ -46,7 +47,7 @@ def raised(kind: type[BaseException], call: Callable[[], object]) -> Optional[Ba
     except Exception as why:
         came = why
     expect(f"{kind.__name__}, and not {came!r}", isinstance(came, kind))
-    return came if isinstance(came, BaseException) else None
+    return came if isinstance(came, kind) else None
 
 
 def examples() -> None:
@@ -84,31 +85,32 @@ def random_answers() -> None:
 
 def errors() -> None:
     """What is raised, with the option and the item."""
-    for kind, call, option, item in (
-            (zarfepoch.UnknownItem, lambda: Problem(["a"], options=[["a"], ["b"]]), 1, "b"),
-            (zarfepoch.RepeatedItem, lambda: Problem(["a"], options=[["a", "a"]]), 0, "a"),
-            (zarfepoch.RepeatedItem, lambda: Problem(["a"], ["x", "a"]), None, "a"),
-            (zarfepoch.ColoredPrimary, lambda: Problem(["a"], options=[[Colored("a", 1)]]), 0, "a"),
-            (zarfepoch.ProblemError, lambda: Problem([]), None, None),
-            (zarfepoch.ProblemError, lambda: Problem(["a b"]).text(), None, "a b"),
-            (zarfepoch.ProblemError, lambda: Problem(["a"], ["x"], [["a", Colored("x", "1:2")]]).text(), 0, "1:2"),
-            (zarfepoch.ProblemError, lambda: Problem([3]).text(), None, 3),
-            (zarfepoch.TooLarge, lambda: Problem(range(1001)).solve(), None, None),
-            (zarfepoch.TooLarge, lambda: Problem([0], options=[[0]] * 20_001).solve(), None, None)):
+    cases: list[tuple[type[zarfepoch.ProblemError], Callable[[], object], Optional[int], object]] = [
+        (zarfepoch.UnknownItem, lambda: Problem(["a"], options=[["a"], ["b"]]), 1, "b"),
+        (zarfepoch.RepeatedItem, lambda: Problem(["a"], options=[["a", "a"]]), 0, "a"),
+        (zarfepoch.RepeatedItem, lambda: Problem(["a"], ["x", "a"]), None, "a"),
+        (zarfepoch.ColoredPrimary, lambda: Problem(["a"], options=[[Colored("a", 1)]]), 0, "a"),
+        (zarfepoch.ProblemError, lambda: Problem([]), None, None),
+        (zarfepoch.ProblemError, lambda: Problem(["a b"]).text(), None, "a b"),
+        (zarfepoch.ProblemError, lambda: Problem(["a"], ["x"], [["a", Colored("x", "1:2")]]).text(), 0, "1:2"),
+        (zarfepoch.ProblemError, lambda: Problem([3]).text(), None, 3),
+        (zarfepoch.TooLarge, lambda: Problem(range(1001)).solve(), None, None),
+        (zarfepoch.TooLarge, lambda: Problem([0], options=[[0]] * 20_001).solve(), None, None)]
+    for kind, call, option, item in cases:
         why = raised(kind, call)
-        expect(f"{kind.__name__}: {why!r}", isinstance(why, (zarfepoch.ProblemError, ValueError)) and (why.option, why.item) == (option, item))
+        expect(f"{kind.__name__}: {why!r}", isinstance(why, ValueError) and why and (why.option, why.item) == (option, item))
     why = raised(zarfepoch.ProblemError, lambda: Problem.parse(b"a b\na c\n"))
-    expect(f"the line: {why!r}", isinstance(why, zarfepoch.ProblemError) and (why.line, why.item) == (2, "c"))
+    expect(f"the line: {why!r}", why and (why.line, why.item) == (2, "c"))
     raised(FileNotFoundError, lambda: Problem.read(os.path.join(TOP, "nothing")))
     hard = langford(15)
-    for kind in (zarfepoch.TimeIsUp, TimeoutError, zarfepoch.Error):
+    for late in (zarfepoch.TimeIsUp, TimeoutError, zarfepoch.Error):
         begun = time.monotonic()
-        raised(kind, lambda: hard.solve(seconds=0.3))
+        raised(late, lambda: hard.solve(seconds=0.3))
         expect("ended in time", time.monotonic() - begun < 5)
     raised(zarfepoch.TimeIsUp, lambda: hard.solve(0))
-    for program, kind in (("/bin/true", zarfepoch.ProgramError), ("/bin/false", zarfepoch.ProgramError), ("/dev/null", zarfepoch.NoProgram),
-                          (os.path.join(TOP, "nothing"), zarfepoch.NoProgram)):
-        with_program(program, lambda: raised(kind, lambda: Problem(["a"], options=[["a"]]).solve()))
+    for program, failed in (("/bin/true", zarfepoch.ProgramError), ("/bin/false", zarfepoch.ProgramError), ("/dev/null", zarfepoch.NoProgram),
+                            (os.path.join(TOP, "nothing"), zarfepoch.NoProgram)):
+        with_program(program, lambda: raised(failed, lambda: Problem(["a"], options=[["a"]]).solve()))
 
 
 def stub_answers(folder: str) -> None:
@@ -128,10 +130,8 @@ def with_program(path: str, call: Callable[[], object]) -> None:
     """Calls with this program in place of ours."""
     ours = os.environ["ZARFEPOCH"]
     os.environ["ZARFEPOCH"] = path
-    try:
-        call()
-    finally:
-        os.environ["ZARFEPOCH"] = ours
+    call()
+    os.environ["ZARFEPOCH"] = ours
 
 
 def langford(size: int) -> Problem:
@@ -222,7 +222,7 @@ def a_call() -> None:
 
 def main() -> int:
     parser = parser_of(__doc__)
-    parser.add_argument("--program", type=os.path.abspath, default=SOLVE_CLI, metavar="PROGRAM", help="the built program")
+    parser.add_argument("--program", type=path_of, default=SOLVE_CLI, metavar="PROGRAM", help="the built program")
     program = parser.parse_args().program
     want_program(program)
     os.environ["ZARFEPOCH"] = program

@@ -11,6 +11,8 @@ pigeons, boards, Langford pairs, triples; the examples; and odd words for check_
 It wants the program: (cd crates/solve_cli && rt run -- --version) builds it. The last line is 'N passed, M failed'. The exit status is 0 where all
 passed, 1 where something failed, 2 for a mistake on the command line or where there is no program.
 """
+from __future__ import annotations
+
 import collections
 import glob
 import itertools
@@ -19,6 +21,8 @@ import random
 import subprocess
 import sys
 import tempfile
+from collections.abc import Sequence
+from typing import Optional
 
 from built import SOLVE_CLI, TOP, number_from_one, parser_of, want_program
 from zarfepoch import check_reason
@@ -31,13 +35,13 @@ trial = Trial()
 expect = trial.expect
 
 
-def why(text):
+def why(text: str) -> tuple[int, bytes]:
     """The exit status of the program, and what it writes."""
     ran = subprocess.run([SOLVE_CLI, "why", "-"], input=text.encode(), capture_output=True)
     return ran.returncode, ran.stdout
 
 
-def is_checked(text, reason):
+def is_checked(text: str, reason: bytes) -> bool:
     """Whether check_reason.py finds that the reason holds."""
     lines = ([line.split() for line in some.split(b"\n")] for some in (text.encode(), reason.rstrip(b"\n")))
     return check_reason.check(*lines) == ""
@@ -45,7 +49,7 @@ def is_checked(text, reason):
 
 # ---- random problems
 
-def random_text(draw):
+def random_text(draw: random.Random) -> str:
     """A problem of a few items, whose options are short; secondary items may have colours."""
     primary = [f"p{k}" for k in range(draw.randint(1, 7))]
     secondary = [f"s{k}" for k in range(draw.randint(0, 4))]
@@ -60,7 +64,7 @@ def random_text(draw):
     return "\n".join(" ".join(words) for words in [primary + (["|"] + secondary if secondary else []), *options]) + "\n"
 
 
-def changed(draw, reason):
+def changed(draw: random.Random, reason: bytes) -> bytes:
     """The reason with one number changed, or with a line less."""
     lines = reason.rstrip(b"\n").split(b"\n")
     place = draw.randrange(2, len(lines))
@@ -72,10 +76,11 @@ def changed(draw, reason):
     return b"\n".join(lines) + b"\n"
 
 
-def random_problems(count):
+def random_problems(count: int) -> collections.Counter[str]:
     """How many problems without a cover got a reason of each kind."""
-    draw, left, found = random.Random(74), collections.Counter({True: count, False: count}), collections.Counter()
-    while left.total():
+    draw, left = random.Random(74), {True: count, False: count}
+    found: collections.Counter[str] = collections.Counter()
+    while any(left.values()):
         text = random_text(draw)
         _, primary, options, _ = read(text.encode())
         has_cover = search(primary, options, [])[0] is not None
@@ -90,7 +95,7 @@ def random_problems(count):
         if status == 1:
             expect(f"the reason of\n{text}", reason.startswith(b"none\n") and is_checked(text, reason))
             other = changed(draw, reason)
-            expect(f"{other} of\n{text}", is_checked(text, other) == Reason(other).holds(read_problem(text.encode())))
+            expect(f"{other!r} of\n{text}", is_checked(text, other) == Reason(other).holds(read_problem(text.encode())))
         else:
             expect(f"a reason or none of\n{text}", (status, reason) == (4, b"no reason found\n"))
     return found
@@ -98,12 +103,12 @@ def random_problems(count):
 
 # ---- families
 
-def lines(primary, secondary, options):
+def lines(primary: list[str], secondary: list[str], options: list[list[str]]) -> str:
     head = " ".join(primary) + (" | " + " ".join(secondary) if secondary else "")
     return "\n".join([head, *(" ".join(option) for option in options)]) + "\n"
 
 
-def lessons(count, periods, length=1, teachers=("ann",)):
+def lessons(count: int, periods: int, length: int = 1, teachers: Sequence[str] = ("ann",)) -> str:
     """So many lessons, each of a class of its own and with one of the teachers."""
     options = [[f"l{k}"] + [word for at in range(first, first + length) for word in (f"{who}-{at}", f"c{k}-{at}")]
                for k in range(count) for who in teachers for first in range(periods - length + 1)]
@@ -111,12 +116,12 @@ def lessons(count, periods, length=1, teachers=("ann",)):
     return lines([f"l{k}" for k in range(count)], busy, options)
 
 
-def pigeons(count):
+def pigeons(count: int) -> str:
     return lines([f"p{k}" for k in range(count)], [f"h{k}" for k in range(1, count)],
                  [[f"p{k}", f"h{hole}"] for k in range(count) for hole in range(1, count)])
 
 
-def board(size):
+def board(size: int) -> str:
     """Dominoes on a board without two opposite corners."""
     cells = sorted(set(itertools.product(range(size), repeat=2)) - {(0, 0), (size - 1, size - 1)})
     name = "{}-{}".format
@@ -124,12 +129,12 @@ def board(size):
     return lines([name(*cell) for cell in cells], [], options)
 
 
-def langford(size):
+def langford(size: int) -> str:
     options = [[str(d), f"s{at}", f"s{at + d + 1}"] for d in range(1, size + 1) for at in range(1, 2 * size - d)]
     return lines([*map(str, range(1, size + 1)), *(f"s{at}" for at in range(1, 2 * size + 1))], [], options)
 
 
-def triples(points):
+def triples(points: int) -> str:
     return lines([f"{a}-{b}" for a, b in itertools.combinations(range(points), 2)], [],
                  [[f"{a}-{b}", f"{a}-{c}", f"{b}-{c}"] for a, b, c in itertools.combinations(range(points), 3)])
 
@@ -149,7 +154,7 @@ FAMILIES = [
 ]
 
 
-def said_of(text):
+def said_of(text: str) -> Optional[str]:
     """What the program says of a problem, in short."""
     status, written = why(text)
     if status != 1:
@@ -166,7 +171,7 @@ def said_of(text):
 NONE = {"langford-5.dlx", "mutilated-chessboard.dlx", "tetrominoes-4x5.dlx"}
 
 
-def examples():
+def examples() -> None:
     """The examples without a cover have a reason, the others none."""
     for path in sorted(glob.glob(os.path.join(TOP, "examples", "*.dlx"))):
         name = os.path.basename(path)
@@ -181,10 +186,10 @@ def examples():
 
 # ---- check_reason.py by its words
 
-def odd_words(folder):
+def odd_words(folder: str) -> None:
     problem, reason = os.path.join(folder, "problem"), os.path.join(folder, "reason")
 
-    def checked(written, *words, text="a b c | x\na b\nb c x:1\n"):
+    def checked(written: str, *words: str, text: str = "a b c | x\na b\nb c x:1\n") -> tuple[int, str]:
         for path, content in ((problem, text), (reason, written)):
             with open(path, "w", encoding="ascii") as opened:
                 opened.write(content)
@@ -205,7 +210,7 @@ def odd_words(folder):
     expect("just room", checked(room + "room 1 c\n")[0] == 1)
 
 
-def main():
+def main() -> int:
     parser = parser_of(__doc__)
     parser.add_argument("count", metavar="COUNT", type=number_from_one, nargs="?", default=300, help="how many problems of each kind (default 300)")
     count = parser.parse_args().count

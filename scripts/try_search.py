@@ -8,16 +8,19 @@ fuel as the plain search has visits it has to be the same, and with one less `no
 (cd crates/solve_cli && rt run -- --version) builds it. The last line counts the problems, by outcome; the exit status is 0, 1 where a problem
 differs, or 2 for a mistake on the command line or where the program is missing.
 """
+from __future__ import annotations
+
 import random
 import subprocess
 import sys
 import tempfile
+from typing import Optional
 
 from built import SOLVE_CLI, number_from_one, parser_of, want_program
 from plain_search import read, search
 
 
-def random_text(draw):
+def random_text(draw: random.Random) -> str:
     """A problem of up to six primary and five secondary items, whose options may give the latter one of three colours."""
     primary = [f"p{k}" for k in range(draw.randint(1, 6))]
     secondary = [f"s{k}" for k in range(draw.randint(1, 5))]
@@ -31,7 +34,7 @@ def random_text(draw):
     return "\n".join(" ".join(words) for words in [primary + ["|"] + secondary, *options]) + "\n"
 
 
-def answer_text(text, first):
+def answer_text(text: str, first: Optional[list[int]]) -> str:
     """The answer that has to be written."""
     if first is None:
         return "none\n"
@@ -39,12 +42,12 @@ def answer_text(text, first):
     return "".join(line + "\n" for line in [f"cover {len(first)}", *(options[o] for o in sorted(first))])
 
 
-def told(path, fuel=None):
+def told(path: str, fuel: Optional[int] = None) -> str:
     words = [SOLVE_CLI, "alone", path, *(["--fuel", str(fuel)] if fuel else [])]
     return subprocess.run(words, stdout=subprocess.PIPE, text=True).stdout
 
 
-def agrees(path, text):
+def agrees(path: str, text: str) -> tuple[bool, bool]:
     """Whether the program says what the plain search does, and whether there is a cover."""
     with open(path, "w") as file:
         file.write(text)
@@ -55,7 +58,7 @@ def agrees(path, text):
     return told(path) == wanted and told(path, visits) == wanted and less, first is not None
 
 
-def main():
+def main() -> int:
     parser = parser_of(__doc__)
     parser.add_argument("count", metavar="COUNT", type=number_from_one, nargs="?", default=600, help="how many problems (default 600)")
     count = parser.parse_args().count

@@ -14,12 +14,16 @@ a thread whose growth is refused at its start is one that can't be started, and 
 (cd crates/solve_cli && rt run -- --version) builds it. The exit status is 0, 1 where a run went wrong, 2 for a mistake on the command line or where
 something is missing.
 """
+from __future__ import annotations
+
 import collections
 import os
 import subprocess
 import sys
 import tempfile
 import time
+from collections.abc import Sequence
+from typing import NamedTuple, Optional
 
 from built import SOLVE_CLI, TOP, number_from_one, parser_of, want_command, want_program
 
@@ -27,18 +31,23 @@ LETTERS = "a b c d e f g\nc e\na d g\nb c f\na d f\nb g\nd e g\n"
 ANSWER = "cover 3\nc e\na d f\nb g\n"
 THREADS = (0, 1, 2, 4, 8, 12, 16)
 ALONE = ("--nodes", "1", "--workers", "1")
-USUAL = ()
+USUAL: Sequence[str] = ()
 FEW = 25
 ONE, ALL = "refuse_growth", "refuse_from"
 
-# How a run ended: its status, the text on standard output and on standard error, and its seconds.
-Ended = collections.namedtuple("Ended", "status text why seconds")
+
+class Ended(NamedTuple):
+    """How a run ended: its status, the text on standard output and on standard error, and its seconds."""
+    status: Optional[int]
+    text: str
+    why: str
+    seconds: float
 
 
 class Trial:
     """Runs of the program with something refused."""
 
-    def __init__(self, folder, limit):
+    def __init__(self, folder: str, limit: float) -> None:
         self.folder, self.limit, self.wrong = folder, limit, 0
         self.library = os.path.join(folder, "refuse_growth.so")
         self.file = os.path.join(folder, "letters.dlx")
@@ -48,7 +57,7 @@ class Trial:
         with open(self.file, "w", encoding="ascii") as file:
             file.write(LETTERS)
 
-    def run(self, words=USUAL, **refused):
+    def run(self, words: Sequence[str] = USUAL, **refused: int) -> Ended:
         """One run with these words and refusals; a run that doesn't end within twice the limit is stopped."""
         given = {name.upper(): str(value) for name, value in refused.items()}
         env = dict(os.environ, LD_PRELOAD=self.library, GROWTHS_FILE=self.count, **given)
@@ -61,13 +70,13 @@ class Trial:
             return Ended(None, "", "", time.monotonic() - start)
         return Ended(ran.returncode, ran.stdout, ran.stderr, time.monotonic() - start)
 
-    def growths(self):
+    def growths(self) -> tuple[int, int, list[int]]:
         """How many growths the last run asked for, the place that asked for the refused one, and the places that ask for a thread's."""
         with open(self.count, encoding="ascii") as file:
             count, refused, *starts = map(int, file.read().split())
         return count, refused, starts
 
-    def judge(self, ended, memory):
+    def judge(self, ended: Ended, memory: bool) -> None:
         """Counts a run that went wrong, and prints how. Without `memory` there may be no answer since threads can't be started."""
         right = (ended.status == 0 and ended.text == ANSWER) or (ended.status == 4 and ended.text == "no answer\n" and not memory) or (
             memory and ended.status == 5 and "out of memory" in ended.why and not ended.text)
@@ -76,7 +85,7 @@ class Trial:
             print(f"wrong: status {ended.status}, {ended.text!r}, {ended.why!r}, {ended.seconds:.1f} s")
 
 
-def threads(trial, numbers):
+def threads(trial: Trial, numbers: Sequence[int]) -> None:
     print("| Threads | Status | Seconds |")
     print("|---|---|---|")
     for most in numbers:
@@ -85,12 +94,13 @@ def threads(trial, numbers):
         print(f"| {most} | {ended.status} | {ended.seconds:.2f} |", flush=True)
 
 
-def growths(trial, name, words, what, count):
+def growths(trial: Trial, name: str, words: Sequence[str], what: str, count: int) -> None:
     """Runs with a refusal at so many growths of a run with these words, or at each of them, as one row of a table."""
     trial.judge(trial.run(words), False)
     all_of, _, starts = trial.growths()
-    places = sorted({1 + all_of * place // count for place in range(count)}) if count else range(1, all_of + 1)
-    ended, unstarted = [], 0
+    places = sorted({1 + all_of * place // count for place in range(count)}) if count else list(range(1, all_of + 1))
+    ended: list[Ended] = []
+    unstarted = 0
     for place in places:
         ended.append(trial.run(words, **{what: place}))
         is_start = what == ONE and ended[-1].status is not None and trial.growths()[1] in starts
@@ -101,7 +111,7 @@ def growths(trial, name, words, what, count):
     print(f"| {' | '.join(map(str, cells))} |", flush=True)
 
 
-def main():
+def main() -> int:
     words = parser_of(__doc__)
     words.add_argument("--short", action="store_true", help="fewer runs")
     words.add_argument("--growths", metavar="N", type=number_from_one, default=100)

@@ -11,6 +11,8 @@ turns and packets that the middle one of these took.
 It wants two programs: (cd crates/solve_cli && rt run -- --version) and (cd crates/world_story && rt run) build them. The exit status is 0
 where every answer is right, 1 where one is wrong, 2 for a mistake on the command line or where a program is missing.
 """
+from __future__ import annotations
+
 import glob
 import os
 import statistics
@@ -23,11 +25,11 @@ from built import number_from_one, parser_of, SOLVE_CLI, TOP, want_program, WORL
 NODES, TURNS = 4, 10_000
 
 
-def output(words):
+def output(words: list[str]) -> subprocess.CompletedProcess[str]:
     return subprocess.run(words, capture_output=True, text=True)
 
 
-def is_right(file, answer_file, seed, fuel, restarts):
+def is_right(file: str, answer_file: str, seed: str, fuel: str, restarts: str) -> bool:
     words = [SOLVE_CLI, "simulate", file, "--seed", seed, "--fuel", fuel, "--restarts", restarts]
     answered = output(words)
     if answered.returncode not in (0, 1):
@@ -38,13 +40,13 @@ def is_right(file, answer_file, seed, fuel, restarts):
     return checked.returncode == 0 and checked.stdout == "right\n"
 
 
-def measured(file, seed, fuel, restarts):
+def measured(file: str, seed: str, fuel: str, restarts: str) -> tuple[int, int, bool]:
     words = [WORLD_STORY, "measure", file, str(NODES), seed, fuel, restarts, str(TURNS)]
     turns, packets, published = output(words).stdout.split()
     return int(turns), int(packets), published == "true"
 
 
-def main():
+def main() -> None:
     parser = parser_of(__doc__)
     parser.add_argument("seeds", nargs="?", metavar="SEEDS", type=number_from_one, default=20, help="how many seeds are tried, from 1 (default 20)")
     seeds = parser.parse_args().seeds

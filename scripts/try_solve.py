@@ -15,6 +15,9 @@ It wants the program: (cd crates/solve_cli && rt run -- --version) builds it. Th
 answer is none), 1 where one was or took longer than the limit, or where a problem was never answered without restarts, 2 for a mistake
 on the command line or where there is no program.
 """
+from __future__ import annotations
+
+import argparse
 import glob
 import os
 import statistics
@@ -22,6 +25,8 @@ import subprocess
 import sys
 import tempfile
 import time
+from collections.abc import Sequence
+from typing import Optional
 
 from built import number_from_one, parser_of, SOLVE_CLI, TOP, want_program
 
@@ -34,9 +39,12 @@ SMALL = [
 RESTARTED = ["mutilated-chessboard.dlx", "pentominoes-6x10.dlx", "queens-8.dlx"]
 RESTARTS = ["0", "1", "3", "100"]
 FEW_TURNS = "5000"
+# a problem's name, file and answer, where that is known; a run's seconds, whether there was an answer, and whether it was wrong
+Row = tuple[str, str, Optional[str]]
+Seen = tuple[float, bool, bool]
 
 
-def words():
+def words() -> argparse.Namespace:
     parser = parser_of(__doc__)
     parser.add_argument("--times", type=number_from_one, default=20, help="how often each problem is solved (default 20)")
     parser.add_argument("--nodes", default="4", help="how many nodes there are (default 4)")
@@ -48,25 +56,25 @@ def words():
     return parser.parse_args()
 
 
-def output(given, limit):
+def output(words: list[str], limit: Optional[float]) -> Optional[subprocess.CompletedProcess[str]]:
     try:
-        return subprocess.run(given, capture_output=True, text=True, timeout=limit)
+        return subprocess.run(words, capture_output=True, text=True, timeout=limit)
     except subprocess.TimeoutExpired:
         return None
 
 
-def is_right(file, text, answer_file):
+def is_right(file: str, text: str, answer_file: str) -> bool:
     with open(answer_file, "w") as answer:
         answer.write(text)
     checked = output([SOLVE_CLI, "check", file, answer_file], None)
-    return checked.returncode == 0 and checked.stdout == "right\n"
+    return checked is not None and checked.returncode == 0 and checked.stdout == "right\n"
 
 
-def audit_option(given):
+def audit_option(given: argparse.Namespace) -> list[str]:
     return ["--audit"] if given.audit else []
 
 
-def answer_of(run, given):
+def answer_of(run: subprocess.CompletedProcess[str], given: argparse.Namespace) -> Optional[str]:
     """What a run wrote before its audit's line, or None where an audit was asked for and isn't clean."""
     if not given.audit:
         return run.stdout
@@ -74,7 +82,7 @@ def answer_of(run, given):
     return answer if clean and not rest else None
 
 
-def solved(file, seed, given, expected, answer_file, more):
+def solved(file: str, seed: int, given: argparse.Namespace, expected: Optional[str], answer_file: str, more: Sequence[str]) -> Seen:
     """The time, whether there was an answer, and whether the run was wrong; with these options more."""
     options = ["--seed", str(seed), "--nodes", given.nodes, "--workers", given.workers, "--fuel", given.fuel]
     begun = time.monotonic()
@@ -90,7 +98,7 @@ def solved(file, seed, given, expected, answer_file, more):
     return seconds, True, wrong
 
 
-def tell(name, file, given, expected, answer_file, more=()):
+def tell(name: str, file: str, given: argparse.Namespace, expected: Optional[str], answer_file: str, more: Sequence[str] = ()) -> int:
     """Tells of one problem's runs, and answers how many were wrong."""
     runs = [solved(file, seed, given, expected, answer_file, more) for seed in range(1, given.times + 1)]
     times = [seconds for seconds, _, _ in runs]
@@ -104,16 +112,16 @@ def tell(name, file, given, expected, answer_file, more=()):
     return wrong
 
 
-def says_nothing_without_turns(file, given):
+def says_nothing_without_turns(file: str, given: argparse.Namespace) -> bool:
     run = output([SOLVE_CLI, "solve", file, "--turns", "0", *audit_option(given)], 60)
     return run is not None and run.returncode == 4 and answer_of(run, given) == "no answer\n"
 
 
-def problems(given, folder):
+def problems(given: argparse.Namespace, folder: str) -> list[Row]:
     """Each problem's name, file and answer, where that is known."""
     if given.files:
         return [(os.path.basename(file), file, None) for file in given.files]
-    found = []
+    found: list[Row] = []
     for number, (name, text, expected) in enumerate(SMALL):
         file = os.path.join(folder, f"small-{number}.dlx")
         with open(file, "w") as small:
@@ -123,7 +131,7 @@ def problems(given, folder):
     return found + [(os.path.basename(file), file, None) for file in examples]
 
 
-def tell_restarted(given, found, answer_file):
+def tell_restarted(given: argparse.Namespace, found: list[Row], answer_file: str) -> int:
     """Tells of runs in which the first node restarts, and answers how many were wrong."""
     wrong = 0
     for name, file, expected in found:
@@ -133,7 +141,7 @@ def tell_restarted(given, found, answer_file):
     return wrong
 
 
-def main():
+def main() -> None:
     given = words()
     want_program(SOLVE_CLI)
     wrong = 0

@@ -10,6 +10,8 @@ visit less, and numbers that are drawn.
 It wants the program: (cd crates/state_trials && rt run) builds it. The exit status is 0, 1 where two searches differ, 2 for a mistake
 on the command line or where there is no program.
 """
+from __future__ import annotations
+
 import concurrent.futures
 import os
 import re
@@ -22,7 +24,7 @@ STATE_TRIALS = program_of("state_trials")
 AT_ONCE = 2_000
 
 
-def seen_by(seed, count):
+def seen_by(seed: int, count: int) -> list[int]:
     """What the program counts: problems, searches, covers, spent, differ."""
     ran = subprocess.run([STATE_TRIALS, str(seed), str(count)], capture_output=True, text=True)
     numbers = [int(word) for word in re.findall("[0-9]+", ran.stdout)]
@@ -31,7 +33,7 @@ def seen_by(seed, count):
     return numbers
 
 
-def main():
+def main() -> None:
     words = parser_of(__doc__)
     words.add_argument("--problems", metavar="N", type=number_from_one, default=50_000, help="how many problems (default 50000)")
     words.add_argument("--seed", metavar="N", type=number_from_one, default=1, help="of the first process (default 1)")

@@ -20,6 +20,8 @@ It wants the program: (cd crates/solve_cli && rt run -- --version) builds it. Th
 where one was, where an attack sent nothing, or where no run that nobody attacks was right, 2 for a mistake on the command line or where
 there is no program.
 """
+from __future__ import annotations
+
 import argparse
 import collections
 import fcntl
@@ -34,8 +36,16 @@ import sys
 import tempfile
 import threading
 import time
+from collections.abc import Iterator
+from multiprocessing.synchronize import Event
+from typing import Any, Callable, Iterable, Optional
 
-from built import number_from_one, parser_of, SOLVE_CLI, want_program
+from built import number_from_one, parser_of, SOLVE_CLI, want_program, path_of
+
+# a node and an incarnation; a run of the program; what makes the packets of an attack
+Site = tuple[int, int]
+Run = subprocess.Popen[str]
+Attack = Callable[[], Iterable[bytes]]
 
 NODES = 4
 HERE, OTHER_HOST = "127.0.0.1", "127.0.0.2"
@@ -46,12 +56,12 @@ GREATEST = 2**32 - 1
 HELLO, MEMBERS, STEAL, RETURN, ABORT, OVER = 1, 2, 3, 6, 9, 10
 
 
-def packet(kind, sender, receiver, body=b""):
+def packet(kind: int, sender: Site, receiver: Site, body: bytes = b"") -> bytes:
     """A packet of the run's form, from one site to another, each a node and an incarnation."""
     return struct.pack(">HBBBIBI", 0x434E, 1, kind, *sender, *receiver) + body
 
 
-def planted():
+def planted() -> str:
     """The text of a problem: 55 triples that cover 165 items, among 505 random ones."""
     draw = random.Random(3)
     items = [f"i{number}" for number in range(165)]
@@ -61,41 +71,41 @@ def planted():
     return "".join(" ".join(words) + "\n" for words in [items, *triples])
 
 
-def nodes():
+def nodes() -> range:
     return range(1, NODES + 1)
 
 
-def steal_and_return():
+def steal_and_return() -> Iterator[bytes]:
     root = struct.pack(">IIB", 0, 1, 0)
     for node in nodes():
         yield packet(STEAL, (node, 1), (0, 1))
         yield packet(RETURN, (node, 1), (0, 1), root)
 
 
-def over():
+def over() -> list[bytes]:
     return [packet(OVER, (0, 1), (node, 1)) for node in nodes()]
 
 
-def abort():
+def abort() -> list[bytes]:
     root = struct.pack(">II", 0, 1)
     return [packet(ABORT, (0, 1), (node, 1), root) for node in nodes()]
 
 
-def hello():
+def hello() -> list[bytes]:
     return [packet(HELLO, (node, GREATEST), (0, 1)) for node in nodes()]
 
 
-def members():
+def members() -> list[bytes]:
     body = struct.pack(f">B{NODES}I", NODES, *[GREATEST] * NODES)
     return [packet(MEMBERS, (0, 1), (node, 1), body) for node in nodes()]
 
 
-def noise():
+def noise() -> list[bytes]:
     return [random.randbytes(random.randrange(1, 200)) for _ in range(20)]
 
 
 # what is sent, and how long the sender waits between two rounds, in seconds
-ATTACKS = {
+ATTACKS: dict[str, tuple[Any, ...]] = {
     "steal and return": (steal_and_return, 0.001),
     "over": (over, 0.001),
     "abort": (abort, 0.001),
@@ -108,7 +118,7 @@ ATTACKS = {
 }
 
 
-def ports(pid):
+def ports(pid: int) -> list[int]:
     """The ports of the UDP sockets of a process."""
     inodes = set()
     try:
@@ -123,11 +133,11 @@ def ports(pid):
     return [int(row[1].split(":")[1], 16) for row in rows if row[9] in inodes]
 
 
-def attack(sent, run, seconds, attack_of, pause, host=HERE):
+def attack(sent: collections.Counter[str], run: Run, seconds: float, attack_of: Attack, pause: float, host: str = HERE) -> None:
     """Sends the attack's packets to all ports of the run, for so many seconds or until it ends, and counts them in `sent`; from another host
     by the port of one of its sites."""
     own = socket.socket(socket.AF_INET, socket.SOCK_DGRAM)
-    targets = []
+    targets: list[int] = []
     end = time.monotonic() + seconds
     while run.poll() is None and time.monotonic() < end:
         if len(targets) <= NODES:
@@ -148,7 +158,7 @@ def attack(sent, run, seconds, attack_of, pause, host=HERE):
     own.close()
 
 
-def knock(end, sent):
+def knock(end: Event, sent: Any) -> None:
     """Binds one of the few ports after another, and sends from it to all others what a site of the run might: until the end is set."""
     datagrams, own_ports = list(steal_and_return())[:2], list(FEW_PORTS)
     while not end.is_set():
@@ -165,9 +175,9 @@ def knock(end, sent):
                 sent.value += len(FEW_PORTS) * len(datagrams)
 
 
-def one_early_run(given, seed):
+def one_early_run(given: argparse.Namespace, seed: int) -> tuple[float, Optional[str], int]:
     """What `one_run` tells, of a run to which strangers send before it has all its sockets."""
-    end, sent = multiprocessing.Event(), multiprocessing.Value("q", 0)
+    end, sent = multiprocessing.Event(), multiprocessing.Value("q", 0)  # type: Event, Any
     knockers = [multiprocessing.Process(target=knock, args=(end, sent)) for _ in range(KNOCKERS)]
     for knocker in knockers:
         knocker.start()
@@ -179,7 +189,7 @@ def one_early_run(given, seed):
     return *told[:2], sent.value
 
 
-def narrow():
+def narrow() -> None:
     """Leaves the few ports to the network namespace that this process is in, and brings its loopback up."""
     with open("/proc/sys/net/ipv4/ip_local_port_range", "w") as ports_of_system:
         ports_of_system.write(f"{FEW_PORTS[0]} {FEW_PORTS[-1]}")
@@ -189,7 +199,7 @@ def narrow():
         fcntl.ioctl(any_socket, set_flags, struct.pack("16sh14x", b"lo", flags | is_up))
 
 
-def in_namespace(given):
+def in_namespace(given: argparse.Namespace) -> bool:
     """Runs this script in a network namespace of its own for the early attack alone, and answers whether none of its runs was bad; so it does
     where there can be no namespace."""
     unshare = ["unshare", "--user", "--map-root-user", "--net"]
@@ -206,9 +216,10 @@ def in_namespace(given):
     return subprocess.run([*unshare, sys.executable, os.path.abspath(__file__), *words]).returncode == 0
 
 
-def one_run(given, name, seed):
+def one_run(given: argparse.Namespace, name: Optional[str], seed: int) -> tuple[float, Optional[str], int]:
     """The seconds that a run took, its output, which is none where it was given up, and how many packets strangers sent."""
-    begun, sent = time.monotonic(), collections.Counter()
+    begun = time.monotonic()
+    sent: collections.Counter[str] = collections.Counter()
     words = [given.program, "solve", given.problem, "--nodes", str(NODES), "--workers", "2", "--seed", str(seed)]
     if given.audit:
         words.append("--audit")
@@ -216,7 +227,7 @@ def one_run(given, name, seed):
     if name:
         threading.Thread(target=attack, args=(sent, run, given.length, *ATTACKS[name]), daemon=True).start()
     try:
-        text = run.communicate(timeout=given.limit)[0]
+        text: Optional[str] = run.communicate(timeout=given.limit)[0]
     except subprocess.TimeoutExpired:
         run.kill()
         run.communicate()
@@ -224,7 +235,7 @@ def one_run(given, name, seed):
     return time.monotonic() - begun, text, sent["packets"]
 
 
-def judged(given, text, answer_file):
+def judged(given: argparse.Namespace, text: Optional[str], answer_file: str) -> str:
     if text is None:
         return "given up"
     if given.audit:
@@ -241,15 +252,15 @@ def judged(given, text, answer_file):
     return "right" if is_right else "wrong"
 
 
-def columns(given):
+def columns(given: argparse.Namespace) -> list[str]:
     """What a run may come to."""
     return ["right", "no answer", "wrong", "given up"] + (["unclean"] if given.audit else [])
 
 
-def row(given, name, answer_file):
+def row(given: argparse.Namespace, name: Optional[str], answer_file: str) -> bool:
     """Runs all times under one attack, prints its row, and answers whether none was wrong or given up, and some were as they had to be."""
     counts = dict.fromkeys(columns(given), 0)
-    seconds, sent = [], 0
+    seconds, sent = list[float](), 0
     for seed in range(given.times):
         took, text, packets = one_early_run(given, seed) if name == EARLY else one_run(given, name, seed)
         counts[judged(given, text, answer_file)] += 1
@@ -262,12 +273,12 @@ def row(given, name, answer_file):
     return counts["wrong"] == counts["given up"] == 0 and (sent if name else counts["right"]) > 0
 
 
-def main():
+def main() -> None:
     parser = parser_of(__doc__)
     parser.add_argument("--times", type=number_from_one, default=20, help="how often each attack is tried (default 20)")
     parser.add_argument("--limit", type=float, default=20, help="after how many seconds a run is given up (default 20)")
     parser.add_argument("--length", type=float, default=1, help="for how many seconds a run is attacked (default 1)")
-    parser.add_argument("--program", type=os.path.abspath, default=SOLVE_CLI, help="the program, in place of the built one")
+    parser.add_argument("--program", type=path_of, default=SOLVE_CLI, help="the program, in place of the built one")
     parser.add_argument("--problem", help="a file with a cover (default: one of 165 items)")
     parser.add_argument("--only", choices=[*ATTACKS, EARLY], help="this attack alone")
     parser.add_argument("--inside", action="store_true", help=argparse.SUPPRESS)

@@ -11,34 +11,39 @@ a problem with a cover, refused files, programs that are none, and one whose rea
 It wants the program: (cd crates/solve_cli && rt run -- --version) builds it. The last line is 'N passed, M failed'. The exit status is 0 where all
 passed, 1 where something failed, 2 for a mistake on the command line or where there is no program.
 """
+from __future__ import annotations
+
 import itertools
 import os
 import random
-import re
 import subprocess
 import sys
 import tempfile
+from collections.abc import Iterator, Sequence
+from typing import Optional
 from xml.etree import ElementTree
 
 from built import number_from_one, parser_of, SOLVE_CLI, TOP, want_program
 from expected import Trial
-from plain_search import clash, read, search
+from plain_search import Numbered, clash, read, search
 from try_search import random_text
 
 LETTERS = os.path.join(TOP, "examples", "letters.dlx")
 PATH = 201
+# what plain_search.py reads
+Problem = tuple[list[bytes], int, list[Numbered], int]
 trial = Trial()
 expect = trial.expect
 
 
-def run(*words, text=None):
+def run(*words: str, text: Optional[str] = None) -> tuple[int, list[str], list[str]]:
     """The exit status, the lines of the standard output and those of standard error."""
     script = os.path.join(TOP, "scripts", "why_none.py")
     ended = subprocess.run([sys.executable, script, *words], input=text, capture_output=True, text=True, timeout=300)
     return ended.returncode, ended.stdout.splitlines(), ended.stderr.splitlines()
 
 
-def is_covered(problem, kept):
+def is_covered(problem: Problem, kept: Sequence[int]) -> bool:
     """Whether some options have each of these items once, and agree on secondary ones."""
     names, primary, options, _ = problem
     order = {item: place for place, item in enumerate([*kept, *range(primary, len(names))])}
@@ -46,29 +51,29 @@ def is_covered(problem, kept):
     return search(len(kept), [option for option in left if min(option, default=len(kept)) < len(kept)], [])[0] is not None
 
 
-def reasons(problem, kept):
+def reasons(problem: Problem, kept: Sequence[int]) -> Iterator[str]:
     """The lines that have to say why these items can't be covered together."""
     names, primary, options, _ = problem
     by = {item: [option for option in options if item in option] for item in kept}
     for item in kept:
         if not by[item]:
             yield f"no option names '{names[item].decode()}'"
-    for one, other in itertools.combinations(filter(by.get, kept), 2):
+    for one, other in itertools.combinations([item for item in kept if by[item]], 2):
         if all(a is not b and clash(primary, a, b) for a in by[one] for b in by[other]):
             yield f"each option that names '{names[one].decode()}' clashes with each that names '{names[other].decode()}'"
 
 
-def is_right(text):
+def is_right(text: str) -> bool:
     """Whether what is said of a problem without a cover is so."""
     problem = read(text.encode())
     status, (head, *lines), errors = run("-", "--search", text=text)
-    count = int(re.match(r"(\d+) primary items? of ", head)[1])
-    kept = [problem[0].index(re.match(r"  (\S+): in ", line)[1].encode()) for line in lines[:count]]
+    count = int(head.partition(" primary item")[0])
+    kept = [problem[0].index(line.strip().partition(": in ")[0].encode()) for line in lines[:count]]
     least = not is_covered(problem, kept) and all(is_covered(problem, [other for other in kept if other != item]) for item in kept)
     return (status, errors) == (0, []) and least and lines[count:] == list(reasons(problem, kept))
 
 
-def random_problems(count):
+def random_problems(count: int) -> None:
     draw, found = random.Random(11), 0
     while found < count:
         text = random_text(draw)
@@ -78,11 +83,11 @@ def random_problems(count):
             expect(f"the items of\n{text}", is_right(text))
 
 
-def path():
+def path() -> None:
     """Items in a row, an odd number of them, and options of two neighbours."""
     names = [f"i{k}" for k in range(PATH)]
-    lines = [" ".join(names)] + [f"{one} {other}" for one, other in zip(names, names[1:])]
-    status, lines, _ = run("-", "--search", text="\n".join(lines))
+    text = [" ".join(names)] + [f"{one} {other}" for one, other in zip(names, names[1:])]
+    status, lines, _ = run("-", "--search", text="\n".join(text))
     expect("a path", status == 0 and len(lines) == 1 + PATH and lines[0].startswith(f"{PATH} primary items of {PATH} "))
 
 
@@ -105,17 +110,17 @@ REASONS = [
 ]
 
 
-def texts_of(svg):
+def texts_of(svg: str) -> list[str]:
     """The texts of a picture."""
-    return [text.text for text in ElementTree.fromstring(svg).iter("{http://www.w3.org/2000/svg}text")]
+    return [text.text or "" for text in ElementTree.fromstring(svg).iter("{http://www.w3.org/2000/svg}text")]
 
 
-def content(path):
+def content(path: str) -> str:
     with open(path, encoding="utf-8") as opened:
         return opened.read()
 
 
-def known_reasons(folder):
+def known_reasons(folder: str) -> None:
     picture = os.path.join(folder, "picture.svg")
     for text, words, drawn in REASONS:
         expect(f"{words[0]}: {run('-', text=text)}", run("-", text=text) == (0, words, []))
@@ -137,7 +142,7 @@ def known_reasons(folder):
     expect("a reason that doesn't hold", (status, lines) == (2, []) and "doesn't hold" in errors[-1])
 
 
-def odd_words(folder):
+def odd_words(folder: str) -> None:
     text = os.path.join(folder, "text")
     with open(text, "w", encoding="ascii") as opened:
         opened.write("no program\nx\n")
@@ -152,7 +157,7 @@ def odd_words(folder):
         expect(program, run(LETTERS, "--program", program) == (1, [f"the program ended with status {status}"], []))
 
 
-def main():
+def main() -> int:
     parser = parser_of(__doc__)
     parser.add_argument("count", metavar="COUNT", type=number_from_one, nargs="?", default=100, help="how many problems (default 100)")
     count = parser.parse_args().count

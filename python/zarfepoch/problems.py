@@ -1,7 +1,6 @@
 """Problems of exact covering, as items and options of Python, and how the program answers them."""
 from __future__ import annotations
 
-import math
 import os
 import subprocess
 from collections.abc import Hashable, Iterable, Iterator

@@ -1,7 +1,6 @@
 """Texts in which people bring puzzles: how files are read, how a mistake in one is reported with its line, and what is made of them."""
 from __future__ import annotations
 
-import os
 import re
 import sys
 from dataclasses import dataclass, field

@@ -2,7 +2,6 @@
 from __future__ import annotations
 
 import functools
-import itertools
 import re
 
 from .picture_base import Cell, CELL, Kind, Names

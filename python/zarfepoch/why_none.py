@@ -19,7 +19,6 @@ run, 3 for a file that can't be read or is refused, or a picture that can't be w
 from __future__ import annotations
 
 import itertools
-import os
 import subprocess
 from collections.abc import Iterator
 from typing import Callable, Optional
