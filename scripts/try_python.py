@@ -102,7 +102,7 @@ def errors() -> None:
     why = raised(zarfepoch.ProblemError, lambda: Problem.parse(b"a b\na c\n"))
     expect(f"the line: {why!r}", why and (why.line, why.item) == (2, "c"))
     raised(FileNotFoundError, lambda: Problem.read(os.path.join(TOP, "nothing")))
-    hard = langford(15)
+    hard = langford(17)
     for late in (zarfepoch.TimeIsUp, TimeoutError, zarfepoch.Error):
         begun = time.monotonic()
         raised(late, lambda: hard.solve(seconds=0.3))
@@ -135,7 +135,7 @@ def with_program(path: str, call: Callable[[], object]) -> None:
 
 
 def langford(size: int) -> Problem:
-    """Langford pairs of 1 to a number; with 13, 14, 17 or 18 there are none, and a search takes long."""
+    """Langford pairs of 1 to a number. Of 17 there are none, and a search takes an hour."""
     problem = Problem([*range(1, size + 1), *(("s", place) for place in range(2 * size))])
     for number in range(1, size + 1):
         for place in range(2 * size - number - 1):
@@ -199,7 +199,7 @@ def installed(folder: str) -> None:
 
 def killed(folder: str) -> None:
     """A Python that is killed while the program searches leaves no file behind."""
-    code = "import sys; sys.path.insert(0, sys.argv[1]); import try_python; print(flush=True); try_python.langford(15).solve()"
+    code = "import sys; sys.path.insert(0, sys.argv[1]); import try_python; print(flush=True); try_python.langford(17).solve()"
     words, environment = [sys.executable, "-c", code, os.path.join(TOP, "scripts")], {**os.environ, "TMPDIR": folder}
     with subprocess.Popen(words, stdout=subprocess.PIPE, env=environment, cwd=folder, start_new_session=True) as run:
         assert run.stdout

@@ -264,6 +264,11 @@ def damaged_parts(top: str) -> None:
         said = joined(folder, top)
         expect(f"{path} is missing: {said}", (said.status, said.output) == (3, "") and path in said.errors)
         write(path, was)
+    was = text_of(listed)
+    for number in ("7", "999999", "0", "x"):
+        write(listed, was.replace("at least 6", f"at least {number}"))
+        expect(f"a list of {number} parts", joined(folder, top).status == 3)
+    write(listed, was)
     expect("all as it was", joined(folder, top) == (1, "none\n", ""))
     shutil.rmtree(folder)
 

@@ -22,7 +22,7 @@ from typing import NamedTuple, Optional
 
 from .command_words import parser_of
 from .cover_files import Answer, Unreadable, complain, lines_of, read_bytes, refusal, run, shown, stop
-from .search_parts import LIST, WHOLE, Prefix, Tree, answer_name, cover_text, list_text, part_name, path_in, read_tree, split, texts_of
+from .search_parts import LIST, MOST_PARTS, WHOLE, Prefix, Tree, answer_name, cover_text, list_text, part_name, path_in, read_tree, split, texts_of
 
 # so many faults are named; of the others only the number is given
 MOST_NAMED = 20
@@ -95,7 +95,7 @@ def number_in(folder: str) -> int:
         head = re.match(rb"at least ([1-9][0-9]{0,5}) parts\n", read_bytes(path))
     except Unreadable as why:
         stop(why, 3)
-    if not head:
+    if not head or int(head[1]) > MOST_PARTS:
         stop(f"{path} was changed: split.py writes something else", 3)
     return int(head[1])
 
