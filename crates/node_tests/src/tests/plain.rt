@@ -1,7 +1,4 @@
 //! Runs over links that lose nothing.
-//!
-//! Of the bugs of `site_links` that are kept outside the gate, `any_number_of_nodes_and_workers` finds `a_watched_search_is_stopped`: a
-//! search is looked at before its first visit where 1,024 divides its fuel.
 
 ghost use Rattle.std.specs.Prelude.{◌≤◌};
 
