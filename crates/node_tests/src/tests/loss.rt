@@ -18,7 +18,7 @@ const PLAN: Plan = Plan {
     fuel: 1,
     seed: 1,
     turns: 1_000_000,
-    quiet: 6_000,
+    quiet: 600_000,
 };
 
 #[test]

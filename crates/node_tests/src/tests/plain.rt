@@ -18,7 +18,7 @@ fn plan_of(number: u8) -> Plan
         fuel: if number < 12 { 1 } else { 1024 },
         seed: u64::from(number),
         turns: 1_000_000,
-        quiet: 6_000,
+        quiet: 600_000,
     }
 }
 
