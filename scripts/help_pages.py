@@ -19,6 +19,22 @@ from dataclasses import dataclass, field
 from built import SOLVE_CLI, parser_of, stop, want_program
 
 NAME = "solve_cli"
+# what the help doesn't say of the statuses that all commands have in common, in the order of their numbers
+STATUSES = {
+    "0": "a cover, or the answer is right", "1": "there is none, or the answer is wrong", "2": "a mistake on the command line",
+    "3": "the file was refused, or a device failed", "4": "no answer, or no reason found", "5": "out of memory",
+    "6": "the books of a run with --audit are not found to be one run"}
+FORMAT = [
+    "The first line that is neither blank nor a comment names the items; those behind a word | are secondary. Each later line is an option, a list of "
+    "items. A comment begins with the word |. In an option a secondary item may have a colour, as in x:red.",
+    "An exact cover is a choice of options in which each primary item stands exactly once, and each secondary item at most once or always with the same "
+    "colour. The answer is the line \"cover k\" and its k options, or \"none\"."]
+EXAMPLES = {
+    "solve_cli alone sudoku.dlx": "searches on one thread",
+    "solve_cli alone --unlimited board.dlx": "searches until it is decided",
+    "solve_cli solve --nodes 1 --workers 4 school.dlx > plan": "searches with four threads",
+    "solve_cli check school.dlx plan": "tests what that wrote",
+    "printf 'a b c\\na b\\nc\\nb c\\n' | solve_cli alone -": "reads a problem of three options from standard input"}
 
 
 @dataclass
@@ -104,6 +120,10 @@ def man_page(top: Help, commands: dict[str, Help]) -> str:
     for name, help in commands.items():
         lines += [f".SH {name.upper()}", quoted(help.about) + ".", *man_rows(help)]
         lines += [f".PP\n{quoted(paragraph)}" for paragraph in help.tail]
+    lines += [".SH EXIT STATUS", *(f".TP\n.B {status}\n{quoted(text)}" for status, text in STATUSES.items())]
+    lines += [".SH FILE FORMAT", *(f".PP\n{quoted(paragraph)}" for paragraph in FORMAT)]
+    lines += [".SH EXAMPLES", *(f".TP\n.B {quoted(words)}\n{quoted(text)}" for words, text in EXAMPLES.items())]
+    lines += [".SH SEE ALSO", ".BR parallel (1)", "for searches that are split into parts"]
     return "\n".join(lines) + "\n"
 
 
@@ -119,6 +139,7 @@ def bash_completion(top: Help, commands: dict[str, Help]) -> str:
     fi
     case "$before" in {valued}) COMPREPLY=(); return ;; esac
     case "${{COMP_WORDS[1]}}" in
+        help) COMPREPLY=($(compgen -W "{' '.join(commands)}" -- "$word")); return ;;
 {cases}
     esac
     case "$word" in
@@ -157,6 +178,7 @@ _{NAME}() {{
     case $state in
         command) local commands=({named}); _describe command commands ;;
         argument) case $line[1] in
+        help) local commands=({named}); _describe command commands ;;
 {cases}        esac ;;
     esac
 }}

@@ -156,6 +156,14 @@ def installing(folder: str) -> None:
         ended = subprocess.run(["sh", script, *words], env={**os.environ, "DESTDIR": folder}, capture_output=True, text=True)
         written = [f"{folder}{prefix}/{file}" for file in files]
         expect(f"install.sh {words}", ended.returncode == 0 and ended.stdout.split() == written and all(map(os.path.isfile, written)))
+    with open(f"{folder}/opt/share/other", "w", encoding="ascii"):
+        pass
+    for words, prefix, left in (["--remove"], "/usr/local", []), (["/opt", "--remove"], "/opt", ["other"]):
+        ended = subprocess.run(["sh", script, *words], env={**os.environ, "DESTDIR": folder}, capture_output=True, text=True)
+        gone = [f"{folder}{prefix}/{file}" for file in files]
+        there = [name for _, _, names in os.walk(folder + prefix) for name in names]
+        expect(f"install.sh {words}", ended.returncode == 0 and ended.stdout.split() == gone and there == left and not os.path.exists(f"{folder}{prefix}/bin"))
+    subprocess.run(["sh", script, "/opt"], env={**os.environ, "DESTDIR": folder}, capture_output=True, check=True)
     room, stopped = os.path.join(folder, "room"), os.path.join(folder, "python3")
     os.makedirs(room)
     with open(stopped, "w", encoding="ascii") as file:
@@ -169,6 +177,9 @@ def installing(folder: str) -> None:
     complete = 'source "$0"; COMP_WORDS=(solve_cli alone a); COMP_CWORD=2; _solve_cli; printf "%s\\n" "${COMPREPLY[@]}"'
     ended = subprocess.run(["bash", "-c", complete, f"{folder}/opt/{files[2]}"], cwd=room, capture_output=True, text=True)
     expect("files are completed", sorted(ended.stdout.splitlines()) == ["a b", "a*c", "axc"])
+    helped = complete.replace("alone a)", "help so)")
+    ended = subprocess.run(["bash", "-c", helped, f"{folder}/opt/{files[2]}"], cwd=room, capture_output=True, text=True)
+    expect("help completes commands", ended.stdout.split() == ["solve"])
     environment = {**os.environ, "DESTDIR": folder, "CDPATH": TOP}
     ended = subprocess.run(["sh", "scripts/install.sh", "/path"], cwd=TOP, env=environment, capture_output=True, text=True)
     expect("install.sh with CDPATH", ended.returncode == 0 and os.path.isfile(os.path.join(folder, "path", files[0])))
