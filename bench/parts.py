@@ -16,6 +16,7 @@ mistake on the command line or where something is missing.
 from __future__ import annotations
 
 import argparse
+import contextlib
 import glob
 import os
 import random
@@ -69,13 +70,22 @@ def answers(folder: str) -> int:
     return len(glob.glob(os.path.join(folder, "*.answer")))
 
 
+def kill_session(leader: int) -> None:
+    """Kills all processes of a session: GNU parallel gives each job a process group of its own."""
+    for path in glob.glob("/proc/[0-9]*/stat"):
+        with contextlib.suppress(FileNotFoundError, ProcessLookupError), open(path, encoding="utf-8", errors="replace") as file:
+            fields = file.read().rpartition(")")[2].split()
+            if int(fields[3]) == leader:
+                os.kill(int(path.split("/")[2]), signal.SIGKILL)
+
+
 def killed_after(words: list[str], folder: str, count: int) -> float:
     """Runs a command until so many parts have an answer, kills it with all that it runs, and answers how many seconds that took."""
     begun = time.monotonic()
     with subprocess.Popen(words, stderr=subprocess.DEVNULL, start_new_session=True) as run:
         while answers(folder) < count and run.poll() is None:
             time.sleep(0.1)
-        os.killpg(run.pid, signal.SIGKILL)
+        kill_session(run.pid)
     return time.monotonic() - begun
 
 

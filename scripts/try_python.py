@@ -15,6 +15,7 @@ from __future__ import annotations
 
 import contextlib
 import doctest
+import itertools
 import os
 import random
 import shutil
@@ -70,6 +71,13 @@ def random_problem(draw: random.Random) -> Problem:
     return problem
 
 
+def all_covers(problem: Problem) -> set[frozenset[int]]:
+    """All exact covers, by trying all sets of options. Options without a primary item are in none: the program passes them over."""
+    kept = [place for place, option in enumerate(problem) if any(problem.is_primary(item) for item in option)]
+    sets = itertools.chain.from_iterable(itertools.combinations(kept, size) for size in range(1, len(problem.primary) + 1))
+    return {frozenset(places) for places in sets if problem.is_cover(places)}
+
+
 def random_answers() -> None:
     for seed in range(100):
         problem = random_problem(random.Random(seed))
@@ -79,6 +87,9 @@ def random_answers() -> None:
         for chosen in ways:
             expect(f"{list(problem)}: {chosen}", (chosen is None) == (wanted is None) and (chosen is None or problem.is_cover(chosen)))
             expect("places in order", chosen is None or chosen == sorted(set(chosen)))
+        if seed < 40:
+            listed = [frozenset(cover) for cover in problem.covers()]
+            expect(f"all covers of {list(problem)}: {listed}", len(set(listed)) == len(listed) and set(listed) == all_covers(problem))
         reason = problem.reason()
         expect(f"a reason of {list(problem)}", reason is None or wanted is None)
 
@@ -194,7 +205,8 @@ def installed(folder: str) -> None:
     left = [name for _, _, names in os.walk(place) for name in names if "zarfepoch" in name]
     expect(f"nothing is left: {left}", not left)
     ran(python, "-m", "pip", "install", "--editable", TOP, cwd=elsewhere, env=offline)
-    expect("installed to be edited", ran(python, "-c", CALL, cwd=elsewhere).rstrip().endswith(os.path.join(TOP, "python", "zarfepoch", "__init__.py")))
+    ours = os.path.join(TOP, "python", "zarfepoch", "__init__.py")
+    expect("installed to be edited", ran(python, "-c", CALL, cwd=elsewhere).rstrip().endswith(ours))
 
 
 def killed(folder: str) -> None:

@@ -120,6 +120,24 @@ class Problem:
             return None
         raise failure(status, answer[-1] if status == 6 and answer else why)
 
+    def covers(self, seconds: Optional[float] = None) -> Iterator[list[int]]:
+        """Each exact cover once, as the places of its options. Each is found by a search of its own, which may take so many seconds."""
+        found: list[list[int]] = []
+        while True:
+            cover = self._lacking(found).solve(seconds)
+            if cover is None:
+                return
+            found.append([place for place in cover if place < len(self)])
+            yield found[-1]
+
+    def _lacking(self, covers: list[list[int]]) -> Problem:
+        """The problem of the covers that lack an option of each of these: each has an item of its own, covered by barring one of its options."""
+        lacks = [object() for _ in covers]
+        bars = {place: object() for cover in covers for place in cover}
+        used = [[*option, *([Colored(bars[place], "used")] if place in bars else [])] for place, option in enumerate(self)]
+        barred = [[item, Colored(bars[place], "barred")] for item, cover in zip(lacks, covers) for place in cover]
+        return Problem([*self.primary, *lacks], [*self.secondary, *bars.values()], used + barred)
+
     def reason(self, seconds: Optional[float] = None) -> Optional[Reason]:
         """Why there is no cover, if the program finds a reason without a search. None says nothing."""
         status, answer, why = self._ask(["why", "-"], self._numbered_lines(), seconds)
