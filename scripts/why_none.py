@@ -1,7 +1,5 @@
 #!/usr/bin/env python3
 """Runs zarfepoch.why_none, a module of the folder python: --help describes it."""
-from __future__ import annotations
-
 import os
 import sys
 
