@@ -6,6 +6,7 @@ from __future__ import annotations
 
 import base64
 import hashlib
+import io
 import os
 import re
 import tarfile
@@ -88,4 +89,7 @@ def build_sdist(sdist_directory: str, config_settings: Settings = None) -> str:
     with tarfile.open(os.path.join(sdist_directory, name), "w:gz", format=tarfile.PAX_FORMAT) as archive:
         for path in ("pyproject.toml", "python/README.md", "python/build_backend.py", *(f"python/{path}" for path in modules())):
             archive.add(os.path.join(os.path.dirname(HERE), path), f"{stem()}/{path}")
+        entry, text = tarfile.TarInfo(f"{stem()}/PKG-INFO"), metadata()
+        entry.size = len(text)
+        archive.addfile(entry, io.BytesIO(text))
     return name

@@ -204,7 +204,11 @@ def installed(folder: str) -> None:
     ran(python, "-m", "pip", "uninstall", "--yes", "zarfepoch", cwd=elsewhere, env=offline)
     left = [name for _, _, names in os.walk(place) for name in names if "zarfepoch" in name]
     expect(f"nothing is left: {left}", not left)
-    ran(python, "-m", "pip", "install", "--editable", TOP, cwd=elsewhere, env=offline)
+    backend = "import sys; sys.path.insert(0, sys.argv[1]); import build_backend; print(build_backend.build_sdist(sys.argv[2]))"
+    archive = ran(python, "-c", backend, os.path.join(TOP, "python"), elsewhere).strip()
+    ran(python, "-m", "pip", "install", os.path.join(elsewhere, archive), cwd=elsewhere, env=offline)
+    expect("installed from an archive", ran(python, "-c", CALL, cwd=elsewhere).startswith(f"{version} [1] {place}"))
+    ran(python, "-m", "pip", "install", "--force-reinstall", "--editable", TOP, cwd=elsewhere, env=offline)
     ours = os.path.join(TOP, "python", "zarfepoch", "__init__.py")
     expect("installed to be edited", ran(python, "-c", CALL, cwd=elsewhere).rstrip().endswith(ours))
 
