@@ -11,6 +11,8 @@ Each reason is added up by `scripts/check_reason.py`.
 It wants the program: (cd crates/solve_cli && rt run -- --version) builds it. The exit status is 0, 1 where a reason doesn't hold or two
 come to other outcomes, 2 for a mistake on the command line or where there is no program.
 """
+from __future__ import annotations
+
 import os
 import random
 import resource
@@ -18,12 +20,13 @@ import subprocess
 import sys
 import tempfile
 import time
-import typing
+from collections.abc import Iterator
+from typing import NamedTuple, Optional
 
 HERE = os.path.dirname(os.path.abspath(__file__))
-sys.path[:0] = [os.path.join(HERE, "..", folder) for folder in ("examples", "scripts")]
-import generate  # noqa: E402
+sys.path.insert(0, os.path.join(HERE, "..", "scripts"))
 from built import SOLVE_CLI, TOP, number_from_one, parser_of, stop, want_program  # noqa: E402
+from zarfepoch import generate  # noqa: E402
 
 SCRIPTS = os.path.join(TOP, "scripts")
 EXAMPLES = ("langford-5", "mutilated-chessboard", "tetrominoes-4x5")
@@ -39,7 +42,7 @@ FAMILIES = ("dominoes-20x20", "dominoes-30x30", "langford-13", "langford-14", "l
 
 # ---- what the folder of instances lacks
 
-def straight(name, side, length):
+def straight(name: str, side: int, length: int) -> None:
     """Straight pieces of so many cells on a square board, which lacks its first cell."""
     names = generate.names_of(generate.rectangle(side, side) - {(0, 0)})
     rows = [[(row, column + k) for k in range(length)] for row in range(side) for column in range(side - length + 1)]
@@ -48,14 +51,14 @@ def straight(name, side, length):
     generate.write(name, "none", list(names.values()), [], options)
 
 
-def tetrominoes(name, side):
+def tetrominoes(name: str, side: int) -> None:
     """Tetrominoes like a T on a square board."""
     cells = generate.rectangle(side, side)
     options = [option[1:] for option in generate.placements({"T": generate.TETROMINOES["T"]}, cells)]
     generate.write(name, "none", list(generate.names_of(cells).values()), [], options)
 
 
-def lessons(name, hours, periods):
+def lessons(name: str, hours: list[list[int]], periods: int) -> None:
     """A timetable: each row has a class's hours with each teacher."""
     names = {f"{who}-{teacher}-{hour}": (f"t{teacher}", f"c{who}")
              for who, row in enumerate(hours) for teacher, count in enumerate(row) for hour in range(count)}
@@ -64,7 +67,7 @@ def lessons(name, hours, periods):
     generate.write(name, "none", list(names), busy, options)
 
 
-def quasigroup(name, order, filled, seed):
+def quasigroup(name: str, order: int, filled: int, seed: int) -> None:
     """A square of so many rows and numbers in which so many cells are filled one by one, by what no row and column has; each row and
     column is to have each number."""
     draw = random.Random(seed)
@@ -79,7 +82,7 @@ def quasigroup(name, order, filled, seed):
     generate.write(name, f"{len(free)} items are free", sorted(free), [], options)
 
 
-def limits(name, size):
+def limits(name: str, size: int) -> None:
     """The most items and options that a file may have: options of so many items, some of which make up a cover."""
     draw = random.Random(size)
     items = [f"i{k}" for k in range(1000)]
@@ -90,7 +93,7 @@ def limits(name, size):
     generate.write(name, "a cover, among many options", items, [], options)
 
 
-def write_instances(folder):
+def write_instances(folder: str) -> None:
     """All instances."""
     subprocess.run([sys.executable, os.path.join(HERE, "instances.py"), folder], check=True)
     generate.HERE = folder
@@ -114,7 +117,7 @@ def write_instances(folder):
 
 # ---- the table
 
-class Ran(typing.NamedTuple):
+class Ran(NamedTuple):
     """What a command wrote, its status, and its processor and wall seconds."""
     text: str
     status: int
@@ -122,7 +125,7 @@ class Ran(typing.NamedTuple):
     wall: float
 
 
-def run_once(words, seconds):
+def run_once(words: list[str], seconds: int) -> Optional[Ran]:
     """What came of a command; none where it doesn't end in time."""
     before, began = resource.getrusage(resource.RUSAGE_CHILDREN), time.monotonic()
     try:
@@ -133,9 +136,9 @@ def run_once(words, seconds):
     return Ran(ran.stdout, ran.returncode, after.ru_utime + after.ru_stime - before.ru_utime - before.ru_stime, wall)
 
 
-def run(words, seconds, times):
+def run(words: list[str], seconds: int, times: int) -> Optional[Ran]:
     """The same, with the least seconds of several runs."""
-    best = None
+    best: Optional[Ran] = None
     for _ in range(times):
         found = run_once(words, seconds)
         if found is None:
@@ -145,7 +148,7 @@ def run(words, seconds, times):
     return best
 
 
-def reason_of(file, text):
+def reason_of(file: str, text: str) -> tuple[str, str]:
     """The kind of a reason in a word or two, and how many items have a number; ends where it doesn't hold."""
     checked = subprocess.run([sys.executable, os.path.join(SCRIPTS, "check_reason.py"), file, "-"], input=text, capture_output=True, text=True)
     if checked.returncode:
@@ -154,22 +157,22 @@ def reason_of(file, text):
     return kind.replace("weights modulo", "modulo"), f"{len(lines):,}"
 
 
-def cells_of(file, seconds, times):
+def cells_of(file: str, seconds: int, times: int) -> Iterator[str]:
     """The cells of an instance's row."""
     why = run([SOLVE_CLI, "why", file], seconds, times)
     alone = run([SOLVE_CLI, "alone", file, "--unlimited"], seconds, times)
     script = run([sys.executable, os.path.join(SCRIPTS, "why_none.py"), file], seconds, times)
-    has_reason = why is not None and why.status == 1
-    if has_reason and alone and alone.status != 1:
+    reason = why.text if why and why.status == 1 else None
+    if reason is not None and alone and alone.status != 1:
         sys.exit(f"{file}: a reason, and a cover")
     yield alone.text.split()[0] if alone else "-"
-    yield from reason_of(file, why.text) if has_reason else ("-", "-")
+    yield from reason_of(file, reason) if reason is not None else ("-", "-")
     yield f"{why.processor:.2f}" if why else "-"
     yield f"{alone.wall:.2f}" if alone else "-"
     yield f"{script.processor:.2f}" if script else "-"
 
 
-def main():
+def main() -> None:
     words = parser_of(__doc__)
     words.add_argument("--seconds", metavar="N", type=number_from_one, default=60, help="how long each may take (default 60)")
     words.add_argument("--times", metavar="N", type=number_from_one, default=3, help="how often each is timed (default 3)")
