@@ -40,6 +40,7 @@ SLOW = {
     "audit/the_digest_is_constant": "bench/audits.py",
     "audit/the_path_forgets": "bench/audits.py",
     "run_book/idle_steps_are_never_shared": "bench/audits.py",
+    "udp_node/the_only_worker_has_a_limit": "bench/solve.py",
 }
 # a bug's crate and name, the test's crate and the test
 Claim = tuple[str, str, str, str]

@@ -8,7 +8,7 @@ ghost use Rattle.site_links.specs.Links.{failed_once};
 
 use super::{NOTHING, ROWS, settings, solve_over};
 use cover_engines::{Loopback, Network, links};
-use packet_wire::{Body, Packet, write_packet};
+use packet_wire::{Body, Packet, is_well_formed, write_packet};
 use run_settings::Request;
 use spawn_frame::Site;
 use std::alloc::{AllocError, Global};
@@ -40,8 +40,8 @@ struct Odd {
     has_received: bool,
 }
 
-/// What the registry tells this node where there is no work, though it was not asked.
-fn forged(alloc: Global, node: u8) -> Result<Vec<u8>, AllocError> {
+/// What the registry tells this node where there is no work, though it was not asked. None for the registry, or where memory runs out.
+fn forged(alloc: Global, node: u8) -> Option<Vec<u8>> {
     let packet = Packet {
         from: Site {
             node: 0,
@@ -53,9 +53,12 @@ fn forged(alloc: Global, node: u8) -> Result<Vec<u8>, AllocError> {
         },
         body: Body::NoWork,
     };
+    if !is_well_formed(&packet) {
+        return None;
+    }
     let mut bytes = Vec::new(alloc);
-    write_packet(alloc, &packet, &mut bytes)?;
-    Ok(bytes)
+    write_packet(alloc, &packet, &mut bytes).ok()?;
+    Some(bytes)
 }
 
 impl Odd {
@@ -65,7 +68,7 @@ impl Odd {
     {
         let is_first = !self.has_received;
         self.has_received = true;
-        is_first && self.node > 0 && self.wrong == Wrong::Forging
+        is_first && self.wrong == Wrong::Forging
     }
 }
 
@@ -85,7 +88,7 @@ impl Link for Odd {
 
     fn receive<R: Wait>(&mut self, rt: &R, into: &mut [u8]) -> Result<Option<usize>, LinkFault> {
         if self.forges()
-            && let Ok(bytes) = forged(self.alloc, self.node)
+            && let Some(bytes) = forged(self.alloc, self.node)
         {
             let count = bytes.len().min(into.len());
             into[..count].copy_from_slice(&bytes[..count]);
