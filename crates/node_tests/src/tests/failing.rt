@@ -125,7 +125,7 @@ fn goes_on<R: Threads + Wait + Clock + Sync>(
     let plan = Plan {
         workers,
         nodes: 1,
-        quiet: 6_000,
+        quiet: 600_000,
         ..PLAN
     };
     let failed = Arc::new(alloc, AtomicU64::new(0))?;
