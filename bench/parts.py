@@ -7,8 +7,9 @@ Each instance is split into at least N parts (default 200). GNU parallel searche
 once half of the parts have an answer; then the same command goes on. The table has the seconds of both runs, those of all parts one by one and of the
 greatest one, and whether the joined answer is right. With --beside, `alone` and `solve --nodes 1` with so many workers are timed too.
 
-`fives` has options of five of its items, drawn at random, and no cover, since five doesn't divide their number. `late` has a cover of options that
-stand last in the file, so that the search meets them last. `short` is a smaller `fives`.
+`fives` has options of five of its 62 items, drawn at random, and no cover, since five doesn't divide 62. `late` has one item more, with two
+options: behind the first of them lies all of `fives`, and the other one, which takes two of the items too, leads to a cover. `short` is a `fives`
+of 52 items.
 
 It wants GNU parallel, and the program: (cd crates/solve_cli && rt run -- --version) builds it. The exit status is 0, 1 where an answer is wrong, 2 for a
 mistake on the command line or where something is missing.
@@ -32,8 +33,8 @@ HERE = os.path.dirname(os.path.abspath(__file__))
 sys.path.insert(0, os.path.join(HERE, "..", "scripts"))
 from built import SOLVE_CLI, TOP, number_from_one, parser_of, stop, want_command, want_program  # noqa: E402
 
-# items and options; and whether there is a cover, behind all other options
-INSTANCES = {"short": (52, 1500, False), "fives": (62, 1500, False), "late": (60, 1500, True)}
+# items and options; and whether there is a cover, behind a search without one
+INSTANCES = {"short": (52, 1500, False), "fives": (62, 1500, False), "late": (62, 1500, True)}
 OUTCOMES = {"short": 1, "fives": 1, "late": 0}
 
 
@@ -43,8 +44,7 @@ def write(path: str, items: int, count: int, with_cover: bool) -> None:
     names = [f"i{k}" for k in range(items)]
     options = [draw.sample(names, 5) for _ in range(count)]
     if with_cover:
-        order = draw.sample(names, items)
-        options += [order[k:k + 5] for k in range(0, items, 5)]
+        names, options = [*names, "door"], [["door"], *options, ["door", *names[-2:]]]
     with open(path, "w", encoding="ascii") as file:
         for words in [names, *(sorted(option, key=names.index) for option in options)]:
             print(*words, file=file)
