@@ -55,6 +55,7 @@ fn plan_of(nodes: &str, workers: &str, seed: &str, fuel: &str, turns: &str) -> O
         seed: seed.parse::<u64>().ok()?,
         turns: turns.parse::<u64>().ok()?,
         quiet: QUIET,
+        entries: 1_000_000,
     })
 }
 

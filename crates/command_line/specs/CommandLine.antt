@@ -58,10 +58,10 @@ abbrev pub simulate_app : App
 simulate_app =
     with_rule (with_rule (sites_app (codes "simulate")) (number_rule (codes "turns") (codes "10000"))) (number_rule (codes "restarts") (codes "0"))
 
--- the same with how long threads go on, how often a node is restarted, and how many threads there are
+-- the same with how long threads go on, how often a node is restarted, how many threads there are, and how long books may get
 abbrev pub threads_app : App
 threads_app =
-    with_rule (with_rule (with_rule (sites_app (codes "solve")) (number_rule (codes "turns") (codes "1000000"))) (number_rule (codes "restarts") (codes "0"))) (number_rule (codes "workers") (codes "2"))
+    with_rule (with_rule (with_rule (with_rule (sites_app (codes "solve")) (number_rule (codes "turns") (codes "1000000"))) (number_rule (codes "restarts") (codes "0"))) (number_rule (codes "workers") (codes "2"))) (number_rule (codes "entries") (codes "1000000"))
 
 -- that with whether the books are audited, when the run ends, and whether it writes how far it has come
 abbrev pub solve_app : App
@@ -128,6 +128,7 @@ pub record AreSpelled (name : Text) (given : Text → Option Text) (settings : S
   pub seed_fits : settings.seed < 2 ^ 64
   pub workers_given : SpellsOr 2 (given (codes "workers")) settings.workers
   pub turns_given : SpellsOr 10000 (given (codes "turns")) settings.turns
+  pub entries_given : SpellsOr 1000000 (given (codes "entries")) settings.entries
   pub restarts_given : SpellsOr 0 (given (codes "restarts")) settings.restarts
   pub audit_given : IsFlag (given (codes "audit")) settings.audit
 

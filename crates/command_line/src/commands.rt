@@ -208,12 +208,17 @@ fn threads_command<'a>(alloc: Global) -> Result<Command<'a>, AllocError>
     let turns = "How many turns a thread takes, up to 10000000";
     let restarts = "How often node 1 is restarted, up to 100";
     let workers = "How many workers a node has, 1 to 8";
+    let entries = "How many entries the book of a site may have, 1 to 1000000000";
     let limited = with_two(
         sites_command(alloc, "solve", about)?,
         number_argument(alloc, "turns", "1000000", turns),
         number_argument(alloc, "restarts", "0", restarts),
     )?;
-    limited.arg(number_argument(alloc, "workers", "2", workers))
+    with_two(
+        limited,
+        number_argument(alloc, "workers", "2", workers),
+        number_argument(alloc, "entries", "1000000", entries),
+    )
 }
 
 fn solve_command<'a>(alloc: Global) -> Result<Command<'a>, AllocError>

@@ -78,6 +78,22 @@ pub fn turns(inner: &ArgMatches<'_>) -> Option<u32>
     Some(turns as u32)
 }
 
+/// How many entries a book may have, from 1 to 1,000,000,000.
+pub fn entries(inner: &ArgMatches<'_>) -> Option<u32>
+    ensures given { IfSome result
+        (SpellsOr 1000000 (first_value (found_of inner.now) (codes "entries"))) }
+    ensures some { IfSome result (λ entries. 1 ≤ entries) }
+    ensures most { IfSome result (λ entries. entries ≤ 1000000000) }
+    ensures none { IfNone result ((n : ℕ) →
+        SpellsOr 1000000 (first_value (found_of inner.now) (codes "entries")) n → 1 ≤ n → n ≤ 1000000000 → ⊥) }
+{
+    let entries = number_or(inner, "entries", 1_000_000)?;
+    if entries == 0 || entries > 1_000_000_000 {
+        return None;
+    }
+    Some(entries as u32)
+}
+
 /// How many restarts there are, up to 100.
 pub fn restarts(inner: &ArgMatches<'_>) -> Option<u32>
     ensures given { IfSome result
@@ -141,6 +157,9 @@ pub fn out_of_range(inner: &ArgMatches<'_>) -> &'static str {
     }
     if turns(inner).is_none() {
         return "--turns takes 0 to 10000000";
+    }
+    if entries(inner).is_none() {
+        return "--entries takes 1 to 1000000000";
     }
     if restarts(inner).is_none() {
         return "--restarts takes 0 to 100";

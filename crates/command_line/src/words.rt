@@ -6,7 +6,9 @@ ghost use Rattle.command_line.specs.CommandLine.{AreMet, AreSpelled, IsAnswerFil
 
 use crate::commands::{solver_command, value_error};
 use crate::fault::{SettingsFault, fault_of};
-use crate::numbers::{fuel, nodes, number_or, out_of_range, restarts, seconds, turns, workers};
+use crate::numbers::{
+    entries, fuel, nodes, number_or, out_of_range, restarts, seconds, turns, workers,
+};
 use clap::error::ErrorKind;
 use clap::{ArgMatches, Command};
 use run_settings::{Mode, Request, STANDARD_INPUT, Settings};
@@ -84,6 +86,7 @@ fn spelled<'a>(name: &'a str, inner: &ArgMatches<'a>) -> Option<Settings<'a>>
         seed: number_or(inner, "seed", 1)?,
         workers: workers(inner)?,
         turns: turns(inner)?,
+        entries: entries(inner)?,
         restarts: restarts(inner)?,
         audit: is_set(inner, "audit"),
     })

@@ -86,6 +86,7 @@ fn solve_within<
         seed: settings.seed,
         turns: u64::from(settings.turns),
         quiet: QUIET,
+        entries: u64::from(settings.entries),
     };
     let restarts = settings.restarts as u8;
     let ran = run_sites_within(rt, alloc, problem, plan, restarts, limit, links, gate);

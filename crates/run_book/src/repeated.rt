@@ -6,10 +6,13 @@ use std::alloc::Global;
 /// How many entries are kept at most: a node of sixteen has about fifty such steps.
 const MOST: usize = 64;
 
-/// Entries that a site without work repeats. Each equal one shares the step, so that an idle site's book grows little.
+/// Entries that a site without work repeats, and what a busy one says again. Each equal one shares the step, so that their books grow
+/// little.
 #[derive(Drop)]
 pub struct Repeated {
     entries: Vec<Entry>,
+    /// What the site said again last.
+    again: Option<Entry>,
 }
 
 impl Repeated {
@@ -17,13 +20,17 @@ impl Repeated {
     pub fn new(alloc: Global) -> Repeated {
         Repeated {
             entries: Vec::new(alloc),
+            again: None,
         }
     }
 
-    /// The entry; one that may be repeated shares its step with each equal one.
+    /// The entry; one that may be repeated shares its step with each equal one, or with the last if it is what is said again.
     pub fn shared(&mut self, entry: Entry) -> Entry
         ensures { result ≡ entry }
     {
+        if entry.step().is_again() {
+            return self.shared_again(entry);
+        }
         if !entry.step().is_idle() {
             return entry;
         }
@@ -31,6 +38,20 @@ impl Repeated {
             return twin;
         }
         self.keep(&entry);
+        entry
+    }
+
+    /// The entry of what is said again: it shares its step with the last such one, if that is equal.
+    fn shared_again(&mut self, entry: Entry) -> Entry
+        ensures { result ≡ entry }
+    {
+        if let Some(last) = &self.again
+            && last.step().is_same(entry.step())
+            && let Ok(twin) = last.twin()
+        {
+            return twin;
+        }
+        self.again = entry.twin().ok();
         entry
     }
 

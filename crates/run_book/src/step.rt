@@ -75,6 +75,11 @@ impl Step {
             && are_same_packets(&self.packets, &other.packets)
     }
 
+    /// Whether the site says again what may be lost.
+    pub(crate) fn is_again(&self) -> bool {
+        matches!(self.event, Event::Again)
+    }
+
     /// Whether it is a step of a site without work, which such a site repeats.
     pub(crate) fn is_idle(&self) -> bool {
         let asks = match &self.event {
@@ -115,13 +120,14 @@ fn are_same_replies(reply: &Reply, other: &Reply) -> bool
     )
 }
 
-/// Whether both are surely the same packets: none, or one and the same.
+/// Whether both are surely the same packets, one by one.
 fn are_same_packets(packets: &[Packet], other: &[Packet]) -> bool
     ensures { IsTrue result → packets.now ≡ other.now }
 {
     match (packets, other) {
         ([], []) => true,
-        ([packet], [other]) => packet.is_same(other),
+        ([packet, packets @ ..], [same, other @ ..]) => packet.is_same(same)
+            && are_same_packets(packets, other),
         _ => false,
     }
 }

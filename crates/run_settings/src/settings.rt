@@ -40,6 +40,8 @@ pub struct Settings<'a> {
     pub workers: u8,
     /// How many turns a simulation, or each thread, may take, up to 10,000,000.
     pub turns: u32,
+    /// How many entries the book of a site may have, from 1 to 1,000,000,000.
+    pub entries: u32,
     /// How many restarts a simulation may draw, or how often node 1 is restarted in a run over sockets; up to 100.
     pub restarts: u32,
     /// Whether the books of a run are audited.
@@ -51,5 +53,7 @@ pub struct Settings<'a> {
     pub ghost some_workers: { 1 ≤ workers },
     pub ghost most_workers: { workers ≤ 8 },
     pub ghost most_turns: { turns ≤ 10000000 },
+    pub ghost some_entries: { 1 ≤ entries },
+    pub ghost most_entries: { entries ≤ 1000000000 },
     pub ghost most_restarts: { restarts ≤ 100 },
 }

@@ -9,9 +9,11 @@ pub struct Plan {
     pub fuel: u64,
     /// What the victims are drawn from.
     pub seed: u64,
-    /// How many turns each thread has at most. Those in which it had nothing to do and waited are counted apart: the thread that
-    /// receives has ten times as many, the others a thousand times as many.
+    /// How many turns each thread has at most. Those in which it had nothing to do and waited, and the looks of the thread that
+    /// sends, are counted apart: there are a thousand times as many.
     pub turns: u64,
     /// After how many receives a site gives up that brought no packet: the registry none at all, a node none of the registry.
     pub quiet: u64,
+    /// How many entries the book of a site may have, at least 1.
+    pub entries: u64,
 }

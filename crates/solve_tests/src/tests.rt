@@ -76,6 +76,7 @@ fn settings(seed: u64, turns: u32, restarts: u32, audit: bool) -> Settings<'stat
         seed,
         workers: 2,
         turns: turns.min(10_000_000),
+        entries: 1_000_000,
         restarts: restarts.min(100),
         audit,
     }
@@ -99,6 +100,7 @@ fn sized(nodes: u8, workers: u8, fuel: u64, seed: u64) -> Settings<'static>
         seed,
         workers,
         turns: 10_000_000,
+        entries: 1_000_000,
         restarts: 0,
         audit: false,
     }

@@ -2,6 +2,7 @@
 #![tactic(auto)]
 
 mod actor;
+mod entered_gifts;
 mod hand;
 mod node;
 mod node_end;

@@ -26,8 +26,8 @@ use std::time::{Clock, Duration};
 /// How many turns without work a worker has for each of its turns.
 const REST: u64 = 1_000;
 
-/// How many empty receives there are for each turn of the thread that receives.
-const SILENCE: u64 = 10;
+/// How many receives that bring nothing there are for each turn of the thread that receives: by default they last for months.
+const SILENCE: u64 = 1_000;
 
 /// How long a thread waits where memory ran out, in milliseconds.
 const SHORTAGE: u64 = 1;
@@ -385,7 +385,12 @@ fn places_for<'a, J: Run, C: Core + Drop, N: CellName, L: Link, G: Gate, R: Wait
     ensures { IfOk result (λ places. vec_len places ≡ workers + 1) }
 {
     let mut places = Vec::with_capacity(shared.alloc, usize::from(workers) + 1)?;
-    add_place(rt, shared, &mut places, Task::Receive(Receiver::new(twin)))?;
+    add_place(
+        rt,
+        shared,
+        &mut places,
+        Task::Receive(Receiver::new(shared.alloc, twin)),
+    )?;
     for worker in 0..workers {
         add_place(rt, shared, &mut places, Task::Work(worker))?;
     }

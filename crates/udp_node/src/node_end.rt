@@ -18,8 +18,8 @@ pub struct NodeEnd<N: CellName> {
     pub dropped: u64,
     /// How many calls of the link failed.
     pub failures: u64,
-    /// How many turns that one of its threads took which took the most, and in how many one waited which waited in the most. Each
-    /// parcel is a turn of the thread that sends, and each look that found none to send is one in which it waited.
+    /// How many turns that one of its threads took which took the most, and in how many one waited which waited in the most. The
+    /// thread that sends waits in each look into the outbox, whether it finds something to send or not.
     pub taken: Taken,
     /// A thread of each kind has begun while the site was to go on. Else the site took part in no search.
     pub is_manned: bool,

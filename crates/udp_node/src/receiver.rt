@@ -1,12 +1,14 @@
 //! The thread of a site that receives.
 
 use crate::actor::Actor;
+use crate::entered_gifts::EnteredGifts;
 use crate::shared::Shared;
 use crate::worker::{after, after_refusal};
 use node_core::{Core, Event};
 use packet_wire::{Body, Packet, WireFault, read_packet};
 use run_book::{CellName, Run};
 use site_links::{Cause, Gate, Link, Turn};
+use std::alloc::Global;
 use std::sync::Wait;
 use std::thread;
 use std::time::{Clock, Duration};
@@ -55,11 +57,17 @@ pub struct Receiver<L: Link> {
     over: bool,
     /// How often it has told that again.
     last: u64,
+    /// What the site has entered and need not hear again.
+    entered: EnteredGifts,
+    /// How many packets brought only that; the greatest number stays.
+    repeats: u64,
+    /// At which of its other turns it greeted the registry last.
+    greeted: Option<u64>,
 }
 
 impl<L: Link> Receiver<L> {
     /// A thread that receives from this link, before its first turn.
-    pub fn new(link: L) -> Receiver<L> {
+    pub fn new(alloc: Global, link: L) -> Receiver<L> {
         Receiver {
             link,
             silent: 0,
@@ -69,6 +77,9 @@ impl<L: Link> Receiver<L> {
             dropped: 0,
             over: false,
             last: 0,
+            entered: EnteredGifts::new(alloc),
+            repeats: 0,
+            greeted: None,
         }
     }
 
@@ -87,9 +98,13 @@ impl<L: Link> Receiver<L> {
         if actor.shared.signals.is_over() || actor.shared.ending.is_late(rt) {
             return self.end();
         }
-        if number % GREETING != 0 || actor.shared.cell.site().node == 0 {
+        // (a packet that brings nothing new puts off neither greetings, which the registry answers, nor the end of a site that has lost it)
+        let number = number.saturating_sub(self.repeats);
+        let is_due = number % GREETING == 0 && self.greeted != Some(number);
+        if !is_due || actor.shared.cell.site().node == 0 {
             return self.receive(rt, actor);
         }
+        self.greeted = Some(number);
         match after(actor.act(rt, Event::Greet)) {
             Turn::Used | Turn::Waited => self.receive(rt, actor),
             turn => turn,
@@ -137,13 +152,21 @@ impl<L: Link> Receiver<L> {
             Err(WireFault::Memory) => return Turn::Starved,
             Err(_) => return self.dropped(rt, actor),
         };
-        let here = actor.shared.cell.site().node;
-        self.listen(here == 0 || packet.from.node == 0);
+        let site = actor.shared.cell.site();
+        let here = site.node;
+        let goes_on = here == 0 || packet.from.node == 0;
+        if self.entered.has_all(site, &packet) {
+            return self.repeated(rt, actor, goes_on);
+        }
+        self.listen(goes_on);
         let is_end = matches!(packet.body, Body::Over);
         let step = match actor.act(rt, Event::Deliver(packet)) {
             Ok(step) => step,
             Err(back) => return after_refusal(back.1),
         };
+        if let Event::Deliver(packet) = step.event() {
+            self.entered.note(packet);
+        }
         if is_end {
             return Turn::Ended(Cause::Over);
         }
@@ -170,6 +193,20 @@ impl<L: Link> Receiver<L> {
         actor: &mut Actor<'_, J, C, N, G>,
     ) -> Turn {
         self.dropped = self.dropped.saturating_add(1);
+        waited(self.counted(rt, actor))
+    }
+
+    /// A packet came that brings only what was entered: it is lost, and no turn. It shows the run going on, or else says nothing of it.
+    fn repeated<J: Run, C: Core + Drop, N: CellName, G: Gate, R: Wait + Clock>(
+        &mut self,
+        rt: &R,
+        actor: &mut Actor<'_, J, C, N, G>,
+        goes_on: bool,
+    ) -> Turn {
+        if goes_on {
+            self.listen(true);
+        }
+        self.repeats = self.repeats.saturating_add(1);
         waited(self.counted(rt, actor))
     }
 

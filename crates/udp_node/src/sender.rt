@@ -8,8 +8,11 @@ use site_links::{Limits, Link, Taken};
 use std::sync::Wait;
 use std::time::Clock;
 
-/// How many empty looks into the outbox there are for each turn.
+/// How many looks into the outbox there are for each turn: by default they last for days.
 const LOOKS: u64 = 1_000;
+
+/// How many parcels a look sends at most, so that the looks of a thread come to an end.
+const BURST: u64 = 1_024;
 
 /// What came of sending; the greatest numbers stay.
 #[derive(Clone, Copy, Debug, PartialEq, Eq)]
@@ -18,7 +21,7 @@ pub struct Sent {
     pub losses: u64,
     /// How many calls of the link failed.
     pub failures: u64,
-    /// How many parcels were taken out to be sent, and how many looks found none.
+    /// How many looks into the outbox there were, as waits.
     pub taken: Taken,
 }
 
@@ -33,13 +36,13 @@ pub struct Sender<'a, L: Link> {
     pub link: L,
     /// Where it is told that the others of the site are done.
     pub signals: &'a Signals,
-    /// How many parcels it sends at most.
+    /// A thousandth of the looks that it makes at most.
     pub turns: u64,
     pub ghost same: { drain.outbox ≡ outbox.now },
 }
 
-/// Sends what is in the outbox, in its order, until no other thread of the site is at work and the outbox is empty; at most so many
-/// parcels, and a thousand times as many looks that find it empty. Then the site ends. Where that is to end already, nothing is sent.
+/// Sends what is in the outbox, in its order, until no other thread of the site is at work and the outbox is empty, or it has looked
+/// a thousand times as often as it has turns. Then the site ends. Where that is to end already, nothing is sent.
 pub fn send_all<L: Link, R: Wait + Clock>(rt: &R, sender: Sender<'_, L>) -> Sent {
     if sender.signals.is_over() {
         return Sent {
@@ -70,19 +73,16 @@ fn send_each<L: Link, R: Wait + Clock>(rt: &R, sender: Sender<'_, L>) -> Sent {
         }
         // (read before the look: what the last thread put in is found by it)
         let is_last = signals.is_left();
-        match outbox.take(rt, &mut drain) {
-            Some(parcel) => {
-                left.use_turn();
-                if link.send(rt, parcel.to, &parcel.bytes).is_err() {
-                    losses = losses.saturating_add(1);
-                }
-            }
-            None if is_last => break,
-            None => {
-                left.wait();
-                signals.doze(rt);
-            }
+        let found = send_waiting(rt, outbox, &mut drain, &mut link);
+        losses = losses.saturating_add(found.losses);
+        left.wait();
+        if found.parcels > 0 {
+            continue;
         }
+        if is_last {
+            break;
+        }
+        signals.doze(rt);
     }
     signals.end();
     Sent {
@@ -90,4 +90,33 @@ fn send_each<L: Link, R: Wait + Clock>(rt: &R, sender: Sender<'_, L>) -> Sent {
         failures: link.failures(),
         taken: left.taken(),
     }
+}
+
+/// What one look found.
+#[derive(Clone, Copy)]
+struct Found {
+    parcels: u64,
+    /// How many of them could not be sent.
+    losses: u64,
+}
+
+/// Sends what waits in the outbox, up to a burst.
+fn send_waiting<L: Link, R: Wait>(rt: &R, outbox: &Outbox, drain: &mut Drain, link: &mut L) -> Found
+    requires { drain.old.outbox ≡ outbox.now }
+    ensures { drain.new.outbox ≡ drain.old.outbox }
+{
+    let mut found = Found {
+        parcels: 0,
+        losses: 0,
+    };
+    for _parcel in 0..BURST {
+        let Some(parcel) = outbox.take(rt, drain) else {
+            break;
+        };
+        found.parcels = found.parcels.saturating_add(1);
+        if link.send(rt, parcel.to, &parcel.bytes).is_err() {
+            found.losses = found.losses.saturating_add(1);
+        }
+    }
+    found
 }

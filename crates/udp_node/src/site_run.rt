@@ -22,9 +22,6 @@ use std::sync::Wait;
 use std::thread::Threads;
 use std::time::Clock;
 
-/// How many entries a book may have.
-const ENTRIES: u64 = 1_000_000;
-
 /// How many children a node may name.
 const NAMES: u32 = 1_000_000;
 
@@ -282,7 +279,7 @@ fn run_registry<
     ensures { IfSome result.0 (λ book. book.site ≡ N.site) }
 {
     cores_step_as_their_sites();
-    let cell: SiteCell<J, Registry, N> = SiteCell::new(cell_parts, core, ENTRIES);
+    let cell: SiteCell<J, Registry, N> = SiteCell::new(cell_parts, core, whole.plan.entries);
     let plan = Plan {
         workers: 0,
         ..start.plan
@@ -326,7 +323,7 @@ fn run_worker_node<
     ensures { IfSome result.0 (λ book. book.site ≡ N.site) }
 {
     cores_step_as_their_sites();
-    let cell: SiteCell<J, NodeCore, N> = SiteCell::new(cell_parts, core, ENTRIES);
+    let cell: SiteCell<J, NodeCore, N> = SiteCell::new(cell_parts, core, whole.plan.entries);
     let end = run_threads(
         rt,
         whole.alloc,

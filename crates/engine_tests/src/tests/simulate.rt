@@ -40,6 +40,7 @@ fn four_nodes(seed: u64, (fuel, turns, restarts): (u64, u32, u32)) -> Settings<'
         seed,
         workers: 2,
         turns: turns.min(10_000_000),
+        entries: 1_000_000,
         restarts: restarts.min(100),
         audit: false,
     }

@@ -24,6 +24,7 @@ const PLAN: Plan = Plan {
     seed: 1,
     turns: 1_000_000,
     quiet: u64::MAX,
+    entries: 1_000_000,
 };
 
 #[test]

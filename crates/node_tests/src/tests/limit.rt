@@ -35,6 +35,7 @@ const PLAN: Plan = Plan {
     seed: 1,
     turns: u64::MAX,
     quiet: u64::MAX,
+    entries: 1_000_000,
 };
 
 /// How long the run may last, in milliseconds.

@@ -142,6 +142,7 @@ const PLAN: Plan = Plan {
     seed: 1,
     turns: 100_000,
     quiet: 6_000,
+    entries: 1_000_000,
 };
 
 /// What a node has room for.

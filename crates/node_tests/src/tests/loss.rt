@@ -19,6 +19,7 @@ const PLAN: Plan = Plan {
     seed: 1,
     turns: 1_000_000,
     quiet: 600_000,
+    entries: 1_000_000,
 };
 
 #[test]

@@ -17,6 +17,7 @@ const ONE_NODE: Plan = Plan {
     seed: 1,
     turns: 1_000_000,
     quiet: 600_000,
+    entries: 1_000_000,
 };
 
 #[test]

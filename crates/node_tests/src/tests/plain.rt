@@ -19,6 +19,7 @@ fn plan_of(number: u8) -> Plan
         seed: u64::from(number),
         turns: 1_000_000,
         quiet: 600_000,
+        entries: 1_000_000,
     }
 }
 

@@ -30,6 +30,7 @@ const PLAN: Plan = Plan {
     seed: 1,
     turns: 500,
     quiet: 2_000,
+    entries: 1_000_000,
 };
 
 /// What a slow link and a second thread tell each other.

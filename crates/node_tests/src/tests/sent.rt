@@ -24,6 +24,7 @@ const PLAN: Plan = Plan {
     seed: 1,
     turns: 10_000_000,
     quiet: u64::MAX,
+    entries: 1_000_000,
 };
 
 /// What a run comes to whose workers post nothing until this was sent, and all that was sent in it.

@@ -33,6 +33,7 @@ const PLAN: Plan = Plan {
     seed: 1,
     turns: 20_000,
     quiet: 6_000,
+    entries: 1_000_000,
 };
 
 #[test]
@@ -89,13 +90,13 @@ fn greetings(sent: &[Packet], incarnation: u32) -> usize {
 }
 
 /// A node greets at its first receive, and at each thousandth after that: so a start of 900 turns greets once, and the last one, whose
-/// waits are no turns, more often.
+/// waits are no turns, more often, until it has heard nothing for 3,000 receives.
 #[test]
 fn a_start_that_hears_nothing_ends_after_its_turns(rt: HostRuntime) -> Result<(), Fail> {
     let alloc = rt.alloc();
     let plan = Plan {
         turns: 1_800,
-        quiet: u64::MAX,
+        quiet: 3_000,
         ..PLAN
     };
     let sent = Arc::new(alloc, Mutex::new(Vec::new(alloc)))?;

@@ -20,6 +20,7 @@ const PLAN: Plan = Plan {
     seed: 1,
     turns: 1_000_000,
     quiet: 6_000,
+    entries: 1_000_000,
 };
 
 /// Sends the registry, from a socket that is none of the run's, what its first node would: that it asks for work, and that the root

@@ -39,6 +39,7 @@ returns-clause-met c =
           seed_fits = given.seed_fits;
           workers_given = subst (λ (value : Option Text). SpellsOr 2 value s.workers) (first_value-rows f (codes "workers")) given.workers_given;
           turns_given = subst (λ (value : Option Text). SpellsOr 10000 value s.turns) (first_value-rows f (codes "turns")) given.turns_given;
+          entries_given = subst (λ (value : Option Text). SpellsOr 1000000 value s.entries) (first_value-rows f (codes "entries")) given.entries_given;
           restarts_given = subst (λ (value : Option Text). SpellsOr 0 value s.restarts) (first_value-rows f (codes "restarts")) given.restarts_given;
           audit_given = subst (λ (value : Option Text). IsFlag value s.audit) (first_value-rows f (codes "audit")) given.audit_given;
         };

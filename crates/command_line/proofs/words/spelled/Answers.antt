@@ -22,6 +22,10 @@ pub returns-in_err-turns-clause-none : goal.returns-in_err-turns-clause-none
 returns-in_err-turns-clause-none c =
     none_spelled _ c.args.name.now (first_value (found_of c.args.inner.now)) (λ settings h. c.in_err-turns.ensures.none settings.turns h.turns_given settings.most_turns)
 
+pub returns-in_err-entries-clause-none : goal.returns-in_err-entries-clause-none
+returns-in_err-entries-clause-none c =
+    none_spelled _ c.args.name.now (first_value (found_of c.args.inner.now)) (λ settings h. c.in_err-entries.ensures.none settings.entries h.entries_given settings.some_entries settings.most_entries)
+
 pub returns-in_err-restarts-clause-none : goal.returns-in_err-restarts-clause-none
 returns-in_err-restarts-clause-none c =
     none_spelled _ c.args.name.now (first_value (found_of c.args.inner.now)) (λ settings h. c.in_err-restarts.ensures.none settings.restarts h.restarts_given settings.most_restarts)
