@@ -26,7 +26,7 @@ import zarfepoch
 PROGRAM = SOLVE_CLI
 # a word of a command line
 Word = Union[str, bytes]
-LINE = re.compile(r"\d+ s: \d+ visits, +\d+\.\d{4} % of the tree, \d+ jobs out")
+LINE = re.compile(r"\d+ s: \d+ visits, +\d+\.\d{4} % of the tree, \d+ jobs? out, fullest book \d+ %(?:, some \d+ (?:s|min|h|days) left)?")
 NONE = {"langford-5.dlx", "tetrominoes-4x5.dlx", "mutilated-chessboard.dlx"}
 trial = Trial()
 expect = trial.expect

@@ -6,17 +6,20 @@ use dlx_reader::Sink;
 use search_engines::{Gauge, Progress, ProgressLog, Seconds};
 use spawn_frame::Job;
 use std::alloc::{AllocError, Global};
+use std::sync::atomic::{AtomicU64, Ordering};
 use std::sync::{Mutex, Wait};
 use std::time::{Clock, Duration};
 use udp_node::{Cause, Gate, SiteEnd};
 
-/// A gate that lets all pass, and meanwhile writes each second how far the run has come: of the tree, what is below prefixes that were
+/// A gate that lets all pass, and meanwhile writes now and then how far the run has come: of the tree, what is below prefixes that were
 /// searched without a cover, and what lies behind the search that is looked at. Where the clock can't be read it writes nothing.
 #[derive(Drop)]
 pub struct FollowedRun<'a, E: Sink, R: Wait + Clock> {
     rt: &'a R,
     /// How long the run may last, if it is limited.
     limit: Option<Duration>,
+    /// How full the fullest book is, in percent.
+    fullest: AtomicU64,
     state: Mutex<State<'a, E>>,
 }
 
@@ -58,8 +61,18 @@ impl<'a, E: Sink, R: Wait + Clock> FollowedRun<'a, E, R> {
         Ok(FollowedRun {
             rt,
             limit,
+            fullest: AtomicU64::new(0),
             state: Mutex::new(state),
         })
+    }
+
+    /// Writes how far the run has come, and how full the fullest book is.
+    fn write(&self, state: &mut State<'a, E>, progress: Progress) {
+        let fullest = Some(self.fullest.load(Ordering::SeqCst));
+        state.log.write(Progress {
+            fullest,
+            ..progress
+        });
     }
 
     /// Whether the run has lasted as long as it may.
@@ -102,7 +115,7 @@ impl<'a, E: Sink> State<'a, E> {
         if self.is_over {
             return None;
         }
-        self.seconds.due(clock)
+        self.seconds.due(clock, self.log.lines())
     }
 
     /// No line follows; the last one ends, so that the answer is on one of its own.
@@ -111,14 +124,15 @@ impl<'a, E: Sink> State<'a, E> {
         self.log.end();
     }
 
-    /// Writes how far the run has come after so many seconds: so many visits and so much of the tree more than was noted.
-    fn write(&mut self, seconds: u64, visits: u64, share: u64) {
-        self.log.write(Progress {
+    /// How far the run has come after so many seconds: so many visits and so much of the tree more than was noted.
+    fn progress(&self, seconds: u64, visits: u64, share: u64) -> Progress {
+        Progress {
             seconds,
             visits: self.visits.saturating_add(visits),
             share: self.share.saturating_add(share).min(Gauge::WHOLE),
             jobs: Some(self.jobs),
-        });
+            fullest: None,
+        }
     }
 }
 
@@ -138,7 +152,8 @@ impl<'a, E: Sink, R: Wait + Clock> Gate for FollowedRun<'a, E, R> {
         let mut state = self.state.lock(self.rt);
         if let Some(seconds) = state.due(self.rt) {
             let share = state.gauge.share_below(length, chosen);
-            state.write(seconds, visits, share);
+            let progress = state.progress(seconds, visits, share);
+            self.write(&mut state, progress);
         }
     }
 
@@ -146,8 +161,14 @@ impl<'a, E: Sink, R: Wait + Clock> Gate for FollowedRun<'a, E, R> {
         let mut state = self.state.lock(self.rt);
         state.note(finding, visits);
         if let Some(seconds) = state.due(self.rt) {
-            state.write(seconds, 0, 0);
+            let progress = state.progress(seconds, 0, 0);
+            self.write(&mut state, progress);
         }
+    }
+
+    fn recorded(&self, entries: u64, most: u64) {
+        let percent = entries.saturating_mul(100) / most.max(1);
+        self.fullest.fetch_max(percent, Ordering::SeqCst);
     }
 
     fn ended(&self, _node: u8, end: &SiteEnd) {

@@ -7,6 +7,7 @@ mod check;
 mod deciding;
 mod engine;
 mod fault;
+mod forecast;
 mod gauge;
 mod input;
 mod lines;
@@ -19,6 +20,7 @@ pub use alone::{
 pub use check::{CheckEnd, check_engine, check_unlimited};
 pub use engine::EngineEnd;
 pub use fault::EngineFault;
+pub use forecast::Forecast;
 pub use gauge::Gauge;
 pub use input::{problem_of, read_all, read_whole};
 pub use lines::{write_line, write_published};

@@ -2,6 +2,7 @@
 
 ghost use Rattle.std.specs.Prelude.{◌≡◌, IfOk};
 
+use crate::forecast::Forecast;
 use crate::gauge::Gauge;
 use brancher::{Unwatched, Watch};
 use cover_problem::Problem;
@@ -12,6 +13,15 @@ use std::time::{Clock, Duration, Instant};
 
 /// How many seconds lie between two lines at least, and before the first.
 const PAUSE: u64 = 1;
+
+/// After so many seconds listed lines have a longer pause, and after still more a still longer one: a night's search is to be a page.
+const LONG: u64 = 60;
+
+const LONG_PAUSE: u64 = 10;
+
+const LONGEST: u64 = 3_600;
+
+const LONGEST_PAUSE: u64 = 60;
 
 /// How far a search has come.
 #[derive(Clone, Copy, Debug, PartialEq, Eq)]
@@ -24,6 +34,8 @@ pub struct Progress {
     pub share: u64,
     /// How many jobs workers search, if the search has workers.
     pub jobs: Option<u64>,
+    /// How full the fullest book is, in percent, if sites keep books: a run ends once one is full.
+    pub fullest: Option<u64>,
 }
 
 impl Display for Progress {
@@ -38,7 +50,15 @@ impl Display for Progress {
             parts % 10_000
         )?;
         match self.jobs {
-            Some(jobs) => write!(f, ", {jobs} jobs out"),
+            Some(1) => write!(f, ", 1 job out")?,
+            Some(jobs) => write!(f, ", {jobs} jobs out")?,
+            None => {}
+        }
+        if let Some(fullest) = self.fullest {
+            write!(f, ", fullest book {fullest} %")?;
+        }
+        match Forecast::of(self.seconds, self.share) {
+            Some(forecast) => write!(f, ", {forecast}"),
             None => Ok(()),
         }
     }
@@ -71,11 +91,17 @@ impl<'a, E: Sink> ProgressLog<'a, E> {
         }
     }
 
+    /// How its lines follow one another.
+    pub fn lines(&self) -> Lines {
+        self.lines
+    }
+
     /// Writes a line.
     pub fn write(&mut self, progress: Progress) {
         let _ = match self.lines {
             Lines::Listed => writeln!(self.sink, "{progress}"),
-            Lines::Overwritten => write!(self.sink, "\r{progress} "),
+            // (what is left of a longer line before is cleared)
+            Lines::Overwritten => write!(self.sink, "\r{progress} \x1b[K"),
         };
         self.is_begun = true;
     }
@@ -117,18 +143,29 @@ impl Seconds {
         self.began?.elapsed(clock).ok()
     }
 
-    /// How many whole seconds are over, where a line is due; then the next is due a pause later.
-    pub fn due<C: Clock>(&mut self, clock: &C) -> Option<u64> {
+    /// How many whole seconds are over, where a line is due that follows the others so; then the next is due a pause later.
+    pub fn due<C: Clock>(&mut self, clock: &C, lines: Lines) -> Option<u64> {
         let elapsed = self.elapsed(clock)?;
         if elapsed < self.due {
             return None;
         }
-        self.due = elapsed.saturating_add(Duration::from_secs(PAUSE));
-        Some(elapsed.as_secs())
+        let seconds = elapsed.as_secs();
+        let pause = Duration::from_secs(pause_after(seconds, lines));
+        self.due = elapsed.saturating_add(pause);
+        Some(seconds)
     }
 }
 
-/// A watch that stops nothing, and writes each second how far a search of the empty prefix has come. Where the clock can't be
+/// How many seconds lie between a line after so many seconds and the next.
+fn pause_after(seconds: u64, lines: Lines) -> u64 {
+    match lines {
+        Lines::Listed if seconds >= LONGEST => LONGEST_PAUSE,
+        Lines::Listed if seconds >= LONG => LONG_PAUSE,
+        Lines::Listed | Lines::Overwritten => PAUSE,
+    }
+}
+
+/// A watch that stops nothing, and writes now and then how far a search of the empty prefix has come. Where the clock can't be
 /// read it writes nothing.
 #[derive(Drop)]
 pub struct ProgressWatch<'a, E: Sink, C: Clock> {
@@ -180,7 +217,7 @@ impl<'a, E: Sink, C: Clock> Watch for ProgressWatch<'a, E, C> {
     ghost may_stop = { false };
 
     fn look(&mut self, chosen: &[u16], left: u64) -> bool {
-        let Some(seconds) = self.seconds.due(self.clock) else {
+        let Some(seconds) = self.seconds.due(self.clock, self.log.lines()) else {
             return false;
         };
         self.log.write(Progress {
@@ -188,6 +225,7 @@ impl<'a, E: Sink, C: Clock> Watch for ProgressWatch<'a, E, C> {
             visits: self.fuel.saturating_sub(left),
             share: self.gauge.share(chosen),
             jobs: None,
+            fullest: None,
         });
         false
     }

@@ -23,6 +23,9 @@ pub trait Gate {
     /// A worker has searched a prefix, with so many visits.
     fn searched(&self, _finding: &Finding, _visits: u64) {}
 
+    /// A site's book has so many entries, of so many at most.
+    fn recorded(&self, _entries: u64, _most: u64) {}
+
     /// The run ends with the site of this node, which ended so.
     fn ended(&self, _node: u8, _end: &SiteEnd) {}
 
@@ -94,6 +97,11 @@ impl<'a, G: Gate> SearchWatch<'a, G> {
     /// How many visits a search that keeps states has made.
     pub fn visits(&self) -> u64 {
         self.made
+    }
+
+    /// How many visits are gone for each that a search which keeps states has made.
+    pub fn savings(&self) -> u64 {
+        self.fuel.saturating_sub(self.left) / self.made.max(1)
     }
 
     /// Whether it was stopped because the site is to end.

@@ -50,6 +50,10 @@ impl<'a, J: Run, C: Core + Drop, N: CellName, G: Gate> Actor<'a, J, C, N, G> {
     {
         let stirs = may_stir(&event);
         let step = self.stand.act(rt, self.shared.cell, event)?;
+        let shared = self.shared;
+        shared
+            .gate
+            .recorded(self.stand.entries(), shared.plan.entries);
         self.signal(&step, stirs);
         self.put_all(rt, step.packets());
         Ok(step)

@@ -121,7 +121,11 @@ fn work<J: Run, C: Core + Drop, N: CellName, G: Gate, R: Wait + Clock>(
     shared.muster(rt);
     let node = shared.cell.site().node;
     match Worker::new(shared.alloc, shared.tables, shared.plan, node, number) {
-        Ok(mut worker) => take_turns(rt, actor, &mut worker, left),
+        Ok(mut worker) => {
+            let cause = take_turns(rt, actor, &mut worker, left);
+            shared.signals.work_together(number);
+            cause
+        }
         Err(_) => Cause::Memory,
     }
 }

@@ -13,7 +13,7 @@ const NAP: u64 = 100;
 const DOZE: u64 = 1_000;
 
 /// What the threads of a site tell one another beside the lock. No answer depends on it: it says when a look at the core is
-/// worth its entry in the book, how small a worker's job should be, which threads there are, and that all are to end.
+/// worth its entry in the book, how small a worker's job should be, which worker works alone, which threads there are, and that all are to end.
 #[derive(Drop)]
 pub struct Signals {
     /// The thread that receives has begun.
@@ -28,6 +28,8 @@ pub struct Signals {
     stirs: AtomicU64,
     /// How many jobs should be split yet, so that the site has work for its own workers and others.
     hunger: AtomicU64,
+    /// The worker, counted from 1, to which the others leave all jobs; 0 for none.
+    sole: AtomicU64,
     /// The site is to end.
     over: AtomicBool,
     /// Where the thread that sends waits.
@@ -44,6 +46,7 @@ impl Signals {
             running: AtomicU64::new(running),
             stirs: AtomicU64::new(0),
             hunger: AtomicU64::new(0),
+            sole: AtomicU64::new(0),
             over: AtomicBool::new(false),
             sender: Parker::new(),
         }
@@ -134,6 +137,25 @@ impl Signals {
     /// Whether jobs should be small.
     pub fn is_hungry(&self) -> bool {
         self.hunger.load(Ordering::Relaxed) > 0
+    }
+
+    /// The states that this worker keeps save so much that the others only found them once more: they leave it all jobs.
+    pub fn work_alone(&self, worker: u8) {
+        self.sole.store(u64::from(worker) + 1, Ordering::Relaxed);
+    }
+
+    /// This worker leaves the others work again, if they left it all.
+    pub fn work_together(&self, worker: u8) {
+        let own = u64::from(worker) + 1;
+        let _ = self
+            .sole
+            .compare_exchange(own, 0, Ordering::Relaxed, Ordering::Relaxed);
+    }
+
+    /// Whether this worker leaves all jobs to another.
+    pub fn is_spared(&self, worker: u8) -> bool {
+        let sole = self.sole.load(Ordering::Relaxed);
+        sole != 0 && sole != u64::from(worker) + 1
     }
 
     /// The site is to end: its searches are stopped, and no thread of it goes on.

@@ -12,6 +12,8 @@ use std::sync::Wait;
 pub struct Stand<N: CellName> {
     seat: Seat<N>,
     stubs: Vec<Stub<N>>,
+    /// How many entries the cell's book had after its last event.
+    entries: u64,
     ghost whole: { seat ≡ vec_len stubs },
 }
 
@@ -35,6 +37,7 @@ impl<N: CellName> Stand<N> {
         Ok(Stand {
             seat,
             stubs: Vec::new(alloc),
+            entries: 0,
         })
     }
 
@@ -55,12 +58,18 @@ impl<N: CellName> Stand<N> {
         }
         match cell.act_at(rt, &mut self.seat, event) {
             Ok(receipt) => {
+                self.entries = receipt.place.saturating_add(1);
                 let (stub, step) = receipt.into_parts();
                 self.stubs.push_reserved(stub);
                 Ok(step)
             }
             Err((event, fault)) => Err((event, Refused::Cell(fault))),
         }
+    }
+
+    /// How many entries the cell's book had after the last event of this seat.
+    pub fn entries(&self) -> u64 {
+        self.entries
     }
 
     /// How many receipts it has.
@@ -75,7 +84,7 @@ impl<N: CellName> Stand<N> {
         ensures seat { result.0 ≡ self.seat }
         ensures stubs { result.0 ≡ vec_len result.1 }
     {
-        let Stand { seat, stubs } = self;
+        let Stand { seat, stubs, .. } = self;
         (seat, stubs)
     }
 }

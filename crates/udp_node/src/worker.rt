@@ -6,6 +6,7 @@ ghost use Rattle.udp_node.specs.Hands.{IsPosted};
 
 use crate::actor::Actor;
 use crate::hand::{Hand, Searched, Wanted};
+use crate::signals::Signals;
 use crate::stand::Refused;
 use brancher::{Finding, Outcome, ROOM, Searcher, Tables};
 use cover_problem::Numbers;
@@ -24,6 +25,15 @@ use std::{mem, thread};
 /// In so many idle turns in a row only every 32nd waits, then in as many more every sixteenth, and so on down to each: work is near
 /// as long as others have some, and who asks sooner gets it sooner.
 const EAGER: u32 = 1_024;
+
+/// Where kept states save so many visits for each that is made, one worker of a node is as fast as several.
+const SOLE: u64 = 1_000;
+
+/// So many visits of a search that saves less show that they don't.
+const TELLING: u64 = 30_000;
+
+/// How long a worker waits that leaves all jobs to another, in microseconds.
+const SPARED: u64 = 200;
 
 /// A worker of a node, between its turns.
 #[derive(Drop)]
@@ -81,6 +91,7 @@ impl<'a, J: Run> Worker<'a, J> {
             return Turn::Ended(Cause::Turns);
         }
         match mem::replace(&mut self.hand, Hand::Nothing) {
+            Hand::Nothing if actor.shared.signals.is_spared(self.number) => spared(rt),
             Hand::Nothing => self.take(rt, actor),
             Hand::Search(wanted) => self.search(rt, actor, wanted),
             Hand::Post(searched) => self.post(rt, actor, searched),
@@ -125,6 +136,7 @@ impl<'a, J: Run> Worker<'a, J> {
             }
             Reply::Idle | Reply::Moved | Reply::Ignored => {
                 self.looked_at = Some(stirs);
+                actor.shared.signals.work_together(self.number);
                 self.rest(rt, actor)
             }
         }
@@ -187,6 +199,9 @@ impl<'a, J: Run> Worker<'a, J> {
             Ok(Some((finding, visits))) if !watch.is_over() => {
                 let visits = if keeps { watch.visits() } else { visits };
                 gate.searched(&finding, visits);
+                if keeps {
+                    self.share(signals, &watch);
+                }
                 self.pace
                     .note(finding.prefix().len(), finding.outcome(), visits);
                 self.post(rt, actor, Searched { job, finding, run })
@@ -202,6 +217,16 @@ impl<'a, J: Run> Worker<'a, J> {
                 });
                 Turn::Ended(Cause::Memory)
             }
+        }
+    }
+
+    /// Leaves the node's other workers something to do or not, by what the states saved in a search: where they save very much, each
+    /// other worker would find the same states once more, and all would take longer than one does.
+    fn share<G: Gate>(&self, signals: &Signals, watch: &SearchWatch<'_, G>) {
+        if watch.savings() >= SOLE {
+            signals.work_alone(self.number);
+        } else if watch.visits() >= TELLING {
+            signals.work_together(self.number);
         }
     }
 
@@ -274,6 +299,12 @@ impl<'a, J: Run> Worker<'a, J> {
             (_, refused) => after_refusal(refused),
         }
     }
+}
+
+/// A turn of a worker that leaves all jobs to another.
+fn spared<R: Wait + Clock>(rt: &R) -> Turn {
+    thread::sleep(rt, Duration::from_micros(SPARED));
+    Turn::Waited
 }
 
 /// The room for states that one searcher of the run has: all of them together have what four searches by one thread have.

@@ -1,10 +1,13 @@
 //! How far a search has come: the share of the tree, the lines, and that they change no answer.
 //!
 //! Of the bugs of `search_engines` that are kept outside the gate, `what_comes_before_a_prefix_is_not_behind_its_search` finds
-//! `done_part_counts_from_the_root`.
+//! `done_part_counts_from_the_root`, `listed_lines_become_rarer` finds `a_line_each_second_all_night`, and
+//! `a_forecast_is_of_the_rest` finds `a_forecast_of_what_is_done`.
 
 use dlx_reader::{CountedReader, CountedWriter, read_problem};
-use search_engines::{Gauge, Lines, Progress, ProgressLog, alone_engine, alone_with_progress};
+use search_engines::{
+    Forecast, Gauge, Lines, Progress, ProgressLog, Seconds, alone_engine, alone_with_progress,
+};
 use std::alloc::Global;
 use std::io;
 use std::sync::atomic::{AtomicU64, Ordering};
@@ -61,24 +64,36 @@ fn what_comes_before_a_prefix_is_not_behind_its_search(rt: HostRuntime) -> Resul
 }
 
 /// How far a search has come, with its line.
-static PROGRESSES: [(Progress, &str); 3] = [
+static PROGRESSES: [(Progress, &str); 4] = [
     (
         Progress {
             seconds: 1,
             visits: 1023,
             share: 0,
             jobs: None,
+            fullest: None,
         },
         "1 s: 1023 visits,   0.0000 % of the tree",
     ),
     (
         Progress {
-            seconds: 12,
+            seconds: 9,
             visits: 34_567_890,
             share: 944_444_444_444_444_443,
             jobs: Some(8),
+            fullest: Some(3),
         },
-        "12 s: 34567890 visits,  94.4444 % of the tree, 8 jobs out",
+        "9 s: 34567890 visits,  94.4444 % of the tree, 8 jobs out, fullest book 3 %",
+    ),
+    (
+        Progress {
+            seconds: 60,
+            visits: 5,
+            share: Gauge::WHOLE / 2,
+            jobs: Some(1),
+            fullest: Some(100),
+        },
+        "60 s: 5 visits,  50.0000 % of the tree, 1 job out, fullest book 100 %, some 60 s left",
     ),
     (
         Progress {
@@ -86,6 +101,7 @@ static PROGRESSES: [(Progress, &str); 3] = [
             visits: u64::MAX,
             share: Gauge::WHOLE,
             jobs: None,
+            fullest: None,
         },
         "300 s: 18446744073709551615 visits, 100.0000 % of the tree",
     ),
@@ -191,6 +207,58 @@ fn progress_changes_no_answer(rt: HostRuntime) -> Result<(), Fail> {
 #[test]
 fn a_terminal_has_one_line(rt: HostRuntime) -> Result<(), Fail> {
     let (_out, _status, told) = followed(rt.alloc(), QUEENS, 1500, Lines::Overwritten)?;
-    assert!(rt; told.as_slice() == b"\r1 s: 1024 visits,  43.6607 % of the tree \n".as_slice());
+    assert!(rt;
+        told.as_slice() == b"\r1 s: 1024 visits,  43.6607 % of the tree \x1b[K\n".as_slice()
+    );
+    Ok(())
+}
+
+/// How much of a tree is done after so many seconds, and what is thought of the rest.
+static FORECASTS: [(u64, u64, &str); 9] = [
+    (9, Gauge::WHOLE / 2, ""),
+    (10, Gauge::WHOLE / 2, "some 10 s left"),
+    (119, Gauge::WHOLE / 2, "some 119 s left"),
+    (100, Gauge::WHOLE / 4, "some 5 min left"),
+    (3_600, Gauge::WHOLE / 10, "some 9 h left"),
+    (86_400, Gauge::WHOLE / 100, "some 99 days left"),
+    (50, Gauge::WHOLE / 10_000 - 1, ""),
+    (50, Gauge::WHOLE / 10_000, "some 5 days left"),
+    (1_000, Gauge::WHOLE, ""),
+];
+
+#[test]
+fn a_forecast_is_of_the_rest(rt: HostRuntime) -> Result<(), Fail> {
+    for (seconds, share, expected) in FORECASTS {
+        let text = match Forecast::of(seconds, share) {
+            Some(forecast) => format!(in rt.alloc(); "{forecast}")?,
+            None => String::new(rt.alloc()),
+        };
+        assert_eq!(rt; text.as_str(), expected, "{seconds} s");
+    }
+    Ok(())
+}
+
+/// How many lines there are in so many seconds.
+fn lines_in(seconds: u64, lines: Lines) -> u64 {
+    let clock = Ticking {
+        seconds: AtomicU64::new(0),
+    };
+    let mut due = Seconds::new(&clock);
+    let mut count = 0u64;
+    for _second in 0..seconds {
+        if due.due(&clock, lines).is_some() {
+            count = count.saturating_add(1);
+        }
+    }
+    count
+}
+
+/// Each second in the first minute, each tenth in the first hour, and then each minute; a terminal's line each second.
+#[test]
+fn listed_lines_become_rarer(rt: HostRuntime) -> Result<(), Fail> {
+    assert_eq!(rt; lines_in(60, Lines::Listed), 60);
+    assert_eq!(rt; lines_in(3_600, Lines::Listed), 60 + 354);
+    assert_eq!(rt; lines_in(4_000, Lines::Listed), 60 + 354 + 6);
+    assert_eq!(rt; lines_in(4_000, Lines::Overwritten), 4_000);
     Ok(())
 }

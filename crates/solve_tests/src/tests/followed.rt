@@ -142,7 +142,7 @@ fn told_of_searches<R: Wait + Clock>(rt: &R, alloc: Global) -> Result<Vec<u8>, F
 #[test]
 fn searches_are_summed(rt: HostRuntime) -> Result<(), Fail> {
     let told = told_of_searches(&rt, rt.alloc())?;
-    let line = b" s: 2000 visits, 100.0000 % of the tree, 0 jobs out\n";
+    let line = b" s: 2000 visits, 100.0000 % of the tree, 0 jobs out, fullest book 0 %\n";
     assert!(rt; told.ends_with(line.as_slice()));
     Ok(())
 }

@@ -1,0 +1,59 @@
+//! How long a search is thought to go on.
+
+use crate::gauge::Gauge;
+use std::fmt::{self, Display, Formatter, Write};
+
+/// Of this much of the tree each part counts, and a forecast wants a hundred of them: with less behind it a search tells little.
+const PART: u64 = Gauge::WHOLE / 1_000_000;
+
+const LEAST: u64 = 100;
+
+/// After so many seconds there is a forecast.
+const EARLIEST: u64 = 10;
+
+/// A unit of time is used from two of them on.
+const MINUTE: u64 = 60;
+
+const HOUR: u64 = 60 * MINUTE;
+
+const DAY: u64 = 24 * HOUR;
+
+/// How many seconds a search is thought to go on.
+#[derive(Clone, Copy, Debug, PartialEq, Eq)]
+pub struct Forecast {
+    seconds: u64,
+}
+
+impl Forecast {
+    /// The forecast of a search that has this much of the tree behind it after so many seconds, if that tells anything: the rest is
+    /// thought to take as long for its size. A tree's parts are no equal work, so it is rough, and near the end of a search often wrong.
+    pub fn of(seconds: u64, share: u64) -> Option<Forecast> {
+        let parts = share / PART;
+        if seconds < EARLIEST || parts < LEAST {
+            return None;
+        }
+        let left = 1_000_000u64.saturating_sub(parts);
+        if left == 0 {
+            return None;
+        }
+        let seconds = seconds.saturating_mul(left) / parts;
+        Some(Forecast { seconds })
+    }
+}
+
+impl Display for Forecast {
+    fn fmt<W: Write>(&self, f: &mut Formatter<W>) -> fmt::Result {
+        let (unit, name) = unit_of(self.seconds);
+        write!(f, "some {} {name} left", self.seconds / unit)
+    }
+}
+
+/// The greatest unit of which there are two in so many seconds, in seconds, and its name.
+fn unit_of(seconds: u64) -> (u64, &'static str) {
+    for (unit, name) in [(DAY, "days"), (HOUR, "h"), (MINUTE, "min")] {
+        if seconds >= 2 * unit {
+            return (unit, name);
+        }
+    }
+    (1, "s")
+}
