@@ -10,6 +10,7 @@ mod followed;
 mod held;
 mod machine;
 mod order;
+mod sole;
 mod starved;
 
 ghost use Rattle.std.specs.Prelude.{◌≡◌, ◌≤◌};

@@ -85,7 +85,7 @@ fn is_answered<J: Run + Send + Sync, G: Gate + Sync, R: Threads + Wait + Clock +
 }
 
 /// The same in a run with a name.
-fn answers<G: Gate + Sync, R: Threads + Wait + Clock + Net + Sync>(
+pub fn answers<G: Gate + Sync, R: Threads + Wait + Clock + Net + Sync>(
     rt: &R,
     alloc: Global,
     text: &str,
