@@ -1,5 +1,7 @@
 //! How long a search is thought to go on.
 
+ghost use Rattle.std.specs.Prelude.{◌≤◌};
+
 use crate::gauge::Gauge;
 use std::fmt::{self, Display, Formatter, Write};
 
@@ -49,11 +51,16 @@ impl Display for Forecast {
 }
 
 /// The greatest unit of which there are two in so many seconds, in seconds, and its name.
-fn unit_of(seconds: u64) -> (u64, &'static str) {
-    for (unit, name) in [(DAY, "days"), (HOUR, "h"), (MINUTE, "min")] {
-        if seconds >= 2 * unit {
-            return (unit, name);
-        }
+fn unit_of(seconds: u64) -> (u64, &'static str)
+    ensures { 1 ≤ result.0 }
+{
+    if seconds >= 2 * DAY {
+        (DAY, "days")
+    } else if seconds >= 2 * HOUR {
+        (HOUR, "h")
+    } else if seconds >= 2 * MINUTE {
+        (MINUTE, "min")
+    } else {
+        (1, "s")
     }
-    (1, "s")
 }
