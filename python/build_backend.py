@@ -53,6 +53,14 @@ def modules() -> dict[str, bytes]:
     return {f"zarfepoch/{name}": content("zarfepoch", name) for name in names}
 
 
+def entry_points() -> bytes:
+    """The commands that pip puts on the path, as pyproject.toml lists them."""
+    with open(os.path.join(os.path.dirname(HERE), "pyproject.toml"), encoding="utf-8") as file:
+        section = file.read().partition("[project.scripts]\n")[2].partition("\n[")[0]
+    rows = re.findall(r'^([\w-]+) = "([\w.:]+)"$', section, re.MULTILINE)
+    return "".join(["[console_scripts]\n", *(f"{name} = {place}\n" for name, place in rows)]).encode()
+
+
 def record_of(path: str, text: bytes) -> str:
     """A file's line in the list of a wheel."""
     digest = base64.urlsafe_b64encode(hashlib.sha256(text).digest()).rstrip(b"=").decode()
@@ -62,7 +70,7 @@ def record_of(path: str, text: bytes) -> str:
 def write_wheel(folder: str, files: dict[str, bytes]) -> str:
     """Writes a wheel with these files into a folder, and answers its name."""
     name, about = f"{stem()}-py3-none-any.whl", f"{stem()}.dist-info"
-    files = {**files, f"{about}/METADATA": metadata(),
+    files = {**files, f"{about}/METADATA": metadata(), f"{about}/entry_points.txt": entry_points(),
              f"{about}/WHEEL": b"Wheel-Version: 1.0\nGenerator: zarfepoch\nRoot-Is-Purelib: true\nTag: py3-none-any\n"}
     files[f"{about}/RECORD"] = ("".join(record_of(path, text) for path, text in files.items()) + f"{about}/RECORD,,\n").encode()
     with zipfile.ZipFile(os.path.join(folder, name), "w", zipfile.ZIP_DEFLATED) as wheel:

@@ -200,6 +200,10 @@ def installed(folder: str) -> None:
     expect(f"the page's examples: {said}", said == "0\n")
     for module in ("explain", "why_none", "draw", "check_reason", "generate", "another", "split", "join"):
         expect(f"the command {module}", ran(python, "-m", f"zarfepoch.{module}", "--help", cwd=elsewhere).startswith("usage: "))
+        command = os.path.join(place, "bin", "zarfepoch-" + module.replace("_", "-"))
+        said = ran(command, "--help", cwd=elsewhere)
+        expect(f"{command}: {said}", said.startswith(f"usage: {os.path.basename(command)} ") and "scripts/" not in said)
+    expect("the command zarfepoch", ran(os.path.join(place, "bin", "zarfepoch"), "--help", cwd=elsewhere).startswith("usage: zarfepoch "))
     expect("a problem that is made", ran(python, "-m", "zarfepoch.generate", "langford", "4", cwd=elsewhere).startswith("| Langford"))
     ran(python, "-m", "pip", "uninstall", "--yes", "zarfepoch", cwd=elsewhere, env=offline)
     left = [name for _, _, names in os.walk(place) for name in names if "zarfepoch" in name]

@@ -44,7 +44,7 @@ from .errors import (
 from .problems import Colored, Problem, Reason, Word
 from .programs import find_program
 
-__version__ = "0.1.0"
+__version__ = "1.0.0"
 __all__ = [
     "Colored", "ColoredPrimary", "Error", "NoAnswer", "NoProgram", "OutOfMemory", "Problem", "ProblemError", "ProgramError", "Reason", "RepeatedItem",
     "TimeIsUp", "TooLarge", "UncleanAudit", "UnknownItem", "Word", "__version__", "find_program", "reasons", "solve"]

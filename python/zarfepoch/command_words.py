@@ -2,16 +2,20 @@
 from __future__ import annotations
 
 import argparse
+import os
 import re
 import sys
 from typing import Optional
 
 
 def as_called(text: str) -> str:
-    """A text that names scripts of a clone, with modules in their place if the command was called as one."""
-    if getattr(sys.modules["__main__"], "__spec__", None) is None:
-        return text
-    return re.sub(r"(?:python3 )?\b(?:scripts|examples)/(\w+)\.py\b", r"python3 -m zarfepoch.\1", text)
+    """A text that names scripts of a clone, with modules or installed commands in their place if the command was called as one."""
+    scripts = r"(?:python3 )?\b(?:scripts|examples)/(\w+)\.py\b"
+    if getattr(sys.modules["__main__"], "__spec__", None) is not None:
+        return re.sub(scripts, r"python3 -m zarfepoch.\1", text)
+    if os.path.basename(sys.argv[0]).startswith("zarfepoch-"):
+        return re.sub(scripts, lambda found: "zarfepoch-" + found[1].replace("_", "-"), text)
+    return text
 
 
 def parser_of(text: Optional[str]) -> argparse.ArgumentParser:
