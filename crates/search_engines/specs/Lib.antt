@@ -3,3 +3,4 @@ pub mod Check
 pub mod Engines
 pub mod Output
 pub mod Status
+pub mod Within

@@ -60,7 +60,7 @@ fn write_wrong<W: Sink>(
 }
 
 /// Tests a list of options, writes the verdict, and answers the status.
-fn write_verdict<W: Sink>(
+pub(crate) fn write_verdict<W: Sink>(
     alloc: Global,
     problem: &Problem,
     options: &[u16],

@@ -66,8 +66,32 @@ fn is_excluded(alloc: Global, problem: &Problem) -> bool
     }
 }
 
-/// The answer of a problem: its first cover, with its options in the order of the file, or that there is none. A search that lasts longer
-/// than a tenth of a second is begun again under the watch, if no reason is found that excludes a cover. The only error is out of memory.
+/// The answer of a problem: its first cover, with its options in the order of the file, or that there is none; none where the watch
+/// stopped the search. A search that lasts longer than a tenth of a second is begun again under the watch, if no reason is found that excludes a
+/// cover. The only error is out of memory.
+pub fn answer_until<V: Watch, C: Clock>(
+    clock: &C,
+    alloc: Global,
+    problem: &Problem,
+    watch: &mut V,
+) -> Result<Option<Answer>, AllocError>
+    ensures answer { IfOk result (λ found. MatchOption found (V.may_stop ≡ true)
+        (λ answer. answer ≡ answer_by problem.now (first problem.now []))) }
+    ensures order { IfOk result (λ found. IfSome found (IsWritable problem.now)) }
+{
+    let tables = Tables::build(alloc, problem)?;
+    let seconds = Seconds::new(clock);
+    let mut short = ShortWatch { clock, seconds };
+    if let Some(answer) = searched(alloc, &tables, &mut short)? {
+        return Ok(Some(answer));
+    }
+    if is_excluded(alloc, problem) {
+        return Ok(Some(Answer::NoCover));
+    }
+    searched(alloc, &tables, watch)
+}
+
+/// The answer that `answer_until` gives under a watch that stops nothing.
 pub fn first_answer<V: Watch, C: Clock>(
     clock: &C,
     alloc: Global,
@@ -78,16 +102,7 @@ pub fn first_answer<V: Watch, C: Clock>(
     ensures answer { IfOk result (λ answer. answer ≡ answer_by problem.now (first problem.now [])) }
     ensures order { IfOk result (IsWritable problem.now) }
 {
-    let tables = Tables::build(alloc, problem)?;
-    let seconds = Seconds::new(clock);
-    let mut short = ShortWatch { clock, seconds };
-    if let Some(answer) = searched(alloc, &tables, &mut short)? {
-        return Ok(answer);
-    }
-    if is_excluded(alloc, problem) {
-        return Ok(Answer::NoCover);
-    }
-    match searched(alloc, &tables, watch)? {
+    match answer_until(clock, alloc, problem, watch)? {
         Some(answer) => Ok(answer),
         None => unreachable!(),
     }

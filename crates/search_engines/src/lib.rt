@@ -10,9 +10,12 @@ mod fault;
 mod forecast;
 mod gauge;
 mod input;
+mod limits;
 mod lines;
 mod progress;
 mod telling;
+mod unanswered;
+mod within;
 
 pub use alone::{
     AloneEnd, alone_engine, alone_unlimited, alone_unlimited_with_progress, alone_with_progress,
@@ -23,6 +26,11 @@ pub use fault::EngineFault;
 pub use forecast::Forecast;
 pub use gauge::Gauge;
 pub use input::{problem_of, read_all, read_whole};
+pub use limits::Limits;
 pub use lines::{write_line, write_published};
 pub use progress::{Lines, Progress, ProgressLog, Seconds};
-pub use telling::{tell, tell_end, tell_fault, tell_unbound};
+pub use telling::{
+    tell, tell_end, tell_end_of, tell_fault, tell_fault_of, tell_unbound, tell_unopened,
+};
+pub use unanswered::{Unanswered, tell_unanswered};
+pub use within::{alone_within, alone_within_with_progress, check_within};

@@ -6,6 +6,7 @@ ghost use Rattle.search_engines.specs.Status.{end_status, fault_status};
 use crate::engine::EngineEnd;
 use crate::fault::EngineFault;
 use dlx_reader::{AnswerFault, ReadFault, Sink};
+use std::io::ErrorKind;
 
 /// Tells how many options were ignored, if any, and answers the exit status. A fault of the sink is passed over.
 pub fn tell<E: Sink>(status: u8, ignored: usize, sink: &mut E) -> u8
@@ -15,6 +16,29 @@ pub fn tell<E: Sink>(status: u8, ignored: usize, sink: &mut E) -> u8
         let _ = writeln!(sink, "ignored {ignored}");
     }
     status
+}
+
+/// Tells that the file of this name can't be read, and why, and answers the exit status. A fault of the sink is passed over.
+fn tell_unread<E: Sink>(name: &str, why: &str, sink: &mut E) -> u8
+    ensures { result ≡ 3 }
+{
+    let _ = writeln!(sink, "cannot read: {name}: {why}");
+    3
+}
+
+/// Tells that the file of this name can't be opened, and why, and answers the exit status. A fault of the sink is passed over.
+pub fn tell_unopened<E: Sink>(name: &str, kind: ErrorKind, sink: &mut E) -> u8
+    ensures { result ≡ 3 }
+{
+    let why = match kind {
+        ErrorKind::NotFound => "no such file",
+        ErrorKind::IsADirectory => "is a directory",
+        ErrorKind::NotADirectory => "a part of its path is no directory",
+        ErrorKind::PermissionDenied => "permission denied",
+        ErrorKind::FilesystemLoop => "too many symbolic links",
+        _ => "the system cannot open it",
+    };
+    tell_unread(name, why, sink)
 }
 
 /// Tells why an engine stopped, and answers the exit status: 3 for a file that is refused or a device that failed,
@@ -53,6 +77,26 @@ pub fn tell_end<E: Sink>(ended: &Result<EngineEnd, EngineFault>, sink: &mut E) -
     match ended {
         Ok(end) => tell(end.status, end.ignored, sink),
         Err(fault) => tell_fault(fault, sink),
+    }
+}
+
+/// Tells what `tell_fault` does, but of a file that can't be read its name. A fault of the sink is passed over.
+pub fn tell_fault_of<E: Sink>(fault: &EngineFault, name: &str, sink: &mut E) -> u8
+    ensures { result ≡ fault_status fault.now }
+{
+    match fault {
+        EngineFault::Read => tell_unread(name, "a read failed", sink),
+        other => tell_fault(other, sink),
+    }
+}
+
+/// Tells what `tell_end` does, but of a file that can't be read its name. A fault of the sink is passed over.
+pub fn tell_end_of<E: Sink>(ended: &Result<EngineEnd, EngineFault>, name: &str, sink: &mut E) -> u8
+    ensures { result ≡ end_status ended.now }
+{
+    match ended {
+        Ok(end) => tell(end.status, end.ignored, sink),
+        Err(fault) => tell_fault_of(fault, name, sink),
     }
 }
 

@@ -1,0 +1,54 @@
+//! Why a search by one thread has no answer.
+
+use crate::engine::EngineEnd;
+use crate::fault::EngineFault;
+use dlx_reader::Sink;
+use std::fmt::{self, Display, Formatter, Write};
+
+/// Why a search by one thread has no answer, with what may give one.
+#[derive(Clone, Copy, Debug, PartialEq, Eq)]
+pub enum Unanswered {
+    /// It has visited as many prefixes as it might.
+    Fuel,
+    /// It has visited as many prefixes as a limit may be.
+    GreatestFuel,
+    /// It has lasted as long as it might.
+    Time,
+    /// A simulated world has published nothing, since its last job has visited as many prefixes as a limit may be.
+    Unpublished,
+}
+
+impl Unanswered {
+    /// Why a search with so much fuel ended that was not stopped by its time.
+    pub fn by_fuel(fuel: u64) -> Unanswered {
+        if fuel == u64::MAX {
+            Unanswered::GreatestFuel
+        } else {
+            Unanswered::Fuel
+        }
+    }
+}
+
+impl Display for Unanswered {
+    fn fmt<W: Write>(&self, f: &mut Formatter<W>) -> fmt::Result {
+        f.write_str(match self {
+            Unanswered::Fuel => "the fuel is spent: try more --fuel, or --unlimited",
+            Unanswered::GreatestFuel => "the greatest fuel is spent: try --unlimited",
+            Unanswered::Time => "the time is over: try more --seconds, or solve",
+            Unanswered::Unpublished => "nothing was published: try alone --unlimited",
+        })
+    }
+}
+
+/// Tells why an engine that ended so has no answer, if it has none. A fault of the sink is passed over.
+pub fn tell_unanswered<E: Sink>(
+    ended: &Result<EngineEnd, EngineFault>,
+    why: Unanswered,
+    sink: &mut E,
+) {
+    if let Ok(end) = ended
+        && end.status == 4
+    {
+        let _ = writeln!(sink, "ended: {why}");
+    }
+}

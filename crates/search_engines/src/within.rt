@@ -1,0 +1,287 @@
+//! `alone` and `check` within a limit of time.
+
+ghost use Rattle.std.specs.Prelude.{◌≡◌, ◌≢◌, ◌-◌, ◌<◌, ◌≤◌, ◌^◌, ◌⊎◌, Some, option_map, IfOk, IfSome};
+ghost use Rattle.std.specs.Io.KnownBytes.{IsAtEnd};
+ghost use Rattle.std.specs.Option.{ForSome};
+ghost use Rattle.dlx_reader.specs.Writing.{IsWritable};
+ghost use Rattle.search_engines.specs.Check.{CheckRefuses, IsListedAnswer};
+ghost use Rattle.search_engines.specs.Engines.{IsEnded, refuses_none};
+ghost use Rattle.search_engines.specs.Output.{IsOutput, IsOutputOf};
+ghost use Rattle.search_engines.specs.Within.{AloneSaysWithin, CheckSaysWithin, IsGiven, MayCheck, answer_from, none_by};
+
+use crate::alone::AloneEnd;
+use crate::check::{CheckEnd, write_verdict};
+use crate::deciding::answer_until;
+use crate::engine::EngineEnd;
+use crate::fault::EngineFault;
+use crate::input::{answer_of, problem_of, read_all};
+use crate::limits::{Limits, TimedWatch};
+use crate::lines::{write_line, write_published};
+use crate::progress::{Follows, ProgressLog, ProgressWatch};
+use brancher::{Finding, Outcome, ROOM, Searcher, Tables, Unwatched, Watch};
+use cover_problem::{Answer, Problem, in_order};
+use dlx_reader::{Sink, Source};
+use std::alloc::{AllocError, Global};
+use std::time::Clock;
+
+/// The answer of a finding of the empty prefix, with a cover's options in the order of the file; none where the fuel was spent.
+fn found_answer(
+    alloc: Global,
+    problem: &Problem,
+    finding: &Finding,
+) -> Result<Option<Answer>, AllocError>
+    ensures answer { IfOk result (λ answer.
+        answer ≡ answer_from problem.now finding.now.outcome) }
+    ensures order { IfOk result (λ found. IfSome found (IsWritable problem.now)) }
+{
+    match finding.outcome() {
+        Outcome::Cover => Ok(Some(Answer::Cover(in_order(alloc, problem, finding.cover())?))),
+        Outcome::Barren => Ok(Some(Answer::NoCover)),
+        Outcome::Spent => Ok(None),
+    }
+}
+
+/// The answer that a search with so many visits at most comes to; none where they were made, or the watch stopped it.
+fn fueled_answer<V: Watch>(
+    alloc: Global,
+    problem: &Problem,
+    fuel: u64,
+    watch: &mut V,
+) -> Result<Option<Answer>, AllocError>
+    requires { 1 ≤ fuel }
+    ensures answer { IfOk result (IsGiven problem.now (Some fuel)) }
+    ensures order { IfOk result (λ found. IfSome found (IsWritable problem.now)) }
+{
+    let tables = Tables::build(alloc, problem)?;
+    let mut searcher = Searcher::keeping(alloc, &tables, ROOM)?;
+    match searcher.find_until(Vec::new(alloc), fuel, watch) {
+        Ok(Some((finding, _visits))) => found_answer(alloc, problem, &finding),
+        Ok(None) => Ok(None),
+        Err(_prefix) => Err(AllocError),
+    }
+}
+
+/// The answer that a search comes to, with so many visits at most or any number; none where they were made, or the watch stopped it.
+fn given_answer<V: Watch, C: Clock>(
+    clock: &C,
+    alloc: Global,
+    problem: &Problem,
+    fuel: Option<u64>,
+    watch: &mut V,
+) -> Result<Option<Answer>, AllocError>
+    requires { ForSome fuel (λ fuel. 1 ≤ fuel) }
+    ensures answer { IfOk result (IsGiven problem.now fuel) }
+    ensures order { IfOk result (λ found. IfSome found (IsWritable problem.now)) }
+{
+    match fuel {
+        Some(fuel) => fueled_answer(alloc, problem, fuel, watch),
+        None => answer_until(clock, alloc, problem, watch),
+    }
+}
+
+/// Searches under a watch until the limits are met, writes what comes of it, and answers the status.
+fn write_given<V: Follows, W: Sink, C: Clock>(
+    clock: &C,
+    alloc: Global,
+    problem: &Problem,
+    limits: &Limits,
+    watch: &mut V,
+    sink: &mut W,
+) -> Result<u8, EngineFault>
+    requires { W.failed sink.old < 2 ^ 64 - 1 }
+    ensures output { IsOutputOf (AloneSaysWithin limits.now.fuel problem.now)
+        (W.contents sink.old) (W.contents sink.new) result }
+    ensures failed { result ≡ Err EngineFault.Write → W.failed sink.old < W.failed sink.new }
+{
+    let mut timed = TimedWatch {
+        clock,
+        limits,
+        inner: watch,
+    };
+    let Ok(answer) = given_answer(clock, alloc, problem, limits.fuel, &mut timed) else {
+        return Err(EngineFault::Memory);
+    };
+    timed.end();
+    write_published(problem, answer.as_ref(), sink)
+}
+
+/// Does what `alone_engine` does within limits: it writes the first cover, or `none`, or `no answer` once a limit is met, of visits, if
+/// there is one, or of time.
+pub fn alone_within<R: Source, W: Sink, C: Clock>(
+    clock: &C,
+    alloc: Global,
+    limits: &Limits,
+    source: &mut R,
+    sink: &mut W,
+) -> Result<AloneEnd, EngineFault>
+    requires source { R.failed source.old < 2 ^ 64 - 1 }
+    requires sink { W.failed sink.old < 2 ^ 64 - 1 }
+    ensures ended { IfSome (R.remaining source.old) (λ text.
+        IsEnded (AloneSaysWithin limits.now.fuel) refuses_none text (W.contents sink.old)
+        (W.contents sink.new) result) }
+    ensures read { result ≢ Err EngineFault.Read → result ≢ Err EngineFault.Memory →
+        IsAtEnd (R.remaining source.new) }
+    ensures read_fault { result ≡ Err EngineFault.Read → R.failed source.old < R.failed source.new }
+    ensures write_fault { result ≡ Err EngineFault.Write → W.failed sink.old < W.failed sink.new }
+{
+    let text = read_all(alloc, source)?;
+    let read = problem_of(alloc, &text)?;
+    let status = write_given(clock, alloc, &read.problem, limits, &mut Unwatched, sink)?;
+    let ignored = read.ignored;
+    Ok(EngineEnd { status, ignored })
+}
+
+/// Does what `alone_within` does, and meanwhile writes to the log as `alone_with_progress` does.
+pub fn alone_within_with_progress<R: Source, W: Sink, E: Sink, C: Clock>(
+    clock: &C,
+    alloc: Global,
+    limits: &Limits,
+    source: &mut R,
+    sink: &mut W,
+    log: ProgressLog<'_, E>,
+) -> Result<AloneEnd, EngineFault>
+    requires source { R.failed source.old < 2 ^ 64 - 1 }
+    requires sink { W.failed sink.old < 2 ^ 64 - 1 }
+    ensures ended { IfSome (R.remaining source.old) (λ text.
+        IsEnded (AloneSaysWithin limits.now.fuel) refuses_none text (W.contents sink.old)
+        (W.contents sink.new) result) }
+    ensures read { result ≢ Err EngineFault.Read → result ≢ Err EngineFault.Memory →
+        IsAtEnd (R.remaining source.new) }
+    ensures read_fault { result ≡ Err EngineFault.Read → R.failed source.old < R.failed source.new }
+    ensures write_fault { result ≡ Err EngineFault.Write → W.failed sink.old < W.failed sink.new }
+{
+    let text = read_all(alloc, source)?;
+    let read = problem_of(alloc, &text)?;
+    let fuel = limits.fuel.unwrap_or(u64::MAX);
+    let Ok(mut watch) = ProgressWatch::new(clock, alloc, &read.problem, fuel, log) else {
+        return Err(EngineFault::Memory);
+    };
+    let status = write_given(clock, alloc, &read.problem, limits, &mut watch, sink)?;
+    let ignored = read.ignored;
+    Ok(EngineEnd { status, ignored })
+}
+
+/// Writes what this answer of a search says of the answer that there is no cover, and answers the status.
+fn write_none_given<W: Sink>(given: &Answer, sink: &mut W) -> Result<u8, EngineFault>
+    requires failed { W.failed sink.old < 2 ^ 64 - 1 }
+    ensures output { IsOutput (none_by (Some given.now)) (W.contents sink.old)
+        (W.contents sink.new) result }
+    ensures failed { result ≡ Err EngineFault.Write → W.failed sink.old < W.failed sink.new }
+{
+    match given {
+        Answer::Cover(_) => write_line(b"wrong: a cover exists\n", 1, sink),
+        Answer::NoCover => write_line(b"right\n", 0, sink),
+    }
+}
+
+/// Writes what a search that gave this, or no answer, says of the answer that there is no cover, and answers the status.
+fn write_none_by<W: Sink>(given: Option<&Answer>, sink: &mut W) -> Result<u8, EngineFault>
+    requires failed { W.failed sink.old < 2 ^ 64 - 1 }
+    ensures output { IsOutput (none_by (option_map (λ answer. answer.now) given.entry))
+        (W.contents sink.old) (W.contents sink.new) result }
+    ensures failed { result ≡ Err EngineFault.Write → W.failed sink.old < W.failed sink.new }
+{
+    match given {
+        Some(answer) => write_none_given(answer, sink),
+        None => write_line(b"no answer\n", 4, sink),
+    }
+}
+
+/// Searches for a cover until the limits are met, writes whether none is right, and answers the status.
+fn write_none_within<W: Sink, C: Clock>(
+    clock: &C,
+    alloc: Global,
+    problem: &Problem,
+    limits: &Limits,
+    sink: &mut W,
+) -> Result<u8, EngineFault>
+    requires failed { W.failed sink.old < 2 ^ 64 - 1 }
+    ensures output { IsOutputOf (MayCheck problem.now Answer.NoCover limits.now.fuel)
+        (W.contents sink.old) (W.contents sink.new) result }
+    ensures failed { result ≡ Err EngineFault.Write → W.failed sink.old < W.failed sink.new }
+{
+    let inner = &mut Unwatched;
+    let mut timed = TimedWatch {
+        clock,
+        limits,
+        inner,
+    };
+    match given_answer(clock, alloc, problem, limits.fuel, &mut timed) {
+        Ok(given) => write_none_by(given.as_ref(), sink),
+        Err(_) => Err(EngineFault::Memory),
+    }
+}
+
+/// Tests an answer within limits, writes what comes of it, and answers the status.
+fn write_check_within<W: Sink, C: Clock>(
+    clock: &C,
+    alloc: Global,
+    problem: &Problem,
+    answer: &Answer,
+    limits: &Limits,
+    sink: &mut W,
+) -> Result<u8, EngineFault>
+    requires options { IsListedAnswer problem.now answer.now }
+    requires failed { W.failed sink.old < 2 ^ 64 - 1 }
+    ensures output { IsOutputOf (MayCheck problem.now answer.now limits.now.fuel)
+        (W.contents sink.old) (W.contents sink.new) result }
+    ensures failed { result ≡ Err EngineFault.Write → W.failed sink.old < W.failed sink.new }
+{
+    match answer {
+        Answer::Cover(options) => write_verdict(alloc, problem, options.as_slice(), sink),
+        Answer::NoCover => write_none_within(clock, alloc, problem, limits, sink),
+    }
+}
+
+/// Tests the answer of one text to the problem of another within limits, and writes what comes of it.
+fn check_texts_within<W: Sink, C: Clock>(
+    clock: &C,
+    alloc: Global,
+    limits: &Limits,
+    file: &[u8],
+    answer: &[u8],
+    sink: &mut W,
+) -> Result<CheckEnd, EngineFault>
+    requires failed { W.failed sink.old < 2 ^ 64 - 1 }
+    ensures ended { IsEnded (CheckSaysWithin answer.now limits.now.fuel) (CheckRefuses answer.now)
+        file.now (W.contents sink.old) (W.contents sink.new) result }
+    ensures unread { result ≢ Err EngineFault.Read }
+    ensures failed { result ≡ Err EngineFault.Write → W.failed sink.old < W.failed sink.new }
+{
+    let read = problem_of(alloc, file)?;
+    let given = answer_of(alloc, answer, &read.problem)?;
+    let status = write_check_within(clock, alloc, &read.problem, &given, limits, sink)?;
+    Ok(EngineEnd {
+        status,
+        ignored: read.ignored,
+    })
+}
+
+/// Does what `check_engine` does within limits: that there is no cover is tested by a search, and `no answer` is written once one is met, of
+/// visits, if there is one, or of time.
+pub fn check_within<R: Source, S: Source, W: Sink, C: Clock>(
+    clock: &C,
+    alloc: Global,
+    limits: &Limits,
+    file: &mut R,
+    answer: &mut S,
+    sink: &mut W,
+) -> Result<CheckEnd, EngineFault>
+    requires file { R.failed file.old < 2 ^ 64 - 1 }
+    requires answer { S.failed answer.old < 2 ^ 64 - 1 }
+    requires sink { W.failed sink.old < 2 ^ 64 - 1 }
+    ensures ended { IfSome (R.remaining file.old) (λ text. IfSome (S.remaining answer.old) (λ given.
+        IsEnded (CheckSaysWithin given limits.now.fuel) (CheckRefuses given) text
+        (W.contents sink.old) (W.contents sink.new) result)) }
+    ensures file_read { result ≢ Err EngineFault.Read → result ≢ Err EngineFault.Memory →
+        IsAtEnd (R.remaining file.new) }
+    ensures answer_read { result ≢ Err EngineFault.Read → result ≢ Err EngineFault.Memory →
+        IsAtEnd (S.remaining answer.new) }
+    ensures read_fault { result ≡ Err EngineFault.Read →
+        (R.failed file.old < R.failed file.new) ⊎ (S.failed answer.old < S.failed answer.new) }
+    ensures write_fault { result ≡ Err EngineFault.Write → W.failed sink.old < W.failed sink.new }
+{
+    let file = read_all(alloc, file)?;
+    let answer = read_all(alloc, answer)?;
+    check_texts_within(clock, alloc, limits, &file, &answer, sink)
+}
