@@ -1,5 +1,5 @@
 #!/bin/bash
-# Runs all tests: the gate, then each scripts/try_*.py in a short form, and scripts/check_pages.py.
+# Runs all tests: the gate, then each scripts/try_*.py in a short form, scripts/check_pages.py, and scripts/draw_layers.py --check.
 #
 #     scripts/test.sh
 #
@@ -44,6 +44,8 @@ for path in scripts/try_*.py; do
 done
 echo "== check_pages.py"
 python3 scripts/check_pages.py || failed="$failed check_pages.py"
+echo "== draw_layers.py --check"
+python3 scripts/draw_layers.py --check || failed="$failed draw_layers.py"
 if [ -n "$failed" ]; then
     echo "test.sh: failed:$failed"
     exit 1
