@@ -85,8 +85,10 @@ class Crates:
         return [crate for crate in group.crates if self.layer_of(crate) == number]
 
     def mistakes(self) -> Iterator[str]:
-        """What is wrong with the order of crates.txt: a line that is above one that it uses."""
+        """What is wrong with crates.txt, so that no picture can be drawn: a layer without crates, or a line above one that it uses."""
         seen: set[str] = set()
+        if not self.layers or not all(group.crates for group in self.layers):
+            yield "crates.txt: no layer, or one without crates"
         for crate, used in self.uses.items():
             late = sorted(set(used) - seen)
             seen.add(crate)

@@ -9,7 +9,7 @@ It is drawn from crates.txt alone, where a comment names each layer.
 
 --text prints the same as text, lowest first. --check prints a line for each mistake: a picture in docs that isn't as it is drawn now, a
 crate that docs/TOUR.md doesn't name, or one that is above a crate that it uses in crates.txt. The exit status is 0, 1 if --check finds a
-mistake, or 2 for a mistake on the command line.
+mistake, or 2 for a mistake on the command line, or in crates.txt if there is something to draw or print.
 """
 from __future__ import annotations
 
@@ -18,7 +18,7 @@ import re
 import sys
 from collections.abc import Iterator
 
-from built import TOP, parser_of
+from built import TOP, parser_of, stop
 from crate_layers import Crates, Group, read_crates, text_of
 from layer_layout import BOX, Layout, Node
 from zarfepoch.svg_paper import FAINT, FILLS, INK, Paper, Point, number
@@ -121,7 +121,7 @@ class Picture:
     def draw_heads(self) -> None:
         """What lines and columns mean, above the bands."""
         y = self.y(len(self.layout.rows) - 1) - ROW / 2 - PAD - 16
-        self.paper.text((LEFT + RIGHT) / 2, y, "A line leads down to what a crate uses; a line that others imply is left out", 11.5)
+        self.paper.text((LEFT + RIGHT) / 2, y, "A line leads down to what a crate uses, in the colour of that one; a line that others imply is left out", 11.5)
         for column, group in enumerate(self.crates.beside):
             self.paper.text(BESIDE + column * CHIP + (CHIP - 6) / 2, y, group.name.lower(), 11.5, fill=INK, bold=True)
 
@@ -156,8 +156,9 @@ def text_in(path: str) -> str:
 
 def mistakes(crates: Crates) -> Iterator[str]:
     """What is wrong with crates.txt, the picture and the page."""
-    yield from crates.mistakes()
-    if text_in(PICTURE) != Picture(crates).svg():
+    wrong = list(crates.mistakes())
+    yield from wrong
+    if not wrong and text_in(PICTURE) != Picture(crates).svg():
         yield "docs/layers.svg isn't as drawn: python3 scripts/draw_layers.py draws it"
     named = set(re.findall(r"\w+", text_in(TOUR)))
     yield from (f"docs/TOUR.md doesn't name {crate}" for crate in crates.uses if crate not in named)
@@ -169,13 +170,15 @@ def main() -> int:
     kind.add_argument("--text", action="store_true", help="print the layers as text")
     kind.add_argument("--check", action="store_true", help="check the picture in docs and the page")
     given, crates = parser.parse_args(), read_crates()
-    if given.text:
-        print(text_of(crates), end="")
-        return 0
     if given.check:
         found = list(mistakes(crates))
         print("\n".join([*found, f"{len(crates.uses)} crates, {len(found)} mistakes"]))
         return 1 if found else 0
+    for mistake in crates.mistakes():
+        stop(mistake)
+    if given.text:
+        print(text_of(crates), end="")
+        return 0
     with open(PICTURE, "w", encoding="utf-8") as file:
         file.write(Picture(crates).svg())
     return 0
