@@ -34,15 +34,19 @@ greatest_fuel_rule = number_rule (codes "fuel") (codes "18446744073709551615")
 abbrev pub versioned : App → App
 versioned app = record app { top = record app.top { has_version = true } }
 
--- what one thread searches, whether it writes how far it has come, and whether it has no limit
+-- how long one thread may search, which has no limit where it is not given
+abbrev pub timed : App → App
+timed app = with_rule app (limit_rule (codes "seconds"))
+
+-- what one thread searches, whether it writes how far it has come, whether it has no limit of visits, and when it ends
 abbrev pub alone_app : App
 alone_app =
-    with_rule (with_rule (with_rule (with_rule (versioned (new_app (codes "alone"))) (file_rule (codes "file"))) greatest_fuel_rule) (flag_rule (codes "progress"))) (flag_rule (codes "unlimited"))
+    timed (with_rule (with_rule (with_rule (with_rule (versioned (new_app (codes "alone"))) (file_rule (codes "file"))) greatest_fuel_rule) (flag_rule (codes "progress"))) (flag_rule (codes "unlimited")))
 
--- which answer is tested against which file, and whether without a limit
+-- which answer is tested against which file, whether without a limit of visits, and when that ends
 abbrev pub check_app : App
 check_app =
-    with_rule (with_rule (with_rule (with_rule (versioned (new_app (codes "check"))) (file_rule (codes "file"))) (file_rule (codes "answer"))) greatest_fuel_rule) (flag_rule (codes "unlimited"))
+    timed (with_rule (with_rule (with_rule (with_rule (versioned (new_app (codes "check"))) (file_rule (codes "file"))) (file_rule (codes "answer"))) greatest_fuel_rule) (flag_rule (codes "unlimited")))
 
 -- of which file a reason is looked for
 abbrev pub why_app : App

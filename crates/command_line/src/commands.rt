@@ -11,7 +11,7 @@ use run_settings::Mode;
 use std::alloc::{AllocError, Global};
 
 /// The version of the program.
-const VERSION: &str = "0.1.0";
+const VERSION: &str = "1.0.0";
 
 /// The exit statuses of a search, as help tells them.
 const SEARCH_STATUSES: &str =
@@ -50,7 +50,7 @@ fn fuel_argument<'a>(alloc: Global) -> Arg<'a>
     Arg::new(alloc, "fuel")
         .long("fuel")
         .default_value("18446744073709551615")
-        .help("How many prefixes the search may visit, from 1")
+        .help("How many prefixes the whole search may visit, from 1")
 }
 
 fn progress_argument<'a>(alloc: Global) -> Arg<'a>
@@ -129,6 +129,18 @@ fn with_two<'a>(
     command.arg(first)?.arg(second)
 }
 
+/// How long one thread may search.
+fn time_argument<'a>(alloc: Global) -> Arg<'a>
+    ensures rule { rule_of result ≡ limit_rule (codes "seconds") }
+    ensures own { result.global ≡ false }
+{
+    limit_argument(
+        alloc,
+        "seconds",
+        "After how many seconds the search ends without an answer, 1 to 1000000; no limit if not given",
+    )
+}
+
 fn alone_command<'a>(alloc: Global) -> Result<Command<'a>, AllocError>
     ensures app { IfOk result (λ command. app_of command ≡ alone_app) }
     ensures local { IfOk result (λ command. (out-Command command).has_globals ≡ false) }
@@ -136,7 +148,8 @@ fn alone_command<'a>(alloc: Global) -> Result<Command<'a>, AllocError>
     let about = "Searches the problem on one thread and writes its first exact cover, or none";
     let command = described(alloc, "alone", about).after_help(SEARCH_STATUSES);
     let command = with_two(command, file_argument(alloc), fuel_argument(alloc))?;
-    with_two(command, progress_argument(alloc), unlimited_argument(alloc))
+    let command = with_two(command, progress_argument(alloc), unlimited_argument(alloc))?;
+    command.arg(time_argument(alloc))
 }
 
 fn check_command<'a>(alloc: Global) -> Result<Command<'a>, AllocError>
@@ -146,7 +159,8 @@ fn check_command<'a>(alloc: Global) -> Result<Command<'a>, AllocError>
     let about = "Tests whether an answer to the problem is right";
     let command = described(alloc, "check", about).after_help(CHECK_STATUSES);
     let command = with_two(command, file_argument(alloc), answer_argument(alloc))?;
-    with_two(command, fuel_argument(alloc), unlimited_argument(alloc))
+    let command = with_two(command, fuel_argument(alloc), unlimited_argument(alloc))?;
+    command.arg(time_argument(alloc))
 }
 
 fn why_command<'a>(alloc: Global) -> Result<Command<'a>, AllocError>
@@ -169,7 +183,8 @@ fn sites_command<'a>(
     ensures app { IfOk result (λ command. app_of command ≡ sites_app name.now) }
     ensures local { IfOk result (λ command. (out-Command command).has_globals ≡ false) }
 {
-    let fuel = "How many prefixes a search may visit, from 1";
+    let fuel =
+        "How many prefixes one job may visit, from 1; a job that needs more is split, so it limits no search";
     let nodes = "How many nodes there are, 1 to 16";
     let searching = with_two(
         described(alloc, name, about),

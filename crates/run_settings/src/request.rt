@@ -10,7 +10,7 @@ use crate::settings::Settings;
 pub struct Request<'a> {
     /// The settings of the run.
     pub settings: Settings<'a>,
-    /// After how many seconds a run over sockets ends, from 1 to 1,000,000; without a limit none.
+    /// After how many seconds a search by one thread, or a run over sockets, ends, from 1 to 1,000,000; without a limit none.
     pub seconds: Option<u32>,
     /// Whether it writes how far its search has come.
     pub progress: bool,

@@ -156,19 +156,22 @@ fn reads_whether_to_audit(rt: HostRuntime) {
     }
 }
 
-/// Words that limit a run, or don't.
-static LIMITS: [(&[&str], Option<u32>); 4] = [
+/// Words that limit how long a search lasts, or don't.
+static LIMITS: [(&[&str], Option<u32>); 7] = [
     (&["solve_cli", "solve", "a.dlx"], None),
     (&["solve_cli", "solve", "a.dlx", "--seconds", "1"], Some(1)),
     (
         &["solve_cli", "solve", "--seconds=1000000", "a.dlx"],
         Some(1_000_000),
     ),
+    (&["solve_cli", "alone", "a.dlx", "--seconds", "7"], Some(7)),
+    (&["solve_cli", "check", "a", "b", "--seconds", "8"], Some(8)),
+    (&["solve_cli", "check", "a", "b"], None),
     (&["solve_cli", "alone", "--", "--seconds"], None),
 ];
 
 #[test]
-fn reads_how_long_a_run_may_last(rt: HostRuntime) {
+fn reads_how_long_a_search_may_last(rt: HostRuntime) {
     for (words, seconds) in LIMITS.iter() {
         let request = request(rt.alloc(), words).expect(&rt, "lawful words");
         assert!(rt; request.seconds == *seconds);
@@ -210,7 +213,7 @@ fn reads_whether_there_is_a_limit(rt: HostRuntime) {
 }
 
 /// Each with the status.
-static WORDS: [(&[&str], u8); 64] = [
+static WORDS: [(&[&str], u8); 67] = [
     (&["solve_cli"], 2),
     (&["solve_cli", "--help"], 0),
     (&["solve_cli", "--version"], 0),
@@ -246,8 +249,11 @@ static WORDS: [(&[&str], u8); 64] = [
     (&["solve_cli", "solve", "a", "--seconds", "+5"], 2),
     (&["solve_cli", "solve", "a", "--seconds", ""], 2),
     (&["solve_cli", "solve", "a", "--seconds"], 2),
-    (&["solve_cli", "alone", "a", "--seconds", "5"], 2),
-    (&["solve_cli", "check", "a", "b", "--seconds", "5"], 2),
+    (&["solve_cli", "alone", "a", "--seconds", "5"], 9),
+    (&["solve_cli", "alone", "a", "--seconds", "0"], 2),
+    (&["solve_cli", "check", "a", "b", "--seconds", "5"], 9),
+    (&["solve_cli", "check", "a", "b", "--seconds", "1000001"], 2),
+    (&["solve_cli", "why", "a", "--seconds", "5"], 2),
     (&["solve_cli", "simulate", "a", "--seconds", "5"], 2),
     (&["solve_cli", "check", "a", "b", "--progress"], 2),
     (&["solve_cli", "simulate", "a", "--progress"], 2),
@@ -306,7 +312,7 @@ fn line_told<R: Abort>(rt: &R, alloc: Global, words: &[&str]) -> String {
 
 /// Values that are refused, each with what is told: the option and its range, and the usage of its own subcommand by the name that
 /// the program was called by.
-static VALUES: [(&[&str], &str); 9] = [
+static VALUES: [(&[&str], &str); 10] = [
     (
         &["solve_cli", "alone", "a", "--fuel", "x"],
         "error: --fuel takes 1 to 18446744073709551615\n\nUsage: solve_cli alone [OPTIONS] <file>\n",
@@ -338,6 +344,10 @@ static VALUES: [(&[&str], &str); 9] = [
     (
         &["solve_cli", "solve", "a", "--seconds", "0", "--seed", "x"],
         "error: --seconds takes 1 to 1000000\n\nUsage: solve_cli solve [OPTIONS] <file>\n",
+    ),
+    (
+        &["solve_cli", "alone", "a", "--seconds", "1000001"],
+        "error: --seconds takes 1 to 1000000\n\nUsage: solve_cli alone [OPTIONS] <file>\n",
     ),
     (
         &["solve_cli", "check", "-", "-"],
