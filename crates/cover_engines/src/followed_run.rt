@@ -1,5 +1,6 @@
 //! How far a run of sites has come, and why it ended.
 
+use crate::reasons::Reasons;
 use brancher::{Finding, Outcome};
 use cover_problem::Problem;
 use dlx_reader::Sink;
@@ -9,15 +10,13 @@ use std::alloc::{AllocError, Global};
 use std::sync::atomic::{AtomicU64, Ordering};
 use std::sync::{Mutex, Wait};
 use std::time::{Clock, Duration};
-use udp_node::{Cause, Gate, SiteEnd};
+use udp_node::{Gate, SiteEnd};
 
 /// A gate that lets all pass, and meanwhile writes now and then how far the run has come: of the tree, what is below prefixes that were
 /// searched without a cover, and what lies behind the search that is looked at. Where the clock can't be read it writes nothing.
 #[derive(Drop)]
 pub struct FollowedRun<'a, E: Sink, R: Wait + Clock> {
     rt: &'a R,
-    /// How long the run may last, if it is limited.
-    limit: Option<Duration>,
     /// How full the fullest book is, in percent.
     fullest: AtomicU64,
     state: Mutex<State<'a, E>>,
@@ -34,8 +33,8 @@ struct State<'a, E: Sink> {
     jobs: u64,
     /// A site has ended with which the run ends: no line follows.
     is_over: bool,
-    /// Why the site ended with which the run ended, if the search was not over.
-    reason: Option<&'static str>,
+    /// Why there is no answer, if the run ends without one.
+    reasons: Reasons,
 }
 
 impl<'a, E: Sink, R: Wait + Clock> FollowedRun<'a, E, R> {
@@ -56,11 +55,10 @@ impl<'a, E: Sink, R: Wait + Clock> FollowedRun<'a, E, R> {
             share: 0,
             jobs: 0,
             is_over: false,
-            reason: None,
+            reasons: Reasons::new(rt, limit),
         };
         Ok(FollowedRun {
             rt,
-            limit,
             fullest: AtomicU64::new(0),
             state: Mutex::new(state),
         })
@@ -73,27 +71,6 @@ impl<'a, E: Sink, R: Wait + Clock> FollowedRun<'a, E, R> {
             fullest,
             ..progress
         });
-    }
-
-    /// Whether the run has lasted as long as it may.
-    fn is_late(&self, state: &State<'a, E>) -> bool {
-        match (self.limit, state.seconds.elapsed(self.rt)) {
-            (Some(limit), Some(elapsed)) => elapsed >= limit,
-            _ => false,
-        }
-    }
-}
-
-/// Why a site ended so.
-fn reason_of(end: &SiteEnd) -> &'static str {
-    match end.cause {
-        Cause::Over => "the search is over",
-        Cause::BookFull => "a book is full",
-        Cause::Faults => "a socket failed",
-        Cause::Memory => "out of memory",
-        Cause::Silence => "a site heard nothing for long",
-        Cause::Turns if !end.is_manned => "a thread could not be started",
-        Cause::Turns => "the turns of a site are over",
     }
 }
 
@@ -174,23 +151,16 @@ impl<'a, E: Sink, R: Wait + Clock> Gate for FollowedRun<'a, E, R> {
     fn ended(&self, _node: u8, end: &SiteEnd) {
         let mut state = self.state.lock(self.rt);
         state.end();
-        if end.cause != Cause::Over && state.reason.is_none() {
-            state.reason = Some(reason_of(end));
-        }
+        state.reasons.hear(end);
     }
 
-    /// Where there is no answer, the reason is written: the limit of its time, or how the first site ended.
+    /// Where there is no answer, the reason is written.
     fn finished(&self, is_answered: bool) {
         let mut state = self.state.lock(self.rt);
         state.end();
-        if is_answered {
-            return;
+        if !is_answered {
+            let reason = state.reasons.told(self.rt);
+            state.log.write_reason(reason);
         }
-        let reason = match state.reason {
-            _ if self.is_late(&state) => "the time is over",
-            Some(reason) => reason,
-            None => "nothing was published",
-        };
-        state.log.write_reason(reason);
     }
 }

@@ -6,6 +6,8 @@ mod audited;
 mod followed_run;
 mod machine;
 mod network;
+mod quiet_run;
+mod reasons;
 mod sockets;
 mod solve;
 
@@ -13,10 +15,12 @@ pub use audited::{Finding, write_audited};
 pub use followed_run::FollowedRun;
 pub use machine::Machine;
 pub use network::{Loopback, Network};
+pub use quiet_run::QuietRun;
 pub use search_engines::{
-    AloneEnd, CheckEnd, EngineEnd, EngineFault, Gauge, Lines, Progress, ProgressLog, alone_engine,
-    alone_unlimited, alone_unlimited_with_progress, alone_with_progress, check_engine,
-    check_unlimited, tell, tell_end, tell_fault,
+    AloneEnd, CheckEnd, EngineEnd, EngineFault, Gauge, Limits, Lines, Progress, ProgressLog,
+    Unanswered, alone_engine, alone_unlimited, alone_unlimited_with_progress, alone_with_progress,
+    alone_within, alone_within_with_progress, check_engine, check_unlimited, check_within, tell,
+    tell_end, tell_end_of, tell_fault, tell_unanswered, tell_unopened,
 };
 pub use sockets::links;
 pub use solve::{SolveEnd, solve_engine, solve_problem};

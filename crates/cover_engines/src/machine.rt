@@ -7,17 +7,18 @@ ghost use Rattle.search_engines.specs.Output.{IsOutputOf};
 
 use crate::followed_run::FollowedRun;
 use crate::network::Network;
+use crate::quiet_run::QuietRun;
 use crate::solve::solve_problem;
-use cover_problem::Problem;
 use dlx_reader::{Read, Sink, Source};
 use run_settings::Request;
-use search_engines::{EngineFault, Lines, ProgressLog, read_whole, tell, tell_fault, tell_unbound};
+use search_engines::{
+    EngineFault, Lines, ProgressLog, read_whole, tell, tell_fault, tell_fault_of, tell_unbound,
+};
 use std::alloc::Global;
 use std::io::{self, ErrorKind};
 use std::sync::Wait;
 use std::thread::Threads;
 use std::time::{Clock, Duration};
-use udp_node::Open;
 
 /// What `solve` runs on.
 #[derive(Drop)]
@@ -56,7 +57,7 @@ impl<N: Network, R: Threads + Wait + Clock + Sync> Machine<'_, N, R> {
     {
         match read_whole(self.alloc, source) {
             Ok(read) => self.solve_read(request, &read, sink, errors),
-            Err(fault) => tell_fault(&fault, errors),
+            Err(fault) => tell_fault_of(&fault, request.settings.file, errors),
         }
     }
 
@@ -78,39 +79,87 @@ impl<N: Network, R: Threads + Wait + Clock + Sync> Machine<'_, N, R> {
             Ok(links) => links,
             Err(error) => return tell_unlinked(&error, errors),
         };
-        match self.search(request, &read.problem, links, sink, errors) {
-            Ok(status) => tell(status, read.ignored, errors),
+        match self.search(request, read, links, sink, errors) {
+            Ok(status) => status,
             Err(fault) => tell_fault(&fault, errors),
         }
     }
 
-    /// Lets sites search a problem over these links, and returns the exit status of what is written.
-    #[tactic(auto, using(crate::proofs::Ends::said_with))]
+    /// Lets sites search a problem over these links, tells how many options were ignored and why there is no answer, and returns the exit
+    /// status of what is written.
     fn search<W: Sink, E: Sink + Send>(
         &self,
         request: &Request<'_>,
-        problem: &Problem,
+        read: &Read,
         links: Vec<N::End>,
         sink: &mut W,
         errors: &mut E,
     ) -> Result<u8, EngineFault>
         requires links { vec_len links ≡ request.now.settings.nodes + 1 }
         requires sink { W.failed sink.old < 2 ^ 64 - 1 }
-        ensures { IsOutputOf (SolveSays request.now.settings problem.now) (W.contents sink.old)
-            (W.contents sink.new) result }
+        ensures { IsOutputOf (SolveSays request.now.settings read.now.problem)
+            (W.contents sink.old) (W.contents sink.new) result }
+    {
+        if request.progress {
+            self.search_followed(request, read, links, sink, errors)
+        } else {
+            self.search_quietly(request, read, links, sink, errors)
+        }
+    }
+
+    /// Lets sites search, and writes nothing meanwhile.
+    #[tactic(auto, using(crate::proofs::Ends::said_with))]
+    fn search_quietly<W: Sink, E: Sink>(
+        &self,
+        request: &Request<'_>,
+        read: &Read,
+        links: Vec<N::End>,
+        sink: &mut W,
+        errors: &mut E,
+    ) -> Result<u8, EngineFault>
+        requires links { vec_len links ≡ request.now.settings.nodes + 1 }
+        requires sink { W.failed sink.old < 2 ^ 64 - 1 }
+        ensures { IsOutputOf (SolveSays request.now.settings read.now.problem)
+            (W.contents sink.old) (W.contents sink.new) result }
     {
         let (rt, alloc, settings) = (self.rt, self.alloc, &request.settings);
-        let limit = limit_of(request);
-        if !request.progress {
-            return solve_problem(rt, alloc, settings, limit, problem, links, &Open, sink);
+        let (limit, problem) = (limit_of(request), &read.problem);
+        let quiet = QuietRun::new(rt, limit);
+        let solved = solve_problem(rt, alloc, settings, limit, problem, links, &quiet, sink);
+        if let Ok(status) = &solved {
+            tell(*status, read.ignored, errors);
+            quiet.tell(errors);
         }
-        let log = ProgressLog::new(errors, self.lines);
-        match FollowedRun::new(rt, alloc, problem, limit, log) {
-            Ok(followed) => {
-                solve_problem(rt, alloc, settings, limit, problem, links, &followed, sink)
-            }
-            Err(_) => Err(EngineFault::Memory),
+        solved
+    }
+
+    /// Lets sites search, and writes meanwhile how far the run has come.
+    #[tactic(auto, using(crate::proofs::Ends::said_with))]
+    fn search_followed<W: Sink, E: Sink + Send>(
+        &self,
+        request: &Request<'_>,
+        read: &Read,
+        links: Vec<N::End>,
+        sink: &mut W,
+        errors: &mut E,
+    ) -> Result<u8, EngineFault>
+        requires links { vec_len links ≡ request.now.settings.nodes + 1 }
+        requires sink { W.failed sink.old < 2 ^ 64 - 1 }
+        ensures { IsOutputOf (SolveSays request.now.settings read.now.problem)
+            (W.contents sink.old) (W.contents sink.new) result }
+    {
+        let (rt, alloc, settings) = (self.rt, self.alloc, &request.settings);
+        let (limit, problem) = (limit_of(request), &read.problem);
+        let log = ProgressLog::new(&mut *errors, self.lines);
+        let Ok(followed) = FollowedRun::new(rt, alloc, problem, limit, log) else {
+            return Err(EngineFault::Memory);
+        };
+        let solved = solve_problem(rt, alloc, settings, limit, problem, links, &followed, sink);
+        drop(followed);
+        if let Ok(status) = &solved {
+            tell(*status, read.ignored, errors);
         }
+        solved
     }
 }
 

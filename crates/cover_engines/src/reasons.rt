@@ -1,0 +1,65 @@
+//! Why a run has no answer.
+
+use search_engines::Seconds;
+use std::time::{Clock, Duration};
+use udp_node::{Cause, SiteEnd};
+
+/// Why a run has no answer, as far as its sites tell it that have ended.
+#[derive(Clone, Copy)]
+pub(crate) struct Reasons {
+    /// How long the run may last, if it is limited.
+    limit: Option<Duration>,
+    began: Seconds,
+    /// Why the site ended with which the run ended, if the search was not over.
+    first: Option<&'static str>,
+}
+
+impl Reasons {
+    /// Of a run that begins now and lasts so long at most, if it is limited.
+    pub(crate) fn new<C: Clock>(clock: &C, limit: Option<Duration>) -> Reasons {
+        Reasons {
+            limit,
+            began: Seconds::new(clock),
+            first: None,
+        }
+    }
+
+    /// Hears that a site has ended so.
+    pub(crate) fn hear(&mut self, end: &SiteEnd) {
+        if end.cause != Cause::Over && self.first.is_none() {
+            self.first = Some(reason_of(end));
+        }
+    }
+
+    /// Why there is no answer, with what may give one: the limit of the run's time, or how the first site ended.
+    pub(crate) fn told<C: Clock>(&self, clock: &C) -> &'static str {
+        match self.first {
+            _ if self.is_late(clock) => "the time is over: try more --seconds",
+            Some(reason) => reason,
+            None => "nothing was published: try again, or alone",
+        }
+    }
+
+    /// Whether the run has lasted as long as it may.
+    fn is_late<C: Clock>(&self, clock: &C) -> bool {
+        match (self.limit, self.began.elapsed(clock)) {
+            (Some(limit), Some(elapsed)) => elapsed >= limit,
+            _ => false,
+        }
+    }
+}
+
+/// Why a site ended so, with what may help.
+fn reason_of(end: &SiteEnd) -> &'static str {
+    match end.cause {
+        Cause::Over => "the search is over",
+        Cause::BookFull => "a book is full: try more --entries, or alone",
+        Cause::Faults => "a socket failed: try again, or alone",
+        Cause::Memory => "out of memory: try fewer --nodes or --workers",
+        Cause::Silence => "a site heard nothing for long: try again, or alone",
+        Cause::Turns if !end.is_manned => {
+            "a thread could not be started: try fewer --nodes or --workers"
+        }
+        Cause::Turns => "the turns of a site are over: try more --turns",
+    }
+}
