@@ -10,35 +10,62 @@ pub use cover_engines::{
     simulate_engine, solve_engine, tell, tell_fault,
 };
 use cover_engines::{
-    Lines, Loopback, Machine, ProgressLog, alone_unlimited, alone_unlimited_with_progress,
-    alone_with_progress, check_unlimited, tell_end,
+    Limits, Lines, Loopback, Machine, ProgressLog, Unanswered, alone_unlimited,
+    alone_unlimited_with_progress, alone_with_progress, alone_within, alone_within_with_progress,
+    check_unlimited, check_within, tell_end_of, tell_unanswered, tell_unopened,
 };
-use dlx_reader::{CountedReader, CountedWriter, Sink};
+use dlx_reader::{CountedReader, CountedWriter, Sink, Source};
 use either::Either;
 pub use reason_engine::{WhyEnd, why_engine};
 pub use run_settings::{Mode, Settings};
 use run_settings::{Request, STANDARD_INPUT};
 use std::env;
-use std::fmt::Write;
 use std::fs::File;
 use std::io::{self, ErrorKind, IsTerminal, Stdin};
 use std::net::Net;
 use std::process::ExitCode;
 use std::sync::Wait;
 use std::thread::Threads;
-use std::time::Clock;
+use std::time::{Clock, Duration};
 
 /// What is read: a file, or standard input.
 type Input = CountedReader<Either<File, Stdin>>;
 
-/// Opens what a word of the command line names: a file, or standard input for `-`.
+/// Opens what a word of the command line names: a file, or standard input for `-`. A folder can't be opened.
 fn open(rt: &HostRuntime, name: &str) -> io::Result<Input>
     ensures { IfOk result (λ source. source.failures ≡ 0) }
 {
     if name == STANDARD_INPUT {
         return Ok(CountedReader::new(Either::Right(rt.stdin())));
     }
-    Ok(CountedReader::new(Either::Left(File::open(rt, name)?)))
+    let file = File::open(rt, name)?;
+    if file.metadata()?.is_dir() {
+        return Err(ErrorKind::IsADirectory.into());
+    }
+    Ok(CountedReader::new(Either::Left(file)))
+}
+
+/// The limits of what is asked for, from now on, if it is limited in time.
+fn limits_of(rt: &HostRuntime, request: &Request<'_>) -> Option<Limits> {
+    let seconds = request.seconds?;
+    let time = Duration::from_secs(u64::from(seconds));
+    if request.unlimited {
+        return Some(Limits::from_now(rt, None, time));
+    }
+    Some(Limits::from_now(rt, Some(request.settings.fuel), time))
+}
+
+/// Why a search by one thread ends without an answer, if it does now.
+fn unanswered(rt: &HostRuntime, request: &Request<'_>, limits: Option<Limits>) -> Unanswered {
+    let is_late = match limits {
+        Some(limits) => limits.is_late(rt),
+        None => false,
+    };
+    if is_late {
+        Unanswered::Time
+    } else {
+        Unanswered::by_fuel(request.settings.fuel)
+    }
 }
 
 /// How lines of progress follow one another on standard error.
@@ -52,41 +79,57 @@ fn lines_of(rt: &HostRuntime) -> Lines {
 
 /// Runs `alone` on a file, and answers the exit status.
 fn run_alone(rt: &HostRuntime, request: &Request<'_>) -> u8 {
-    let settings = &request.settings;
     let mut errors = CountedWriter::new(rt.stderr());
-    let Ok(mut source) = open(rt, settings.file) else {
-        return tell_fault(&EngineFault::Read, &mut errors);
+    let limits = limits_of(rt, request);
+    let mut source = match open(rt, request.settings.file) {
+        Ok(source) => source,
+        Err(error) => return tell_unopened(request.settings.file, error.kind(), &mut errors),
     };
-    let mut sink = CountedWriter::new(rt.stdout());
-    let (alloc, fuel) = (rt.alloc(), settings.fuel);
-    let lines = lines_of(rt);
-    let ended = match (request.unlimited, request.progress) {
-        (false, false) => alone_engine(alloc, fuel, &mut source, &mut sink),
-        (true, false) => alone_unlimited(rt, alloc, &mut source, &mut sink),
-        (false, true) => {
-            let log = ProgressLog::new(&mut errors, lines);
-            alone_with_progress(rt, alloc, fuel, &mut source, &mut sink, log)
-        }
-        (true, true) => {
-            let log = ProgressLog::new(&mut errors, lines);
-            alone_unlimited_with_progress(rt, alloc, &mut source, &mut sink, log)
-        }
+    let ended = match limits {
+        Some(limits) => search_within(rt, request, &limits, &mut source, &mut errors),
+        None => search_alone(rt, request, &mut source, &mut errors),
     };
-    tell_more(&ended, fuel, &mut errors);
-    tell_end(&ended, &mut errors)
+    let status = tell_end_of(&ended, request.settings.file, &mut errors);
+    tell_unanswered(&ended, unanswered(rt, request, limits), &mut errors);
+    status
 }
 
-/// Reports that a search without a limit may go on, where one with the greatest fuel had no answer.
-fn tell_more<W: Sink>(ended: &Result<AloneEnd, EngineFault>, fuel: u64, errors: &mut W) {
-    if let Ok(end) = ended
-        && end.status == 4
-        && fuel == u64::MAX
-    {
-        let _ = writeln!(
-            errors,
-            "more visits than the greatest fuel: --unlimited goes on"
-        );
+/// Searches what a source has, and writes what comes of it; progress, if it is asked for, goes to the other sink.
+fn search_alone<W: Sink>(
+    rt: &HostRuntime,
+    request: &Request<'_>,
+    source: &mut Input,
+    errors: &mut W,
+) -> Result<AloneEnd, EngineFault>
+    requires { source.old.failures ≡ 0 }
+{
+    let mut sink = CountedWriter::new(rt.stdout());
+    let (alloc, fuel) = (rt.alloc(), request.settings.fuel);
+    let log = ProgressLog::new(errors, lines_of(rt));
+    match (request.unlimited, request.progress) {
+        (false, false) => alone_engine(alloc, fuel, source, &mut sink),
+        (true, false) => alone_unlimited(rt, alloc, source, &mut sink),
+        (false, true) => alone_with_progress(rt, alloc, fuel, source, &mut sink, log),
+        (true, true) => alone_unlimited_with_progress(rt, alloc, source, &mut sink, log),
     }
+}
+
+/// Does what `search_alone` does, within limits.
+fn search_within<W: Sink>(
+    rt: &HostRuntime,
+    request: &Request<'_>,
+    limits: &Limits,
+    source: &mut Input,
+    errors: &mut W,
+) -> Result<AloneEnd, EngineFault>
+    requires { source.old.failures ≡ 0 }
+{
+    let mut sink = CountedWriter::new(rt.stdout());
+    if !request.progress {
+        return alone_within(rt, rt.alloc(), limits, source, &mut sink);
+    }
+    let log = ProgressLog::new(errors, lines_of(rt));
+    alone_within_with_progress(rt, rt.alloc(), limits, source, &mut sink, log)
 }
 
 /// Runs `check` on a file and an answer's file, and answers the exit status.
@@ -95,44 +138,73 @@ fn run_check(rt: &HostRuntime, request: &Request<'_>) -> u8
 {
     let settings = &request.settings;
     let mut errors = CountedWriter::new(rt.stderr());
-    let Some(answer) = settings.answer else {
+    let Some(answer_name) = settings.answer else {
         unreachable!()
     };
-    let Ok(mut file) = open(rt, settings.file) else {
-        return tell_fault(&EngineFault::Read, &mut errors);
+    let limits = limits_of(rt, request);
+    let mut file = match open(rt, settings.file) {
+        Ok(file) => file,
+        Err(error) => return tell_unopened(settings.file, error.kind(), &mut errors),
     };
-    let Ok(mut answer) = open(rt, answer) else {
-        return tell_fault(&EngineFault::Read, &mut errors);
+    let mut answer = match open(rt, answer_name) {
+        Ok(answer) => answer,
+        Err(error) => return tell_unopened(answer_name, error.kind(), &mut errors),
     };
-    let mut sink = CountedWriter::new(rt.stdout());
-    let ended = if request.unlimited {
-        check_unlimited(rt, rt.alloc(), &mut file, &mut answer, &mut sink)
+    let ended = check_inputs(rt, request, limits, &mut file, &mut answer);
+    let unread = if file.failures() > 0 {
+        settings.file
     } else {
-        check_engine(rt.alloc(), settings.fuel, &mut file, &mut answer, &mut sink)
+        answer_name
     };
-    tell_end(&ended, &mut errors)
+    let status = tell_end_of(&ended, unread, &mut errors);
+    tell_unanswered(&ended, unanswered(rt, request, limits), &mut errors);
+    status
+}
+
+/// Tests what one source has as the answer to what another has, and writes what comes of it.
+fn check_inputs(
+    rt: &HostRuntime,
+    request: &Request<'_>,
+    limits: Option<Limits>,
+    file: &mut Input,
+    answer: &mut Input,
+) -> Result<CheckEnd, EngineFault>
+    requires file { file.old.failures ≡ 0 }
+    requires answer { answer.old.failures ≡ 0 }
+{
+    let mut sink = CountedWriter::new(rt.stdout());
+    let (alloc, fuel) = (rt.alloc(), request.settings.fuel);
+    match limits {
+        Some(limits) => check_within(rt, alloc, &limits, file, answer, &mut sink),
+        None if request.unlimited => check_unlimited(rt, alloc, file, answer, &mut sink),
+        None => check_engine(alloc, fuel, file, answer, &mut sink),
+    }
 }
 
 /// Runs `why` on a file, and answers the exit status.
 fn run_why(rt: &HostRuntime, settings: &Settings<'_>) -> u8 {
     let mut errors = CountedWriter::new(rt.stderr());
-    let Ok(mut source) = open(rt, settings.file) else {
-        return tell_fault(&EngineFault::Read, &mut errors);
+    let mut source = match open(rt, settings.file) {
+        Ok(source) => source,
+        Err(error) => return tell_unopened(settings.file, error.kind(), &mut errors),
     };
     let mut sink = CountedWriter::new(rt.stdout());
     let ended = why_engine(rt.alloc(), &mut source, &mut sink);
-    tell_end(&ended, &mut errors)
+    tell_end_of(&ended, settings.file, &mut errors)
 }
 
 /// Runs `simulate` on a file, and answers the exit status.
 fn run_simulate(rt: &HostRuntime, settings: &Settings<'_>) -> u8 {
     let mut errors = CountedWriter::new(rt.stderr());
-    let Ok(mut source) = open(rt, settings.file) else {
-        return tell_fault(&EngineFault::Read, &mut errors);
+    let mut source = match open(rt, settings.file) {
+        Ok(source) => source,
+        Err(error) => return tell_unopened(settings.file, error.kind(), &mut errors),
     };
     let mut sink = CountedWriter::new(rt.stdout());
     let ended = simulate_engine(rt.alloc(), settings, &mut source, &mut sink);
-    tell_end(&ended, &mut errors)
+    let status = tell_end_of(&ended, settings.file, &mut errors);
+    tell_unanswered(&ended, Unanswered::Unpublished, &mut errors);
+    status
 }
 
 /// Runs `solve` on a file, and answers the exit status.
@@ -142,8 +214,10 @@ fn run_solve<R: Threads + Wait + Clock + Net + Sync>(
     request: &Request<'_>,
 ) -> u8 {
     let mut errors = CountedWriter::new(rt.stderr());
-    let Ok(mut source) = open(rt, request.settings.file) else {
-        return tell_fault(&EngineFault::Read, &mut errors);
+    let name = request.settings.file;
+    let mut source = match open(rt, name) {
+        Ok(source) => source,
+        Err(error) => return tell_unopened(name, error.kind(), &mut errors),
     };
     let mut sink = CountedWriter::new(rt.stdout());
     let machine = Machine {

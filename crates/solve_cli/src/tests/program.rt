@@ -4,7 +4,7 @@ use crate::run_words;
 use std::fs;
 
 /// Each with its status; the files are those that are written below.
-static WORDS: [(&[&str], u8); 26] = [
+static WORDS: [(&[&str], u8); 33] = [
     (&["solve_cli"], 2),
     (&["solve_cli", "--help"], 0),
     (&["solve_cli", "check", "--help"], 0),
@@ -35,6 +35,47 @@ static WORDS: [(&[&str], u8); 26] = [
         &["solve_cli", "check", "p.dlx", "none.txt", "--unlimited"],
         1,
     ),
+    (&["solve_cli", "alone", "p.dlx", "--seconds", "9"], 0),
+    (
+        &[
+            "solve_cli",
+            "alone",
+            "q.dlx",
+            "--seconds",
+            "9",
+            "--unlimited",
+        ],
+        1,
+    ),
+    (
+        &[
+            "solve_cli",
+            "alone",
+            "p.dlx",
+            "--seconds",
+            "9",
+            "--fuel",
+            "1",
+        ],
+        4,
+    ),
+    (
+        &[
+            "solve_cli",
+            "alone",
+            "p.dlx",
+            "--seconds",
+            "9",
+            "--progress",
+        ],
+        0,
+    ),
+    (
+        &["solve_cli", "check", "p.dlx", "none.txt", "--seconds", "9"],
+        1,
+    ),
+    (&["solve_cli", "alone", "."], 3),
+    (&["solve_cli", "solve", "no/such/file"], 3),
     (&["solve_cli", "why", "--help"], 0),
     (&["solve_cli", "why", "no/such/file"], 3),
     (&["solve_cli", "why", "p.dlx"], 4),
