@@ -14,7 +14,8 @@ Words of capitals alone are places that a reader fills in. The code is what is i
 bugs and the comments of Rattle; names of files count too.
 
 The target of each link exists, and its heading. Outside of code no page uses a word of REFUSED, and none is longer than LIMITS says.
-The options in the tables of README, SOLVE and SIMULATE are those of the program's help, and README has a row for each command.
+The options in the tables of README, SOLVE and SIMULATE are those of the program's help, and README has a row for each command. The
+version is the same in the program, in the package for Python, in CITATION.cff and at the top of CHANGELOG.md.
 
 Each mistake is printed with its page and line, and a last line counts them. The exit status is 1 if there is any, else 0, or 2 for a
 mistake on the command line.
@@ -39,14 +40,18 @@ KNOWN = {"/dev/stdin"}
 REFUSED = ("tells", "stands", "anew", "want of memory", "of which no clause speaks", "comes to", "told by")
 # how many words a page may have, and the pages of all crates together
 LIMITS = {
-    "README.md": 1000, "CONTRIBUTING.md": 1000, "docs/MACHINES.md": 700, "python/README.md": 1000,
-    "docs/PROMISES.md": 1000, "docs/PROTOCOL.md": 2400, "docs/SOLVE.md": 1600, "docs/DEFINITIONS.md": 600, "docs/GATE.md": 400,
-    "docs/DECISIONS.md": 2750, "docs/FORMAT.md": 1300, "docs/SIMULATE.md": 800, "docs/TOUR.md": 1250,
+    "README.md": 1000, "CONTRIBUTING.md": 1050, "docs/MACHINES.md": 700, "python/README.md": 1000,
+    "docs/PROMISES.md": 1000, "docs/PROTOCOL.md": 2400, "docs/SOLVE.md": 1650, "docs/DEFINITIONS.md": 600, "docs/GATE.md": 400,
+    "docs/DECISIONS.md": 2850, "docs/FORMAT.md": 1300, "docs/SIMULATE.md": 800, "docs/TOUR.md": 1250,
     "bench/README.md": 1200, "bench/REASONS.md": 900, "bench/TRIED.md": 600, "examples/README.md": 2600,
 }
 CRATE_LIMIT, CRATES_LIMIT = 750, 8000
 # the command whose options a page's table lists, and the file that has the help
 TABLES = {"docs/SOLVE.md": "solve", "docs/SIMULATE.md": "simulate"}
+# where the version stands, each with what stands around it; it is the same in all
+VERSIONS = {
+    "crates/command_line/src/commands.rt": r'^const VERSION: &str = "(.*)";$', "python/zarfepoch/__init__.py": r'^__version__ = "(.*)"$',
+    "CITATION.cff": r"^version: (.*)$", "CHANGELOG.md": r"^## ([0-9.]+)\b"}
 # the number of a line and what is wrong there
 Mistake = tuple[int, str]
 COMMANDS = "crates/command_line/src/commands.rt"
@@ -266,6 +271,16 @@ def options_wrong_in(page: str, name: str) -> Iterator[Mistake]:
             yield 1, f"{command} is not in the table"
 
 
+def versions() -> dict[str, str]:
+    """The version that each file says that has one: the first there."""
+    found = {}
+    for path, pattern in VERSIONS.items():
+        with open(os.path.join(TOP, path), encoding="utf-8") as file:
+            said = re.search(pattern, file.read(), re.MULTILINE)
+        found[path] = said[1] if said else "none"
+    return found
+
+
 def mistakes_in(page: str, repository: Repository) -> tuple[list[Mistake], list[Mistake]]:
     """The names of a page that aren't there, and its other mistakes, each with the number of the line."""
     name = os.path.relpath(page, TOP).replace(os.sep, "/")
@@ -292,6 +307,10 @@ def main() -> int:
         missing, wrong = missing + len(names), wrong + len(others)
     for name in () if given else sorted(LIMITS.keys() - set(repository.paths)):
         print(f"{name}: there is no such page")
+        wrong += 1
+    said = versions()
+    if len(set(said.values())) > 1 and not given:
+        print("the versions differ: " + ", ".join(f"{path} {version}" for path, version in said.items()))
         wrong += 1
     together = sum(map(length_of, glob.glob(os.path.join(TOP, "crates", "*", "README.md"))))
     if together > CRATES_LIMIT and not given:

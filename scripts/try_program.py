@@ -13,10 +13,12 @@ import doctest
 import glob
 import os
 import pty
+import random
 import re
 import subprocess
 import sys
 import tempfile
+import time
 from typing import IO, Any, Optional, Union
 
 from built import parser_of, SOLVE_CLI, TOP, want_program
@@ -27,6 +29,7 @@ PROGRAM = SOLVE_CLI
 # a word of a command line
 Word = Union[str, bytes]
 LINE = re.compile(r"\d+ s: \d+ visits, +\d+\.\d{4} % of the tree, \d+ jobs? out, fullest book \d+ %(?:, some \d+ (?:s|min|h|days) left)?")
+SPENT = b"ended: the fuel is spent: try more --fuel, or --unlimited\n"
 NONE = {"langford-5.dlx", "tetrominoes-4x5.dlx", "mutilated-chessboard.dlx"}
 trial = Trial()
 expect = trial.expect
@@ -86,6 +89,11 @@ def examples(folder: str) -> None:
         expect(name + " wrong answer", out.startswith(b"wrong: ") and status == 1)
 
 
+def unread(name: str, why: str) -> bytes:
+    """The line of a file that can't be read."""
+    return f"cannot read: {name}: {why}\n".encode()
+
+
 def bad_input(folder: str) -> None:
     def file(name: str, content: bytes) -> str:
         path = os.path.join(folder, name)
@@ -95,16 +103,35 @@ def bad_input(folder: str) -> None:
 
     letters = os.path.join(TOP, "examples", "letters.dlx")
     cover = b"cover 3\nc e\na d f\nb g\n"
-    expect("a missing file", run("alone", os.path.join(folder, "none")) == (b"", b"cannot read\n", 3))
-    expect("a folder", run("alone", folder) == (b"", b"cannot read\n", 3))
+    missing = os.path.join(folder, "none")
+    for words in (("alone",), ("alone", "--seconds", "9"), ("why",), ("simulate",), ("solve",)):
+        expect(f"a missing file, {words}", run(*words, missing) == (b"", unread(missing, "no such file"), 3))
+        expect(f"a folder, {words}", run(*words, folder) == (b"", unread(folder, "is a directory"), 3))
+        expect(f"a read that fails, {words}", run(*words, "/proc/self/mem") == (b"", unread("/proc/self/mem", "a read failed"), 3))
+    expect("no folder on the way", run("alone", letters + "/x") == (b"", unread(letters + "/x", "a part of its path is no directory"), 3))
+    locked = file("locked", b"a\na\n")
+    os.chmod(locked, 0)
+    refused = (b"", unread(locked, "permission denied"), 3)
+    expect("a file that may not be read", run("alone", locked) == (refused if os.geteuid() else (b"cover 1\na\n", b"", 0)))
     expect("an empty file", run("alone", file("empty", b"")) == (b"", b"refused: NoItems\n", 3))
     expect("binary bytes", run("alone", file("binary", bytes(range(256)))) == (b"", b"refused: IllegalByte line 1\n", 3))
     expect("a pipe", run("alone", "/dev/stdin", stdin=b"a\na\n") == (b"cover 1\na\n", b"", 0))
     expect("fuel 6", run("alone", letters, "--fuel", "6") == (cover, b"", 0))
-    expect("fuel 5", run("alone", letters, "--fuel", "5") == (b"no answer\n", b"", 4))
-    expect("no answer to check", run("check", letters, os.path.join(folder, "none")) == (b"", b"cannot read\n", 3))
+    expect("fuel 5", run("alone", letters, "--fuel", "5") == (b"no answer\n", SPENT, 4))
+    for words in (("--seconds", "9"), ("--seconds", "9", "--unlimited"), ("--seconds", "9", "--progress")):
+        expect(f"alone {words}", run("alone", letters, *words) == (cover, b"", 0))
+    expect("fuel 5 within time", run("alone", letters, "--fuel", "5", "--seconds", "9") == (b"no answer\n", SPENT, 4))
+    expect("no answer to check", run("check", letters, missing) == (b"", unread(missing, "no such file"), 3))
+    expect("nothing to check", run("check", missing, letters) == (b"", unread(missing, "no such file"), 3))
+    expect("a file that can't be read is named", run("check", "/proc/self/mem", letters) == (b"", unread("/proc/self/mem", "a read failed"), 3))
+    expect("an answer that can't be read is named", run("check", letters, "/proc/self/mem") == (b"", unread("/proc/self/mem", "a read failed"), 3))
+    expect("a folder as the answer", run("check", letters, folder) == (b"", unread(folder, "is a directory"), 3))
     none = file("none.answer", b"none\n")
-    expect("none with fuel 5", run("check", letters, none, "--fuel", "5") == (b"no answer\n", b"", 4))
+    expect("none with fuel 5", run("check", letters, none, "--fuel", "5") == (b"no answer\n", SPENT, 4))
+    for words in (("--seconds", "9"), ("--seconds", "9", "--unlimited")):
+        expect(f"check {words}", run("check", letters, none, *words) == (b"wrong: a cover exists\n", b"", 1))
+    ignored = file("ignored", b"a | x\nx\na\n")
+    expect("an ignored option before the reason", run("alone", ignored, "--fuel", "1") == (b"no answer\n", b"ignored 1\n" + SPENT, 4))
     head = file("head.answer", b"no cover\n")
     expect("a bad head", run("check", letters, head) == (b"", b"answer refused: BadHead\n", 3))
     line = file("line.answer", b"cover 1\ne c\n")
@@ -125,15 +152,61 @@ def progress() -> None:
     cover = b"cover 3\nc e\na d f\nb g\n"
     expect("alone with progress", run("alone", letters, "--progress") == (cover, b"", 0))
     expect("solve with progress", run("solve", letters, "--progress") == (cover, b"", 0))
-    turns = run("solve", letters, "--turns", "0", "--progress")
-    expect("no turns", turns == (b"no answer\n", b"ended: the turns of a site are over\n", 4))
+    for more in ((), ("--progress",)):
+        turns = run("solve", letters, "--turns", "0", *more)
+        expect(f"no turns {more}", turns == (b"no answer\n", b"ended: the turns of a site are over: try more --turns\n", 4))
+        full = run("solve", letters, "--entries", "1", *more)
+        expect(f"a full book {more}", full == (b"no answer\n", b"ended: a book is full: try more --entries, or alone\n", 4))
     long = os.path.join(TOP, "examples", "mutilated-chessboard.dlx")
     out, errors, status = run("solve", long, "--fuel", "1", "--seconds", "2", "--progress")
     lines = errors.decode().splitlines()
-    expect("a limit", (out, status) == (b"no answer\n", 4) and lines[-1] == "ended: the time is over")
+    expect("a limit", (out, status) == (b"no answer\n", 4) and lines[-1] == "ended: the time is over: try more --seconds")
     expect("a line each second", lines[:-1] and all(LINE.fullmatch(line) for line in lines[:-1]))
     text, status = on_terminal("solve", long, "--fuel", "1", "--seconds", "2", "--progress")
-    expect("one line on a terminal", status == 4 and re.fullmatch(rb"(\r\d+ s: [^\r\n]*)+\r\nended: the time is over\r\nno answer\r\n", text))
+    expect("one line on a terminal", status == 4 and re.fullmatch(rb"(\r\d+ s: [^\r\n]*)+\r\nended: the time is over: try more --seconds\r\nno answer\r\n", text))
+
+
+def timed(folder: str) -> None:
+    """A search of years, by one thread, that ends after a second."""
+    path, none = os.path.join(folder, "long"), os.path.join(folder, "none")
+    names, by_chance = [str(place) for place in range(180)], random.Random(1)
+    with open(path, "w", encoding="ascii") as file:
+        # (a cover may be among so few triples, but nobody finds it soon)
+        file.writelines(" ".join(words) + "\n" for words in [names, *(by_chance.sample(names, 3) for _ in range(450))])
+    with open(none, "w", encoding="ascii") as file:
+        file.write("none\n")
+    late = b"ended: the time is over: try more --seconds, or solve\n"
+    for words in (("alone", path), ("alone", path, "--unlimited"), ("check", path, none), ("check", path, none, "--unlimited")):
+        began = time.monotonic()
+        expect(f"a second of {words}", run(*words, "--seconds", "1") == (b"no answer\n", late, 4))
+        expect(f"the seconds of {words}", 1 <= time.monotonic() - began < 15)
+
+
+def sites_of(*words: str) -> tuple[int, int, int]:
+    """How many sockets and threads a run of `solve` has after a second, and how many threads came within a second more."""
+    long = os.path.join(TOP, "examples", "mutilated-chessboard.dlx")
+    with subprocess.Popen([PROGRAM, "solve", long, "--fuel", "1", "--seconds", "3", *words], stdout=subprocess.DEVNULL, stderr=subprocess.DEVNULL) as process:
+        time.sleep(1)
+        folder = f"/proc/{process.pid}"
+        ends = [os.readlink(f"{folder}/fd/{name}") for name in os.listdir(f"{folder}/fd")]
+        threads, seen = set(os.listdir(f"{folder}/task")), set()
+        until = time.monotonic() + 1
+        while time.monotonic() < until:
+            seen |= set(os.listdir(f"{folder}/task"))
+            time.sleep(0.001)
+    return sum(end.startswith("socket:") for end in ends), len(threads), len(seen - threads)
+
+
+def options_of_solve() -> None:
+    """Each option of `solve` reaches the run: by its sockets and threads, by the reason of an end, or by what is written."""
+    sockets, threads, _ = sites_of("--nodes", "2", "--workers", "1")
+    more_sockets, more_threads, _ = sites_of("--nodes", "3", "--workers", "1")
+    expect("--nodes", (sockets, more_sockets) == (3, 4) and more_threads > threads)
+    _, three, _ = sites_of("--nodes", "2", "--workers", "3")
+    expect("--workers", three == threads + 4)
+    letters = os.path.join(TOP, "examples", "letters.dlx")
+    cover = b"cover 3\nc e\na d f\nb g\n"
+    expect("--audit", run("solve", letters, "--audit") == (cover + b"audit clean\n", b"", 0))
 
 
 def command_line() -> None:
@@ -148,14 +221,24 @@ def command_line() -> None:
 
 def installing(folder: str) -> None:
     """What install.sh writes, with a prefix and without."""
+    tools = ("another", "check-reason", "draw", "explain", "generate", "join", "split", "why-none")
     script, files = os.path.join(TOP, "scripts", "install.sh"), ["bin/solve_cli", "share/man/man1/solve_cli.1",
                                                                  "share/bash-completion/completions/solve_cli",
-                                                                 "share/zsh/site-functions/_solve_cli"]
+                                                                 "share/zsh/site-functions/_solve_cli", "share/zarfepoch/VERSION",
+                                                                 *(f"bin/zarfepoch-{tool}" for tool in tools), "share/zarfepoch/zarfepoch"]
     prefixes: tuple[tuple[list[str], str], ...] = (([], "/usr/local"), (["/opt"], "/opt"))
     for words, prefix in prefixes:
         ended = subprocess.run(["sh", script, *words], env={**os.environ, "DESTDIR": folder}, capture_output=True, text=True)
         written = [f"{folder}{prefix}/{file}" for file in files]
-        expect(f"install.sh {words}", ended.returncode == 0 and ended.stdout.split() == written and all(map(os.path.isfile, written)))
+        expect(f"install.sh {words}", ended.returncode == 0 and ended.stdout.split() == written and all(map(os.path.exists, written)))
+    for tool in tools:
+        ended = subprocess.run([f"{folder}/opt/bin/zarfepoch-{tool}", "--help"], cwd="/", capture_output=True, text=True)
+        expect(f"zarfepoch-{tool}: {ended.stderr}", ended.returncode == 0 and ended.stdout.startswith(f"usage: zarfepoch-{tool} "))
+    with open(f"{folder}/opt/share/zarfepoch/VERSION", encoding="ascii") as said:
+        lines = said.read().splitlines()
+    expect(f"VERSION: {lines}", lines[0] == run("--version")[0].decode().strip() and [line.split()[0] for line in lines[1:]] == ["commit", "toolchain"])
+    with open(f"{folder}/opt/share/man/man1/solve_cli.1", encoding="utf-8") as page:
+        expect("the man page has the version", f'"{lines[0]}"' in page.readline())
     with open(f"{folder}/opt/share/other", "w", encoding="ascii"):
         pass
     for words, prefix, left in (["--remove"], "/usr/local", []), (["/opt", "--remove"], "/opt", ["other"]):
@@ -275,11 +358,13 @@ def main() -> int:
         examples(folder)
         bad_input(folder)
         many_visits(folder)
+        timed(folder)
         installing(os.path.join(folder, "dest"))
     from_python()
     helps()
     failing_outputs()
     progress()
+    options_of_solve()
     command_line()
     return trial.end()
 
