@@ -4,7 +4,7 @@
 //! `last_reason_stays`, and `searches_are_summed` finds `visits_are_not_summed` and `shares_are_not_summed`.
 
 use brancher::{Finding, Searcher};
-use cover_engines::{FollowedRun, Lines, ProgressLog};
+use cover_engines::{FollowedRun, Lines, ProgressLog, QuietRun};
 use cover_problem::{Problem, is_prefix};
 use dlx_reader::{CountedWriter, read_problem};
 use std::alloc::Global;
@@ -28,26 +28,38 @@ type Ended = (u8, Cause, bool);
 
 /// Sites in the order in which they ended, and the line.
 static REASONS: [(&[Ended], &str); 9] = [
-    (&[], "ended: nothing was published\n"),
-    (&[(0, Cause::Over, true)], "ended: nothing was published\n"),
-    (&[(1, Cause::BookFull, true)], "ended: a book is full\n"),
-    (&[(2, Cause::Faults, true)], "ended: a socket failed\n"),
-    (&[(0, Cause::Memory, false)], "ended: out of memory\n"),
+    (&[], "ended: nothing was published: try again, or alone\n"),
+    (
+        &[(0, Cause::Over, true)],
+        "ended: nothing was published: try again, or alone\n",
+    ),
+    (
+        &[(1, Cause::BookFull, true)],
+        "ended: a book is full: try more --entries, or alone\n",
+    ),
+    (
+        &[(2, Cause::Faults, true)],
+        "ended: a socket failed: try again, or alone\n",
+    ),
+    (
+        &[(0, Cause::Memory, false)],
+        "ended: out of memory: try fewer --nodes or --workers\n",
+    ),
     (
         &[(4, Cause::Turns, false)],
-        "ended: a thread could not be started\n",
+        "ended: a thread could not be started: try fewer --nodes or --workers\n",
     ),
     (
         &[(2, Cause::Turns, true)],
-        "ended: the turns of a site are over\n",
+        "ended: the turns of a site are over: try more --turns\n",
     ),
     (
         &[(1, Cause::Silence, true)],
-        "ended: a site heard nothing for long\n",
+        "ended: a site heard nothing for long: try again, or alone\n",
     ),
     (
         &[(3, Cause::Faults, true), (0, Cause::BookFull, true)],
-        "ended: a socket failed\n",
+        "ended: a socket failed: try again, or alone\n",
     ),
 ];
 
@@ -69,7 +81,29 @@ fn told<R: Wait + Clock>(
     }
     run.finished(is_answered);
     drop(run);
+    let quiet = told_quietly(rt, alloc, sites, is_answered, limit);
+    if quiet.as_slice() != told.as_slice() {
+        return Err(Fail::new("a quiet run tells something else"));
+    }
     Ok(told)
+}
+
+/// The same of a run that writes nothing before it is over.
+fn told_quietly<R: Wait + Clock>(
+    rt: &R,
+    alloc: Global,
+    sites: &[Ended],
+    is_answered: bool,
+    limit: Option<Duration>,
+) -> Vec<u8> {
+    let mut told = Vec::new(alloc);
+    let run = QuietRun::new(rt, limit);
+    for (node, cause, is_manned) in sites {
+        run.ended(*node, &ended(*cause, *is_manned));
+    }
+    run.finished(is_answered);
+    run.tell(&mut CountedWriter::new(&mut told));
+    told
 }
 
 #[test]
@@ -85,7 +119,7 @@ fn a_run_without_an_answer_tells_the_first_reason(rt: HostRuntime) -> Result<(),
 fn the_limit_comes_before_all_others(rt: HostRuntime) -> Result<(), Fail> {
     let sites = [(1, Cause::Silence, true)];
     let late = told(&rt, rt.alloc(), &sites, false, Some(Duration::from_secs(0)))?;
-    assert!(rt; late.as_slice() == b"ended: the time is over\n".as_slice());
+    assert!(rt; late.as_slice() == b"ended: the time is over: try more --seconds\n".as_slice());
     let early = told(
         &rt,
         rt.alloc(),
@@ -93,7 +127,10 @@ fn the_limit_comes_before_all_others(rt: HostRuntime) -> Result<(), Fail> {
         false,
         Some(Duration::from_secs(1_000_000)),
     )?;
-    assert!(rt; early.as_slice() == b"ended: a site heard nothing for long\n".as_slice());
+    assert!(rt;
+        early.as_slice()
+            == b"ended: a site heard nothing for long: try again, or alone\n".as_slice()
+    );
     Ok(())
 }
 

@@ -195,7 +195,9 @@ fn a_limit_is_counted_in_seconds(rt: HostRuntime) -> Result<(), Fail> {
     let lasted = began.elapsed(&rt)?;
     assert_eq!(rt; solved.status, 4);
     assert!(rt; solved.out.as_slice() == NOTHING.0.as_bytes());
-    assert!(rt; solved.errors.as_slice() == b"ended: the time is over\n".as_slice());
+    assert!(rt;
+        solved.errors.as_slice() == b"ended: the time is over: try more --seconds\n".as_slice()
+    );
     assert!(rt; 1 <= lasted.as_secs() && lasted.as_secs() < LATEST);
     Ok(())
 }
