@@ -12,3 +12,4 @@ mod texts;
 mod told;
 mod unlimited;
 mod why;
+mod within;

@@ -122,13 +122,13 @@ const PIGEONS: &str = "1 2 3 4 5 6 7 | a b c d e f\n\
     5 a\n5 b\n5 c\n5 d\n5 e\n5 f\n6 a\n6 b\n6 c\n6 d\n6 e\n6 f\n7 a\n7 b\n7 c\n7 d\n7 e\n7 f\n";
 
 /// Ten queens on a torus, no two of which are in one row, column or diagonal: there is no cover, and no state is met twice in 2,331 visits.
-const QUEENS: &str =
+pub const QUEENS: &str =
     "r0 r1 r2 r3 r4 r5 r6 r7 r8 r9 c0 c1 c2 c3 c4 c5 c6 c7 c8 c9 | a0 a1 a2 a3 a4 a5 a6 a7 a8 a9 b0 b1 b2 b3 b4 b5 b6 b7 b8 b9\nr0 c0 a0 b0\nr0 c1 a1 b9\nr0 c2 a2 b8\nr0 c3 a3 b7\nr0 c4 a4 b6\nr0 c5 a5 b5\nr0 c6 a6 b4\nr0 c7 a7 b3\nr0 c8 a8 b2\nr0 c9 a9 b1\nr1 c0 a1 b1\nr1 c1 a2 b0\nr1 c2 a3 b9\nr1 c3 a4 b8\nr1 c4 a5 b7\nr1 c5 a6 b6\nr1 c6 a7 b5\nr1 c7 a8 b4\nr1 c8 a9 b3\nr1 c9 a0 b2\nr2 c0 a2 b2\nr2 c1 a3 b1\nr2 c2 a4 b0\nr2 c3 a5 b9\nr2 c4 a6 b8\nr2 c5 a7 b7\nr2 c6 a8 b6\nr2 c7 a9 b5\nr2 c8 a0 b4\nr2 c9 a1 b3\nr3 c0 a3 b3\nr3 c1 a4 b2\nr3 c2 a5 b1\nr3 c3 a6 b0\nr3 c4 a7 b9\nr3 c5 a8 b8\nr3 c6 a9 b7\nr3 c7 a0 b6\nr3 c8 a1 b5\nr3 c9 a2 b4\nr4 c0 a4 b4\nr4 c1 a5 b3\nr4 c2 a6 b2\nr4 c3 a7 b1\nr4 c4 a8 b0\nr4 c5 a9 b9\nr4 c6 a0 b8\nr4 c7 a1 b7\nr4 c8 a2 b6\nr4 c9 a3 b5\nr5 c0 a5 b5\nr5 c1 a6 b4\nr5 c2 a7 b3\nr5 c3 a8 b2\nr5 c4 a9 b1\nr5 c5 a0 b0\nr5 c6 a1 b9\nr5 c7 a2 b8\nr5 c8 a3 b7\nr5 c9 a4 b6\nr6 c0 a6 b6\nr6 c1 a7 b5\nr6 c2 a8 b4\nr6 c3 a9 b3\nr6 c4 a0 b2\nr6 c5 a1 b1\nr6 c6 a2 b0\nr6 c7 a3 b9\nr6 c8 a4 b8\nr6 c9 a5 b7\nr7 c0 a7 b7\nr7 c1 a8 b6\nr7 c2 a9 b5\nr7 c3 a0 b4\nr7 c4 a1 b3\nr7 c5 a2 b2\nr7 c6 a3 b1\nr7 c7 a4 b0\nr7 c8 a5 b9\nr7 c9 a6 b8\nr8 c0 a8 b8\nr8 c1 a9 b7\nr8 c2 a0 b6\nr8 c3 a1 b5\nr8 c4 a2 b4\nr8 c5 a3 b3\nr8 c6 a4 b2\nr8 c7 a5 b1\nr8 c8 a6 b0\nr8 c9 a7 b9\nr9 c0 a9 b9\nr9 c1 a0 b8\nr9 c2 a1 b7\nr9 c3 a2 b6\nr9 c4 a3 b5\nr9 c5 a4 b4\nr9 c6 a5 b3\nr9 c7 a6 b2\nr9 c8 a7 b1\nr9 c9 a8 b0\n";
 
 /// A clock that is a second later each time that it is read.
 #[derive(Drop)]
-struct Ticking {
-    seconds: AtomicU64,
+pub struct Ticking {
+    pub seconds: AtomicU64,
 }
 
 impl Clock for Ticking {

@@ -1,0 +1,246 @@
+//! `alone` and `check` within a limit of time, and what is told where there is no answer or a file can't be read.
+
+use super::progress::{QUEENS, Ticking};
+use super::texts::{LETTERS, NO_COVER};
+use super::told::Told;
+use dlx_reader::{CountedReader, CountedWriter};
+use search_engines::{
+    EngineEnd, EngineFault, Limits, Lines, ProgressLog, Unanswered, alone_within,
+    alone_within_with_progress, check_within, tell_end_of, tell_unanswered, tell_unopened,
+};
+use std::alloc::Global;
+use std::io::ErrorKind;
+use std::sync::atomic::AtomicU64;
+use std::time::{Clock, Duration};
+
+/// A time that no test lasts.
+const LONG: u64 = 1_000_000;
+
+/// The limits of a search that begins now: so many visits, or any number for 0, and so many seconds.
+fn limits<C: Clock>(clock: &C, fuel: u64, seconds: u64) -> Limits {
+    let time = Duration::from_secs(seconds);
+    if fuel == 0 {
+        Limits::from_now(clock, None, time)
+    } else {
+        Limits::from_now(clock, Some(fuel), time)
+    }
+}
+
+/// What `alone` tells of a problem within limits.
+fn alone<C: Clock>(clock: &C, alloc: Global, text: &str, limits: &Limits) -> Told {
+    let mut out = Vec::new(alloc);
+    let mut errors = Vec::new(alloc);
+    let mut source = CountedReader::new(text.as_bytes());
+    let mut sink = CountedWriter::new(&mut out);
+    let ended = alone_within(clock, alloc, limits, &mut source, &mut sink);
+    let status = tell_end_of(&ended, "p.dlx", &mut CountedWriter::new(&mut errors));
+    Told {
+        out,
+        errors,
+        status,
+    }
+}
+
+/// What `check` tells of an answer to a problem within limits.
+fn check<C: Clock>(clock: &C, alloc: Global, text: &str, answer: &str, limits: &Limits) -> Told {
+    let mut out = Vec::new(alloc);
+    let mut errors = Vec::new(alloc);
+    let mut file = CountedReader::new(text.as_bytes());
+    let mut answer = CountedReader::new(answer.as_bytes());
+    let mut sink = CountedWriter::new(&mut out);
+    let ended = check_within(clock, alloc, limits, &mut file, &mut answer, &mut sink);
+    let status = tell_end_of(&ended, "p.dlx", &mut CountedWriter::new(&mut errors));
+    Told {
+        out,
+        errors,
+        status,
+    }
+}
+
+/// Problems with a fuel, each with what is written to both outputs, and the status.
+static ANSWERS: [(&str, u64, &str, &str, u8); 8] = [
+    (LETTERS, 0, "cover 3\nc e\na d f\nb g\n", "", 0),
+    (LETTERS, 6, "cover 3\nc e\na d f\nb g\n", "", 0),
+    (LETTERS, 5, "no answer\n", "", 4),
+    (NO_COVER, 0, "none\n", "", 1),
+    (NO_COVER, u64::MAX, "none\n", "", 1),
+    (QUEENS, 1900, "no answer\n", "", 4),
+    ("a | x\nx\na", 9, "cover 1\na\n", "ignored 1\n", 0),
+    ("a ||x\n", 9, "", "refused: IllegalByte line 1\n", 3),
+];
+
+#[test]
+fn within_its_time_alone_has_the_same_answer(rt: HostRuntime) {
+    for (text, fuel, out, errors, status) in ANSWERS.iter() {
+        let told = alone(&rt, rt.alloc(), text, &limits(&rt, *fuel, LONG));
+        assert!(rt; told.is(out, errors, *status), "{text} {fuel}");
+    }
+}
+
+/// Answers to problems with a fuel, each with what is written to both outputs, and the status.
+static VERDICTS: [(&str, &str, u64, &str, &str, u8); 7] = [
+    (LETTERS, "cover 3\nc e\na d f\nb g\n", 1, "right\n", "", 0),
+    (
+        LETTERS,
+        "cover 2\nc e\nb g\n",
+        1,
+        "wrong: Uncovered a\n",
+        "",
+        1,
+    ),
+    (LETTERS, "none\n", 0, "wrong: a cover exists\n", "", 1),
+    (LETTERS, "none\n", 6, "wrong: a cover exists\n", "", 1),
+    (LETTERS, "none\n", 5, "no answer\n", "", 4),
+    (NO_COVER, "none\n", 0, "right\n", "", 0),
+    (NO_COVER, "no\n", 0, "", "answer refused: BadHead\n", 3),
+];
+
+#[test]
+fn within_its_time_check_has_the_same_answer(rt: HostRuntime) {
+    for (text, answer, fuel, out, errors, status) in VERDICTS.iter() {
+        let told = check(&rt, rt.alloc(), text, answer, &limits(&rt, *fuel, LONG));
+        assert!(rt; told.is(out, errors, *status), "{text} {fuel}");
+    }
+}
+
+/// A clock that is a second later each time that it is read.
+fn ticking() -> Ticking {
+    Ticking {
+        seconds: AtomicU64::new(0),
+    }
+}
+
+/// Seconds, with what a search of 2,331 visits writes that may last so long, what a check of `none`, and the status of the first. The clock
+/// is read when it begins and once in 1,024 visits.
+static TIMES: [(u64, &str, &str, u8); 3] = [
+    (1, "no answer\n", "no answer\n", 4),
+    (2, "no answer\n", "no answer\n", 4),
+    (3, "none\n", "right\n", 1),
+];
+
+#[test]
+fn a_search_ends_once_its_time_is_over(rt: HostRuntime) {
+    for (seconds, out, verdict, status) in TIMES.iter() {
+        let clock = ticking();
+        let told = alone(
+            &clock,
+            rt.alloc(),
+            QUEENS,
+            &limits(&clock, u64::MAX, *seconds),
+        );
+        assert!(rt; told.is(out, "", *status), "{seconds}");
+        let clock = ticking();
+        let limits = limits(&clock, u64::MAX, *seconds);
+        let told = check(&clock, rt.alloc(), QUEENS, "none\n", &limits);
+        assert!(rt; told.out.as_slice() == verdict.as_bytes(), "{seconds}");
+    }
+}
+
+#[test]
+fn a_cover_is_tested_whatever_the_time(rt: HostRuntime) {
+    let clock = ticking();
+    let cover = "cover 3\nc e\na d f\nb g\n";
+    let told = check(&clock, rt.alloc(), LETTERS, cover, &limits(&clock, 1, 0));
+    assert!(rt; told.is("right\n", "", 0));
+}
+
+#[test]
+fn progress_goes_on_until_the_time_is_over(rt: HostRuntime) {
+    let clock = ticking();
+    let (mut out, mut lines) = (Vec::new(rt.alloc()), Vec::new(rt.alloc()));
+    let mut source = CountedReader::new(QUEENS.as_bytes());
+    let mut sink = CountedWriter::new(&mut out);
+    let mut errors = CountedWriter::new(&mut lines);
+    let log = ProgressLog::new(&mut errors, Lines::Listed);
+    let limits = limits(&clock, u64::MAX, 3);
+    let ended = alone_within_with_progress(
+        &clock,
+        rt.alloc(),
+        &limits,
+        &mut source,
+        &mut sink,
+        log,
+    );
+    assert!(rt; matches!(ended, Ok(end) if end.status == 4));
+    assert!(rt; out.as_slice() == b"no answer\n".as_slice());
+    assert!(rt; lines.as_slice() == b"1 s: 1024 visits,  43.6607 % of the tree\n".as_slice());
+}
+
+/// Ends, each with what is told of them.
+static UNANSWERED: [(u8, Unanswered, &str); 6] = [
+    (0, Unanswered::Fuel, ""),
+    (1, Unanswered::Time, ""),
+    (
+        4,
+        Unanswered::Fuel,
+        "ended: the fuel is spent: try more --fuel, or --unlimited\n",
+    ),
+    (
+        4,
+        Unanswered::GreatestFuel,
+        "ended: the greatest fuel is spent: try --unlimited\n",
+    ),
+    (
+        4,
+        Unanswered::Time,
+        "ended: the time is over: try more --seconds, or solve\n",
+    ),
+    (
+        4,
+        Unanswered::Unpublished,
+        "ended: nothing was published: try alone --unlimited\n",
+    ),
+];
+
+#[test]
+fn no_answer_has_its_reason(rt: HostRuntime) {
+    for (status, why, line) in UNANSWERED.iter() {
+        let mut told = Vec::new(rt.alloc());
+        let end = EngineEnd {
+            status: *status,
+            ignored: 0,
+        };
+        tell_unanswered(&Ok(end), *why, &mut CountedWriter::new(&mut told));
+        assert!(rt; told.as_slice() == line.as_bytes(), "{line}");
+    }
+    assert!(rt; Unanswered::by_fuel(u64::MAX) == Unanswered::GreatestFuel);
+    assert!(rt; Unanswered::by_fuel(7) == Unanswered::Fuel);
+}
+
+/// How a file can't be opened, each with the words for it.
+static KINDS: [(ErrorKind, &str); 6] = [
+    (ErrorKind::NotFound, "cannot read: p.dlx: no such file\n"),
+    (
+        ErrorKind::IsADirectory,
+        "cannot read: p.dlx: is a directory\n",
+    ),
+    (
+        ErrorKind::NotADirectory,
+        "cannot read: p.dlx: a part of its path is no directory\n",
+    ),
+    (
+        ErrorKind::PermissionDenied,
+        "cannot read: p.dlx: permission denied\n",
+    ),
+    (
+        ErrorKind::FilesystemLoop,
+        "cannot read: p.dlx: too many symbolic links\n",
+    ),
+    (
+        ErrorKind::Other,
+        "cannot read: p.dlx: the system cannot open it\n",
+    ),
+];
+
+#[test]
+fn a_file_that_cannot_be_read_is_named(rt: HostRuntime) {
+    for (kind, line) in KINDS.iter() {
+        let mut told = Vec::new(rt.alloc());
+        let status = tell_unopened("p.dlx", *kind, &mut CountedWriter::new(&mut told));
+        assert!(rt; status == 3 && told.as_slice() == line.as_bytes(), "{line}");
+    }
+    let mut told = Vec::new(rt.alloc());
+    let ended = Err(EngineFault::Read);
+    let status = tell_end_of(&ended, "q", &mut CountedWriter::new(&mut told));
+    assert!(rt; status == 3 && told.as_slice() == b"cannot read: q: a read failed\n".as_slice());
+}
