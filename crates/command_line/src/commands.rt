@@ -60,7 +60,7 @@ fn progress_argument<'a>(alloc: Global) -> Arg<'a>
     flag_argument(
         alloc,
         "progress",
-        "Writes each second to standard error how far the search has come",
+        "Writes to standard error now and then how far the search has come",
     )
 }
 
