@@ -111,11 +111,11 @@ fn ticking() -> Ticking {
 }
 
 /// Seconds, with what a search of 2,331 visits writes that may last so long, what a check of `none`, and the status of the first. The clock
-/// is read when it begins and once in 1,024 visits.
+/// is read when it begins and once in some 1,024 visits, more often where states are looked for.
 static TIMES: [(u64, &str, &str, u8); 3] = [
     (1, "no answer\n", "no answer\n", 4),
     (2, "no answer\n", "no answer\n", 4),
-    (3, "none\n", "right\n", 1),
+    (9, "none\n", "right\n", 1),
 ];
 
 #[test]
