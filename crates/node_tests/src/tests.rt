@@ -8,7 +8,6 @@ mod fails_once;
 mod limit;
 mod lone;
 mod loss;
-mod lost_first;
 mod order;
 mod pace;
 mod plain;
