@@ -267,7 +267,7 @@ WRONG = (
     ("a kakuro's sum that can't be", 1, "2", ["kakuro"], "# 3\\ 4\\\n\\30 . .\n\\4 . .\n"),
     ("a white cell without a sum", 3, "3", ["kakuro"], "# 3\\ 4\\\n\\3 . .\n# . .\n"),
     ("regions that aren't square", 3, "2", ["stars"], "aab\nab\nccc\n"), ("too few regions", 1, None, ["stars"], "aaa\naaa\nbbb\n"),
-    ("a region without room", 1, "1", ["stars", "--stars", "2"], "aab\nabb\nbcc\n"),
+    ("a region without room", 1, "1", ["stars", "--stars", "2"], "aab\nabb\nccb\n"),
     ("blocks that don't fit", 1, "2", ["nonogram"], "1\n2 2\n\n1\n1\n1\n"), ("a nonogram's letter", 3, "2", ["nonogram"], "1\nx\n\n1\n1\n"),
     ("a board of letters", 3, "2", ["board"], "xx\nxy\n"))
 WRONG_PIECES = (

@@ -59,6 +59,7 @@ from . import puzzles
 from . import sudokus
 from . import timetables
 from .cover_files import MAX_COLOURS, MAX_ITEMS, MAX_NAME, MAX_OCCURRENCES, MAX_OPTIONS, put, run, shown, stop
+from .fault_words import plural
 from .pieces import filled, named_pieces, read_board, read_pieces
 from .puzzle_texts import Puzzle, blocks_of, no_cover, read_text, refuse, rows_of, UNREADABLE, words_of
 
@@ -343,13 +344,13 @@ def read_squares(path: str) -> Pieces:
 
 def read_word_list(path: str) -> list[str]:
     """Different words."""
-    words = list(dict.fromkeys(read_text(path).split()))
+    words = [(word, number) for number, line in rows_of(path) for word in line.split()]
     if not words:
         refuse(path, None, "there are no words")
-    for word in words:
+    for word, number in words:
         if re.search(r"[\d:|\0]", word):
-            refuse(path, None, f"'{word}' has a digit, ':' or '|', which no word may have here")
-    return words
+            refuse(path, number, f"'{word}' has a digit, ':' or '|', which no word may have here")
+    return list(dict.fromkeys(word for word, _ in words))
 
 
 def read_words(path: str) -> list[str]:
@@ -397,7 +398,8 @@ def read_nonogram(path: str) -> tuple[list[list[int]], list[list[int]]]:
     """The lengths of the blocks of each row and of each column."""
     parts = blocks_of(path)
     if len(parts) != 2:
-        refuse(path, None, "lines of numbers for the rows are expected, one empty line, and lines of numbers for the columns")
+        refuse(path, None, "lines of numbers for the rows are expected, one empty line, and lines of numbers for the columns, in which a line "
+               f"without black cells is 0; here {'is' if len(parts) == 1 else 'are'} {plural(len(parts), 'block')} of lines")
     if max(map(len, parts)) > 999:
         refuse(path, None, "1 to 999 rows and columns are expected")
     rows, columns = ([numbers_of(path, number, line, len(other)) for number, line in part] for part, other in zip(parts, reversed(parts)))
@@ -447,7 +449,8 @@ def pieces_on_board(given: Namespace, pieces: Pieces, note: str) -> None:
 
 
 def filled_board(given: Namespace) -> Puzzle:
-    found = read_pieces(given.pieces) if given.pieces == "-" or os.path.exists(given.pieces) else named_pieces(given.pieces)
+    is_file = given.pieces == "-" or os.path.exists(given.pieces) or bool(re.search(r"[./]", given.pieces))
+    found = read_pieces(given.pieces) if is_file else named_pieces(given.pieces)
     return filled(read_board(given.file), found, not given.no_flips)
 
 

@@ -7,9 +7,10 @@ from collections.abc import Iterable
 from typing import Optional
 
 from .cover_files import MAX_OPTIONS
+from .fault_words import plural
 from .puzzle_texts import blocks_of, no_cover, Puzzle, refuse
 from .puzzles import cell_names
-from .sudokus import cells_by_letter, letters_of
+from .sudokus import cells_by_letter, letters_of, sums_of_digits, want_whole
 
 # a cell by row and column; the sum below a black cell and the one on its right
 Cell = tuple[int, int]
@@ -80,10 +81,16 @@ def runs_of(path: str, rows: list[list[Clue | None]], numbers: list[int]) -> tup
             if not cells:
                 refuse(path, numbers[r], f"the sum {total} in column {c + 1} has no white cell {'below it' if way == 'd' else 'on its right'}")
             if not run.choices:
-                no_cover(f"{where} can't be: {len(cells)} different digits make {len(cells) * (len(cells) + 1) // 2} to "
-                         f"{sum(range(10 - len(cells), 10)) if len(cells) < 10 else 0}")
+                no_cover(f"{where} can't be: {sums_of_digits(len(cells), 9)}")
             runs.append(run)
     return runs, clued
+
+
+def want_equal(path: str, runs: list[Run], clued: dict[Cell, set[Cell]]) -> None:
+    """Ends the script where all sums across and all sums down are of the same cells, and don't make the same."""
+    across, down = (sum(run.total for run in runs if run.name.startswith(way)) for way in "ad")
+    if clued[0, 1] == clued[1, 0] and across != down:
+        no_cover(f"{path}: the sums across make {across} together, and those down {down}, of the same cells")
 
 
 def kakuro(path: str) -> Puzzle:
@@ -95,6 +102,7 @@ def kakuro(path: str) -> Puzzle:
     for run in runs:
         for cell in run.cells:
             run_of.setdefault(cell, []).append(run)
+    want_equal(path, runs, clued)
     white = [(r, c) for r, row in enumerate(rows) for c, clue in enumerate(row) if clue is None]
     for cell in white:
         if cell not in run_of:
@@ -142,11 +150,12 @@ def star_battle(path: str, stars: int) -> Puzzle:
     rows = letters_of(path, blocks[0])
     size, regions = len(rows), cells_by_letter(rows)
     names = cell_names(size, size)
+    want_whole(path, blocks[0], regions, "region")
     for letter, cells in regions.items():
         if not any(map(are_apart, itertools.combinations(cells, stars))):
-            no_cover(f"{path}, line {blocks[0][cells[0][0]][0]}: the region {letter} has no room for {stars} stars that don't touch")
+            no_cover(f"{path}, line {blocks[0][cells[0][0]][0]}: the region {letter} has no room for {plural(stars, 'star')} that don't touch")
     if len(regions) != size:
-        no_cover(f"{path}: {size} rows with {stars} stars each are {size * stars} stars, and {len(regions)} regions have {len(regions) * stars}")
+        no_cover(f"{path}: {size} rows want {size} regions with as many stars, and here are {len(regions)}")
     houses = [(f"row{r}", [(r, c) for c in range(size)]) for r in range(size)] + [(f"column{c}", [(r, c) for r in range(size)]) for c in range(size)]
     houses += [(f"region{k}", cells) for k, cells in enumerate(regions.values())]
     options = []

@@ -52,12 +52,25 @@ def read_input() -> bytes:
 def read_text(path: str) -> str:
     """The text of a file, or of the standard input, which is `-`."""
     try:
-        if path == "-":
-            return read_input().decode("utf-8-sig")
-        with open(path, encoding="utf-8-sig", newline="") as opened:
-            return opened.read()
-    except (OSError, UnicodeDecodeError) as why:
-        return stop(f"{called(path)} can't be read: {getattr(why, 'strerror', None) or 'it is no text in UTF-8'}", UNREADABLE)
+        return text_in(path, read_input() if path == "-" else bytes_of(path))
+    except OSError as why:
+        return stop(f"{called(path)} can't be read: {why.strerror}", UNREADABLE)
+
+
+def bytes_of(path: str) -> bytes:
+    with open(path, "rb") as opened:
+        return opened.read()
+
+
+def text_in(path: str, content: bytes) -> str:
+    """The text of these bytes; where they are none in UTF-8, the script ends and says how a spreadsheet writes one."""
+    if content.startswith((b"PK\3\4", b"\xd0\xcf\x11\xe0")):
+        return refuse(path, None, "this is a spreadsheet's own file; save the table as CSV in UTF-8")
+    try:
+        return content.decode("utf-8-sig")
+    except UnicodeDecodeError as why:
+        line = None if content.startswith((b"\xff\xfe", b"\xfe\xff")) else content.count(b"\n", 0, why.start) + 1
+        return refuse(path, line, "this is no text in UTF-8; a spreadsheet saves one as 'CSV UTF-8'")
 
 
 def rows_of(path: str) -> list[tuple[int, str]]:

@@ -8,7 +8,7 @@ from collections import Counter
 from collections.abc import Iterable, Iterator
 from typing import Optional
 
-from .cover_files import MAX_ITEMS, MAX_OPTIONS
+from .cover_files import MAX_ITEMS, MAX_OCCURRENCES, MAX_OPTIONS
 
 # a cell by row and column; the primary items, the secondary items and the options of a problem
 Cell = tuple[int, int]
@@ -57,6 +57,14 @@ def fits(word: str, run: list[Cell], grid: list[str]) -> bool:
     return len(word) == len(run) and all(grid[r][c] in (".", letter) for (r, c), letter in zip(run, word))
 
 
+def no_word(slot: str, run: list[Cell], grid: list[str], words: list[str]) -> NoSolution:
+    """That no word fits a place, and which one would but for capital and small letters."""
+    small = next((word for word in words if fits(word.lower(), run, [row.lower() for row in grid])), None)
+    way, number = slot.rstrip("0123456789"), slot.lstrip("acdnorsw")
+    hint = f"; '{small}' would, but capital and small letters differ" if small else ""
+    return NoSolution(f"no word of the list fits {number} {way}, '{''.join(grid[r][c] for r, c in run)}'{hint}", run[0][0])
+
+
 def crossword(grid: list[str], words: list[str], repeat: bool = False) -> Lists:
     """A word of the list in each place; a cell's colour is its letter. No word comes twice, unless `repeat` allows it: a word that fits into
     two places has an item for this."""
@@ -66,8 +74,7 @@ def crossword(grid: list[str], words: list[str], repeat: bool = False) -> Lists:
     fitting = {slot: [word for word in words if fits(word, run, grid)] for slot, run in slots.items()}
     for slot, run in slots.items():
         if not fitting[slot]:
-            way, number = slot.rstrip("0123456789"), slot.lstrip("acdnorsw")
-            raise NoSolution(f"no word of the list fits {number} {way}, '{''.join(grid[r][c] for r, c in run)}'", run[0][0])
+            raise no_word(slot, run, grid, words)
     places = Counter(word for some in fitting.values() for word in some)
     twice = {word for word, count in places.items() if count > 1 and not repeat}
     options = [[slot] + ([word] if word in twice else []) + [f"{names[cell]}:{letter}" for cell, letter in zip(run, word)]
@@ -170,7 +177,8 @@ def nonogram(rows: list[list[int]], columns: list[list[int]]) -> Lists:
     ways are too many, those are left out that a cell contradicts which one line alone settles."""
     names = cell_names(len(rows), len(columns))
     across, down = [Line(blocks, len(columns)) for blocks in rows], [Line(blocks, len(rows)) for blocks in columns]
-    if sum(map(way_count, across + down)) > MAX_OPTIONS:
+    ways = [(way_count(line), len(line.known) + 1) for line in across + down]
+    if sum(count for count, _ in ways) > MAX_OPTIONS or sum(count * names for count, names in ways) > MAX_OCCURRENCES:
         settle_all(across, down)
     cells = [[names[r, c] for c in range(len(columns))] for r in range(len(rows))]
     options = []

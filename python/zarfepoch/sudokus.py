@@ -12,6 +12,7 @@ import re
 from collections.abc import Iterator, Sequence
 from typing import NoReturn, Optional
 
+from .picture_base import is_connected
 from .puzzle_texts import blocks_of, no_cover, Puzzle, read_text, refuse, TYPED
 from .sudoku_pictures import BOXES, MARKS
 
@@ -244,8 +245,8 @@ def sums_of(path: str, block: Block) -> dict[str, int]:
     """The sums of cages by their letters, as a=12 or a 12, several in a line."""
     found = {}
     for number, line in block:
-        words = re.findall(r"\S+", re.sub(r"\s*[=:]\s*", "=", line))
-        words = [f"{one}={other}" for one, other in zip(words[::2], words[1::2])] if words and "=" not in line else words
+        told = re.sub(r"\s*[=:]\s*", "=", line)
+        words = told.split() if "=" in told else [f"{one}={other}" for one, other in zip(told.split()[::2], told.split()[1::2])]
         for word in words:
             letter, sign, total = word.partition("=")
             if len(letter) != 1 or not re.fullmatch(r"[1-9]\d{0,2},?", total):
@@ -256,6 +257,39 @@ def sums_of(path: str, block: Block) -> dict[str, int]:
     return found
 
 
+def sums_of_digits(count: int, most: int) -> str:
+    """What so many different digits make."""
+    if count > most:
+        return f"{count} cells are more than there are different digits"
+    least, greatest = sum(range(1, count + 1)), sum(range(most - count + 1, most + 1))
+    return f"{count} different digits make {least}" + (f" to {greatest}" if greatest > least else "")
+
+
+def want_whole(path: str, block: Block, cells: dict[str, list[Cell]], what: str) -> None:
+    """Refuses regions or cages whose cells don't hang together."""
+    for letter, its_cells in cells.items():
+        if not is_connected(its_cells):
+            refuse(path, block[its_cells[0][0]][0], f"the {what} {letter} is in several parts; each {what} has a letter of its own, and letters "
+                   "may be small and capital ones and digits")
+
+
+def cages_of(path: str, block: Block, cells: dict[str, list[Cell]], sums: dict[str, int]) -> list[Cage]:
+    """The cages with their sums; ends the script where one can't have its sum, or all together can't."""
+    cages, size = [], len(block)
+    for letter, its_cells in cells.items():
+        line, count = block[its_cells[0][0]][0], len(its_cells)
+        if letter not in sums:
+            refuse(path, line, f"the cage {letter} has no sum")
+        least, most = sum(range(1, count + 1)), sum(range(size - count + 1, size + 1))
+        if count > size or not least <= sums[letter] <= most:
+            no_cover(f"{path}, line {line}: the cage {letter} can't have the sum {sums[letter]}: {sums_of_digits(count, size)}")
+        cages.append((its_cells, sums[letter]))
+    total = sum(its_sum for _, its_sum in cages)
+    if sum(map(len, cells.values())) == size * size and total != size * size * (size + 1) // 2:
+        no_cover(f"{path}: the sums of all cages make {total}, and the digits of all cells {size * size * (size + 1) // 2}")
+    return cages
+
+
 def read_killer(path: str, diagonals: bool = False) -> Sudoku:
     """Cages by letters, their sums, and perhaps given digits, with empty lines between."""
     blocks = blocks_of(path)
@@ -263,7 +297,7 @@ def read_killer(path: str, diagonals: bool = False) -> Sudoku:
         refuse(path, None, "rows of letters for the cages, an empty line and lines of sums as a=12 are expected, and if there are given digits, "
                "an empty line and rows of them")
     rows, sums = letters_of(path, blocks[0]), sums_of(path, blocks[1])
-    size, cages = len(rows), []
+    size = len(rows)
     if size not in BOXES or size > 9:
         refuse(path, None, f"a killer sudoku has 4, 6, 8 or 9 rows, and this one {size}")
     digits = digits_of(path, *text_of(blocks[2]))[0] if len(blocks) > 2 else [[0] * size for _ in range(size)]
@@ -273,13 +307,5 @@ def read_killer(path: str, diagonals: bool = False) -> Sudoku:
     for letter in sums:
         if letter not in cells:
             refuse(path, blocks[1][0][0], f"there is no cage {letter}")
-    for letter, its_cells in cells.items():
-        line, count = blocks[0][its_cells[0][0]][0], len(its_cells)
-        if letter not in sums:
-            refuse(path, line, f"the cage {letter} has no sum")
-        least, most = sum(range(1, count + 1)), sum(range(size - count + 1, size + 1))
-        if count > size or not least <= sums[letter] <= most:
-            no_cover(f"{path}, line {line}: the cage {letter} can't have the sum {sums[letter]}: {count} different digits make {least}"
-                     + (f" to {most}" if most > least else ""))
-        cages.append((its_cells, sums[letter]))
-    return checked(path, Sudoku(digits, None, diagonals, cages))
+    want_whole(path, blocks[0], cells, "cage")
+    return checked(path, Sudoku(digits, None, diagonals, cages_of(path, blocks[0], cells, sums)))

@@ -12,7 +12,7 @@ from collections import Counter
 from collections.abc import Iterator
 from dataclasses import dataclass
 
-from .puzzle_texts import called, read_text, refuse
+from .puzzle_texts import read_text, refuse
 
 WANTED = ("lesson", "teacher", "class", "rooms", "periods")
 OTHER = {"hours", "length", "note"}
@@ -35,38 +35,61 @@ class Lesson:
     length: int
 
 
-def head_of(path: str, names: list[str]) -> list[str]:
+def head_of(path: str, line: int, names: list[str]) -> list[str]:
     """The columns of the table by the names that they have here."""
     columns = [re.sub(r"\s+", "", name or "").lower() for name in names]
     columns = [ALIASES.get(column, column) for column in columns]
     unknown = [name for name, column in zip(names, columns) if column and column not in WANTED and column not in OTHER]
     if unknown:
-        refuse(path, 1, f"there is no column '{unknown[0]}'; the columns are {','.join(WANTED)}, and if they are wanted hours, length and note")
+        refuse(path, line, f"there is no column '{unknown[0]}'; the columns are {','.join(WANTED)}, and if they are wanted hours, length and note")
     lacking = [column for column in WANTED if column not in columns]
     if lacking:
-        refuse(path, 1, f"the column {lacking[0]} is missing; the columns are {','.join(WANTED)}, and if they are wanted hours, length and note")
+        refuse(path, line, f"the column {lacking[0]} is missing; the columns are {','.join(WANTED)}, and if they are wanted hours, length and note")
     twice = [column for column in columns if column and columns.count(column) > 1]
     if twice:
-        refuse(path, 1, f"the column {twice[0]} stands there twice")
+        refuse(path, line, f"the column {twice[0]} stands there twice")
     return columns
 
 
-def read_table(path: str) -> Iterator[tuple[int, dict[str, str]]]:
-    """The rows of a table by its head, whose columns have commas, semicolons or tabs between, each with the number of its line."""
-    text = read_text(path)
-    head = text.partition("\n")[0]
-    reader = csv.reader(io.StringIO(text), delimiter=max(",;\t", key=head.count))
+def is_comment(text: str) -> bool:
+    return text.lstrip().startswith(("|", "#"))
+
+
+def separator_of(text: str) -> str:
+    """What parts the columns of a table: of commas, semicolons and tabs what the head has most often."""
+    head = next((line for line in text.split("\n") if line.strip() and not is_comment(line)), "")
+    return max(",;\t", key=head.count)
+
+
+def rows_in(path: str, text: str) -> Iterator[tuple[int, list[str]]]:
+    """The rows of a table that aren't empty or comments, each with the number of its first line."""
+    reader, line = csv.reader(io.StringIO(text), delimiter=separator_of(text), strict=True), 1
     try:
-        lines = [(reader.line_num, row) for row in reader if any(map(str.strip, row)) and not row[0].lstrip().startswith(("|", "#"))]
+        for row in reader:
+            if any(map(str.strip, row)) and not is_comment(row[0]):
+                yield line, row
+            line = reader.line_num + 1
     except csv.Error as why:
-        refuse(path, reader.line_num, f"it can't be read as a table: {why}")
+        is_open = reader.line_num > line or "end of data" in str(why)
+        refuse(path, line, "no quotation mark ends the cell that one begins here" if is_open else f"it can't be read as a table: {why}")
+
+
+def read_table(path: str) -> Iterator[tuple[int, dict[str, str]]]:
+    """The rows of a table by its head, each with the number of its line."""
+    text = read_text(path)
+    lines = list(rows_in(path, text))
     if not lines:
         refuse(path, None, "the table has no head")
-    columns = head_of(path, lines[0][1])
+    columns = head_of(path, *lines[0])
     for number, row in lines[1:]:
         if len(row) > len(columns) and any(map(str.strip, row[len(columns):])):
-            refuse(path, number, "it has more columns than the head; several rooms or periods have spaces between")
+            refuse(path, number, f"it has {len(row)} columns, and the head {len(columns)}: a cell with a {named(separator_of(text))} in it wants "
+                   "quotation marks round it, and several rooms or periods may have blanks between")
         yield number, dict(zip(columns, [cell.strip() for cell in row] + [""] * len(columns)))
+
+
+def named(separator: str) -> str:
+    return {",": "comma", ";": "semicolon"}.get(separator, "tab")
 
 
 # ---- cells
@@ -83,11 +106,30 @@ def between(path: str, line: int, word: str) -> list[str]:
     """The periods of a range on one day, as Mon1-4 or 1-30."""
     found = re.fullmatch(r"(\D*)(\d{1,3})-(\D*)(\d{1,3})", word)
     if not found or found[3] not in ("", found[1]) or int(found[2]) > int(found[4]):
-        refuse(path, line, f"'{word}' is no range of periods on one day, as Mon1-4 or 1-30; a period's name has no '-'")
+        refuse(path, line, f"'{word}' is no range of periods on one day, as Mon1-4 or 1-30; several days are written as Mon1-6 Tue1-6, and a "
+               "period's name has no '-'")
     return [f"{found[1]}{number}" for number in range(int(found[2]), int(found[4]) + 1)]
 
 
+def want_joined(path: str, line: int, column: str, cell: str, alone: set[str]) -> None:
+    """Refuses a name and a number with a blank between, as in `room 12` or `Mon 1`, which would be two, unless one of them stands alone elsewhere."""
+    words = re.findall(r"[^\s;,]+", cell)
+    for word, number in zip(words, words[1:]):
+        if number.isdecimal() and not re.search(r"\d", word) and alone.isdisjoint((word, number)) and not re.search("[;,]", cell):
+            one = f"{word}{number}" if column == "periods" else f"{word}_{number}"
+            refuse(path, line, f"{column} '{cell}': a blank parts {column}, so write {one} for one, and {word};{number} for two")
+
+
+def want_names(path: str, line: int, row: dict[str, str]) -> None:
+    """Refuses cells in which a word would be a name that only joins two."""
+    for column in WANTED[1:]:
+        found = re.search(r"\s(and|or|und|oder)\s", row[column])
+        if found:
+            refuse(path, line, f"{column} '{row[column]}': '{found[1]}' would be a name; several have ';' between")
+
+
 def periods_in(path: str, line: int, cell: str) -> list[str]:
+    want_joined(path, line, "periods", cell, set())
     words = re.findall(r"[^\s;,]+", cell)
     periods = [period for word in words for period in (between(path, line, word) if "-" in word else [word])]
     twice = [period for period, count in Counter(periods).items() if count > 1]
@@ -97,12 +139,9 @@ def periods_in(path: str, line: int, cell: str) -> list[str]:
 
 
 def rooms_in(path: str, line: int, cell: str, alone: set[str]) -> list[str]:
-    """The rooms of a cell. A blank parts rooms, so that `room 12` is refused unless `room` or `12` stands alone elsewhere."""
-    words = [] if cell == NOBODY else list(dict.fromkeys(re.findall(r"[^\s;,]+", cell)))
-    for word, number in zip(words, words[1:]):
-        if number.isdecimal() and not re.search(r"\d", word) and alone.isdisjoint((word, number)) and not re.search("[;,]", cell):
-            refuse(path, line, f"rooms '{cell}': a blank parts rooms, so write {word}_{number} for one room, and {word};{number} for two")
-    return words
+    """The rooms of a cell."""
+    want_joined(path, line, "rooms", cell, alone)
+    return [] if cell == NOBODY else list(dict.fromkeys(re.findall(r"[^\s;,]+", cell)))
 
 
 class People:
@@ -188,12 +227,13 @@ def read_lessons(path: str) -> list[Lesson]:
         lacking = [column for column in WANTED if not re.search(r"[^\s;,]", row[column])]
         if lacking:
             refuse(path, line, f"{lacking[0]} is missing; where there is none, - says so")
+        want_names(path, line, row)
         lessons.append(Lesson(
             line, row["lesson"], people["teacher"].read(line, row["teacher"]), people["class"].read(line, row["class"]),
             rooms_in(path, line, row["rooms"], alone), periods_in(path, line, row["periods"]),
             number_in(path, line, row, "hours", 99), number_in(path, line, row, "length", 9)))
     if not lessons:
-        refuse(path, None, f"{called(path)} has a head and no lessons")
+        refuse(path, None, "the table has a head and no lessons")
     numbered_names(lessons)
     want_different(path, lessons)
     want_roles(path, lessons)

@@ -16,7 +16,7 @@ from collections.abc import Iterable
 from dataclasses import dataclass
 
 from .always_busy import Shortage, always_busy
-from .cover_files import MAX_ITEMS, MAX_NAME
+from .cover_files import MAX_ITEMS, MAX_NAME, MAX_OPTIONS
 from .fault_words import plural
 from .puzzle_texts import no_cover, Puzzle, refuse
 from .timetable_files import Lesson, read_lessons
@@ -77,6 +77,23 @@ def want_days(path: str, lessons: list[Lesson]) -> None:
                    f"day {max(numbers)} is")
         if not runs_of(lesson):
             refuse(path, lesson.line, f"of the periods of {lesson.name} no {lesson.length} run one after another on one day, as Mon1 and Mon2 do")
+
+
+def most_runs(lesson: Lesson) -> int:
+    """How many runs of its length, none of which share a period, a lesson's periods have room for."""
+    free, count = set(lesson.periods), 0
+    for run in sorted(runs_of(lesson), key=lambda run: day_and_number(run[0]) or ("", 0)):
+        if free.issuperset(run):
+            free, count = free.difference(run), count + 1
+    return count
+
+
+def want_runs(path: str, lessons: list[Lesson]) -> None:
+    """Ends the script where a lesson of several periods is given more often than its periods have room for."""
+    for lesson in lessons:
+        if lesson.hours > most_runs(lesson) > 0 and lesson.length > 1:
+            no_cover(f"{path}, line {lesson.line}: there is no timetable: {lesson.name} is given {lesson.hours} times, each in {lesson.length} periods "
+                     f"running on one day, and its periods have room for {most_runs(lesson)}")
 
 
 # ---- who is busy when
@@ -142,10 +159,9 @@ def hours_by_person(hours: list[Hour]) -> dict[str, list[Hour]]:
 
 def always(path: str, hours: list[Hour]) -> set[tuple[str, str]]:
     """All pairs of somebody or a room and a period in which they are busy in every timetable."""
-    pairs = set(busy_rooms(path, hours))
-    for who, its_hours in hours_by_person(hours).items():
-        pairs |= {(who, period) for period in busy_of(path, who, its_hours)}
-    return pairs
+    people = hours_by_person(hours).items()
+    pairs = {(who, period) for who, its_hours in people for period in busy_of(path, who, its_hours)}
+    return pairs | busy_rooms(path, hours)
 
 
 # ---- names
@@ -255,10 +271,21 @@ def told(lessons: list[Lesson], numbers: dict[str, str]) -> list[str]:
     return [f"{role}: {' '.join(names)}" for role, names in found.items() if names] + [f"name {number}: {name}" for name, number in numbers.items()]
 
 
+def want_size(path: str, items: int, options: int) -> None:
+    """Refuses a timetable beyond what the program reads, and says what would make it smaller."""
+    if items > MAX_ITEMS:
+        refuse(path, None, f"this timetable would have {items:,} items, and the program reads at most {MAX_ITEMS:,}; make one for some of the "
+               "classes, and then one for the others, without the periods in which the first busies their teachers and rooms")
+    if options > MAX_OPTIONS:
+        refuse(path, None, f"this timetable would have {options:,} options, and the program reads at most {MAX_OPTIONS:,}; give lessons fewer "
+               "rooms or fewer periods")
+
+
 def timetable(path: str, seed: int | None = None) -> Puzzle:
     """The problem of a table of lessons; with a seed the order of its options is drawn by lot."""
     lessons = read_lessons(path)
     want_days(path, lessons)
+    want_runs(path, lessons)
     pairs = always(path, hours_of(lessons))
     numbers = short_names(lessons, all_periods(lessons))
     busy = {f"{numbers.get(who, who)}-{period}" for who, period in pairs}
@@ -270,6 +297,7 @@ def timetable(path: str, seed: int | None = None) -> Puzzle:
         comments += [f"also {name}: {' '.join(gone)}" for name, gone in lost.items()]
         primary, secondary = items_of(lessons, hours_of(lessons), busy)
     hours = hours_of(lessons)
+    want_size(path, len(primary) + len(secondary), len(options_of(hours)))
     pairs_of_hours = sum(lesson.hours - 1 for lesson in lessons)
     room = MAX_ITEMS - len(primary) - len(secondary)
     parts = max(1, min(PARTS, room // pairs_of_hours + 1)) if pairs_of_hours else 1
