@@ -7,12 +7,24 @@ from collections.abc import Callable
 from typing import Any
 
 from .picture_base import Cell, CELL, cell_of, is_connected, Kind, LARGEST, sheet_cell_of, without_order
+from .pieces import at_origin, layers_of, orientations
 from .svg_paper import Board, FILLS, MARGIN, Paper, WIDEST
+
+# a cell of a solid, by layer, row and column
+Place = tuple[int, int, int]
 
 
 def piece_of(name: str) -> str:
     """A piece's name without the number of its copy."""
     return re.sub(r"(?<=.)\.\d+$", "", name)
+
+
+def names_told(comments: list[str], is_flat: bool) -> dict[tuple[Place, ...], str]:
+    """The names of pieces that have no items, by their cells in each turn at the origin, as comments tell their shapes. A piece that isn't
+    turned over comes before one that is."""
+    found = (re.fullmatch(r"\|\s*piece (\S+): ([x./ ]*x[x./ ]*)", comment) for comment in comments)
+    told = [(match[1], layers_of(match[2].split("/"))) for match in found if match]
+    return {tuple(turned): name for flips in (True, False) for name, cells in told for turned in orientations(cells, is_flat, flips)}
 
 
 def fill_of(area: object) -> str:
@@ -26,7 +38,9 @@ class Tiling(Kind):
     @functools.cached_property
     def cell_of(self) -> Callable[[str], Cell | None]:
         """How names of cells are read: as in a spreadsheet where the problem names none by numbers."""
-        return cell_of if any(map(cell_of, self.items)) else sheet_cell_of
+        if any(map(cell_of, self.items)):
+            return cell_of
+        return sheet_cell_of
 
     def is_known(self) -> bool:
         cells = [[self.cell_of(name) for name in without_order(option)] for option in self.options]
@@ -37,10 +51,13 @@ class Tiling(Kind):
     def board(self) -> Board:
         areas = {cell: 0 for cell in map(self.cell_of, self.items) if cell}
         labels: dict[Cell, str] = {}
+        names = names_told(self.comments, True)
         for k, option in enumerate(self.chosen, 1):
-            piece = next((piece_of(name) for name in without_order(option) if self.cell_of(name) is None), "")
-            areas.update((cell, k) for cell in map(self.cell_of, option) if cell)
-            labels.update((cell, piece) for cell in map(self.cell_of, option) if cell)
+            cells = [cell for cell in map(self.cell_of, option) if cell]
+            told = names.get(tuple(at_origin((0, *cell) for cell in cells)), "")
+            piece = next((piece_of(name) for name in without_order(option) if self.cell_of(name) is None), told)
+            areas.update((cell, k) for cell in cells)
+            labels.update((cell, piece) for cell in cells)
         return Board(labels, areas)
 
     def lines(self) -> list[str]:
@@ -59,12 +76,12 @@ class Tiling(Kind):
 
 
 class Layers(Kind):
-    """Pieces that fill a solid of cells, named by layer, row and column as 0-1-2; its layers are drawn side by side. A piece without a name has
-    the number of its option, so that its parts in several layers are known."""
+    """Pieces that fill a solid of cells, named by layer, row and column as 0-1-2; its layers are drawn side by side. A piece whose name nothing
+    tells has the number of its option, so that its parts in several layers are known."""
 
     CELL_NAME = re.compile(r"(\d{1,2})-(\d{1,2})-(\d{1,2})")
 
-    def cell(self, name: str) -> tuple[int, int, int] | None:
+    def cell(self, name: str) -> Place | None:
         found = self.CELL_NAME.fullmatch(name)
         return (int(found[1]), int(found[2]), int(found[3])) if found else None
 
@@ -75,11 +92,14 @@ class Layers(Kind):
     def boards(self) -> list[Board]:
         """The board of each layer."""
         areas = {cell: 0 for cell in map(self.cell, self.items) if cell}
-        labels: dict[tuple[int, int, int], str] = {}
+        labels: dict[Place, str] = {}
+        names = names_told(self.comments, False)
         for k, option in enumerate(self.chosen, 1):
-            piece = next((piece_of(name) for name in without_order(option) if not self.cell(name)), str(k))
-            areas.update((cell, k) for cell in map(self.cell, option) if cell)
-            labels.update((cell, piece) for cell in map(self.cell, option) if cell)
+            cells = [cell for cell in map(self.cell, option) if cell]
+            told = names.get(tuple(at_origin(cells)), str(k))
+            piece = next((piece_of(name) for name in without_order(option) if not self.cell(name)), told)
+            areas.update((cell, k) for cell in cells)
+            labels.update((cell, piece) for cell in cells)
         return [Board({(r, c): label for (at, r, c), label in labels.items() if at == layer},
                       {(r, c): area for (at, r, c), area in areas.items() if at == layer}) for layer in sorted({cell[0] for cell in areas})]
 

@@ -5,6 +5,7 @@ The program decides what a file says. This reader stands beside it: it goes on a
 from __future__ import annotations
 
 import contextlib
+import functools
 import io
 import os
 import re
@@ -95,6 +96,7 @@ def read_bytes(path: str) -> bytes:
         raise Unreadable(f"{path} can't be read: {getattr(why, 'strerror', None) or why}") from None
 
 
+@functools.lru_cache(maxsize=1 << 16)
 def shown(name: bytes) -> str:
     """A name for readers: its text where it is UTF-8, and bytes that can't be seen by their numbers."""
     text = name.decode("utf-8", "backslashreplace")

@@ -1,6 +1,7 @@
 """What all kinds of pictures share: an answer with the names of its problem, and how names of cells are read."""
 from __future__ import annotations
 
+import functools
 import re
 from collections.abc import Iterable
 
@@ -77,6 +78,7 @@ class Kind:
 
 # ---- boards
 
+@functools.lru_cache(maxsize=1 << 16)
 def cell_of(name: str) -> Cell | None:
     """The row and the column that a name tells, as 07, 0011 or 3-12; None where it tells none."""
     if re.fullmatch(r"\d+", name) and len(name) % 2 == 0:

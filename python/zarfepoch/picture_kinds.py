@@ -9,7 +9,7 @@ from typing import Optional
 from .board_pictures import Layers, Tiling
 from .cover_files import Option, Problem
 from .full_names import full_names
-from .grid_pictures import Kakuro, Nonogram, Stars, Words
+from .grid_pictures import Kakuro, Nonogram, Stars, WHITE, Words
 from .picture_base import CELL, Cell, cell_of, draw_lines, Kind, known_cell, KNOWN_COLOURS, Names
 from .planar import places
 from .sudoku_pictures import Sudoku
@@ -305,6 +305,8 @@ class Squares(Kind):
                 fill = KNOWN_COLOURS.get(colour) or (FILLS[names.index(colour) % len(FILLS)] if colour else BACKGROUND)
                 paper.shape([corners[k], corners[(k + 1) % 4], middle], fill, FAINT, 0.5)
             paper.shape(corners, "none", INK, 2.2)
+            if name:
+                paper.circle(*middle, max(11, text_width(name, 15) / 2 + 3), WHITE, FAINT, 0.5)
             paper.text(*middle, name, 15)
         self.caption(paper)
 

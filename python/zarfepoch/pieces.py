@@ -43,6 +43,12 @@ def layers_of(rows: list[str]) -> list[Cell]:
     return [(layer, r, c) for r, row in enumerate(rows) for layer, word in enumerate(row.split()) for c, mark in enumerate(word) if mark in "xX"]
 
 
+def rows_text(cells: list[Cell]) -> str:
+    """A piece's rows of x and dots in one line, as a comment tells them."""
+    deep, high, wide = (range(min(cell[k] for cell in cells), max(cell[k] for cell in cells) + 1) for k in range(3))
+    return "/".join(" ".join("".join("x" if (layer, r, c) in cells else "." for c in wide) for layer in deep) for r in high)
+
+
 def is_rows(line: str) -> bool:
     return bool(re.fullmatch(r"[x.\s]+", line))
 
@@ -75,7 +81,8 @@ def counted(path: str, number: int, words: list[str]) -> tuple[str, int]:
 def known(path: str, number: int | None, name: str) -> list[Cell]:
     """The cells of a piece that has a name here."""
     if name not in FLAT:
-        refuse(path, number, f"there is no piece '{name}' here; {' '.join(FLAT)} are, and others have rows of x and dots")
+        refuse(path, number, f"there is no piece '{name}' here; {' '.join(FLAT)} are, with a number of copies as 3*L4, and others have rows of x "
+               "and dots in a file")
     return layers_of(FLAT[name].split("/"))
 
 
@@ -147,12 +154,17 @@ def orientations(cells: list[Cell], is_flat: bool, flips: bool) -> list[list[Cel
     """The different turns of a piece, each moved to the origin."""
     seen: list[list[Cell]] = []
     for order, signs in turns(is_flat, flips):
-        turned = [tuple(sign * cell[axis] for axis, sign in zip(order, signs)) for cell in cells]
-        least = [min(cell[k] for cell in turned) for k in range(3)]
-        moved = sorted(minus(cell, least) for cell in turned)
+        moved = at_origin([tuple(sign * cell[axis] for axis, sign in zip(order, signs)) for cell in cells])
         if moved not in seen:
             seen.append(moved)
     return sorted(seen)
+
+
+def at_origin(cells: Iterable[Sequence[int]]) -> list[Cell]:
+    """The cells moved to the origin."""
+    places = list(cells)
+    least = [min(cell[k] for cell in places) for k in range(3)]
+    return sorted(minus(cell, least) for cell in places)
 
 
 def placements(piece: Piece, board: set[Cell], is_flat: bool, flips: bool) -> list[list[Cell]]:
@@ -189,6 +201,14 @@ def settled(pieces: list[Piece], cells: int) -> list[Piece]:
     return chosen
 
 
+def can_have(pieces: list[Piece], cells: int) -> bool:
+    """Whether some of the pieces have so many cells together."""
+    sums = {0}
+    for size in (len(piece.cells) for piece in pieces for _ in range(piece.count)):
+        sums |= {some + size for some in sums if some + size <= cells}
+    return cells in sums
+
+
 class Copies:
     """The copies of a piece by their items, and the items that keep them in order."""
 
@@ -220,6 +240,8 @@ def filled(cells: set[Cell], pieces: list[Piece], flips: bool = True) -> Puzzle:
     total = sum(piece.count * len(piece.cells) for piece in pieces)
     if total < len(cells):
         no_cover(f"the pieces have {total} cells together, and the board has {len(cells)}")
+    if not can_have(pieces, len(cells)):
+        no_cover(f"the board has {len(cells)} cells, and no choice of these pieces has as many")
     board, names = sorted(cells), cell_names(cells)
     is_flat = len({layer for layer, _, _ in board}) == 1
     alike, place = settled(pieces, len(board)), {cell: k for k, cell in enumerate(board)}
@@ -237,5 +259,5 @@ def filled(cells: set[Cell], pieces: list[Piece], flips: bool = True) -> Puzzle:
         copies = Copies(piece, parts, len(board))
         items, ordering = items + copies.names, ordering + copies.ordering()
         options += [[name] + [names[cell] for cell in some] + copies.order(k, place[some[0]]) for k, name in enumerate(copies.names) for some in laid]
-    stand = total == len(board)
-    return Puzzle((items if stand else []) + [names[cell] for cell in board], ([] if stand else items) + ordering, options)
+    stand, told = total == len(board), [f"piece {piece.name}: {rows_text(piece.cells)}" for piece in pieces if piece in alike]
+    return Puzzle((items if stand else []) + [names[cell] for cell in board], ([] if stand else items) + ordering, options, told)

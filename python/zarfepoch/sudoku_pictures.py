@@ -214,15 +214,15 @@ class Sudoku(Kind):
 
         board.draw(paper, CELL, fill, CELL * 0.5, lambda cell: {"bold": True} if cell in given else {"fill": ACCENT})
         for cells, total in self.cages().values():
-            draw_cage(paper, cells, total)
+            draw_cage(paper, cells, total, fill(min(cells)))
         self.caption(paper)
 
 
 INSET = 3.5
 
 
-def draw_cage(paper: Paper, cells: set[Cell], total: int | None) -> None:
-    """A broken line round the cells of a cage, and its sum in the first of them."""
+def draw_cage(paper: Paper, cells: set[Cell], total: int | None, fill: str) -> None:
+    """A broken line round the cells of a cage, and in the first of them its sum, round which the line is hidden."""
     for cell in sorted(cells):
         for down, right in ((-1, 0), (1, 0), (0, -1), (0, 1)):
             if (cell[0] + down, cell[1] + right) not in cells:
@@ -230,7 +230,9 @@ def draw_cage(paper: Paper, cells: set[Cell], total: int | None) -> None:
                 paper.line(*ends[0], *ends[1], INK, 0.8, "2.5 2.5")
     if total is not None:
         r, c = min(cells)
-        paper.text(c * CELL + INSET + 1.5, r * CELL + INSET + 4.5, str(total), 9, "start")
+        x, y = c * CELL + 2, r * CELL + 2
+        paper.box(x, y, 6.2 * len(str(total)) + 1.5, 10, fill)
+        paper.text(x + 1, y + 5, str(total), 9, "start")
 
 
 def end_of_side(cells: set[Cell], cell: Cell, outwards: Cell, sign: int) -> tuple[float, float]:

@@ -41,6 +41,11 @@ def in_week(days: list[str]) -> list[str]:
         if all(re.match(r"\d", day) for day in days) else days
 
 
+def natural(name: str) -> list[str | int]:
+    """What sorts names as people do: 9b comes before 10a."""
+    return [int(part) if k % 2 else part for k, part in enumerate(re.split(r"(\d+)", name))]
+
+
 class Given:
     """A lesson as the answer has it: its name, who is busy with it, and in which periods."""
 
@@ -121,18 +126,22 @@ class Timetable(Kind):
 
     def wanted(self) -> list[str]:
         """Of whom a plan is drawn; nothing where one table of all is."""
-        who = self.everybody()
         if self.plans:
-            return [one for word in self.plans for one in who if word in (one, self.full(one), who[one], "all")]
+            return list(dict.fromkeys(one for word in self.plans for one in self.called(word)))
         days = all(map(day_and_number, self.periods()))
         if days:
-            return [one for one in who if who[one] == "classes"] or list(who)
-        return [] if self.table_width() <= WIDEST else list(who)
+            return self.called("classes") or self.called("all")
+        return [] if self.table_width() <= WIDEST else self.called("all")
+
+    def called(self, word: str) -> list[str]:
+        """Whom a word means that is a name, a role or `all`, in order."""
+        who = self.everybody()
+        found = [one for one in who if word in (one, self.full(one), who[one], "all")]
+        return sorted(found, key=lambda one: (ROLES.index(who[one]), natural(self.full(one))))
 
     def unknown_plans(self) -> list[str]:
         """Words that ask for a plan of nobody."""
-        who = self.everybody()
-        return [word for word in self.plans if not any(word in (one, self.full(one), who[one], "all") for one in who)]
+        return [word for word in self.plans if not self.called(word)]
 
     def entries(self, who: str) -> dict[str, tuple[str, str]]:
         """For each period of somebody's the lesson and who else is busy with it."""
@@ -154,6 +163,16 @@ class Timetable(Kind):
         rows = [[(self.full(who), "")] + [(day.strip(" .:_") or "lesson", "") for day in days]]
         return rows + [[(str(number), "")] + [entries.get(at.get((day, number), ""), ("", "")) for day in days] for number in numbers]
 
+    def fills(self, plans: list[Rows]) -> dict[str, str]:
+        """A colour for each lesson; those that share a plan have different ones, as far as there are so many."""
+        sharing = [{lesson for row in plan[1:] for lesson, _ in row[1:]} for plan in plans]
+        found: dict[str, str] = {}
+        for k, name in enumerate(dict.fromkeys(map(self.full, self.lessons()))):
+            taken = {found.get(other) for lessons in sharing if name in lessons for other in lessons}
+            order = [*FILLS[k % len(FILLS):], *FILLS[:k % len(FILLS)]]
+            found[name] = next((fill for fill in order if fill not in taken), order[0])
+        return found
+
     # ---- one table of all
 
     def rows(self) -> list[list[str]]:
@@ -173,18 +192,20 @@ class Timetable(Kind):
         return list(itertools.chain.from_iterable([*plan, ""] for plan in plans))[:-1]
 
     def draw(self, paper: Paper) -> None:
-        wanted, names = self.wanted(), [self.full(name) for name in self.lessons()]
+        wanted = self.wanted()
         if not wanted:
+            names = [self.full(name) for name in self.lessons()]
             draw_table(paper, self.rows(), lambda lesson: FILLS[names.index(lesson) % len(FILLS)])
             self.caption(paper)
             return
-        names = list(dict.fromkeys(names))
-        plans = [Plan(self.plan(who)) for who in wanted]
+        rows = [self.plan(who) for who in wanted]
+        fills, wide = self.fills(rows), max(map(Plan.column_width, rows))
+        plans = [Plan(some, wide) for some in rows]
         x = y = high = 0.0
         for plan in plans:
             if x and x + plan.wide > WIDEST - 2 * MARGIN:
                 x, y, high = 0.0, y + high + GAP, 0.0
-            plan.draw(paper, x, y, lambda lesson: FILLS[names.index(lesson) % len(FILLS)])
+            plan.draw(paper, x, y, fills.__getitem__)
             x, high = x + plan.wide + GAP, max(high, plan.high)
         self.caption(paper)
 
@@ -199,16 +220,20 @@ class Plan:
 
     SIZE, SMALL, LINE = 13, 11, 16
 
-    def __init__(self, rows: Rows) -> None:
+    def __init__(self, rows: Rows, wide: float) -> None:
         self.name, self.rows = rows[0][0][0], [[("", "")] + rows[0][1:]] + rows[1:]
         columns = len(self.rows[0]) - 1
         numbers = max(30, *(text_width(row[0][0], self.SIZE) + 16 for row in self.rows))
-        wanted = max([60] + [text_width(text, self.SIZE) + 16 for row in self.rows for cell in row[1:] for text in cell])
-        self.widths = [numbers] + [min(wanted, (WIDEST - 2 * MARGIN - numbers) / columns)] * columns
+        self.widths = [numbers] + [min(wide, (WIDEST - 2 * MARGIN - numbers) / columns)] * columns
         self.cells = [[self.told(cell, wide) for cell, wide in zip(row, self.widths)] for row in self.rows]
         self.highs = [max(len(cell) for cell in row) * self.LINE + 10 for row in self.cells]
         self.wide = max(sum(self.widths), min(WIDEST - 2 * MARGIN, text_width(self.name, self.SIZE + 2)))
         self.high = sum(self.highs) + 26
+
+    @classmethod
+    def column_width(cls, rows: Rows) -> float:
+        """How wide the column of a day is to be, so that no text is folded."""
+        return max([60] + [text_width(text, cls.SIZE) + 16 for row in rows for cell in row[1:] for text in cell])
 
     def told(self, cell: tuple[str, str], wide: float) -> list[tuple[str, int]]:
         """The lines of a cell, each with its size."""
