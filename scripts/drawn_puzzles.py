@@ -15,6 +15,9 @@ Cell = tuple[int, int]
 Grid = dict[Cell, int]
 Drawn = tuple[str, Callable[[list[str]], bool]]
 DrawnTwice = tuple[tuple[str, str], Callable[[list[str]], bool]]
+# a cell by layer, row and column; the cells of a piece
+Place = tuple[int, int, int]
+Shape = tuple[Place, ...]
 
 # rows and columns of a box, by the size of the sudoku
 BOXES = {4: (2, 2), 6: (2, 3), 9: (3, 3), 12: (3, 4), 16: (4, 4)}
@@ -123,8 +126,9 @@ def killer(draw: random.Random) -> Drawn:
         cage_of = cages_of(draw, solution)
     cages = {number: [cell for cell in cage_of if cage_of[cell] == number] for number in set(cage_of.values())}
     sums = {number: sum(solution[cell] for cell in cells) for number, cells in cages.items()}
-    text = as_rows(9, {cell: LETTERS[number] for cell, number in cage_of.items()}, ".") + "\n" + " ".join(
-        f"{LETTERS[number]}={total}" for number, total in sums.items()) + "\n"
+    sign = draw.choice(["=", ": ", " "])
+    text = as_rows(9, {cell: LETTERS[number] for cell, number in cage_of.items()}, ".") + "\n" + "  ".join(
+        f"{LETTERS[number]}{sign}{total}" for number, total in sums.items()) + "\n"
 
     def is_right(lines: list[str]) -> bool:
         digits = digits_of(lines, 9)
@@ -194,12 +198,22 @@ def touch(one: Cell, other: Cell) -> bool:
     return max(abs(one[0] - other[0]), abs(one[1] - other[1])) < 2
 
 
-def stars(draw: random.Random, size: int = 8) -> Drawn:
-    """One star in each row and column, and regions that grow round them."""
-    found: list[Cell] = []
-    while not found or any(touch(one, other) for one, other in itertools.combinations(found, 2)):
-        found = list(enumerate(draw.sample(range(size), size)))
-    regions = {cell: k for k, cell in enumerate(found)}
+def rows_of_stars(draw: random.Random, size: int, count: int, rows: tuple[tuple[int, ...], ...] = ()) -> tuple[tuple[int, ...], ...]:
+    """The columns of the stars in each row, so many in each row and column and none that touch; nothing where these rows can't go on."""
+    if len(rows) == size:
+        return rows
+    ways = [columns for columns in itertools.combinations(range(size), count)
+            if not any(abs(one - other) < 2 for one, other in itertools.combinations(columns, 2))
+            and not any(abs(one - other) < 2 for one in columns for other in (rows[-1] if rows else ()))
+            and all(sum(column in row for row in rows) < count for column in columns)]
+    found = (rows_of_stars(draw, size, count, (*rows, way)) for way in draw.sample(ways, len(ways)))
+    return next(filter(None, found), ())
+
+
+def stars(draw: random.Random, size: int = 8, count: int = 1) -> Drawn:
+    """So many stars in each row and column, and regions that grow round those of a row and what lies between them."""
+    found = list(enumerate(rows_of_stars(draw, size, count)))
+    regions = {(r, c): r for r, columns in found for c in range(columns[0], columns[-1] + 1)}
     while len(regions) < size * size:
         (r, c), region = draw.choice(sorted(regions.items()))
         near = [cell for cell in ((r, c + 1), (r + 1, c), (r, c - 1), (r - 1, c)) if cell not in regions and 0 <= min(cell) <= max(cell) < size]
@@ -207,7 +221,7 @@ def stars(draw: random.Random, size: int = 8) -> Drawn:
 
     def is_right(lines: list[str]) -> bool:
         drawn = [(r, c) for r, line in enumerate(lines[1::2]) for c in range(size) if line[4 * c + 2:4 * c + 3] == "*"]
-        return all(sum(cell in house for cell in drawn) == 1 for house in houses(size, regions)) and not any(
+        return all(sum(cell in house for cell in drawn) == count for house in houses(size, regions)) and not any(
             touch(one, other) for one, other in itertools.combinations(drawn, 2))
 
     return as_rows(size, {cell: LETTERS[region] for cell, region in regions.items()}, "."), is_right
@@ -251,11 +265,11 @@ def crossword(draw: random.Random, size: int = 6) -> DrawnTwice:
     return (text, "\n".join(listed) + "\n"), is_right
 
 
-# ---- boards
+# ---- boards and solids
 
-def shapes_of(lines: list[str], rows: int, columns: int) -> list[list[Cell]]:
-    """The shapes on a drawn rectangle: cells that no wall parts."""
-    cells, shapes = set(itertools.product(range(rows), range(columns))), list[list[Cell]]()
+def shapes_of(lines: list[str], board: set[Cell]) -> list[list[Cell]]:
+    """The shapes on a drawn board: cells that no wall parts."""
+    cells, shapes = set(board), list[list[Cell]]()
     while cells:
         reached = [min(cells)]
         cells -= set(reached)
@@ -269,37 +283,83 @@ def shapes_of(lines: list[str], rows: int, columns: int) -> list[list[Cell]]:
     return shapes
 
 
-def normal(cells: Iterable[Cell]) -> list[Cell]:
-    """The least of a shape's turns and flips, at the origin."""
-    ways = []
-    for flip, turn in itertools.product((1, -1), range(4)):
-        turned = [(r, c * flip) for r, c in cells]
-        for _ in range(turn):
-            turned = [(c, -r) for r, c in turned]
-        top, left = min(r for r, _ in turned), min(c for _, c in turned)
-        ways.append(sorted((r - top, c - left) for r, c in turned))
+def at_origin(cells: Iterable[Sequence[int]]) -> Shape:
+    """Cells in order, moved to the origin."""
+    places = list(cells)
+    least = [min(cell[k] for cell in places) for k in range(3)]
+    return tuple(sorted((cell[0] - least[0], cell[1] - least[1], cell[2] - least[2]) for cell in places))
+
+
+def normal(cells: Iterable[Sequence[int]], flips: bool) -> Shape:
+    """The least of a shape's turns at the origin, and of its mirror images if it may be flipped; what is flat stays in its layer."""
+    places, ways = list(cells), list[Shape]()
+    is_flat = len({layer for layer, _, _ in places}) == 1 and flips
+    for order, signs in itertools.product(itertools.permutations(range(3)), itertools.product((1, -1), repeat=3)):
+        odd = sum(order[a] > order[b] for a, b in itertools.combinations(range(3), 2)) + signs.count(-1)
+        if (order[0] == 0 if is_flat else odd % 2 == 0):
+            ways.append(at_origin([[sign * cell[axis] for axis, sign in zip(order, signs)] for cell in places]))
     return min(ways)
 
 
-def board(draw: random.Random, rows: int = 5, columns: int = 6) -> DrawnTwice:
-    """A board that is cut into pieces by lot; equal pieces are one with a number. Pieces of one cell aren't wanted."""
-    cells, shapes = set(itertools.product(range(rows), range(columns))), list[list[Cell]]()
+def neighbours(cell: Sequence[int]) -> list[Place]:
+    steps = [(k, sign) for k in range(3) for sign in (1, -1)]
+    return [(cell[0] + sign * (k == 0), cell[1] + sign * (k == 1), cell[2] + sign * (k == 2)) for k, sign in steps]
+
+
+def cut(draw: random.Random, board: set[Place], flips: bool) -> list[Shape]:
+    """A board cut into pieces of three to five cells by lot, each turned to its least form."""
+    cells, shapes = set(board), list[Shape]()
     while cells:
         shape, wanted = [min(cells)], draw.randint(3, 5)
         while len(shape) < wanted:
-            near = sorted({(r + a, c + b) for r, c in shape for a, b in ((0, 1), (1, 0), (0, -1), (-1, 0))} & cells - set(shape))
+            near = sorted({other for cell in shape for other in neighbours(cell)} & cells - set(shape))
             if not near:
-                break
+                return cut(draw, board, flips)
             shape.append(draw.choice(near))
         cells -= set(shape)
-        shapes.append(normal(shape))
-    if min(map(len, shapes)) < 2:
-        return board(draw, rows, columns)
-    counts = {tuple(shape): shapes.count(shape) for shape in shapes}
+        shapes.append(normal(shape, flips))
+    return shapes
+
+
+def written(shapes: list[Shape]) -> str:
+    """The pieces as a file has them, each with its number of copies and its layers side by side."""
     pieces = []
-    for k, (piece, count) in enumerate(counts.items()):
-        high, wide = (max(cell[a] for cell in piece) + 1 for a in (0, 1))
-        pieces.append(f"{LETTERS[k].upper()} {count}\n" + "\n".join(
-            "".join("x" if (r, c) in piece else "." for c in range(wide)) for r in range(high)) + "\n")
-    text = "\n".join(["x" * columns] * rows) + "\n"
-    return (text, "\n".join(pieces)), lambda lines: sorted(map(normal, shapes_of(lines, rows, columns))) == sorted(shapes)
+    for k, (piece, count) in enumerate({shape: shapes.count(shape) for shape in shapes}.items()):
+        deep, high, wide = (range(max(cell[a] for cell in piece) + 1) for a in range(3))
+        rows = [" ".join("".join("x" if (layer, r, c) in piece else "." for c in wide) for layer in deep) for r in high]
+        pieces.append(f"{LETTERS[k].upper()} {count}\n" + "\n".join(rows) + "\n")
+    return "\n".join(pieces)
+
+
+def board(draw: random.Random, rows: int = 6, columns: int = 7) -> DrawnTwice:
+    """A board with holes that is cut into pieces by lot; equal pieces are one with a number."""
+    cells = set(itertools.product(range(rows), range(columns)))
+    cells -= set(draw.sample(sorted(cells), 4))
+    if min(sum((r + a, c + b) in cells for a, b in ((0, 1), (1, 0), (0, -1), (-1, 0))) for r, c in cells) == 0:
+        return board(draw, rows, columns)
+    shapes = cut(draw, {(0, r, c) for r, c in cells}, True)
+    text = "\n".join("".join("x" if (r, c) in cells else "." for c in range(columns)) for r in range(rows)) + "\n"
+
+    def is_right(lines: list[str]) -> bool:
+        drawn = [line.ljust(4 * columns + 1) for line in lines]
+        found = [normal([(0, r, c) for r, c in shape], True) for shape in shapes_of(drawn, cells)]
+        return sorted(found) == sorted(shapes) and len(re.findall("[A-Z]", "".join(lines))) == len(cells)
+
+    return (text, written(shapes)), is_right
+
+
+def solid(draw: random.Random, size: int = 3) -> DrawnTwice:
+    """A cube that is cut into different pieces by lot, layer by layer."""
+    cells = set(itertools.product(range(size), range(size), range(size)))
+    shapes = cut(draw, cells, False)
+    while len(set(shapes)) < len(shapes):
+        shapes = cut(draw, cells, False)
+    text = "\n\n".join(["\n".join(["x" * size] * size)] * size) + "\n"
+
+    def is_right(lines: list[str]) -> bool:
+        rows = [re.findall("[A-Z]", line) for line in lines if re.search("[A-Z]", line)]
+        drawn = {(k // size, k % size, c): mark for k, row in enumerate(rows) for c, mark in enumerate(row)}
+        found = [normal([cell for cell, mark in drawn.items() if mark == piece], False) for piece in sorted(set(drawn.values()))]
+        return set(drawn) == cells and found == shapes
+
+    return (text, written(shapes)), is_right

@@ -15,6 +15,7 @@ from __future__ import annotations
 import functools
 import os
 import random
+import re
 import subprocess
 import sys
 import tempfile
@@ -179,15 +180,33 @@ def wrong_tables(trial: Generating) -> None:
             ("a room that may be one or two", 3, "2", ["a,ann,5a,room 12,1"]),
             ("a period twice", 3, "2", ["a,ann,5a,r,1 2 1"]),
             ("a range over two days", 3, "2", ["a,ann,5a,r,Mon1-Tue2"]),
-            ("a teacher who is a class too", 3, "2", ["a,5a,5a,r,1"]))
+            ("a teacher who is a class too", 3, "2", ["a,5a,5a,r,1"]),
+            ("a comma in a name", 3, "2", ["a,Smith, Ann,5a,r,1"]),
+            ("a day and a number", 3, "2", ["a,ann,5a,r,Mon 1"]),
+            ("a range over the week", 3, "2", ["a,ann,5a,r,Mon1-Fri6"]),
+            ("a word between rooms", 3, "2", ["a,ann,5a,r or s,1"]),
+            ("a quotation mark that nothing ends", 3, "3", ["a,ann,5a,r,1", 'b,"bob,5a,r,2', "c,cyd,5a,r,3"]))
     for what, status, line, lines in rows:
         trial.refused(what, status, line, "timetable", trial.path("wrong.csv", "\n".join([HEAD, *lines]) + "\n"))
     for what, line, head, row in (("an unknown column", "1", HEAD + ",lenght", "a,ann,5a,r,1,2"),
                                   ("a column that is missing", "1", "lesson,class", "a,5a"),
                                   ("no number of hours", "2", HEAD + ",hours", "a,ann,5a,r,1,many"),
                                   ("a double lesson without days", "2", HEAD + ",length", "a,ann,5a,r,12-30,2"),
-                                  ("a double lesson that runs nowhere", "2", HEAD + ",length", "a,ann,5a,r,Mon1 Tue2,2")):
+                                  ("a double lesson that runs nowhere", "2", HEAD + ",length", "a,ann,5a,r,Mon1 Tue2,2"),
+                                  ("an unknown column behind a comment", "2", "# a plan\nlesson;teacher;class;rooms;periods;lenght", "a;ann;5a;r;1;2")):
         trial.refused(what, 3, line, "timetable", trial.path("wrong.csv", f"{head}\n{row}\n"))
+    trial.refused("double lessons that don't fit into their days", 1, "2", "timetable", trial.path(
+        "wrong.csv", HEAD + ",hours,length\na,ann,5a,r,Mon1-5,3,2\n"))
+
+
+def no_texts(trial: Generating) -> None:
+    """Tables that are no text in UTF-8."""
+    other = trial.path("other.csv")
+    for what, line, content in (("a text in Latin-1", "2", HEAD.encode() + b"\na,J\xf6rg,5a,r,1\n"), ("a text in UTF-16", None, HEAD.encode("utf-16")),
+                                ("a spreadsheet", None, b"PK\3\4 and so on")):
+        with open(other, "wb") as opened:
+            opened.write(content)
+        trial.refused(what, 3, line, "timetable", other)
 
 
 # ---- puzzles
@@ -197,8 +216,10 @@ PUZZLES: dict[str, tuple[Callable[[random.Random], Union[drawn_puzzles.Drawn, dr
     **{f"sudoku of {size}": (functools.partial(drawn_puzzles.sudoku, size=size), ["sudoku"], []) for size in (4, 6, 9, 12, 16)},
     "diagonals": (drawn_puzzles.diagonals, ["sudoku"], ["--diagonals"]), "jigsaw": (drawn_puzzles.jigsaw, ["jigsaw"], []),
     "killer": (drawn_puzzles.killer, ["killer"], []), "kakuro": (drawn_puzzles.kakuro, ["kakuro"], []), "stars": (drawn_puzzles.stars, ["stars"], []),
-    "nonogram": (drawn_puzzles.nonogram, ["nonogram"], []), "large nonogram": (lambda draw: drawn_puzzles.nonogram(draw, 20), ["nonogram"], []),
+    "two stars": (functools.partial(drawn_puzzles.stars, size=10, count=2), ["stars"], ["--stars", "2"]),
+    "nonogram": (drawn_puzzles.nonogram, ["nonogram"], []), "large nonogram": (lambda draw: drawn_puzzles.nonogram(draw, 25), ["nonogram"], []),
     "crossword": (drawn_puzzles.crossword, ["crossword"], []), "board": (drawn_puzzles.board, ["board"], []),
+    "solid": (drawn_puzzles.solid, ["board"], []),
 }
 
 
@@ -210,7 +231,7 @@ def puzzles(trial: Generating) -> None:
             text, is_right = drawn(draw)
             texts = text if isinstance(text, tuple) else (text,)
             paths = [trial.path(f"{kind}-{k}.txt", one) for k, one in enumerate(texts)]
-            told = paths if kind != "board" else [paths[0], "--pieces", paths[1]]
+            told = paths if words != ["board"] else [paths[0], "--pieces", paths[1]]
             lines = trial.solved(*words, *told, *further)
             trial.expect(f"{kind} {number}: {texts} {lines}", is_right(lines))
 
@@ -224,6 +245,30 @@ def other_answers(trial: Generating) -> None:
         lines = trial.solved(*words, trial.path("other.txt", str(text)), *further)
         changed = [line.translate(str.maketrans("1234#*", "2143. ")) for line in lines]
         trial.expect(f"{kind}: a change is seen", is_right(lines) and not is_right(lines[:1] + changed[1:2] + lines[2:]) or not is_right(changed))
+
+
+def words_from_input(trial: Generating) -> None:
+    """The grid or the list of words may come on the standard input; with --repeat a word may come twice."""
+    grid, words = "...\n#.#\n...\n", "ata tat oxo\n"
+    paths = [trial.path("grid.txt", grid), trial.path("words.txt", words)]
+    for told, text in ((["-", paths[1]], grid), ([paths[0], "-"], words)):
+        ended = subprocess.run([sys.executable, os.path.join(TOP, "examples", "generate.py"), "crossword", *told, "--repeat"], input=text,
+                               capture_output=True, text=True)
+        drawn = trial.drawn(trial.path("input.dlx", ended.stdout))
+        trial.expect(f"words from the standard input: {drawn}", drawn in (["t a t", "  t", "t a t"], ["a t a", "  a", "a t a"]))
+    none = trial.drawn(trial.made("crossword", *paths))
+    trial.expect("no word twice", none[0].startswith("none"))
+
+
+def plans_in_order(trial: Generating) -> None:
+    """Plans of classes are in the order of their names, and the lessons of a plan differ in colour."""
+    rows = [f"l{k},t{k},{'9b' if k % 12 == 0 else '10a'},-,Mon1-8 Tue1-8" for k in range(13)]
+    lines = trial.drawn(trial.made("timetable", trial.path("order.csv", "\n".join([HEAD, *rows]) + "\n")), "--plan", "classes")
+    trial.expect("the order of plans", [line.split()[0] for line in lines if "Mon" in line] == ["9b", "10a"])
+    with open(trial.path("made.svg"), encoding="utf-8") as opened:
+        filled = re.findall(r'<rect [^>]*fill="([^"]+)"[^>]*/>\n<text [^>]*>(l\d+)<', opened.read())
+    colours = {lesson: fill for fill, lesson in filled}
+    trial.expect(f"the colours of lessons: {colours}", len(colours) == 13 and colours["l0"] != colours["l12"])
 
 
 def solids(trial: Generating) -> None:
@@ -263,6 +308,11 @@ WRONG = (
     ("a sum without a cage", 3, "6", ["killer"], SQUARE + "\na=10 e=10\n"),
     ("a sum that can't be", 1, "1", ["killer"], SQUARE + "\na=11 b=10 c=10 d=10\n"),
     ("a sum that is no number", 3, "6", ["killer"], SQUARE + "\na=ten\n"),
+    ("a letter for two cages", 3, "1", ["killer"], "abba\naccb\nddcc\nddcc\n\na=6 b=8 c=16 d=10\n"),
+    ("sums that don't make all digits", 1, None, ["killer"], "aabb\nccdd\neeff\ngghh\n\na=5 b=5 c=5 d=5 e=5 f=5 g=5 h=4\n"),
+    ("a run of ten cells", 1, "2", ["kakuro"], "#" + " 4\\" * 10 + "\n\\45" + " ." * 10 + "\n"),
+    ("sums across and down that differ", 1, None, ["kakuro"], "# 3\\ 4\\\n\\3 . .\n\\5 . .\n"),
+    ("a region in two parts", 3, "1", ["stars"], "aba\nabb\nccc\n"), ("a nonogram's empty row", 3, None, ["nonogram"], "1\n\n1\n\n1\n0\n1\n"),
     ("a kakuro with a short row", 3, "2", ["kakuro"], "# 3\\ 4\\\n\\3 .\n"), ("no cell of a kakuro", 3, "2", ["kakuro"], "# 3\\ 4\\\n\\3 . 7\n"),
     ("a kakuro's sum that can't be", 1, "2", ["kakuro"], "# 3\\ 4\\\n\\30 . .\n\\4 . .\n"),
     ("a white cell without a sum", 3, "3", ["kakuro"], "# 3\\ 4\\\n\\3 . .\n# . .\n"),
@@ -273,7 +323,8 @@ WRONG = (
 WRONG_PIECES = (
     ("a piece in two parts", 3, "1", "A\nx.x\n"), ("two pieces of one name", 3, "1", "A\nx\n\nA\nxx\n"),
     ("a piece's name of digits", 3, "1", "12\nxx\n"),
-    ("no such piece", 3, "1", "Q\n"), ("too few cells", 1, None, "A 3\nxx\n"))
+    ("no such piece", 3, "1", "Q\n"), ("too few cells", 1, None, "A 3\nxx\n"),
+    ("pieces that never make eight cells", 1, None, "A 3\nxxx\n"))
 
 
 def wrong_boards(trial: Generating) -> None:
@@ -281,6 +332,7 @@ def wrong_boards(trial: Generating) -> None:
         trial.refused(what, status, line, words[0], trial.path("wrong.txt", text), *words[1:])
     for what, status, line, text in WRONG_PIECES:
         trial.refused(what, status, line, "board", "2x4", "--pieces", trial.path("wrong.txt", text))
+    trial.refused("a file of pieces that isn't there", 3, None, "board", "2x4", "--pieces", "pieces.txt")
     trial.refused("a word that fits nowhere", 1, "1", "crossword", trial.path("grid.txt", "...\n#.b\n"), trial.path("list.txt", "abc\nda\n"))
     words = ["".join(random.Random(number).choices("abcdefghij", k=5)) for number in range(1500)]
     grid, many = trial.path("grid.txt", "\n".join(["....."] * 5)), trial.path("many.txt", "\n".join(words))
@@ -288,8 +340,8 @@ def wrong_boards(trial: Generating) -> None:
     trial.expect(f"what would fit: {told.stderr}", told.returncode == 3 and "with --repeat" in told.stderr)
 
 
-TESTS = (schools, same_covers, joint_lessons, long_names, rules_are_tested, wrong_tables, puzzles, other_answers, solids, all_covers,
-         wrong_boards)
+TESTS = (schools, same_covers, joint_lessons, long_names, plans_in_order, rules_are_tested, wrong_tables, no_texts, puzzles,
+         other_answers, words_from_input, solids, all_covers, wrong_boards)
 
 
 def main() -> int:

@@ -15,9 +15,10 @@ Of a timetable whose periods have their days (Mon1) a plan is drawn for each cla
 or rooms, or classes, teachers, rooms or all. A week begins with Monday, and a sheet is at most 1,200 pixels wide.
 
 Comments of the file that generate.py writes say what items can't: the given digits of a sudoku, its regions and the marks for its digits
-(`| given: 4.3. ..`, `| regions: 1122 ..`, `| digits: 0123..`), the grid of a crossword (`| grid: ..#.. ..`), the size of a kakuro, who is a
-teacher, a class or a room (`| teachers: ann bob`), who takes part in a lesson without an item (`| also maths: hall`), and the names that
-numbers mean (`| name 7: Mathematics for beginners`). Where a comment contradicts the items it is passed over.
+(`| given: 4.3. ..`, `| regions: 1122 ..`, `| digits: 0123..`), the grid of a crossword (`| grid: ..#.. ..`), the size of a kakuro, the
+shapes of pieces that have no item (`| piece L: xxx/x..`), who is a teacher, a class or a room (`| teachers: ann bob`), who takes part in a lesson
+without an item (`| also maths: hall`), and the names that numbers mean (`| name 7: Mathematics for beginners`). Where a comment contradicts the
+items it is passed over.
 
 The picture shows what the answer says; whether that is right is for the program to say (solve_cli check FILE ANSWER). The
 exit status is 0, 2 for a mistake on the command line, 3 for a file or an answer that can't be read, or a picture that can't be written.
