@@ -16,9 +16,9 @@ or rooms, or classes, teachers, rooms or all. A week begins with Monday, and a s
 
 Comments of the file that generate.py writes say what items can't: the given digits of a sudoku, its regions and the marks for its digits
 (`| given: 4.3. ..`, `| regions: 1122 ..`, `| digits: 0123..`), the grid of a crossword (`| grid: ..#.. ..`), the size of a kakuro, the
-shapes of pieces that have no item (`| piece L: xxx/x..`), who is a teacher, a class or a room (`| teachers: ann bob`), who takes part in a lesson
-without an item (`| also maths: hall`), and the names that numbers mean (`| name 7: Mathematics for beginners`). Where a comment contradicts the
-items it is passed over.
+shapes of pieces that have no item (`| piece L: xxx/x..`), who is a teacher, a class or a room (`| teachers: ann bob`), the order of
+periods, who takes part in a lesson without an item (`| also maths: hall`), and the names that numbers mean (`| name 7: Mathematics for
+beginners`). Where a comment contradicts the items it is passed over.
 
 The picture shows what the answer says; whether that is right is for the program to say (solve_cli check FILE ANSWER). The
 exit status is 0, 2 for a mistake on the command line, 3 for a file or an answer that can't be read, or a picture that can't be written.
@@ -32,6 +32,7 @@ from .command_words import parser_of
 from .cover_files import Answer, Problem, Unreadable, complain, put, read_audited, read_bytes, read_problem, refusal, run, shown, stop
 from .picture_base import Kind
 from .picture_kinds import picture_of
+from .puzzle_texts import called
 from .svg_paper import Paper
 from .timetable_pictures import Timetable
 
@@ -45,6 +46,14 @@ def title_of(text: bytes, file: str) -> str:
     return file
 
 
+def want_answer(path: str, text: bytes) -> None:
+    """Ends the script where there is no answer that could be drawn."""
+    if not text.strip():
+        stop(f"{called(path)} is empty: the program wrote no answer, and said on standard error why", 3)
+    if text.split(b"\n")[0].strip() == b"no answer":
+        stop(f"{called(path)} says 'no answer': the search ended before it knew one, so there is nothing to draw", 3)
+
+
 def read_files(given: Namespace) -> tuple[Problem, str, Answer]:
     """The problem, its title, and the answer."""
     try:
@@ -54,10 +63,11 @@ def read_files(given: Namespace) -> tuple[Problem, str, Answer]:
         stop(why, 3)
     problem = read_problem(text)
     if problem.faults:
-        stop(f"{given.file} is refused: {refusal(problem.faults)}; scripts/explain.py {given.file} explains it", 3)
+        stop(f"{called(given.file)} is refused: {refusal(problem.faults)}; scripts/explain.py {given.file} explains it", 3)
+    want_answer(given.answer, answer_text)
     answer = read_audited(answer_text, problem)
     if answer.faults:
-        stop(f"{given.answer} is refused: {refusal(answer.faults)}; scripts/explain.py {given.file} {given.answer} explains it", 3)
+        stop(f"{called(given.answer)} is refused: {refusal(answer.faults)}; scripts/explain.py {given.file} {given.answer} explains it", 3)
     return problem, title_of(text, given.file), answer
 
 

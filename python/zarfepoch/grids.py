@@ -77,7 +77,7 @@ def runs_of(path: str, rows: list[list[Clue | None]], numbers: list[int]) -> tup
             cells = behind(rows, (r, c), step)
             clued[step].update(cells)
             run = Run(f"{way}{len(runs) + 1}", cells, total, numbers[r])
-            where = f"{path}, line {numbers[r]}: the sum {total} {'below' if way == 'd' else 'on the right of'} column {c + 1}"
+            where = f"{path}, line {numbers[r]}: the sum {total} in column {c + 1}, {'downwards' if way == 'd' else 'to the right'},"
             if not cells:
                 refuse(path, numbers[r], f"the sum {total} in column {c + 1} has no white cell {'below it' if way == 'd' else 'on its right'}")
             if not run.choices:

@@ -149,6 +149,7 @@ class People:
 
     def __init__(self, path: str, column: str, cells: list[str]) -> None:
         self.path, self.column = path, column
+        self.certain = {name.strip() for cell in cells if "," not in cell for name in re.split(r"[;+]", cell)}
         whole = {name.strip() for cell in cells for name in re.split(r"[;,+]", cell)}
         self.alone = {name for name in whole if not re.search(r"[\s/&]", name)} - {""}
         parted = [tuple(self.words(name)) for name in whole if self.words(name)[1:]]
@@ -165,6 +166,9 @@ class People:
         names = [name.strip() for name in re.split(r"[;,+]", cell)]
         if "" in names:
             refuse(self.path, line, f"{self.column} '{cell}': a name is missing beside ';', ',' or '+'")
+        if "," in cell and self.certain.isdisjoint(names):
+            refuse(self.path, line, f"{self.column} '{cell}' may be one name or several: several have ';' between ({';'.join(names)}), and one has "
+                   f"no comma ({' '.join(names)})")
         found = [one for name in names for one in self.parted(line, name)]
         twice = [one for one, count in Counter(found).items() if count > 1]
         if twice:

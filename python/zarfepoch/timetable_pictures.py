@@ -105,12 +105,13 @@ class Timetable(Kind):
         return dict.fromkeys(option[0] for option in self.options)
 
     def periods(self) -> list[str]:
-        """All periods, by their numbers where these are numbers."""
+        """All periods, by their numbers where these are numbers, else as a comment tells them."""
         periods = list(dict.fromkeys(name.rsplit("-", 1)[1] for option in self.options for name in option[1:]))
-        order = {item.rsplit("-", 1)[1]: k for k, item in reversed(list(enumerate(self.items))) if "-" in item}
         if all(map(str.isdecimal, periods)):
             return sorted(periods, key=int)
-        return sorted(periods, key=order.__getitem__)
+        told: list[str] = next((comment.partition(":")[2].split() for comment in self.comments if re.match(r"\|\s*periods: ", comment)), [])
+        named = told + [item.rsplit("-", 1)[1] for item in self.items if "-" in item]
+        return sorted(periods, key=named.index)
 
     def given(self) -> Iterator[Given]:
         """All lessons of the answer."""

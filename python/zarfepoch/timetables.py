@@ -266,8 +266,10 @@ def items_of(lessons: list[Lesson], hours: list[Hour], busy: set[str]) -> tuple[
 
 
 def told(lessons: list[Lesson], numbers: dict[str, str]) -> list[str]:
-    """What the file says of its names in comments: who is what, and the names that numbers stand for."""
-    found = {role: dict.fromkeys(one for lesson in lessons for one in getattr(lesson, role)) for role in ROLES}
+    """What the file says of its names in comments: who is what, in which order periods are, and the names that numbers stand for."""
+    found = {role: list(dict.fromkeys(one for lesson in lessons for one in getattr(lesson, role))) for role in ROLES}
+    periods = all_periods(lessons)
+    found["periods"] = [] if all(map(str.isdecimal, periods)) else periods
     return [f"{role}: {' '.join(names)}" for role, names in found.items() if names] + [f"name {number}: {name}" for name, number in numbers.items()]
 
 
