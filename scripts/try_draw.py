@@ -395,9 +395,9 @@ def refusals(trial: Drawing) -> None:
     for words in ([file, file], [letters_file, file], [letters_file, trial.folder], ["nothing", file]):
         ended = trial.python("scripts/draw.py", *words)
         trial.expect(f"draw.py {words} stops", ended.returncode == 3 and not ended.stdout and ended.stderr.startswith(b"draw: "))
-    for content_of, words in ((b"", b"is empty"), (b"no answer\n", b"says 'no answer'")):
-        ended = trial.python("scripts/draw.py", letters_file, trial.path("no-answer", content_of))
-        trial.expect(f"draw.py says of no answer: {ended.stderr!r}", ended.returncode == 3 and words in ended.stderr)
+    for nothing, told in ((b"", b"is empty"), (b"no answer\n", b"says 'no answer'")):
+        ended = trial.python("scripts/draw.py", letters_file, trial.path("no-answer", nothing))
+        trial.expect(f"draw.py says of no answer: {ended.stderr!r}", ended.returncode == 3 and told in ended.stderr)
     cover = trial.path("cover", b"cover 3\nc e\na d f\nb g\n")
     audited = trial.path("audited", content(cover) + b"audit clean\n")
     texts = [trial.python("scripts/draw.py", letters_file, path).stdout for path in (cover, audited)]
