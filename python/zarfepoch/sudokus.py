@@ -166,7 +166,8 @@ def digits_of(path: str, text: str, numbers: Sequence[int] | None = None) -> tup
     for r, c in itertools.product(range(size), repeat=2):
         if digits[r][c] is None:
             line = numbers[places[r]] if places else None
-            refuse(path, line, f"'{rows[r][c]}' in row {r + 1}, column {c + 1} is no digit of a sudoku of {size} by {size}")
+            refuse(path, line, f"'{rows[r][c]}' in row {r + 1}, column {c + 1} is no digit of a sudoku of {size} by {size}; an "
+                   "empty cell is a dot, _ or 0")
     return [[digit or 0 for digit in row] for row in digits], symbols
 
 

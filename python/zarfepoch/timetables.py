@@ -92,8 +92,8 @@ def want_runs(path: str, lessons: list[Lesson]) -> None:
     """Ends the script where a lesson of several periods is given more often than its periods have room for."""
     for lesson in lessons:
         if lesson.hours > most_runs(lesson) > 0 and lesson.length > 1:
-            no_cover(f"{path}, line {lesson.line}: there is no timetable: {lesson.name} is given {lesson.hours} times, each in {lesson.length} periods "
-                     f"running on one day, and its periods have room for {most_runs(lesson)}")
+            no_cover(f"{path}, line {lesson.line}: there is no timetable: {lesson.name} is given {lesson.hours} times, each in {lesson.length} "
+                     f"periods running on one day, and its periods have room for {most_runs(lesson)}")
 
 
 # ---- who is busy when
