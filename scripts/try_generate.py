@@ -183,6 +183,8 @@ def wrong_tables(trial: Generating) -> None:
             ("a teacher who is a class too", 3, "2", ["a,5a,5a,r,1"]),
             ("a comma in a name", 3, "2", ["a,Smith, Ann,5a,r,1"]),
             ("a day and a number", 3, "2", ["a,ann,5a,r,Mon 1"]),
+            ("a day and a range", 3, "2", ["a,ann,5a,r,Mon 1-6"]),
+            ("periods with and without a day", 3, "3", ["a,ann,5a,r,Mon1", "b,bob,5a,r,Tue1 2"]),
             ("a range over the week", 3, "2", ["a,ann,5a,r,Mon1-Fri6"]),
             ("a word between rooms", 3, "2", ["a,ann,5a,r or s,1"]),
             ("a quotation mark that nothing ends", 3, "3", ["a,ann,5a,r,1", 'b,"bob,5a,r,2', "c,cyd,5a,r,3"]))

@@ -113,9 +113,8 @@ def between(path: str, line: int, word: str) -> list[str]:
 
 def want_joined(path: str, line: int, column: str, cell: str, alone: set[str]) -> None:
     """Refuses a name and a number with a blank between, as in `room 12` or `Mon 1`, which would be two, unless one of them stands alone elsewhere."""
-    words = re.findall(r"[^\s;,]+", cell)
-    for word, number in zip(words, words[1:]):
-        if number.isdecimal() and not re.search(r"\d", word) and alone.isdisjoint((word, number)) and not re.search("[;,]", cell):
+    for word, number in re.findall(r"(?<![^\s;,])([^\s;,\d]+)\s+(\d+(?:-\d+)?)(?![^\s;,])", cell):
+        if alone.isdisjoint((word, number)):
             one = f"{word}{number}" if column == "periods" else f"{word}_{number}"
             refuse(path, line, f"{column} '{cell}': a blank parts {column}, so write {one} for one, and {word};{number} for two")
 
@@ -130,7 +129,8 @@ def want_names(path: str, line: int, row: dict[str, str]) -> None:
 
 def periods_in(path: str, line: int, cell: str) -> list[str]:
     want_joined(path, line, "periods", cell, set())
-    words = re.findall(r"[^\s;,]+", cell)
+    # (text programs write long dashes)
+    words = re.findall(r"[^\s;,]+", re.sub("[\u2010-\u2015]", "-", cell))
     periods = [period for word in words for period in (between(path, line, word) if "-" in word else [word])]
     twice = [period for period, count in Counter(periods).items() if count > 1]
     if twice:

@@ -71,7 +71,11 @@ def want_days(path: str, lessons: list[Lesson]) -> None:
     """Refuses lessons of several periods where nobody can tell which periods run on one day."""
     periods = all_periods(lessons)
     numbers = [int(period) for period in periods if period.isdecimal()]
+    with_day = next((period for period in periods if day_and_number(period) and not period.isdecimal()), None)
     for lesson in lessons:
+        bare = next(filter(str.isdecimal, lesson.periods), None)
+        if bare and with_day:
+            refuse(path, lesson.line, f"the period {bare} has no day, and {with_day} has one: either all have their day, or none")
         if lesson.length > 1 and numbers and max(numbers) > 12:
             refuse(path, lesson.line, f"a lesson of {lesson.length} periods wants periods that tell their day, as Mon1: nobody knows on which "
                    f"day {max(numbers)} is")
