@@ -317,7 +317,7 @@ def many_visits(folder: str) -> None:
         print(*(f"{names[one]} {names[other]}" for one, other in pairs), sep="\n", file=file)
     visits = 1_455_115_025_598_703
     expect("as many visits as it takes", run("alone", path, "--fuel", str(visits)) == (b"none\n", b"", 1))
-    expect("one visit less", run("alone", path, "--fuel", str(visits - 1)) == (b"no answer\n", b"", 4))
+    expect("one visit less", run("alone", path, "--fuel", str(visits - 1)) == (b"no answer\n", SPENT, 4))
     expect("no limit", run("alone", path, "--unlimited") == (b"none\n", b"", 1))
 
 
