@@ -111,12 +111,14 @@ impl<L: Link> Receiver<L> {
         }
     }
 
-    /// Receives once.
+    /// Receives once. Whether the run is over is looked at before: the registry tells the end first, so a receive that is empty after
+    /// that shows that a node has heard it, or never will.
     fn receive<J: Run, C: Core + Drop, N: CellName, G: Gate, R: Wait + Clock>(
         &mut self,
         rt: &R,
         actor: &mut Actor<'_, J, C, N, G>,
     ) -> Turn {
+        let is_over = actor.shared.is_over(rt);
         let mut buffer = [0; BUFFER];
         match self.link.receive(rt, &mut buffer) {
             Ok(Some(bytes)) => {
@@ -125,7 +127,7 @@ impl<L: Link> Receiver<L> {
             }
             Ok(None) => {
                 self.faults = 0;
-                self.wait(rt, actor)
+                self.wait(rt, actor, is_over)
             }
             Err(_) => {
                 self.faults = self.faults.saturating_add(1);
@@ -220,14 +222,17 @@ impl<L: Link> Receiver<L> {
         if self.heard < HEARD {
             return Turn::Used;
         }
-        self.say_again(rt, actor)
+        let is_over = actor.shared.is_over(rt);
+        self.say_again(rt, actor, is_over)
     }
 
-    /// What may be lost is said again, unless the site can't go on. The registry ends once it has told the end often enough.
+    /// What may be lost is said again, unless the site is to end or can't go on. The registry ends once it has told the end often
+    /// enough.
     fn say_again<J: Run, C: Core + Drop, N: CellName, G: Gate, R: Wait + Clock>(
         &mut self,
         rt: &R,
         actor: &mut Actor<'_, J, C, N, G>,
+        is_over: bool,
     ) -> Turn {
         self.pauses = 0;
         self.heard = 0;
@@ -237,41 +242,42 @@ impl<L: Link> Receiver<L> {
         if self.last > LAST {
             return self.end();
         }
-        if let Some(cause) = self.lost(rt, actor.shared) {
+        if let Some(cause) = self.lost(actor.shared, is_over) {
             return self.end_by(cause);
         }
         after(actor.act(rt, Event::Again))
     }
 
     /// Nothing came: what may be lost is said again now and then, and always once the search is over. The thread ends where the
-    /// site can't go on.
+    /// site is to end or can't go on.
     fn wait<J: Run, C: Core + Drop, N: CellName, G: Gate, R: Wait + Clock>(
         &mut self,
         rt: &R,
         actor: &mut Actor<'_, J, C, N, G>,
+        is_over: bool,
     ) -> Turn {
         let nap = if self.over { LAST_NAP } else { NAP };
         thread::sleep(rt, Duration::from_micros(nap));
         self.listen(false);
         self.pauses = self.pauses.saturating_add(1);
-        if let Some(cause) = self.lost(rt, actor.shared) {
-            return self.end_by(cause);
+        if self.over || self.pauses >= AGAIN {
+            return waited(self.say_again(rt, actor, is_over));
         }
-        if !self.over && self.pauses < AGAIN {
-            return Turn::Waited;
+        match self.lost(actor.shared, is_over) {
+            Some(cause) => self.end_by(cause),
+            None => Turn::Waited,
         }
-        waited(self.say_again(rt, actor))
     }
 
     /// Why the site can't go on, if it can't: it is to end, or the run is, no worker is left, or nothing shows the run going on for
     /// long.
-    fn lost<J: Run, C: Core + Drop, N: CellName, G: Gate, R: Clock>(
+    fn lost<J: Run, C: Core + Drop, N: CellName, G: Gate>(
         &self,
-        rt: &R,
         shared: &Shared<'_, J, C, N, G>,
+        is_over: bool,
     ) -> Option<Cause> {
         let is_deserted = shared.cell.site().node != 0 && shared.signals.is_deserted();
-        if shared.is_over(rt) || is_deserted {
+        if is_over || is_deserted {
             Some(Cause::Turns)
         } else if self.silent >= shared.plan.quiet {
             Some(Cause::Silence)
