@@ -296,7 +296,7 @@ class Trial:
         return program_says, by_search, next(((found[2], found[1]) for found in faults if found), None)
 
     def compare(self, words: list[str], ran: subprocess.CompletedProcess[bytes], with_verdict: bool) -> None:
-        told = ran.stderr.decode("utf-8", "backslashreplace").split("\n")[:-1]
+        told = [shown(line) for line in ran.stderr.split(b"\n")[:-1]]
         # (why there is no answer isn't foretold; of a file that can't be read, explain.py names file and cause in a line of its own)
         told = [re.sub("^(cannot read): .*", r"\1", line) for line in told if not line.startswith("ended: ")]
         verdict = [shown(ran.stdout[:-1])] if with_verdict and ran.stdout.startswith((b"right", b"wrong: ")) else []

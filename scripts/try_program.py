@@ -114,6 +114,11 @@ def bad_input(folder: str) -> None:
     refused = (b"", unread(locked, "permission denied"), 3)
     expect("a file that may not be read", run("alone", locked) == (refused if os.geteuid() else (b"cover 1\na\n", b"", 0)))
     expect("an empty file", run("alone", file("empty", b"")) == (b"", b"refused: NoItems\n", 3))
+    unknown = (b"", b"refused: UnknownItem line 3\nno item is named c\n", 3)
+    stray = b"a b\na\nb c:red\n"
+    expect("a name that no item has", [run(mode, file("stray", stray)) for mode in ("alone", "solve", "simulate", "why")] == 4 * [unknown])
+    expect("the same to check", run("check", file("stray", stray), file("nothing", b"none\n")) == unknown)
+    expect("the same in standard input", run("alone", "-", stdin=stray) == unknown)
     expect("binary bytes", run("alone", file("binary", bytes(range(256)))) == (b"", b"refused: IllegalByte line 1\n", 3))
     expect("a pipe", run("alone", "/dev/stdin", stdin=b"a\na\n") == (b"cover 1\na\n", b"", 0))
     expect("fuel 6", run("alone", letters, "--fuel", "6") == (cover, b"", 0))

@@ -305,10 +305,17 @@ def explain_answer(problem: Problem, answer: Answer) -> Iterator[str]:
 
 # ---- the whole
 
+def beside(fault: Fault) -> list[str]:
+    """What the program writes beside a refusal: the name that no item has. (Of a text above a megabyte it writes nothing.)"""
+    if fault.name != "UnknownItem" or fault.word is None:
+        return []
+    return ["no item is named " + shown(fault.word.text.partition(b":")[0])]
+
+
 def program_lines(problem: Problem, answer: Optional[Answer]) -> list[str]:
     """What the program writes on standard error, and of an answer its verdict, so far as counting tells it."""
     if problem.faults:
-        return ["refused: " + refusal(problem.faults)]
+        return ["refused: " + refusal(problem.faults), *beside(problem.faults[0])]
     if answer and answer.faults:
         return ["answer refused: " + refusal(answer.faults)]
     ignored = [f"ignored {len(problem.ignored)}"] if problem.ignored else []

@@ -15,4 +15,5 @@ pub mod OptionLines
 pub mod Options
 pub mod ProblemOf
 pub mod Reading
+pub mod Unknown
 pub mod Writing

@@ -15,6 +15,7 @@ mod names;
 mod option_index;
 mod options;
 mod reading;
+mod unknown;
 mod words;
 mod writing;
 
@@ -25,4 +26,5 @@ pub use devices::{CountedReader, CountedWriter, DeviceFault, Sink, Source};
 pub use fault::ReadFault;
 pub use laws::one_problem_or_first_fault;
 pub use reading::{Read, read_problem};
+pub use unknown::unknown_item;
 pub use writing::{WriteFault, write_answer, write_bytes};

@@ -92,7 +92,7 @@ fn read_item<'a>(
 
 /// Reads the words of the item line.
 #[tactic(auto, unfolding(crate::specs::Reading::items_from))]
-fn read_items<'a>(alloc: Global, line: Line<'a>) -> Result<Names<'a>, ReadFault>
+pub(crate) fn read_items<'a>(alloc: Global, line: Line<'a>) -> Result<Names<'a>, ReadFault>
     ensures { Gives (λ names. names) result
         (items_from line.entry.number [] false (words_of line.entry.text.now)) }
 {

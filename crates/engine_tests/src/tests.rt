@@ -7,6 +7,7 @@ mod devices;
 mod long;
 mod progress;
 mod refused;
+mod remembered;
 mod simulate;
 mod texts;
 mod told;

@@ -10,3 +10,4 @@ mod limits;
 mod reading;
 mod refused;
 mod texts;
+mod unknown;

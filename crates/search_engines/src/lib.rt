@@ -13,6 +13,7 @@ mod input;
 mod limits;
 mod lines;
 mod progress;
+mod remembered;
 mod telling;
 mod unanswered;
 mod within;
@@ -29,6 +30,7 @@ pub use input::{problem_of, read_all, read_whole};
 pub use limits::Limits;
 pub use lines::{write_line, write_published};
 pub use progress::{Lines, Progress, ProgressLog, Seconds};
+pub use remembered::Remembered;
 pub use telling::{
     tell, tell_end, tell_end_of, tell_fault, tell_fault_of, tell_unbound, tell_unopened,
 };

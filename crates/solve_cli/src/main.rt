@@ -10,7 +10,7 @@ pub use cover_engines::{
     simulate_engine, solve_engine, tell, tell_fault,
 };
 use cover_engines::{
-    Limits, Lines, Loopback, Machine, ProgressLog, Unanswered, alone_unlimited,
+    Limits, Lines, Loopback, Machine, ProgressLog, Remembered, Unanswered, alone_unlimited,
     alone_unlimited_with_progress, alone_with_progress, alone_within, alone_within_with_progress,
     check_unlimited, check_within, tell_end_of, tell_unanswered, tell_unopened,
 };
@@ -28,21 +28,28 @@ use std::sync::Wait;
 use std::thread::Threads;
 use std::time::{Clock, Duration};
 
-/// What is read: a file, or standard input.
-type Input = CountedReader<Either<File, Stdin>>;
+/// What is read: a file, or standard input, of which the text is kept.
+type Input = Remembered<CountedReader<Either<File, Stdin>>>;
 
 /// Opens what a word of the command line names: a file, or standard input for `-`. A folder can't be opened.
 fn open(rt: &HostRuntime, name: &str) -> io::Result<Input>
-    ensures { IfOk result (λ source. source.failures ≡ 0) }
+    ensures { IfOk result (λ source. source.inner.failures ≡ 0) }
 {
-    if name == STANDARD_INPUT {
-        return Ok(CountedReader::new(Either::Right(rt.stdin())));
-    }
+    let input = if name == STANDARD_INPUT {
+        Either::Right(rt.stdin())
+    } else {
+        Either::Left(open_file(rt, name)?)
+    };
+    Ok(Remembered::new(rt.alloc(), CountedReader::new(input)))
+}
+
+/// Opens the file of this name, which is no folder.
+fn open_file(rt: &HostRuntime, name: &str) -> io::Result<File> {
     let file = File::open(rt, name)?;
     if file.metadata()?.is_dir() {
         return Err(ErrorKind::IsADirectory.into());
     }
-    Ok(CountedReader::new(Either::Left(file)))
+    Ok(file)
 }
 
 /// The limits of what is asked for, from now on, if it is limited in time.
@@ -90,6 +97,7 @@ fn run_alone(rt: &HostRuntime, request: &Request<'_>) -> u8 {
         None => search_alone(rt, request, &mut source, &mut errors),
     };
     let status = tell_end_of(&ended, request.settings.file, &mut errors);
+    source.tell_unknown(status, &mut errors);
     tell_unanswered(&ended, unanswered(rt, request, limits), &mut errors);
     status
 }
@@ -101,7 +109,7 @@ fn search_alone<W: Sink>(
     source: &mut Input,
     errors: &mut W,
 ) -> Result<AloneEnd, EngineFault>
-    requires { source.old.failures ≡ 0 }
+    requires { source.old.inner.failures ≡ 0 }
 {
     let mut sink = CountedWriter::new(rt.stdout());
     let (alloc, fuel) = (rt.alloc(), request.settings.fuel);
@@ -122,7 +130,7 @@ fn search_within<W: Sink>(
     source: &mut Input,
     errors: &mut W,
 ) -> Result<AloneEnd, EngineFault>
-    requires { source.old.failures ≡ 0 }
+    requires { source.old.inner.failures ≡ 0 }
 {
     let mut sink = CountedWriter::new(rt.stdout());
     if !request.progress {
@@ -157,6 +165,7 @@ fn run_check(rt: &HostRuntime, request: &Request<'_>) -> u8
         answer_name
     };
     let status = tell_end_of(&ended, unread, &mut errors);
+    file.tell_unknown(status, &mut errors);
     tell_unanswered(&ended, unanswered(rt, request, limits), &mut errors);
     status
 }
@@ -169,8 +178,8 @@ fn check_inputs(
     file: &mut Input,
     answer: &mut Input,
 ) -> Result<CheckEnd, EngineFault>
-    requires file { file.old.failures ≡ 0 }
-    requires answer { answer.old.failures ≡ 0 }
+    requires file { file.old.inner.failures ≡ 0 }
+    requires answer { answer.old.inner.failures ≡ 0 }
 {
     let mut sink = CountedWriter::new(rt.stdout());
     let (alloc, fuel) = (rt.alloc(), request.settings.fuel);
@@ -190,7 +199,9 @@ fn run_why(rt: &HostRuntime, settings: &Settings<'_>) -> u8 {
     };
     let mut sink = CountedWriter::new(rt.stdout());
     let ended = why_engine(rt.alloc(), &mut source, &mut sink);
-    tell_end_of(&ended, settings.file, &mut errors)
+    let status = tell_end_of(&ended, settings.file, &mut errors);
+    source.tell_unknown(status, &mut errors);
+    status
 }
 
 /// Runs `simulate` on a file, and answers the exit status.
@@ -203,6 +214,7 @@ fn run_simulate(rt: &HostRuntime, settings: &Settings<'_>) -> u8 {
     let mut sink = CountedWriter::new(rt.stdout());
     let ended = simulate_engine(rt.alloc(), settings, &mut source, &mut sink);
     let status = tell_end_of(&ended, settings.file, &mut errors);
+    source.tell_unknown(status, &mut errors);
     tell_unanswered(&ended, Unanswered::Unpublished, &mut errors);
     status
 }
@@ -226,7 +238,9 @@ fn run_solve<R: Threads + Wait + Clock + Net + Sync>(
         network: Loopback { rt: threads },
         lines: lines_of(rt),
     };
-    machine.solve(request, &mut source, &mut sink, &mut errors)
+    let status = machine.solve(request, &mut source, &mut sink, &mut errors);
+    source.tell_unknown(status, &mut errors);
+    status
 }
 
 /// Runs what is asked for, and answers the exit status.

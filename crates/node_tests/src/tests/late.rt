@@ -89,16 +89,16 @@ impl Gate for Notes {
     }
 }
 
-/// A link in memory of which one receive, the first one after the Post, is empty and lasts until the registry has left.
+/// A link of which one receive, the first one after the Post, is empty and lasts until the registry has left.
 #[derive(Drop)]
-struct Late {
-    inner: MemoryLink,
+struct Late<L: Link> {
+    inner: L,
     /// None at the registry.
     stages: Option<Arc<Stages, Global>>,
 }
 
-impl Link for Late {
-    ghost failed = { λ late. late.inner.failures };
+impl<L: Link> Link for Late<L> {
+    ghost failed = { λ late. L.failed late.inner };
 
     fn failures(&self) -> u64 {
         self.inner.failures()
@@ -118,7 +118,7 @@ impl Link for Late {
         self.inner.receive(rt, into)
     }
 
-    fn twin(&self) -> Result<Late, AllocError> {
+    fn twin(&self) -> Result<Late<L>, AllocError> {
         let stages = match &self.stages {
             Some(stages) => Some(Arc::try_clone(stages)?),
             None => None,
@@ -131,7 +131,10 @@ impl Link for Late {
 }
 
 /// The links of the registry and one node, which is late.
-fn late_links(alloc: Global, stages: &Arc<Stages, Global>) -> Result<Vec<Late>, AllocError>
+fn late_links(
+    alloc: Global,
+    stages: &Arc<Stages, Global>,
+) -> Result<Vec<Late<MemoryLink>>, AllocError>
     ensures { IfOk result (λ links. vec_len links ≡ 2) }
 {
     let mut links = Vec::new(alloc);

@@ -1,0 +1,81 @@
+//! What is told of a text beside its fault: the name that no item has.
+
+use super::told::Told;
+use dlx_reader::{CountedReader, CountedWriter};
+use search_engines::{Remembered, alone_engine, tell_end};
+use std::alloc::{AllocError, Global};
+use std::test::Fail;
+
+/// What `alone` tells of a text, and what is told of it beside.
+fn told(alloc: Global, text: &[u8]) -> Told {
+    let mut out = Vec::new(alloc);
+    let mut errors = Vec::new(alloc);
+    let mut source = Remembered::new(alloc, CountedReader::new(text));
+    let ended = alone_engine(
+        alloc,
+        u64::MAX,
+        &mut source,
+        &mut CountedWriter::new(&mut out),
+    );
+    let mut sink = CountedWriter::new(&mut errors);
+    let status = tell_end(&ended, &mut sink);
+    source.tell_unknown(status, &mut sink);
+    Told {
+        out,
+        errors,
+        status,
+    }
+}
+
+/// A text; what is written to both outputs, and the status.
+static TOLD: [(&str, &str, &str, u8); 6] = [
+    (
+        "a\nb\n",
+        "",
+        "refused: UnknownItem line 2\nno item is named b\n",
+        3,
+    ),
+    (
+        "a | x\n\na x\na é:red\n",
+        "",
+        "refused: UnknownItem line 4\nno item is named é\n",
+        3,
+    ),
+    // the first fault is another one
+    ("a\na a\nb\n", "", "refused: DuplicateInOption line 2\n", 3),
+    ("", "", "refused: NoItems\n", 3),
+    // there is none
+    ("a\na\n", "cover 1\na\n", "", 0),
+    ("a b\na\n", "none\n", "", 1),
+];
+
+#[test]
+fn names_are_told(rt: HostRuntime) {
+    for (text, out, errors, status) in TOLD.iter() {
+        assert!(rt;
+            told(rt.alloc(), text.as_bytes()).is(out, errors, *status),
+            "{text:?}"
+        );
+    }
+}
+
+/// A text of one item and one unknown name, behind a comment of so many bytes.
+fn behind(alloc: Global, bytes: usize) -> Result<Vec<u8>, AllocError> {
+    let mut text = vec![in alloc; b'|'; bytes]?;
+    text.extend_from_slice(b"\na\nb\n")?;
+    Ok(text)
+}
+
+#[test]
+fn only_texts_of_a_megabyte_are_kept(rt: HostRuntime) -> Result<(), Fail> {
+    let alloc = rt.alloc();
+    let (first, both) = (
+        "refused: UnknownItem line 3\n",
+        "refused: UnknownItem line 3\nno item is named b\n",
+    );
+    for (bytes, errors) in [(20_000, both), (1_000_000, both), (1_100_000, first)] {
+        let text = behind(alloc, bytes)?;
+        assert!(rt; told(alloc, &text).is("", errors, 3), "{bytes} bytes");
+    }
+    Ok(())
+}
