@@ -18,6 +18,7 @@ status is 0, 1 where two come to other outcomes, 2 for a mistake on the command 
 from __future__ import annotations
 
 import os
+import re
 import shutil
 import subprocess
 import sys
@@ -108,22 +109,22 @@ def least(words: list[str], times: int, seconds: int, lines: Iterable[str] = ())
     return best
 
 
-def instructions(file: str, keeping: str) -> int:
-    """How many instructions a search takes, without what one visit takes."""
-    counts = []
-    for fuel in (GREATEST, "1"):
-        words = ["valgrind", "--tool=callgrind", "--callgrind-out-file=/dev/null", TWO_SEARCHES, file, "suited", keeping, fuel]
-        errors = subprocess.run(words, capture_output=True, text=True).stderr
-        counts.append(int(errors.partition("refs:")[2].split()[0].replace(",", "")))
-    return counts[0] - counts[1]
+def counted(file: str, keeping: str, fuel: str) -> int:
+    """How many instructions a search of so many visits takes, by valgrind; -1 where it has no figure."""
+    words = ["valgrind", "--tool=callgrind", "--callgrind-out-file=/dev/null", TWO_SEARCHES, file, "suited", keeping, fuel]
+    found = re.search(r"refs: +([0-9,]+)", subprocess.run(words, capture_output=True, text=True).stderr)
+    return int(found[1].replace(",", "")) if found else -1
 
 
 def plain_and_ratio(file: str, times: int, seconds: int) -> tuple[Optional[Found], str]:
-    """What the plain search comes to, and the cell of the instructions."""
+    """What the plain search comes to, and the cell of the instructions, without those of a search of one visit."""
     plain = least([TWO_SEARCHES, file, "suited", "plain", GREATEST], times, seconds)
-    if plain and plain[0] != "spent" and plain[1] < 2 and shutil.which("valgrind"):
-        return plain, f"{instructions(file, 'kept') / instructions(file, 'plain'):.3f}"
-    return plain, "-"
+    if not plain or plain[0] == "spent" or plain[1] >= 2 or not shutil.which("valgrind"):
+        return plain, "-"
+    kept, kept_one, other, other_one = [counted(file, keeping, fuel) for keeping in ("kept", "plain") for fuel in (GREATEST, "1")]
+    if min(kept, kept_one, other, other_one) < 0:
+        return plain, "-"
+    return plain, f"{(kept - kept_one) / max(other - other_one, 1):.3f}"
 
 
 def by_peer(command: str, file: str, times: int, seconds: int) -> Optional[Found]:
