@@ -6,9 +6,9 @@
 Each bound is one on a ratio of two figures that are measured here, or on the memory of an entry, so it is the same on all machines. Those that are
 named, or all, are measured:
 
-- `audit-length`: the seconds that an audit takes for an entry, where there are some 10,000 entries, to those where there are 2,000: it finds
-  packets by an index;
-- `audit-books`: the same of 17 books to five, where there are some 100,000 entries: it follows the books that wait for one another;
+- `audit-length`: with which power of the entries the seconds of an audit grow, between some 2,000 and 10,000 of them: it finds packets by an index;
+- `audit-books`: the seconds of an audit for each of some 100,000 entries of 17 books, to those of five: it follows the books that wait for
+  one another;
 - `idle-entries`: the bytes that a book takes for an entry of a site without work: such entries share a step;
 - `only-worker`: how many searches the only worker of a run makes for a problem of 650,000 visits: it has no limit.
 
@@ -19,6 +19,7 @@ figure is beyond its bound or an answer is wrong, 2 for a mistake on the command
 """
 from __future__ import annotations
 
+import math
 import os
 import subprocess
 import sys
@@ -50,25 +51,27 @@ def peak(words: list[str]) -> int:
     return int(usage.ru_maxrss) * 1024
 
 
-def of_an_entry(folder: str, rows: int, nodes: int) -> float:
-    """The least seconds an entry of audits of a search of queens on a torus."""
+def audited(folder: str, rows: int, nodes: int) -> tuple[int, float]:
+    """Entries and seconds of the audit that takes the least for an entry, of several searches of queens on a torus."""
     generate.HERE = folder
     torus_queens("torus.dlx", rows)
-    ratios = []
+    found = []
     for _ in range(AUDITS):
-        (_, entries, time, found), _ = audits.run(os.path.join(folder, "torus.dlx"), nodes, "time")
-        if found.strip() != "Ok(Clean)":
-            sys.exit(f"an audit of {nodes} nodes on {rows} rows is not clean: {found.strip()}")
-        ratios.append(int(time) / int(entries) / 1e9)
-    return min(ratios)
+        (_, entries, time, verdict), _ = audits.run(os.path.join(folder, "torus.dlx"), nodes, "time")
+        if verdict.strip() != "Ok(Clean)":
+            sys.exit(f"an audit of {nodes} nodes on {rows} rows is not clean: {verdict.strip()}")
+        found.append((int(entries), int(time) / 1e9))
+    return min(found, key=lambda it: it[1] / it[0])
 
 
 def audit_length(folder: str) -> float:
-    return of_an_entry(folder, 10, 4) / of_an_entry(folder, 8, 4)
+    (few, least), (many, most) = audited(folder, 8, 4), audited(folder, 10, 4)
+    return math.log(most / least) / math.log(many / few)
 
 
 def audit_books(folder: str) -> float:
-    return of_an_entry(folder, 12, 16) / of_an_entry(folder, 12, 4)
+    (few, least), (many, most) = audited(folder, 12, 4), audited(folder, 12, 16)
+    return (most / many) / (least / few)
 
 
 def idle_entries(_: str) -> float:
@@ -94,7 +97,7 @@ class Bound(NamedTuple):
 
 
 BOUNDS = {
-    "audit-length": Bound(audit_length, 2.5, audits.PROGRAM, "audit_trials"),
+    "audit-length": Bound(audit_length, 1.5, audits.PROGRAM, "audit_trials"),
     "audit-books": Bound(audit_books, 2, audits.PROGRAM, "audit_trials"),
     "idle-entries": Bound(idle_entries, 64, WORKBENCH, "workbench"),
     "only-worker": Bound(only_worker, 4, RUN_TALLY, "run_tally"),
