@@ -7,7 +7,7 @@ Each bound is one on a ratio of two figures that are measured here, or on the me
 named, or all, are measured:
 
 - `audit-length`: with which power of the entries the seconds of an audit grow, between some 2,000 and 10,000 of them: it finds packets by an index;
-- `audit-books`: the seconds of an audit for each of some 100,000 entries of 17 books, to those of five: it follows the books that wait for
+- `audit-books`: the seconds of an audit for each of some 10,000 entries of 17 books, to those of five: it follows the books that wait for
   one another;
 - `idle-entries`: the bytes that a book takes for an entry of a site without work: such entries share a step;
 - `only-worker`: how many searches the only worker of a run makes for a problem of 650,000 visits: it has no limit.
@@ -70,7 +70,7 @@ def audit_length(folder: str) -> float:
 
 
 def audit_books(folder: str) -> float:
-    (few, least), (many, most) = audited(folder, 12, 4), audited(folder, 12, 16)
+    (few, least), (many, most) = audited(folder, 10, 4), audited(folder, 10, 16)
     return (most / many) / (least / few)
 
 
