@@ -4,8 +4,8 @@
     python3 bench/run.py [--times N] [--sage FOLDER] [FILE ..]
 
 Each file, or where none is named each instance of the benchmark, is searched by all of them, by turns; the least user time of
-the whole process counts, reading included. It prints a table, in which the ratio is to the better one of the two others, and
-the geometric mean of the ratios over the instances with more than 100,000 visits.
+the whole process counts, reading included. It prints a table, in which the ratio is to the better one of the two others, where that takes
+more than a hundredth of a second, and the geometric mean of the ratios, over all and over those with more than 100,000 visits.
 
 SageMath is not timed on files with colours, which it doesn't know. FOLDER is where its file dancing_links_c.h lies; without it that of
 Debian's package python3-sage is used, if it is installed, and else SageMath isn't timed. To have the file alone, `apt-get download
@@ -103,13 +103,13 @@ def main() -> None:
             name = os.path.basename(file).removesuffix(".dlx")
             theirs = min(baseline, *sage) if sage else baseline
             ratio = ours / theirs if theirs > 0.01 else None
-            if visits > 100000 and ratio:
-                ratios.append(ratio)
+            if ratio:
+                ratios.append((visits > 100000, ratio))
             cells = [name, outcome, f"{visits:,}", f"{baseline:.3f}", f"{sage[0]:.3f}" if sage else "-", f"{ours:.3f}"]
             print(f"| {' | '.join(cells)} | {f'{ratio:.2f}' if ratio else '-'} |", flush=True)
-        if ratios:
-            mean = math.exp(sum(map(math.log, ratios)) / len(ratios))
-            print(f"\nGeometric mean over {len(ratios)} instances of more than 100,000 visits: {mean:.2f}")
+        for told, some in (("", [ratio for _, ratio in ratios]), (" of more than 100,000 visits", [ratio for many, ratio in ratios if many])):
+            if some:
+                print(f"\nGeometric mean over {len(some)} instances{told}: {math.exp(sum(map(math.log, some)) / len(some)):.3f}")
 
 
 if __name__ == "__main__":

@@ -1,20 +1,23 @@
 #!/usr/bin/env python3
 """Times `solve` beside `alone`.
 
-    python3 bench/solve.py [--times N] [NAME ..]
+    python3 bench/solve.py [--times N] [--seconds N] [NAME ..]
 
-Each instance that is named, or each of nine, is searched by `alone`, and by `solve` as one node of one, two and four workers
-and as two and four nodes of one worker, by turns. The least time that passed counts, from the start of the process to its end;
-the figure in brackets is how many times as fast as `alone` it was. All have to come to the same outcome, and covers are tested
-by `check`. A dash stands where `solve` gave no answer each time. The column `4 alone` is what the machine allows: four
-processes of `alone` run at once, and the figure is four times the time of one over the time until all have ended. The figures
-mean something on a machine with four processors and nothing else to do.
+Each instance that is named, or each of nine, is searched by `alone`, by `alone --unlimited`, and by `solve` as one node of one, two
+and four workers and as two and four nodes of one worker, by turns. The least time that passed counts, from the start of the process to its
+end; the figure in brackets is how many times as fast as `alone` it was. All that answer have to come to the same outcome, and covers are
+tested by `check`. A dash stands where there was no answer, for `solve` in N seconds (default 60), at the first time. The column
+`4 alone` is what the machine allows: four processes of `alone` run at once, and the figure is four times the time of one over the time
+until all have ended. The figures mean something on a machine with four processors and nothing else to do.
+
+Beside the nine there are those of states.py, of which many have states that come again; there `alone` may end at the greatest fuel.
 
 It wants the program: (cd crates/solve_cli && rt run -- --version) builds it. The exit status is 0, 1 where an answer is wrong, 2 for a mistake
 on the command line or where there is no program.
 """
 from __future__ import annotations
 
+import argparse
 import math
 import os
 import subprocess
@@ -25,6 +28,7 @@ import time
 HERE = os.path.dirname(os.path.abspath(__file__))
 sys.path.insert(0, os.path.join(HERE, "..", "scripts"))
 from built import number_from_one, parser_of, SOLVE_CLI, stop, want_program  # noqa: E402
+from states import write_instances  # noqa: E402
 from zarfepoch import generate  # noqa: E402
 
 NAMES = ["langford-13", "langford-13-long", "torus-queens-15", "skewed", "skewed-long", "diamond", "pentominoes-3x20", "sudoku-hard", "mutilated-chessboard"]
@@ -79,43 +83,62 @@ def is_right(file: str, text: str, folder: str) -> bool:
     return told == "right\n"
 
 
-def row(file: str, times: int, folder: str) -> tuple[str, float, float, list[float]]:
-    """The outcome and the least seconds of `alone`, of four of it at once, and of each `solve`."""
-    alone, least, four, best = "", math.inf, math.inf, [math.inf] * len(SITES)
-    for turn in range(times):
-        text, seconds = timed(["alone", file])
-        alone, least, four = text.split()[0], min(least, seconds), min(four, at_once(file, 4))
-        for k, (nodes, workers) in enumerate(SITES):
-            words = ["solve", file, "--nodes", str(nodes), "--workers", str(workers), "--seed", str(turn + 1)]
-            text, seconds = timed(words)
-            if text == "no answer\n":
-                continue
-            if text.split()[0] != alone or (alone == "cover" and not is_right(file, text, folder)):
-                sys.exit(f"a wrong answer: {words}")
-            best[k] = min(best[k], seconds)
-    return alone, least, four, best
+def answer(words: list[str], said: str, folder: str) -> tuple[str, float]:
+    """The outcome of a run and its seconds; the outcome that was said before, and no seconds, where it gives no answer. Any other
+    outcome ends all."""
+    text, seconds = timed(words)
+    if text == "no answer\n":
+        return said, math.inf
+    outcome = text.partition(" ")[0].strip()
+    if outcome != (said or outcome) or (outcome == "cover" and not is_right(words[1], text, folder)):
+        sys.exit(f"a wrong answer: {words}")
+    return outcome, seconds
+
+
+def cell(seconds: float, alone: float = math.inf) -> str:
+    """Seconds, and how many times as fast as `alone` that is."""
+    if seconds == math.inf:
+        return "-"
+    return f"{seconds:.3f}" + (f" ({alone / seconds:.2f})" if alone < math.inf else "")
+
+
+def row(name: str, file: str, given: argparse.Namespace, folder: str) -> str:
+    """The row of an instance."""
+    commands = [["alone", file], ["alone", file, "--unlimited"]]
+    commands += [["solve", file, "--nodes", str(nodes), "--workers", str(workers), "--seconds", str(given.seconds)] for nodes, workers in SITES]
+    said, four, best = "", math.inf, [math.inf] * len(commands)
+    for turn in range(given.times):
+        seed = ["--seed", str(turn + 1)]
+        for place, words in enumerate(commands):
+            if turn == 0 or best[place] < math.inf:
+                said, seconds = answer(words + seed * (words[0] == "solve"), said, folder)
+                best[place] = min(best[place], seconds)
+        if best[0] < math.inf:
+            four = min(four, at_once(file, 4))
+    alone, unlimited, *others = best
+    cells = [name, said or "-", cell(alone), cell(unlimited), f"{4 * alone / four:.2f}" if four < math.inf else "-"]
+    return f"| {' | '.join(cells + [cell(seconds, alone) for seconds in others])} |"
 
 
 def main() -> None:
     words = parser_of(__doc__)
     words.add_argument("--times", metavar="N", type=number_from_one, default=3, help="how often each is run (default 3)")
-    words.add_argument("names", nargs="*", metavar="NAME", help="instances, as those that are written by bench/instances.py")
+    words.add_argument("--seconds", metavar="N", type=number_from_one, default=60, help="after how many seconds solve ends (default 60)")
+    words.add_argument("names", nargs="*", metavar="NAME", help="instances, as those of bench/states.py")
     given = words.parse_args()
     want_program(SOLVE_CLI)
     with tempfile.TemporaryDirectory() as folder:
-        subprocess.run([sys.executable, os.path.join(HERE, "instances.py"), folder], check=True)
+        write_instances(folder)
         behind(folder, "langford-13-long", [2, 2])
         behind(folder, "skewed", [], True)
         behind(folder, "skewed-long", [2], True)
-        print("| Instance | Outcome | `alone`, s | 4 alone | " + " | ".join(f"{n} x {w}" for n, w in SITES) + " |")
-        print("|---|---|---|---|" + "---|" * len(SITES))
+        print("| Instance | Outcome | `alone`, s | `--unlimited` | 4 alone | " + " | ".join(f"{n} x {w}" for n, w in SITES) + " |")
+        print("|---|---|---|---|---|" + "---|" * len(SITES))
         for name in given.names or NAMES:
             file = os.path.join(folder, name + ".dlx")
             if not os.path.exists(file):
                 stop(f"there is no instance {name}")
-            outcome, alone, four, best = row(file, given.times, folder)
-            told = [f"{s:.2f} ({alone / s:.2f})" if s < math.inf else "-" for s in best]
-            print(f"| {name} | {outcome} | {alone:.2f} | {4 * alone / four:.2f} | " + " | ".join(told) + " |", flush=True)
+            print(row(name, file, given, folder), flush=True)
 
 
 if __name__ == "__main__":

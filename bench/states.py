@@ -1,13 +1,16 @@
 #!/usr/bin/env python3
-"""Times the search that keeps the states which it found to have no cover beside the plain one, and beside clingo.
+"""Times the search that keeps the states which it found to have no cover beside the plain one, and beside clingo and CaDiCaL.
 
-    python3 bench/states.py [--seconds N] [--times N] [NAME ..]
+    python3 bench/states.py [--seconds N] [--times N] [--at-once N] [NAME ..]
 
 Each instance that is named, or each of all, is searched by the plain search, by the one that keeps states, both of the store that
-the program takes, and by `alone --unlimited`, and by clingo if that command is on the path. Each has N seconds (default 60); a dash
-stands where it didn't end. Times are the least processor seconds of the whole process. Where the plain search ends and the command
-valgrind is on the path, the last column has how many instructions the search that keeps states takes to one of the plain search,
-without those of a search of one visit.
+the program takes, by `alone --unlimited`, and by clingo and CaDiCaL where the commands `clingo` and `cadical` are on the path; how they
+get the problem is said in encodings_of_peers.py. Each has N processor seconds (default 60); a dash stands where it didn't end. Times are the least
+processor seconds of the whole process, which reads the problem, of N runs (default 3), or of one that takes more than a tenth of what it has.
+Where the plain search ends within two seconds and the command valgrind is on the path, the last column has how many instructions the search that
+keeps states takes to one of the plain search, without those of a search of one visit.
+
+With --at-once N so many run at a time; the figures of several disturb one another a little.
 
 It wants the programs: (cd crates/two_searches && rt run) and (cd crates/solve_cli && rt run -- --version) build them. The exit
 status is 0, 1 where two come to other outcomes, 2 for a mistake on the command line or where there is no program.
@@ -15,17 +18,20 @@ status is 0, 1 where two come to other outcomes, 2 for a mistake on the command 
 from __future__ import annotations
 
 import os
-import resource
+import re
 import shutil
 import subprocess
 import sys
 import tempfile
-from collections.abc import Iterator
+from collections.abc import Callable, Iterable
+from concurrent.futures import Future, ThreadPoolExecutor
+from functools import partial
 from typing import Optional
 
 HERE = os.path.dirname(os.path.abspath(__file__))
 sys.path.insert(0, os.path.join(HERE, "..", "scripts"))
 from built import SOLVE_CLI, TWO_SEARCHES, number_from_one, parser_of, stop, want_program  # noqa: E402
+from encodings_of_peers import formula_of, program_of  # noqa: E402
 from zarfepoch import generate  # noqa: E402
 
 GREATEST = str(2 ** 64 - 1)
@@ -33,6 +39,16 @@ BOARDS = (8, 10, 12, 14, 16, 18, 20)
 OTHERS = ("langford-13", "torus-queens-14", "torus-queens-15", "torus-queens-16", "triples-19", "triples-22", "word-squares-4",
           "sudoku-hard", "pentominoes-3x20", "pentominoes-6x10", "diamond", "macmahon-4x6")
 WORDS = {"cover": "cover", "none": "none", "spent": "spent", "SATISFIABLE": "cover", "UNSATISFIABLE": "none"}
+# the words behind each other program's name, which reads standard input, and what writes a problem for it
+PEERS = {"clingo": (["-V1", "-"], program_of), "cadical": (["-q", "-n", "-"], formula_of)}
+TITLES = {"clingo": "clingo", "cadical": "CaDiCaL"}
+# a run of more than this part of what it has isn't repeated
+SLOW = 0.1
+# (a limit of processor seconds doesn't depend on what else runs)
+LIMITED = ["sh", "-c", 'ulimit -t "$0" && exec "$@"']
+# an outcome and processor seconds
+Found = tuple[str, float]
+Task = Callable[[], Optional[Found]]
 
 
 def pigeons(name: str, count: int) -> None:
@@ -63,83 +79,103 @@ def write_instances(folder: str) -> None:
     straight("straight-14x14.dlx", 14)
 
 
-def program_of(file: str) -> Iterator[str]:
-    """The problem for clingo: each primary item by one option, each secondary one by at most one or by several of one colour."""
-    lines = [line.split() for line in open(file, encoding="ascii") if line.strip() and not line.lstrip().startswith("|")]
-    names = lines[0]
-    bar = names.index("|") if "|" in names else len(names)
-    number = {name: place for place, name in enumerate(name for name in names if name != "|")}
-    yield "{x(O) : o(O)}. :- i(I), #count{O : x(O), u(O,I)} != 1. :- s(I), x(O), x(P), O < P, c(O,I,A), c(P,I,B), A != B. "
-    yield ":- s(I), x(O), x(P), O < P, u(O,I), u(P,I), not t(O,I). :- s(I), x(O), x(P), O < P, u(O,I), u(P,I), not t(P,I). #show."
-    for name, place in number.items():
-        yield f"{'i' if place < bar else 's'}({place})."
-    colours: dict[str, int] = {}
-    for option, line in enumerate(lines[1:]):
-        yield f"o({option})."
-        for name, _, colour in (word.partition(":") for word in line):
-            yield f"u({option},{number[name]})."
-            if colour:
-                yield f"t({option},{number[name]}). c({option},{number[name]},{colours.setdefault(colour, len(colours))})."
+def run(words: list[str], seconds: int, lines: Iterable[str] = ()) -> Optional[Found]:
+    """The outcome that a command writes, in a word, and its processor seconds; none where it doesn't end after so many of them."""
+    with tempfile.TemporaryFile("w+", encoding="ascii") as given, tempfile.TemporaryFile("w+", encoding="utf-8", errors="replace") as out:
+        given.writelines(f"{line}\n" for line in lines)
+        given.seek(0)
+        process = subprocess.Popen([*LIMITED, str(seconds), *words], stdin=given, stdout=out, stderr=subprocess.DEVNULL)
+        _, status, used = os.wait4(process.pid, 0)
+        process.returncode = os.waitstatus_to_exitcode(status)
+        if process.returncode < 0 and used.ru_utime + used.ru_stime > 0.9 * seconds:
+            return None
+        out.seek(0)
+        told = [WORDS[word] for word in out.read().split() if word in WORDS]
+    return told[0] if told else "no answer", used.ru_utime + used.ru_stime
 
 
-def run(words: list[str], seconds: float, text: Optional[str] = None) -> Optional[tuple[str, float]]:
-    """The outcome that a command writes, in a word, and its processor seconds; none where it doesn't end in time."""
-    before = resource.getrusage(resource.RUSAGE_CHILDREN)
-    try:
-        out = subprocess.run(words, capture_output=True, text=True, timeout=seconds, input=text).stdout
-    except subprocess.TimeoutExpired:
-        return None
-    after = resource.getrusage(resource.RUSAGE_CHILDREN)
-    told = [WORDS[word] for word in out.split() if word in WORDS]
-    return told[0] if told else "no answer", after.ru_utime + after.ru_stime - before.ru_utime - before.ru_stime
-
-
-def least(words: list[str], times: int, seconds: float, text: Optional[str] = None) -> Optional[tuple[str, float]]:
-    """The outcome and the least processor seconds of several runs."""
-    best: Optional[tuple[str, float]] = None
+def least(words: list[str], times: int, seconds: int, lines: Iterable[str] = ()) -> Optional[Found]:
+    """The outcome and the least processor seconds of several runs, or of one that is slow."""
+    best: Optional[Found] = None
     for _ in range(times):
-        found = run(words, seconds, text)
+        found = run(words, seconds, lines)
         if found is None:
             return None
         if best and best[0] != found[0]:
             sys.exit(f"{' '.join(words)}: two outcomes: {best[0]}, {found[0]}")
         best = min(best or found, found, key=lambda it: it[1])
+        if found[1] > seconds * SLOW:
+            break
     return best
 
 
-def instructions(file: str, keeping: str) -> int:
-    """How many instructions a search takes, without what one visit takes."""
-    counts = []
-    for fuel in (GREATEST, "1"):
-        words = ["valgrind", "--tool=callgrind", "--callgrind-out-file=/dev/null", TWO_SEARCHES, file, "suited", keeping, fuel]
-        errors = subprocess.run(words, capture_output=True, text=True).stderr
-        counts.append(int(errors.partition("refs:")[2].split()[0].replace(",", "")))
-    return counts[0] - counts[1]
+def counted(file: str, keeping: str, fuel: str) -> int:
+    """How many instructions a search of so many visits takes, by valgrind; -1 where it has no figure."""
+    words = ["valgrind", "--tool=callgrind", "--callgrind-out-file=/dev/null", TWO_SEARCHES, file, "suited", keeping, fuel]
+    found = re.search(r"refs: +([0-9,]+)", subprocess.run(words, capture_output=True, text=True).stderr)
+    return int(found[1].replace(",", "")) if found else -1
 
 
-def cells_of(file: str, times: int, seconds: float) -> Iterator[str]:
-    """The cells of an instance's row."""
-    commands = [[TWO_SEARCHES, file, "suited", word, GREATEST] for word in ("plain", "kept")] + [[SOLVE_CLI, "alone", file, "--unlimited"]]
-    found = [least(words, times, seconds) for words in commands]
-    if shutil.which("clingo"):
-        found.append(least(["clingo", "-V1", "-"], 1, seconds, "\n".join(program_of(file))))
+def plain_and_ratio(file: str, times: int, seconds: int) -> tuple[Optional[Found], str]:
+    """What the plain search comes to, and the cell of the instructions, without those of a search of one visit."""
+    plain = least([TWO_SEARCHES, file, "suited", "plain", GREATEST], times, seconds)
+    if not plain or plain[0] == "spent" or plain[1] >= 2 or not shutil.which("valgrind"):
+        return plain, "-"
+    kept, kept_one, other, other_one = [counted(file, keeping, fuel) for keeping in ("kept", "plain") for fuel in (GREATEST, "1")]
+    if min(kept, kept_one, other, other_one) < 0:
+        return plain, "-"
+    return plain, f"{(kept - kept_one) / max(other - other_one, 1):.3f}"
+
+
+def by_peer(command: str, file: str, times: int, seconds: int) -> Optional[Found]:
+    """What clingo or CaDiCaL comes to."""
+    words, encoding = PEERS[command]
+    return least([command, *words], times, seconds, list(encoding(file)))
+
+
+def tasks_of(file: str, times: int, seconds: int) -> list[Task]:
+    """What is run of an instance beside the plain search: a task for each column."""
+    commands = [TWO_SEARCHES, file, "suited", "kept", GREATEST], [SOLVE_CLI, "alone", file, "--unlimited"]
+    ours: list[Task] = [partial(least, words, times, seconds) for words in commands]
+    return ours + [partial(by_peer, command, file, times, seconds) for command in PEERS if shutil.which(command)]
+
+
+def cell_of(found: Optional[Found]) -> str:
+    """What a cell says of a program."""
+    if found is None:
+        return "-"
+    outcome, seconds = found
+    return f"{seconds:.3f}" if outcome in ("cover", "none") else outcome
+
+
+def row(name: str, first: Future[tuple[Optional[Found], str]], others: list[Future[Optional[Found]]]) -> str:
+    """The row of an instance."""
+    plain, ratio = first.result()
+    found = [plain, *(other.result() for other in others)]
     outcomes = {it[0] for it in found if it and it[0] in ("cover", "none")}
     if len(outcomes) > 1:
-        sys.exit(f"{file}: the searches come to other outcomes")
-    yield outcomes.pop() if outcomes else "-"
-    for it in found:
-        yield "-" if it is None else "spent" if it[0] == "spent" else f"{it[1]:.3f}"
-    plain = found[0]
-    if plain and plain[0] != "spent" and plain[1] < 2 and shutil.which("valgrind"):
-        yield f"{instructions(file, 'kept') / instructions(file, 'plain'):.3f}"
-    else:
-        yield "-"
+        sys.exit(f"{name}: the searches come to other outcomes")
+    cells = [name, outcomes.pop() if outcomes else "-", *map(cell_of, found), ratio]
+    return f"| {' | '.join(cells)} |"
+
+
+def print_rows(files: dict[str, str], times: int, seconds: int, at_once: int) -> None:
+    """Runs all, so many at once, and prints the rows in their order."""
+    pool = ThreadPoolExecutor(at_once)
+    try:
+        rows = [(name, pool.submit(plain_and_ratio, file, times, seconds), [pool.submit(task) for task in tasks_of(file, times, seconds)])
+                for name, file in files.items()]
+        for name, first, others in rows:
+            print(row(name, first, others), flush=True)
+    finally:
+        pool.shutdown(cancel_futures=True)
 
 
 def main() -> None:
     words = parser_of(__doc__)
-    words.add_argument("--seconds", metavar="N", type=number_from_one, default=60, help="how long each may take (default 60)")
+    words.add_argument("--seconds", metavar="N", type=number_from_one, default=60, help="how many processor seconds each may take (default 60)")
     words.add_argument("--times", metavar="N", type=number_from_one, default=3, help="how often each is timed (default 3)")
+    words.add_argument("--at-once", metavar="N", type=number_from_one, default=1, help="how many run at a time (default 1)")
     words.add_argument("names", nargs="*", metavar="NAME", help="instances, without their ending")
     given = words.parse_args()
     want_program(TWO_SEARCHES, "two_searches")
@@ -147,13 +183,14 @@ def main() -> None:
     with tempfile.TemporaryDirectory() as folder:
         write_instances(folder)
         families = [f"dominoes-{side}x{side}" for side in BOARDS] + ["dominoes-13x13", "pigeons-12", "straight-14x14"]
-        clingo = " Clingo |" if shutil.which("clingo") else ""
-        print(f"| Instance | Outcome | Plain | Kept | Unlimited |{clingo} Instructions |\n|{'---|' * (6 + bool(clingo))}")
-        for name in given.names or [*families, *OTHERS]:
-            file = os.path.join(folder, name + ".dlx")
+        files = {name: os.path.join(folder, name + ".dlx") for name in given.names or [*families, *OTHERS]}
+        for name, file in files.items():
             if not os.path.exists(file):
                 stop(f"there is no instance {name}")
-            print(f"| {name} | {' | '.join(cells_of(file, given.times, given.seconds))} |", flush=True)
+        peers = [TITLES[command] for command in PEERS if shutil.which(command)]
+        head = ["Instance", "Outcome", "Plain", "Kept", "Unlimited", *peers, "Instructions"]
+        print(f"| {' | '.join(head)} |\n|{'---|' * len(head)}", flush=True)
+        print_rows(files, given.times, given.seconds, given.at_once)
 
 
 if __name__ == "__main__":

@@ -34,13 +34,13 @@ from edits import edited, name_stale
 from try_memory import BUGS as STARVED
 
 FOUND, MISSED, UNTRIED = "found", "NOT FOUND", "not tried"
-# The bugs outside the gate that cost time or memory alone, so that no contract refuses them and no test finds them: each with the bench
-# whose figures show it.
+# The bugs outside the gate that cost time or memory alone, so that no contract refuses them and no test finds them: each with the
+# bound that it breaks.
 SLOW = {
-    "audit/the_digest_is_constant": "bench/audits.py",
-    "audit/the_path_forgets": "bench/audits.py",
-    "run_book/idle_steps_are_never_shared": "bench/audits.py",
-    "udp_node/the_only_worker_has_a_limit": "bench/solve.py",
+    "audit/the_digest_is_constant": "bench/bounds.py audit-length",
+    "audit/the_path_forgets": "bench/bounds.py audit-books",
+    "run_book/idle_steps_are_never_shared": "bench/bounds.py idle-entries",
+    "udp_node/the_only_worker_has_a_limit": "bench/bounds.py only-worker",
 }
 # a bug's crate and name, the test's crate and the test
 Claim = tuple[str, str, str, str]

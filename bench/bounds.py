@@ -1,0 +1,126 @@
+#!/usr/bin/env python3
+"""Holds what no contract says, how fast a program is and what memory it takes, to bounds.
+
+    python3 bench/bounds.py [NAME ..]
+
+Each bound is one on a ratio of two figures that are measured here, or on the memory of an entry, so it is the same on all machines. Those that are
+named, or all, are measured:
+
+- `audit-length`: with which power of the entries the seconds of an audit grow, between some 2,000 and 10,000 of them: it finds packets by an index;
+- `audit-books`: the seconds of an audit for each of some 10,000 entries of 17 books, to those of five: it follows the books that wait for
+  one another;
+- `idle-entries`: the bytes that a book takes for an entry of a site without work: such entries share a step;
+- `only-worker`: how many searches the only worker of a run makes for a problem of 650,000 visits: it has no limit.
+
+The least of five audits counts. Their seconds are by the clock: on a busy machine they may be beyond a bound where nothing is wrong.
+
+It wants the programs: rt run in the folders crates/audit_trials, crates/workbench and crates/run_tally builds them. The exit status is 0, 1 where a
+figure is beyond its bound or an answer is wrong, 2 for a mistake on the command line or where a program is missing.
+"""
+from __future__ import annotations
+
+import math
+import os
+import subprocess
+import sys
+import tempfile
+from collections.abc import Callable
+from typing import NamedTuple
+
+HERE = os.path.dirname(os.path.abspath(__file__))
+sys.path.insert(0, os.path.join(HERE, "..", "scripts"))
+import audits  # noqa: E402
+import books  # noqa: E402
+from built import RUN_TALLY, WORKBENCH, parser_of, stop, want_program  # noqa: E402
+from instances import torus_queens  # noqa: E402
+from zarfepoch import generate  # noqa: E402
+
+# how often each audit is measured
+AUDITS = 5
+# how many entries a book gets
+FEW, MANY = 100_000, 1_000_000
+
+
+def peak(words: list[str]) -> int:
+    """The greatest memory of a program, in bytes."""
+    with subprocess.Popen(words, stdout=subprocess.DEVNULL) as process:
+        _, status, usage = os.wait4(process.pid, 0)
+        process.returncode = os.waitstatus_to_exitcode(status)
+    if process.returncode:
+        sys.exit(f"{' '.join(words)} failed")
+    return int(usage.ru_maxrss) * 1024
+
+
+def audited(folder: str, rows: int, nodes: int) -> tuple[int, float]:
+    """Entries and seconds of the audit that takes the least for an entry, of several searches of queens on a torus."""
+    generate.HERE = folder
+    torus_queens("torus.dlx", rows)
+    found = []
+    for _ in range(AUDITS):
+        (_, entries, time, verdict), _ = audits.run(os.path.join(folder, "torus.dlx"), nodes, "time")
+        if verdict.strip() != "Ok(Clean)":
+            sys.exit(f"an audit of {nodes} nodes on {rows} rows is not clean: {verdict.strip()}")
+        found.append((int(entries), int(time) / 1e9))
+    return min(found, key=lambda it: it[1] / it[0])
+
+
+def audit_length(folder: str) -> float:
+    (few, least), (many, most) = audited(folder, 8, 4), audited(folder, 10, 4)
+    return math.log(most / least) / math.log(many / few)
+
+
+def audit_books(folder: str) -> float:
+    (few, least), (many, most) = audited(folder, 10, 4), audited(folder, 10, 16)
+    return (most / many) / (least / few)
+
+
+def idle_entries(_: str) -> float:
+    few, many = (peak([WORKBENCH, "greet", "1", str(count)]) for count in (FEW, MANY))
+    return (many - few) / (MANY - FEW)
+
+
+def only_worker(folder: str) -> float:
+    generate.HERE = folder
+    torus_queens("torus.dlx", 15)
+    _, _, answered, _, of_books = books.run(os.path.join(folder, "torus.dlx"), 1, 1)
+    if not answered:
+        sys.exit("a run of one worker gave no answer")
+    return sum(searches for _, searches, *_ in of_books)
+
+
+class Bound(NamedTuple):
+    """What is measured, the greatest figure that is good, and the program and its crate."""
+    measure: Callable[[str], float]
+    most: float
+    program: str
+    crate: str
+
+
+BOUNDS = {
+    "audit-length": Bound(audit_length, 1.5, audits.PROGRAM, "audit_trials"),
+    "audit-books": Bound(audit_books, 2, audits.PROGRAM, "audit_trials"),
+    "idle-entries": Bound(idle_entries, 64, WORKBENCH, "workbench"),
+    "only-worker": Bound(only_worker, 4, RUN_TALLY, "run_tally"),
+}
+
+
+def main() -> int:
+    words = parser_of(__doc__)
+    words.add_argument("names", metavar="NAME", nargs="*", help=f"of {', '.join(BOUNDS)} (default: all)")
+    names = words.parse_args().names or list(BOUNDS)
+    for name in names:
+        if name not in BOUNDS:
+            stop(f"there is no bound {name}")
+        want_program(BOUNDS[name].program, BOUNDS[name].crate)
+    print("| Bound | Figure | At most |\n|---|---|---|", flush=True)
+    is_good = True
+    with tempfile.TemporaryDirectory() as folder:
+        for name in names:
+            figure, most = BOUNDS[name].measure(folder), BOUNDS[name].most
+            is_good = is_good and figure <= most
+            print(f"| {name} | {figure:.2f} | {most}{'' if figure <= most else ': BEYOND'} |", flush=True)
+    return 0 if is_good else 1
+
+
+if __name__ == "__main__":
+    sys.exit(main())
