@@ -373,10 +373,21 @@ def read_grid(path: str) -> tuple[list[str], list[int]]:
     return [row for _, row in lines], [number for number, _ in lines]
 
 
+def want_one_case(path: str, words: list[str]) -> None:
+    """Refuses a list in which a letter is capital here and small there, since these don't meet in a cell."""
+    letters = set("".join(words))
+    for word in words:
+        mixed = next((letter for letter in word if letter != letter.lower() and letter.lower() in letters), None)
+        if mixed:
+            line = next((number for number, line in rows_of(path) if word in line.split()), None)
+            refuse(path, line, f"'{word}' has a capital {mixed}, and the list has a small one too, which differ here; write all words alike")
+
+
 def crossword(given: Namespace, note: str) -> None:
-    rows, numbers = read_grid(given.grid)
+    (rows, numbers), words = read_grid(given.grid), read_word_list(given.file)
+    want_one_case(given.file, words)
     try:
-        problem = puzzles.crossword(rows, read_word_list(given.file), given.repeat)
+        problem = puzzles.crossword(rows, words, given.repeat)
     except puzzles.NoSolution as why:
         no_cover(f"{given.grid}, line {numbers[why.row]}: {why}")
     except puzzles.Refused as why:
