@@ -229,6 +229,7 @@ PUZZLES: dict[str, tuple[Callable[[random.Random], Union[drawn_puzzles.Drawn, dr
     "diagonals": (drawn_puzzles.diagonals, ["sudoku"], ["--diagonals"]), "jigsaw": (drawn_puzzles.jigsaw, ["jigsaw"], []),
     "killer": (drawn_puzzles.killer, ["killer"], []), "kakuro": (drawn_puzzles.kakuro, ["kakuro"], []), "stars": (drawn_puzzles.stars, ["stars"], []),
     "two stars": (functools.partial(drawn_puzzles.stars, size=10, count=2), ["stars"], ["--stars", "2"]),
+    "three stars": (lambda draw: drawn_puzzles.stars(random.Random(1), 14, 3), ["stars"], ["--stars", "3"]),
     "nonogram": (drawn_puzzles.nonogram, ["nonogram"], []), "large nonogram": (lambda draw: drawn_puzzles.nonogram(draw, 25), ["nonogram"], []),
     "crossword": (drawn_puzzles.crossword, ["crossword"], []), "board": (drawn_puzzles.board, ["board"], []),
     "solid": (drawn_puzzles.solid, ["board"], []),

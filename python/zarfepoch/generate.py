@@ -13,7 +13,8 @@
                                    empty lines between. A piece is a line with its name and perhaps the number of copies, and rows of x and
                                    dots; in place of FILE names, as 'F 3*L4', pentominoes or soma. --no-flips: turned, but not turned over
     sudoku FILE or 8........ ..    digits and dots of 4, 6, 8, 9, 10, 12, 15, 16 or 25 rows, with or without frames; _ and 0 are dots too, and
-                                   so are blanks in nine lines of nine; above nine 1-9 and A-G, or numbers with blanks between. --diagonals
+                                   in nine lines of nine blanks in place of them; above nine 1-9 and A-G, or numbers with blanks between.
+                                   --diagonals
     jigsaw FILE                    the same with regions: digits and dots, an empty line, a letter for each cell
     killer FILE                    cages with sums: a letter for each cell, an empty line, sums as a=12 b=7; perhaps given digits behind
     kakuro FILE                    rows of . for white cells, # for black ones, and 16\\24 for a black one with the sum 16 below, 24 on its right
