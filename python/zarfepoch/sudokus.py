@@ -112,7 +112,7 @@ def square_of(text: str) -> Square | None:
         for rows in ways:
             if len(rows) > 1 and all(len(row) == len(rows) for row in rows):
                 return [list(row) for row in rows], [place for place, _ in lines]
-    for marks in (re.sub(r"[^0-9._]", "", text), "".join(text.split())) if not re.search("[,;]{2}", text) else ():
+    for marks in [re.sub(r"[^0-9._]", "", text), "".join(text.split())] if not re.search("[,;]{2}", text) else []:
         size = math.isqrt(len(marks))
         if size > 1 and size * size == len(marks):
             return [list(marks[k:k + size]) for k in range(0, len(marks), size)], None
