@@ -59,8 +59,8 @@ def want_layers(path: str, block: list[tuple[int, str]]) -> None:
     counts = [len(row.split()) for _, row in block]
     for (number, _), count in zip(block, counts):
         if count != counts[0]:
-            refuse(path, number, f"here {'is' if count == 1 else 'are'} {plural(count, 'layer')} side by side, and {counts[0]} in the row above; a cell "
-                   "that isn't there is a dot, and no blank")
+            refuse(path, number, f"here {'is' if count == 1 else 'are'} {plural(count, 'layer')} side by side, and {counts[0]} in the first row; a "
+                   "cell that isn't there is a dot, and no blank")
 
 
 def read_board(text: str) -> set[Cell]:

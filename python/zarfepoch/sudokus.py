@@ -179,8 +179,8 @@ def digits_of(path: str, text: str, numbers: Sequence[int] | None = None) -> Dig
     lines = [numbers[place] for place in places] if places and path != TYPED else None
     for r, c in itertools.product(range(size), repeat=2):
         if digits[r][c] is None:
-            refuse(path, lines[r] if lines else None, f"'{rows[r][c]}' in row {r + 1}, column {c + 1} is no digit of a sudoku of {size} by {size}; an "
-                   "empty cell is a dot, _ or 0")
+            refuse(path, lines[r] if lines else None, f"'{rows[r][c]}' in row {r + 1}, column {c + 1} is no digit of a sudoku of {size} by "
+                   f"{size}; an empty cell is a dot, _ or 0")
     return [[digit or 0 for digit in row] for row in digits], symbols, lines
 
 
