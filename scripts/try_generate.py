@@ -187,6 +187,12 @@ def wrong_tables(trial: Generating) -> None:
             ("periods with and without a day", 3, "3", ["a,ann,5a,r,Mon1", "b,bob,5a,r,Tue1 2"]),
             ("a range over the week", 3, "2", ["a,ann,5a,r,Mon1-Fri6"]),
             ("a word between rooms", 3, "2", ["a,ann,5a,r or s,1"]),
+            ("a slash between rooms", 3, "4", ["a,ann,5a,r,1", "b,ann,5b,s,2", "c,ann,5c,r/s,3"]),
+            ("a day written in two ways", 3, "3", ["a,ann,5a,r,Mon1", "b,bob,5b,s,Monday1"]),
+            ("a period with a nought", 3, "3", ["a,ann,5a,r,Mon1", "b,ann,5b,s,Mon01"]),
+            ("a class with and without a capital", 3, "3", ["a,ann,5a,r,1", "b,bob,5A,r,2"]),
+            ("a time of the clock", 3, "2", ["a,ann,5a,r,8:00"]),
+            ("another separator than the head's", 3, "2", ["a;ann;5a;r;1"]),
             ("a quotation mark that nothing ends", 3, "3", ["a,ann,5a,r,1", 'b,"bob,5a,r,2', "c,cyd,5a,r,3"]))
     for what, status, line, lines in rows:
         trial.refused(what, status, line, "timetable", trial.path("wrong.csv", "\n".join([HEAD, *lines]) + "\n"))
@@ -199,6 +205,10 @@ def wrong_tables(trial: Generating) -> None:
         trial.refused(what, 3, line, "timetable", trial.path("wrong.csv", f"{head}\n{row}\n"))
     trial.refused("double lessons that don't fit into their days", 1, "2", "timetable", trial.path(
         "wrong.csv", HEAD + ",hours,length\na,ann,5a,r,Mon1-5,3,2\n"))
+    days = trial.made("timetable", trial.path("days.csv", HEAD + "\na,ann,5a,r,M1 T1 W1 Th1 F1\nb,ann,5b,s,Mo1 MoN1 Do1 DoN1\n"))
+    trial.expect("days that begin alike are several", len(trial.drawn(days)) > 1)
+    ended = trial.python("examples/generate.py", "timetable", trial.path("many.csv", HEAD + ",hours\na,ann,5a,r,1-3,2\nb,bob,5a,s,1-3,3\n"))
+    trial.expect(f"all lessons of a full class are counted: {ended.stderr}", "5a has 5 periods of lessons (a, b)" in ended.stderr)
 
 
 def no_texts(trial: Generating) -> None:
@@ -219,6 +229,7 @@ PUZZLES: dict[str, tuple[Callable[[random.Random], Union[drawn_puzzles.Drawn, dr
     "diagonals": (drawn_puzzles.diagonals, ["sudoku"], ["--diagonals"]), "jigsaw": (drawn_puzzles.jigsaw, ["jigsaw"], []),
     "killer": (drawn_puzzles.killer, ["killer"], []), "kakuro": (drawn_puzzles.kakuro, ["kakuro"], []), "stars": (drawn_puzzles.stars, ["stars"], []),
     "two stars": (functools.partial(drawn_puzzles.stars, size=10, count=2), ["stars"], ["--stars", "2"]),
+    "three stars": (lambda draw: drawn_puzzles.stars(random.Random(1), 14, 3), ["stars"], ["--stars", "3"]),
     "nonogram": (drawn_puzzles.nonogram, ["nonogram"], []), "large nonogram": (lambda draw: drawn_puzzles.nonogram(draw, 25), ["nonogram"], []),
     "crossword": (drawn_puzzles.crossword, ["crossword"], []), "board": (drawn_puzzles.board, ["board"], []),
     "solid": (drawn_puzzles.solid, ["board"], []),
@@ -303,7 +314,13 @@ EMPTY = "1...\n....\n....\n....\n"
 # puzzles that nobody can mean: what they are, the exit status, the line that is told, the kind, and the text
 WRONG = (
     ("a letter in a sudoku", 3, "1", ["sudoku"], "12x4\n....\n....\n....\n"), ("a sudoku of five rows", 3, None, ["sudoku"], "12345\n" * 5),
-    ("a digit twice in a column", 1, None, ["sudoku"], "1...\n1...\n....\n....\n"), ("rows that aren't square", 3, "2", ["sudoku"], "1234\n12\n"),
+    ("a digit twice in a column", 1, "2", ["sudoku"], "1...\n1...\n....\n....\n"),
+    ("a sudoku with a dot too few", 3, "4", ["sudoku"], ".........\n" * 3 + "........\n" + ".........\n" * 5),
+    ("a sudoku with commas", 3, "1", ["sudoku"], "1,,,\n,,,\n,,,\n,,,\n"), ("a sudoku with hyphens", 3, "1", ["sudoku"], "12--\n--34\n----\n----\n"),
+    ("a sudoku below a number", 3, "1", ["sudoku"], "No. 123\n" + "1...\n" * 4),
+    ("a jigsaw with a letter in a wrong place", 3, "6", ["jigsaw"], EMPTY + "\nbaba\naabb\nccdd\nccdd\n"),
+    ("a board with blanks for holes", 3, "2", ["board"], "xxxxx\nxx xx\n"),
+    ("rows that aren't square", 3, "2", ["sudoku"], "1234\n12\n"),
     ("a region with too many cells", 3, "6", ["jigsaw"], EMPTY + "\naaab\naabb\nccdd\nccdd\n"),
     ("regions with a short row", 3, "8", ["jigsaw"], EMPTY + "\naabb\naabb\nccd\nccdd\n"),
     ("a cage without a sum", 3, "3", ["killer"], SQUARE + "\na=10 b=10 d=10\n"),
@@ -325,6 +342,7 @@ WRONG = (
 WRONG_PIECES = (
     ("a piece in two parts", 3, "1", "A\nx.x\n"), ("two pieces of one name", 3, "1", "A\nx\n\nA\nxx\n"),
     ("a piece's name of digits", 3, "1", "12\nxx\n"),
+    ("a piece with blanks for holes", 3, "3", "A\nxxx\nx x\n"),
     ("no such piece", 3, "1", "Q\n"), ("too few cells", 1, None, "A 3\nxx\n"),
     ("pieces that never make eight cells", 1, None, "A 3\nxxx\n"))
 
@@ -336,6 +354,8 @@ def wrong_boards(trial: Generating) -> None:
         trial.refused(what, status, line, "board", "2x4", "--pieces", trial.path("wrong.txt", text))
     trial.refused("a file of pieces that isn't there", 3, None, "board", "2x4", "--pieces", "pieces.txt")
     trial.refused("a word that fits nowhere", 1, "1", "crossword", trial.path("grid.txt", "...\n#.b\n"), trial.path("list.txt", "abc\nda\n"))
+    trial.refused("a word with a capital among small ones", 3, "2", "crossword", trial.path("grid.txt", "...\n#..\n"), trial.path(
+        "list.txt", "ab\nAbc\n"))
     words = ["".join(random.Random(number).choices("abcdefghij", k=5)) for number in range(1500)]
     grid, many = trial.path("grid.txt", "\n".join(["....."] * 5)), trial.path("many.txt", "\n".join(words))
     told = trial.python("examples/generate.py", "crossword", grid, many)

@@ -29,7 +29,7 @@ def moved(place: Place | None, came_from: dict[Place, int], place_of: dict[int, 
 
 
 def seat(lesson: int, wanted: Sequence[Sequence[Place]], place_of: dict[int, Place], holder: dict[Place, int]) -> None:
-    """Finds a place for one more lesson by moving others; raises `Shortage` where it has none."""
+    """Finds a place for one more lesson by moving others; raises `Shortage` where it has none, with all lessons that want no other places."""
     came_from, reached = {}, [lesson]
     for one in reached:
         for place in wanted[one]:
@@ -40,7 +40,7 @@ def seat(lesson: int, wanted: Sequence[Sequence[Place]], place_of: dict[int, Pla
                 moved(place, came_from, place_of, holder)
                 return
             reached.append(holder[place])
-    raise Shortage(sorted(reached), list(came_from))
+    raise Shortage([k for k, places in enumerate(wanted) if came_from.keys() >= set(places)], list(came_from))
 
 
 def matching(wanted: Sequence[Sequence[Place]]) -> dict[int, Place]:

@@ -13,7 +13,8 @@
                                    empty lines between. A piece is a line with its name and perhaps the number of copies, and rows of x and
                                    dots; in place of FILE names, as 'F 3*L4', pentominoes or soma. --no-flips: turned, but not turned over
     sudoku FILE or 8........ ..    digits and dots of 4, 6, 8, 9, 10, 12, 15, 16 or 25 rows, with or without frames; _ and 0 are dots too, and
-                                   so are blanks in nine lines of nine; above nine 1-9 and A-G, or numbers with blanks between. --diagonals
+                                   in nine lines of nine blanks in place of them; above nine 1-9 and A-G, or numbers with blanks between.
+                                   --diagonals
     jigsaw FILE                    the same with regions: digits and dots, an empty line, a letter for each cell
     killer FILE                    cages with sums: a letter for each cell, an empty line, sums as a=12 b=7; perhaps given digits behind
     kakuro FILE                    rows of . for white cells, # for black ones, and 16\\24 for a black one with the sum 16 below, 24 on its right
@@ -373,10 +374,21 @@ def read_grid(path: str) -> tuple[list[str], list[int]]:
     return [row for _, row in lines], [number for number, _ in lines]
 
 
+def want_one_case(path: str, words: list[str]) -> None:
+    """Refuses a list in which a letter is capital here and small there, since these don't meet in a cell."""
+    letters = set("".join(words))
+    for word in words:
+        mixed = next((letter for letter in word if letter != letter.lower() and letter.lower() in letters), None)
+        if mixed:
+            line = next((number for number, line in rows_of(path) if word in line.split()), None)
+            refuse(path, line, f"'{word}' has a capital {mixed}, and the list has a small one too, which differ here; write all words alike")
+
+
 def crossword(given: Namespace, note: str) -> None:
-    rows, numbers = read_grid(given.grid)
+    (rows, numbers), words = read_grid(given.grid), read_word_list(given.file)
+    want_one_case(given.file, words)
     try:
-        problem = puzzles.crossword(rows, read_word_list(given.file), given.repeat)
+        problem = puzzles.crossword(rows, words, given.repeat)
     except puzzles.NoSolution as why:
         no_cover(f"{given.grid}, line {numbers[why.row]}: {why}")
     except puzzles.Refused as why:

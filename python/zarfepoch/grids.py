@@ -6,7 +6,7 @@ import re
 from collections.abc import Iterable
 from typing import Optional
 
-from .cover_files import MAX_OPTIONS
+from .cover_files import MAX_OCCURRENCES, MAX_OPTIONS
 from .fault_words import plural
 from .puzzle_texts import blocks_of, no_cover, Puzzle, refuse
 from .puzzles import cell_names
@@ -132,14 +132,47 @@ def squares_round(cell: Cell, size: int) -> list[Cell]:
     return [(top, left) for top in (r - 1, r) for left in (c - 1, c) if 0 <= top < size - 1 and 0 <= left < size - 1]
 
 
-def star_options(name: str, cells: list[Cell], stars: int, names: dict[Cell, str], size: int, with_squares: bool) -> list[list[str]]:
-    """The ways to put so many stars into a row, a column or a region; all its cells get a colour, and a row's stars take their squares."""
-    options = []
-    for chosen in itertools.combinations(cells, stars):
-        if are_apart(chosen):
-            squares = [f"s{names[square]}" for cell in chosen for square in squares_round(cell, size)] if with_squares else []
-            options.append([name] + [f"{names[cell]}:{'star' if cell in chosen else 'blank'}" for cell in cells] + squares)
-    return options
+def as_bits(cells: Iterable[Cell], size: int) -> int:
+    return sum(1 << (r * size + c) for r, c in cells)
+
+
+def touched_by(stars: Iterable[Cell], size: int) -> set[Cell]:
+    """The cells round stars, without these."""
+    near = {(r + a, c + b) for r, c in stars for a, b in itertools.product((-1, 0, 1), repeat=2) if (a, b) != (0, 0)}
+    return {(r, c) for r, c in near if 0 <= r < size and 0 <= c < size}
+
+
+class House:
+    """A row, a column or a region with the ways to put so many stars into it; of each way its stars and the cells that these touch, as bits."""
+
+    def __init__(self, name: str, cells: list[Cell], stars: int, size: int) -> None:
+        self.name, self.cells, self.bits = name, cells, as_bits(cells, size)
+        chosen = filter(are_apart, itertools.combinations(cells, stars))
+        self.ways = [(way, as_bits(way, size), as_bits(touched_by(way, size), size)) for way in chosen]
+
+    def keep_those_that_fit(self, other: House) -> bool:
+        """Leaves out the ways that agree with no way of another house, and says whether there were any."""
+        common, before = self.bits & other.bits, len(self.ways)
+        self.ways = [way for way in self.ways if any(not (way[1] ^ stars) & common and not way[1] & near for _, stars, near in other.ways)]
+        return len(self.ways) < before
+
+    def options(self, names: dict[Cell, str], size: int) -> list[list[str]]:
+        """All its cells get a colour, and a row's stars take their squares."""
+        options = []
+        for chosen, _, _ in self.ways:
+            squares = [f"s{names[square]}" for cell in chosen for square in squares_round(cell, size)] if self.name.startswith("row") else []
+            options.append([self.name] + [f"{names[cell]}:{'star' if cell in chosen else 'blank'}" for cell in self.cells] + squares)
+        return options
+
+
+def options_of(houses: list[House], names: dict[Cell, str], size: int) -> list[list[str]]:
+    """The options of all houses. Where they are more than the program reads, ways that fit no way of another house are left out."""
+    options = [option for house in houses for option in house.options(names, size)]
+    if len(options) <= MAX_OPTIONS and sum(map(len, options)) <= MAX_OCCURRENCES:
+        return options
+    while any([one.keep_those_that_fit(other) for one, other in itertools.permutations(houses, 2)]):
+        pass
+    return [option for house in houses for option in house.options(names, size)]
 
 
 def star_battle(path: str, stars: int) -> Puzzle:
@@ -156,13 +189,13 @@ def star_battle(path: str, stars: int) -> Puzzle:
             no_cover(f"{path}, line {blocks[0][cells[0][0]][0]}: the region {letter} has no room for {plural(stars, 'star')} that don't touch")
     if len(regions) != size:
         no_cover(f"{path}: {size} rows want {size} regions with as many stars, and here are {len(regions)}")
-    houses = [(f"row{r}", [(r, c) for c in range(size)]) for r in range(size)] + [(f"column{c}", [(r, c) for r in range(size)]) for c in range(size)]
-    houses += [(f"region{k}", cells) for k, cells in enumerate(regions.values())]
-    options = []
-    for name, cells in houses:
-        options += star_options(name, cells, stars, names, size, name.startswith("row"))
-        if len(options) > MAX_OPTIONS:
-            refuse(path, None, f"{stars} stars can stand in rows, columns and regions in more than {MAX_OPTIONS:,} ways, and the program "
-                   "reads no more options")
+    groups = [(f"row{r}", [(r, c) for c in range(size)]) for r in range(size)] + [(f"column{c}", [(r, c) for r in range(size)]) for c in range(size)]
+    groups += [(f"region{k}", cells) for k, cells in enumerate(regions.values())]
+    houses = []
+    for name, cells in groups:
+        houses.append(House(name, cells, stars, size))
+        if sum(len(house.ways) for house in houses) > 2 * MAX_OPTIONS:
+            refuse(path, None, f"{stars} stars can stand in rows, columns and regions in more than {2 * MAX_OPTIONS:,} ways, and the program "
+                   f"reads no more than {MAX_OPTIONS:,} options")
     squares = [f"s{names[r, c]}" for r in range(size - 1) for c in range(size - 1)]
-    return Puzzle([name for name, _ in houses], list(names.values()) + squares, options)
+    return Puzzle([name for name, _ in groups], list(names.values()) + squares, options_of(houses, names, size))

@@ -11,6 +11,7 @@ import re
 from collections.abc import Iterable, Sequence
 
 from .cover_files import MAX_ITEMS
+from .fault_words import plural
 from .puzzle_texts import blocks_of, no_cover, Puzzle, refuse
 
 # a cell by layer, row and column
@@ -53,6 +54,15 @@ def is_rows(line: str) -> bool:
     return bool(re.fullmatch(r"[x.\s]+", line))
 
 
+def want_layers(path: str, block: list[tuple[int, str]]) -> None:
+    """Refuses rows of which one has more words than another: a blank parts layers, and a cell that isn't there is a dot."""
+    counts = [len(row.split()) for _, row in block]
+    for (number, _), count in zip(block, counts):
+        if count != counts[0]:
+            refuse(path, number, f"here {'is' if count == 1 else 'are'} {plural(count, 'layer')} side by side, and {counts[0]} in the first row; a "
+                   "cell that isn't there is a dot, and no blank")
+
+
 def read_board(text: str) -> set[Cell]:
     """The cells of a board: a size as 5x12 or 3x3x3, or a file of x and dots; blocks of lines, or words side by side, are layers."""
     found = re.fullmatch(r"(?:([1-9]\d?)x)?([1-9]\d{0,2})x([1-9]\d{0,2})", text)
@@ -64,6 +74,7 @@ def read_board(text: str) -> set[Cell]:
         for number, line in block:
             if not re.fullmatch(r"[xX.\s]+", line):
                 refuse(text, number, "a row of the board has an x for each cell, and a dot where there is none")
+        want_layers(text, block)
         rows = [line for _, line in block]
         cells |= {(layers + layer, r, c) for layer, r, c in layers_of(rows)}
         layers += max(len(row.split()) for row in rows)
@@ -110,6 +121,7 @@ def read_pieces(path: str) -> list[Piece]:
         for row_number, row in rows:
             if not is_rows(row):
                 refuse(path, row_number, f"a row of the piece {name} has an x for each cell, and dots")
+        want_layers(path, rows)
         cells = layers_of([row for _, row in rows]) if rows else known(path, number, name)
         pieces.append(Piece(name, cells or refuse(path, number, f"the piece {name} has no cell"), count, number))
     names = [piece.name for piece in pieces]

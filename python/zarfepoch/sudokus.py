@@ -9,9 +9,11 @@ from __future__ import annotations
 import itertools
 import math
 import re
+from collections import Counter
 from collections.abc import Iterator, Sequence
 from typing import NoReturn, Optional
 
+from .fault_words import plural
 from .picture_base import is_connected
 from .puzzle_texts import blocks_of, no_cover, Puzzle, read_text, refuse, TYPED
 from .sudoku_pictures import BOXES, MARKS
@@ -21,6 +23,8 @@ Cell = tuple[int, int]
 Cage = tuple[list[Cell], int]
 Block = list[tuple[int, str]]
 Square = tuple[list[list[str]], Optional[list[int]]]
+# given digits, the symbols that stand for them, and the numbers of their lines
+Digits = tuple[list[list[int]], Optional[str], Optional[list[int]]]
 
 
 class Sudoku:
@@ -95,18 +99,20 @@ class Sudoku:
 
 def bare_lines(text: str) -> list[tuple[int, str]]:
     """The lines without frames, each with its place from 0, and without those that are frames alone."""
-    lines = [re.sub(r"[|+=\u2500-\u257f]|-{2,}", " " if " " in line.strip("| +-=") else "", line).rstrip() for line in text.splitlines()]
-    return [(place, line) for place, line in enumerate(lines) if line.strip()]
+    rows = [(place, line) for place, line in enumerate(text.splitlines()) if not re.fullmatch(r"[|+=\s\u2500-\u257f-]*", line)]
+    return [(place, re.sub(r"[|+=\u2500-\u257f]", " " if " " in line.strip("| +-=") else "", line).rstrip()) for place, line in rows]
 
 
 def square_of(text: str) -> Square | None:
     """Rows of marks of a square text, by words or by characters, and the places of their lines; None where it is none."""
-    lines = [line for _, line in bare_lines(text)]
-    ways: list[Sequence[Sequence[str]]] = [[line.split() for line in lines], ["".join(line.split()) for line in lines], lines]
-    for rows in ways:
-        if len(rows) > 1 and all(len(row) == len(rows) for row in rows):
-            return [list(row) for row in rows], [place for place, _ in bare_lines(text)]
-    for marks in (re.sub(r"[^0-9._]", "", text), "".join(text.split())):
+    whole = [(place, line) for place, line in enumerate(text.splitlines()) if line.strip()]
+    for lines in (bare_lines(text), whole):
+        words = [line.split() for _, line in lines]
+        ways: list[Sequence[Sequence[str]]] = [words, ["".join(row) for row in words], [line for _, line in lines]]
+        for rows in ways:
+            if len(rows) > 1 and all(len(row) == len(rows) for row in rows):
+                return [list(row) for row in rows], [place for place, _ in lines]
+    for marks in [re.sub(r"[^0-9._]", "", text), "".join(text.split())] if not re.search("[,;]{2}", text) else []:
         size = math.isqrt(len(marks))
         if size > 1 and size * size == len(marks):
             return [list(marks[k:k + size]) for k in range(0, len(marks), size)], None
@@ -114,9 +120,9 @@ def square_of(text: str) -> Square | None:
 
 
 def blank_nine(text: str) -> Square | None:
-    """Nine lines of at most nine characters, in which a blank is an empty cell; None for others."""
+    """Nine lines of at most nine characters, in which a blank is an empty cell and nothing else is; None for others."""
     lines = text.splitlines() if "\n" in text else re.findall(".{9}", text)
-    are_short = len(lines) == 9 and all(re.fullmatch(r"[0-9._ ]{0,9}", line) for line in lines)
+    are_short = len(lines) == 9 and all(re.fullmatch(r"[1-9 ]{0,9}", line) for line in lines)
     if are_short and any(" " in line.strip() or len(line) < 9 for line in lines):
         return [list(line.ljust(9)) for line in lines], list(range(9)) if "\n" in text else None
     return None
@@ -140,19 +146,26 @@ def digit_of(mark: str, size: int, symbols: str | None) -> int | None:
 
 
 def refuse_shape(path: str, text: str, numbers: Sequence[int]) -> NoReturn:
-    """Refuses a text that is no square, with the first line that is shorter or longer than the first."""
+    """Refuses a text that is no square, with the first line that is shorter or longer than most, or has what no cell is."""
     lines = bare_lines(text)
-    lengths = [len(line.split()) if " " in lines[0][1].strip() else len("".join(line.split())) for _, line in lines]
-    other = next((k for k, length in enumerate(lengths) if length != lengths[0]), None)
+    for place, line in lines:
+        strange = re.search(r"[^\w\s.|+=-]", line)
+        if strange:
+            refuse(path, None if path == TYPED else numbers[place], f"'{strange[0]}' is no digit; an empty cell is a dot, _ or 0")
+    are_words = 2 * sum(" " in line.strip() for _, line in lines) > len(lines)
+    lengths = [len(line.split()) if are_words else len("".join(line.split())) for _, line in lines]
+    usual = Counter(lengths).most_common(1)[0][0] if lengths else 0
+    other = next((k for k, length in enumerate(lengths) if length != usual), None)
     if path == TYPED or not lines or other is None:
         count = len(re.sub(r"[^0-9._]", "", text))
         refuse(path, None, f"as many rows as columns of digits and dots are expected, as 81 in all; here are {count}")
     refuse(path, numbers[lines[other][0]],
-           f"as many rows as columns are expected; here are {lengths[other]} cells, and {lengths[0]} in the first row")
+           f"as many rows as columns are expected; this row has {plural(lengths[other], 'cell')}, and {'most' if len(lines) > 2 else 'the first'} "
+           f"{'have' if len(lines) > 2 else 'has'} {usual}")
 
 
-def digits_of(path: str, text: str, numbers: Sequence[int] | None = None) -> tuple[list[list[int]], str | None]:
-    """The given digits of a text, and the symbols that stand for them; `numbers` are those of its lines in the file."""
+def digits_of(path: str, text: str, numbers: Sequence[int] | None = None) -> Digits:
+    """The given digits of a text, the symbols that stand for them, and the lines of its rows; `numbers` are those of its lines in the file."""
     numbers = numbers or range(1, len(text.splitlines()) + 1)
     square = blank_nine(text) or square_of(text)
     if square is None:
@@ -163,33 +176,34 @@ def digits_of(path: str, text: str, numbers: Sequence[int] | None = None) -> tup
         refuse(path, None, f"a sudoku has at most {len(MARKS)} rows")
     symbols = symbols_of([mark for row in rows for mark in row], size)
     digits = [[digit_of(mark, size, symbols) for mark in row] for row in rows]
+    lines = [numbers[place] for place in places] if places and path != TYPED else None
     for r, c in itertools.product(range(size), repeat=2):
         if digits[r][c] is None:
-            line = numbers[places[r]] if places else None
-            refuse(path, line, f"'{rows[r][c]}' in row {r + 1}, column {c + 1} is no digit of a sudoku of {size} by {size}; an "
-                   "empty cell is a dot, _ or 0")
-    return [[digit or 0 for digit in row] for row in digits], symbols
+            refuse(path, lines[r] if lines else None, f"'{rows[r][c]}' in row {r + 1}, column {c + 1} is no digit of a sudoku of {size} by "
+                   f"{size}; an empty cell is a dot, _ or 0")
+    return [[digit or 0 for digit in row] for row in digits], symbols, lines
 
 
-def checked(path: str, sudoku: Sudoku) -> Sudoku:
-    """A sudoku that has no digit twice in a row and so on."""
+def checked(path: str, sudoku: Sudoku, lines: list[int] | None) -> Sudoku:
+    """A sudoku that has no digit twice in a row and so on; the lines are those of its rows."""
     twice = sudoku.twice()
     if twice:
         house, digit, rows = twice
         kind = {"r": "row", "c": "column", "b": "box" if sudoku.has_boxes else "region", "x": "diagonal", "y": "diagonal"}[house[0]]
         number = f" {int(house[1:]) + 1}" if house[1:] else ""
         where = "" if house[0] == "r" else f", in row {rows[0] + 1} and row {rows[1] + 1}"
-        no_cover(f"{path}: {kind}{number} has the digit {sudoku.mark(digit)} twice{where}")
+        line = f", line {lines[rows[1]]}" if lines else ""
+        no_cover(f"{path}{line}: {kind}{number} has the digit {sudoku.mark(digit)} twice{where}")
     return sudoku
 
 
 def read_sudoku(given: str, is_text: bool, diagonals: bool = False) -> Sudoku:
     """A sudoku from characters or a file, with boxes."""
     path = TYPED if is_text else given
-    digits, symbols = digits_of(path, given if is_text else read_text(given))
+    digits, symbols, lines = digits_of(path, given if is_text else read_text(given))
     if len(digits) not in BOXES:
         refuse(path, None, f"a sudoku of {len(digits)} by {len(digits)} has no boxes: the kind jigsaw takes its regions")
-    return checked(path, Sudoku(digits, None, diagonals, (), symbols))
+    return checked(path, Sudoku(digits, None, diagonals, (), symbols), lines)
 
 
 def letters_of(path: str, block: Block) -> list[str]:
@@ -210,7 +224,8 @@ def cells_by_letter(rows: list[str]) -> dict[str, list[Cell]]:
 
 
 def regions_of(path: str, block: Block, size: int) -> list[list[int]]:
-    """Regions by letters, each with as many cells as the sudoku has rows; numbered in the order of their first cells."""
+    """Regions by letters, each with as many cells as the sudoku has rows; numbered in the order of their first cells. Where most of them hang
+    together, all have to: else a letter stands in a wrong place."""
     rows = letters_of(path, block)
     if len(rows) != size:
         refuse(path, block[0][0], f"the regions have {len(rows)} rows and the digits {size}")
@@ -219,6 +234,9 @@ def regions_of(path: str, block: Block, size: int) -> list[list[int]]:
         if len(its_cells) != size:
             line = block[its_cells[0][0]][0]
             refuse(path, line, f"the region {letter} has {len(its_cells)} cells, and each has {size}")
+    parted = {letter: its_cells for letter, its_cells in cells.items() if not is_connected(its_cells)}
+    if len(parted) <= size // 2:
+        want_whole(path, block, parted, "region")
     order = list(cells)
     return [[order.index(letter) for letter in row] for row in rows]
 
@@ -238,8 +256,8 @@ def read_jigsaw(path: str, diagonals: bool = False) -> Sudoku:
     if len(blocks) != 2:
         refuse(path, None, "rows of digits and dots, an empty line, and rows of letters for the regions are expected")
     blocks.sort(key=lambda block: not is_digits(block))
-    digits, symbols = digits_of(path, *text_of(blocks[0]))
-    return checked(path, Sudoku(digits, regions_of(path, blocks[1], len(digits)), diagonals, (), symbols))
+    digits, symbols, lines = digits_of(path, *text_of(blocks[0]))
+    return checked(path, Sudoku(digits, regions_of(path, blocks[1], len(digits)), diagonals, (), symbols), lines)
 
 
 def sums_of(path: str, block: Block) -> dict[str, int]:
@@ -301,7 +319,7 @@ def read_killer(path: str, diagonals: bool = False) -> Sudoku:
     size = len(rows)
     if size not in BOXES or size > 9:
         refuse(path, None, f"a killer sudoku has 4, 6, 8 or 9 rows, and this one {size}")
-    digits = digits_of(path, *text_of(blocks[2]))[0] if len(blocks) > 2 else [[0] * size for _ in range(size)]
+    digits, _, lines = digits_of(path, *text_of(blocks[2])) if len(blocks) > 2 else ([[0] * size for _ in range(size)], None, None)
     if len(digits) != size:
         refuse(path, blocks[2][0][0], f"the digits have {len(digits)} rows and the cages {size}")
     cells = {letter: its_cells for letter, its_cells in cells_by_letter(rows).items() if letter != "."}
@@ -309,4 +327,4 @@ def read_killer(path: str, diagonals: bool = False) -> Sudoku:
         if letter not in cells:
             refuse(path, blocks[1][0][0], f"there is no cage {letter}")
     want_whole(path, blocks[0], cells, "cage")
-    return checked(path, Sudoku(digits, None, diagonals, cages_of(path, blocks[0], cells, sums)))
+    return checked(path, Sudoku(digits, None, diagonals, cages_of(path, blocks[0], cells, sums)), lines)

@@ -19,6 +19,11 @@ OTHER = {"hours", "length", "note"}
 ALIASES = {"lessons": "lesson", "subject": "lesson", "teachers": "teacher", "classes": "class", "group": "class", "groups": "class", "room": "rooms",
            "period": "periods", "times": "hours", "notes": "note", "remark": "note", "remarks": "note"}
 NOBODY = "-"
+# days of the week in some languages, by which a day that is written in two ways is found
+WEEKDAYS = ("monday tuesday wednesday thursday friday saturday sunday montag dienstag mittwoch donnerstag freitag samstag sonntag "
+            "lundi mardi mercredi jeudi vendredi samedi dimanche lunes martes mi\u00e9rcoles jueves viernes s\u00e1bado domingo "
+            "luned\u00ec marted\u00ec mercoled\u00ec gioved\u00ec venerd\u00ec sabato domenica "
+            "maandag dinsdag woensdag donderdag vrijdag zaterdag zondag").split()
 
 
 @dataclass
@@ -82,10 +87,18 @@ def read_table(path: str) -> Iterator[tuple[int, dict[str, str]]]:
         refuse(path, None, "the table has no head")
     columns = head_of(path, *lines[0])
     for number, row in lines[1:]:
+        want_parted(path, number, row, separator_of(text))
         if len(row) > len(columns) and any(map(str.strip, row[len(columns):])):
             refuse(path, number, f"it has {len(row)} columns, and the head {len(columns)}: a cell with a {named(separator_of(text))} in it wants "
                    "quotation marks round it, and several rooms or periods may have blanks between")
         yield number, dict(zip(columns, [cell.strip() for cell in row] + [""] * len(columns)))
+
+
+def want_parted(path: str, line: int, row: list[str], separator: str) -> None:
+    """Refuses a row whose columns are parted by something else than those of the head."""
+    other = next((mark for mark in ",;\t" if mark in row[0]), None)
+    if other and not any(map(str.strip, row[1:])):
+        refuse(path, line, f"a {named(other)} parts its columns, and a {named(separator)} those of the head")
 
 
 def named(separator: str) -> str:
@@ -135,12 +148,19 @@ def periods_in(path: str, line: int, cell: str) -> list[str]:
     twice = [period for period, count in Counter(periods).items() if count > 1]
     if twice:
         refuse(path, line, f"the period {twice[0]} stands there twice")
+    wrong = next((period for period in periods if re.search(r"[:|\0]", period)), None)
+    if wrong:
+        refuse(path, line, f"'{wrong}' can't be a period's name, which has no ':' and no '|'; number the periods of a day, as Mon1")
     return periods
 
 
 def rooms_in(path: str, line: int, cell: str, alone: set[str]) -> list[str]:
     """The rooms of a cell."""
     want_joined(path, line, "rooms", cell, alone)
+    for word in re.findall(r"[^\s;,]+", cell):
+        parts = re.split("[/&+]", word)
+        if len(parts) > 1 and alone.issuperset(parts):
+            refuse(path, line, f"rooms '{word}': {' and '.join(parts)} are rooms elsewhere; several have ';' between, and the lesson has one of them")
     return [] if cell == NOBODY else list(dict.fromkeys(re.findall(r"[^\s;,]+", cell)))
 
 
@@ -221,6 +241,34 @@ def want_roles(path: str, lessons: list[Lesson]) -> None:
                     refuse(path, lesson.line, f"{who} would be a {roles[who]} and a {role}: these have names of their own")
 
 
+def spelled(what: str, name: str) -> str:
+    """What two spellings of one name share: a class 5A is 5a, and a period Mon01 is MON1."""
+    return re.sub(r"(?<!\d)0+(?=\d)", "", name.casefold()) if what == "period" else name.casefold()
+
+
+def want_one_spelling(path: str, lessons: list[Lesson]) -> None:
+    """Refuses two spellings of a name, which would be two names: a teacher of both could be in two places at a time."""
+    seen: dict[tuple[str, str], tuple[str, int]] = {}
+    for lesson in lessons:
+        roles = (("teacher", lesson.teachers), ("class", lesson.classes), ("room", lesson.rooms), ("period", lesson.periods))
+        for what, name in ((what, name) for what, names in roles for name in names):
+            before, line = seen.setdefault((what, spelled(what, name)), (name, lesson.line))
+            if before != name:
+                refuse(path, lesson.line, f"the {what} {name} and the {what} {before} of line {line} would be two: write one {what} in one way")
+
+
+def want_one_week(path: str, lessons: list[Lesson]) -> None:
+    """Refuses a day of the week that is written in two ways, as in Mon1 and Monday1; MoN1 may be an afternoon."""
+    seen: dict[str, tuple[str, int]] = {}
+    days = [(re.sub(r"[\s.:_]*\d+$", "", period), lesson.line) for lesson in lessons for period in lesson.periods]
+    for day, line in dict.fromkeys(days):
+        is_word = len(day) > 1 and day in (day.lower(), day.title(), day.upper())
+        for name in (name for name in WEEKDAYS if is_word and name.startswith(day.casefold())):
+            before, first = seen.setdefault(name, (day, line))
+            if before != day:
+                refuse(path, line, f"the day {day} and the day {before} of line {first} would be two: write one day in one way")
+
+
 def read_lessons(path: str) -> list[Lesson]:
     """All lessons of a table."""
     rows = list(read_table(path))
@@ -241,4 +289,6 @@ def read_lessons(path: str) -> list[Lesson]:
     numbered_names(lessons)
     want_different(path, lessons)
     want_roles(path, lessons)
+    want_one_spelling(path, lessons)
+    want_one_week(path, lessons)
     return lessons
