@@ -30,6 +30,11 @@ PROGRAM = SOLVE_CLI
 Word = Union[str, bytes]
 LINE = re.compile(r"\d+ s: \d+ visits, +\d+\.\d{4} % of the tree, \d+ jobs? out, fullest book \d+ %(?:, some \d+ (?:s|min|h|days) left)?")
 SPENT = b"ended: the fuel is spent: try more --fuel, or --unlimited\n"
+# the commands of the package that install.sh installs, and all that it writes
+TOOLS = ("another", "check-reason", "draw", "explain", "generate", "join", "split", "why-none")
+INSTALLED = ("bin/solve_cli", "share/man/man1/solve_cli.1", "share/bash-completion/completions/solve_cli", "share/zsh/site-functions/_solve_cli",
+             "share/zarfepoch/VERSION", *(f"bin/zarfepoch-{tool}" for tool in TOOLS), "share/zarfepoch/zarfepoch")
+# the examples without a cover
 NONE = {"langford-5.dlx", "tetrominoes-4x5.dlx", "mutilated-chessboard.dlx"}
 trial = Trial()
 expect = trial.expect
@@ -224,21 +229,21 @@ def command_line() -> None:
         expect(f"words {words}", ended == status and (bool(out), bool(errors)) == (status == 0, status != 0))
 
 
+def install(folder: str, *words: str, **how: Any) -> subprocess.CompletedProcess[str]:
+    """Runs install.sh with its files below a folder."""
+    environment = {**os.environ, "DESTDIR": folder, **how.pop("env", {})}
+    script = os.path.join(TOP, "scripts", "install.sh")
+    return subprocess.run(["sh", script, *words], env=environment, capture_output=True, text=True, **how)
+
+
 def installing(folder: str) -> None:
-    """What install.sh writes, with a prefix and without."""
-    tools = ("another", "check-reason", "draw", "explain", "generate", "join", "split", "why-none")
-    script, files = os.path.join(TOP, "scripts", "install.sh"), ["bin/solve_cli", "share/man/man1/solve_cli.1",
-                                                                 "share/bash-completion/completions/solve_cli",
-                                                                 "share/zsh/site-functions/_solve_cli", "share/zarfepoch/VERSION",
-                                                                 *(f"bin/zarfepoch-{tool}" for tool in tools), "share/zarfepoch/zarfepoch"]
+    """What install.sh writes, with a prefix and without, and what it takes away again."""
     prefixes: tuple[tuple[list[str], str], ...] = (([], "/usr/local"), (["/opt"], "/opt"))
     for words, prefix in prefixes:
-        ended = subprocess.run(["sh", script, *words], env={**os.environ, "DESTDIR": folder}, capture_output=True, text=True)
-        written = [f"{folder}{prefix}/{file}" for file in files]
+        ended = install(folder, *words)
+        written = [f"{folder}{prefix}/{file}" for file in INSTALLED]
         expect(f"install.sh {words}", ended.returncode == 0 and ended.stdout.split() == written and all(map(os.path.exists, written)))
-    for tool in tools:
-        ended = subprocess.run([f"{folder}/opt/bin/zarfepoch-{tool}", "--help"], cwd="/", capture_output=True, text=True)
-        expect(f"zarfepoch-{tool}: {ended.stderr}", ended.returncode == 0 and ended.stdout.startswith(f"usage: zarfepoch-{tool} "))
+    installed_tools(f"{folder}/opt")
     with open(f"{folder}/opt/share/zarfepoch/VERSION", encoding="ascii") as said:
         lines = said.read().splitlines()
     expect(f"VERSION: {lines}", lines[0] == run("--version")[0].decode().strip() and [line.split()[0] for line in lines[1:]] == ["commit", "toolchain"])
@@ -247,32 +252,46 @@ def installing(folder: str) -> None:
     with open(f"{folder}/opt/share/other", "w", encoding="ascii"):
         pass
     for words, prefix, left in (["--remove"], "/usr/local", []), (["/opt", "--remove"], "/opt", ["other"]):
-        ended = subprocess.run(["sh", script, *words], env={**os.environ, "DESTDIR": folder}, capture_output=True, text=True)
-        gone = [f"{folder}{prefix}/{file}" for file in files]
+        ended = install(folder, *words)
+        gone = [f"{folder}{prefix}/{file}" for file in INSTALLED]
         there = [name for _, _, names in os.walk(folder + prefix) for name in names]
         expect(f"install.sh {words}", ended.returncode == 0 and ended.stdout.split() == gone and there == left and not os.path.exists(f"{folder}{prefix}/bin"))
-    subprocess.run(["sh", script, "/opt"], env={**os.environ, "DESTDIR": folder}, capture_output=True, check=True)
+
+
+def installed_tools(prefix: str) -> None:
+    """The commands that are installed: from another folder, and with the program beside them."""
+    for tool in TOOLS:
+        ended = subprocess.run([f"{prefix}/bin/zarfepoch-{tool}", "--help"], cwd="/", capture_output=True, text=True)
+        expect(f"zarfepoch-{tool}: {ended.stderr}", ended.returncode == 0 and ended.stdout.startswith(f"usage: zarfepoch-{tool} "))
+    unnamed = {name: text for name, text in os.environ.items() if name != "ZARFEPOCH"}
+    board = os.path.join(TOP, "examples", "mutilated-chessboard.dlx")
+    ended = subprocess.run([f"{prefix}/bin/zarfepoch-why-none", board], cwd="/", env=unnamed, capture_output=True, text=True)
+    expect(f"a command finds the program beside it: {ended.stderr}", ended.returncode == 0 and ended.stdout)
+
+
+def installing_again(folder: str) -> None:
+    """An install that is stopped, one under another CDPATH, words that are refused, and what bash completes."""
+    install(folder, "/opt", check=True)
     room, stopped = os.path.join(folder, "room"), os.path.join(folder, "python3")
     os.makedirs(room)
     with open(stopped, "w", encoding="ascii") as file:
         file.write("#!/bin/sh\nkill -TERM $PPID\n")
     os.chmod(stopped, 0o755)
-    path = folder + os.pathsep + os.environ["PATH"]
-    ended = subprocess.run(["sh", script], env={**os.environ, "DESTDIR": folder, "PATH": path, "TMPDIR": room}, capture_output=True, text=True)
+    ended = install(folder, env={"PATH": folder + os.pathsep + os.environ["PATH"], "TMPDIR": room})
     expect("install.sh leaves nothing when it is stopped", ended.returncode == 1 and not os.listdir(room))
     for name in ("a b", "a*c", "axc"):
         open(os.path.join(room, name), "w", encoding="ascii").close()
     complete = 'source "$0"; COMP_WORDS=(solve_cli alone a); COMP_CWORD=2; _solve_cli; printf "%s\\n" "${COMPREPLY[@]}"'
-    ended = subprocess.run(["bash", "-c", complete, f"{folder}/opt/{files[2]}"], cwd=room, capture_output=True, text=True)
-    expect("files are completed", sorted(ended.stdout.splitlines()) == ["a b", "a*c", "axc"])
-    helped = complete.replace("alone a)", "help so)")
-    ended = subprocess.run(["bash", "-c", helped, f"{folder}/opt/{files[2]}"], cwd=room, capture_output=True, text=True)
-    expect("help completes commands", ended.stdout.split() == ["solve"])
+    completions = f"{folder}/opt/share/bash-completion/completions/solve_cli"
+    completed = subprocess.run(["bash", "-c", complete, completions], cwd=room, capture_output=True, text=True)
+    expect("files are completed", sorted(completed.stdout.splitlines()) == ["a b", "a*c", "axc"])
+    completed = subprocess.run(["bash", "-c", complete.replace("alone a)", "help so)"), completions], cwd=room, capture_output=True, text=True)
+    expect("help completes commands", completed.stdout.split() == ["solve"])
     environment = {**os.environ, "DESTDIR": folder, "CDPATH": TOP}
     ended = subprocess.run(["sh", "scripts/install.sh", "/path"], cwd=TOP, env=environment, capture_output=True, text=True)
-    expect("install.sh with CDPATH", ended.returncode == 0 and os.path.isfile(os.path.join(folder, "path", files[0])))
+    expect("install.sh with CDPATH", ended.returncode == 0 and os.path.isfile(os.path.join(folder, "path", INSTALLED[0])))
     for words in ([""], ["-h"], ["/opt", "/usr"]):
-        ended = subprocess.run(["sh", script, *words], env={**os.environ, "DESTDIR": folder}, capture_output=True, text=True)
+        ended = install(folder, *words)
         expect(f"install.sh {words} is refused", ended.returncode == 2 and ended.stderr.startswith("usage: "))
 
 
@@ -365,6 +384,7 @@ def main() -> int:
         many_visits(folder)
         timed(folder)
         installing(os.path.join(folder, "dest"))
+        installing_again(os.path.join(folder, "dest"))
     from_python()
     helps()
     failing_outputs()
