@@ -4,10 +4,11 @@
 #     scripts/install.sh [--remove] [PREFIX]
 #
 # PREFIX is /usr/local if it is not given; DESTDIR, if it is set, stands before it. The scripts are the commands zarfepoch-explain, -why-none
-# and so on; their package is in PREFIX/share/zarfepoch, beside a file VERSION, which has the version of the program, the commit of the
-# clone and the toolchain. All that is written is made before the first file is. With --remove these files go, and the folders of PREFIX that
-# are empty then. Each file that comes or goes is printed, of the package its folder. The exit status is 0; 1 where a file can't be written or
-# removed; 2 for a mistake on the command line or where the program isn't built.
+# and so on; they run the program that ZARFEPOCH names, else solve_cli on the path, else the one beside them. Their package is in
+# PREFIX/share/zarfepoch, beside a file VERSION, which has the version of the program, the commit of the clone and the toolchain. All that is
+# written is made before the first file is. With --remove these files go, and the folders of PREFIX that are empty then. Each file that comes
+# or goes is printed, of the package its folder. The exit status is 0; 1 where a file can't be written or removed; 2 for a mistake on the
+# command line or where the program isn't built.
 set -eu
 unset CDPATH
 
@@ -94,7 +95,10 @@ for name in $commands; do
 import os
 import sys
 
-sys.path.insert(0, os.path.join(os.path.dirname(os.path.realpath(__file__)), "..", "$share"))
+here = os.path.dirname(os.path.realpath(__file__))
+sys.path.insert(0, os.path.join(here, "..", "$share"))
+# (the program beside this command, where no other is on the path)
+os.environ["PATH"] = os.environ.get("PATH", os.defpath) + os.pathsep + here
 from zarfepoch.commands import $(echo "$name" | tr - _) as command
 
 command()

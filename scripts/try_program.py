@@ -3,9 +3,10 @@
 
     python3 scripts/try_program.py [PROGRAM]
 
-It wants the program, which is crates/solve_cli/out/solve_cli where none is named: (cd crates/solve_cli && rt run -- --version) builds that.
-Each cover of an example is given back to `check`, and counted here once more. The last line is 'N passed, M failed'. The exit
-status is 0 where all passed, 1 where something failed, 2 for a mistake on the command line or where there is no program.
+It wants cc and the program, which is crates/solve_cli/out/solve_cli where none is named: (cd crates/solve_cli && rt run -- --version) builds that.
+Each cover of an example is given back to `check`, and counted here once more. Of some runs of `solve`, `record_sends.c`, which is built here and
+loaded before the C library, notes the packets that they send. The last line is 'N passed, M failed'. The exit status is 0 where all passed, 1 where
+something failed, 2 for a mistake on the command line or where there is no program.
 """
 from __future__ import annotations
 
@@ -15,13 +16,14 @@ import os
 import pty
 import random
 import re
+import struct
 import subprocess
 import sys
 import tempfile
 import time
-from typing import IO, Any, Optional, Union
+from typing import IO, Any, Callable, NamedTuple, Optional, Union
 
-from built import parser_of, SOLVE_CLI, TOP, want_program
+from built import parser_of, SOLVE_CLI, TOP, want_command, want_program
 from expected import Trial
 import zarfepoch
 
@@ -30,6 +32,14 @@ PROGRAM = SOLVE_CLI
 Word = Union[str, bytes]
 LINE = re.compile(r"\d+ s: \d+ visits, +\d+\.\d{4} % of the tree, \d+ jobs? out, fullest book \d+ %(?:, some \d+ (?:s|min|h|days) left)?")
 SPENT = b"ended: the fuel is spent: try more --fuel, or --unlimited\n"
+# the header of a packet: magic, version, kind, the sender's node and incarnation, and the receiver's
+HEADER = struct.Struct(">2sBBBIBI")
+STEAL = 3
+# the commands of the package that install.sh installs, and all that it writes
+TOOLS = ("another", "check-reason", "draw", "explain", "generate", "join", "split", "why-none")
+INSTALLED = ("bin/solve_cli", "share/man/man1/solve_cli.1", "share/bash-completion/completions/solve_cli", "share/zsh/site-functions/_solve_cli",
+             "share/zarfepoch/VERSION", *(f"bin/zarfepoch-{tool}" for tool in TOOLS), "share/zarfepoch/zarfepoch")
+# the examples without a cover
 NONE = {"langford-5.dlx", "tetrominoes-4x5.dlx", "mutilated-chessboard.dlx"}
 trial = Trial()
 expect = trial.expect
@@ -171,13 +181,18 @@ def progress() -> None:
     expect("one line on a terminal", status == 4 and re.fullmatch(rb"(\r\d+ s: [^\r\n]*)+\r\nended: the time is over: try more --seconds\r\nno answer\r\n", text))
 
 
-def timed(folder: str) -> None:
-    """A search of years, by one thread, that ends after a second."""
-    path, none = os.path.join(folder, "long"), os.path.join(folder, "none")
-    names, by_chance = [str(place) for place in range(180)], random.Random(1)
+def search_of_years(folder: str) -> str:
+    """A file whose search nobody sees the end of."""
+    path, names, by_chance = os.path.join(folder, "long"), [str(place) for place in range(180)], random.Random(1)
     with open(path, "w", encoding="ascii") as file:
         # (a cover may be among so few triples, but nobody finds it soon)
         file.writelines(" ".join(words) + "\n" for words in [names, *(by_chance.sample(names, 3) for _ in range(450))])
+    return path
+
+
+def timed(folder: str) -> None:
+    """A search of years, by one thread, that ends after a second."""
+    path, none = search_of_years(folder), os.path.join(folder, "none")
     with open(none, "w", encoding="ascii") as file:
         file.write("none\n")
     late = b"ended: the time is over: try more --seconds, or solve\n"
@@ -187,31 +202,77 @@ def timed(folder: str) -> None:
         expect(f"the seconds of {words}", 1 <= time.monotonic() - began < 15)
 
 
-def sites_of(*words: str) -> tuple[int, int, int]:
-    """How many sockets and threads a run of `solve` has after a second, and how many threads came within a second more."""
+def sites_of(*words: str) -> tuple[int, int]:
+    """How many sockets and threads a run of `solve` has after a second."""
     long = os.path.join(TOP, "examples", "mutilated-chessboard.dlx")
     with subprocess.Popen([PROGRAM, "solve", long, "--fuel", "1", "--seconds", "3", *words], stdout=subprocess.DEVNULL, stderr=subprocess.DEVNULL) as process:
         time.sleep(1)
         folder = f"/proc/{process.pid}"
         ends = [os.readlink(f"{folder}/fd/{name}") for name in os.listdir(f"{folder}/fd")]
-        threads, seen = set(os.listdir(f"{folder}/task")), set()
-        until = time.monotonic() + 1
-        while time.monotonic() < until:
-            seen |= set(os.listdir(f"{folder}/task"))
-            time.sleep(0.001)
-    return sum(end.startswith("socket:") for end in ends), len(threads), len(seen - threads)
+        return sum(end.startswith("socket:") for end in ends), len(os.listdir(f"{folder}/task"))
 
 
-def options_of_solve() -> None:
-    """Each option of `solve` reaches the run: by its sockets and threads, by the reason of an end, or by what is written."""
-    sockets, threads, _ = sites_of("--nodes", "2", "--workers", "1")
-    more_sockets, more_threads, _ = sites_of("--nodes", "3", "--workers", "1")
+class Sent(NamedTuple):
+    """A packet that was sent: its kind, the sender's node and incarnation, and the receiver's node."""
+    kind: int
+    sender: int
+    incarnation: int
+    receiver: int
+
+
+def sent_in(file: str) -> list[Sent]:
+    """The packets whose headers are in a file, in the order in which they were sent."""
+    if not os.path.exists(file):
+        return []
+    with open(file, "rb") as opened:
+        heads = opened.read()
+    whole = len(heads) - len(heads) % HEADER.size
+    return [Sent(kind, node, incarnation, receiver) for _, _, kind, node, incarnation, receiver, _ in HEADER.iter_unpack(heads[:whole])]
+
+
+def sends_of(folder: str, is_enough: Callable[[list[Sent]], bool], *words: str) -> list[Sent]:
+    """The packets that a run of `solve` on a search of years has sent when they are enough, or when it has ended. A job has no end in it, so the
+    other workers do nothing but ask."""
+    file = os.path.join(folder, "sends")
+    if os.path.exists(file):
+        os.remove(file)
+    environment = {**os.environ, "LD_PRELOAD": os.path.join(folder, "record_sends.so"), "SENDS_FILE": file}
+    command = [PROGRAM, "solve", search_of_years(folder), "--workers", "1", "--fuel", "1000000000000", "--seconds", "60", *words]
+    with subprocess.Popen(command, stdout=subprocess.DEVNULL, stderr=subprocess.DEVNULL, env=environment) as process:
+        while process.poll() is None and not is_enough(sent_in(file)):
+            time.sleep(0.02)
+        process.terminate()
+    return sent_in(file)
+
+
+def first_asked(sent: list[Sent]) -> dict[int, int]:
+    """Of each node that asked for work, whom it asked first."""
+    return {packet.sender: packet.receiver for packet in reversed(sent) if packet.kind == STEAL}
+
+
+def packets_of_solve(folder: str) -> None:
+    """The seed draws whom the nodes ask, and node 1 restarts as often as it should: by the packets that are sent."""
+    source, library = os.path.join(TOP, "scripts", "record_sends.c"), os.path.join(folder, "record_sends.so")
+    subprocess.run(["cc", "-O2", "-shared", "-fPIC", "-o", library, source], check=True)
+    asked = [first_asked(sends_of(folder, lambda sent: len(first_asked(sent)) == 16, "--nodes", "16", "--seed", seed)) for seed in "112"]
+    expect(f"--seed: {asked}", len(asked[0]) == len(asked[2]) == 16 and asked[0] == asked[1] != asked[2])
+    # (node 2, which never restarts, would end the run after four times the turns that each start of node 1 has)
+    for words, runs in (("--restarts", "3"), {1, 2, 3, 4}), ((), {1}):
+        sent = sends_of(folder, lambda sent: False, "--nodes", "2", "--turns", "200", *words)
+        expect(f"--restarts {words}: {len(sent)} packets", {packet.incarnation for packet in sent if packet.sender == 1} == runs)
+
+
+def options_of_solve(folder: str) -> None:
+    """Each option of `solve` reaches the run: by its sockets, threads and packets, by the reason of an end, or by what is written."""
+    sockets, threads = sites_of("--nodes", "2", "--workers", "1")
+    more_sockets, more_threads = sites_of("--nodes", "3", "--workers", "1")
     expect("--nodes", (sockets, more_sockets) == (3, 4) and more_threads > threads)
-    _, three, _ = sites_of("--nodes", "2", "--workers", "3")
+    _, three = sites_of("--nodes", "2", "--workers", "3")
     expect("--workers", three == threads + 4)
     letters = os.path.join(TOP, "examples", "letters.dlx")
     cover = b"cover 3\nc e\na d f\nb g\n"
     expect("--audit", run("solve", letters, "--audit") == (cover + b"audit clean\n", b"", 0))
+    packets_of_solve(folder)
 
 
 def command_line() -> None:
@@ -224,21 +285,21 @@ def command_line() -> None:
         expect(f"words {words}", ended == status and (bool(out), bool(errors)) == (status == 0, status != 0))
 
 
+def install(folder: str, *words: str, **how: Any) -> subprocess.CompletedProcess[str]:
+    """Runs install.sh with its files below a folder."""
+    environment = {**os.environ, "DESTDIR": folder, **how.pop("env", {})}
+    script = os.path.join(TOP, "scripts", "install.sh")
+    return subprocess.run(["sh", script, *words], env=environment, capture_output=True, text=True, **how)
+
+
 def installing(folder: str) -> None:
-    """What install.sh writes, with a prefix and without."""
-    tools = ("another", "check-reason", "draw", "explain", "generate", "join", "split", "why-none")
-    script, files = os.path.join(TOP, "scripts", "install.sh"), ["bin/solve_cli", "share/man/man1/solve_cli.1",
-                                                                 "share/bash-completion/completions/solve_cli",
-                                                                 "share/zsh/site-functions/_solve_cli", "share/zarfepoch/VERSION",
-                                                                 *(f"bin/zarfepoch-{tool}" for tool in tools), "share/zarfepoch/zarfepoch"]
+    """What install.sh writes, with a prefix and without, and what it takes away again."""
     prefixes: tuple[tuple[list[str], str], ...] = (([], "/usr/local"), (["/opt"], "/opt"))
     for words, prefix in prefixes:
-        ended = subprocess.run(["sh", script, *words], env={**os.environ, "DESTDIR": folder}, capture_output=True, text=True)
-        written = [f"{folder}{prefix}/{file}" for file in files]
+        ended = install(folder, *words)
+        written = [f"{folder}{prefix}/{file}" for file in INSTALLED]
         expect(f"install.sh {words}", ended.returncode == 0 and ended.stdout.split() == written and all(map(os.path.exists, written)))
-    for tool in tools:
-        ended = subprocess.run([f"{folder}/opt/bin/zarfepoch-{tool}", "--help"], cwd="/", capture_output=True, text=True)
-        expect(f"zarfepoch-{tool}: {ended.stderr}", ended.returncode == 0 and ended.stdout.startswith(f"usage: zarfepoch-{tool} "))
+    installed_tools(f"{folder}/opt")
     with open(f"{folder}/opt/share/zarfepoch/VERSION", encoding="ascii") as said:
         lines = said.read().splitlines()
     expect(f"VERSION: {lines}", lines[0] == run("--version")[0].decode().strip() and [line.split()[0] for line in lines[1:]] == ["commit", "toolchain"])
@@ -247,32 +308,46 @@ def installing(folder: str) -> None:
     with open(f"{folder}/opt/share/other", "w", encoding="ascii"):
         pass
     for words, prefix, left in (["--remove"], "/usr/local", []), (["/opt", "--remove"], "/opt", ["other"]):
-        ended = subprocess.run(["sh", script, *words], env={**os.environ, "DESTDIR": folder}, capture_output=True, text=True)
-        gone = [f"{folder}{prefix}/{file}" for file in files]
+        ended = install(folder, *words)
+        gone = [f"{folder}{prefix}/{file}" for file in INSTALLED]
         there = [name for _, _, names in os.walk(folder + prefix) for name in names]
         expect(f"install.sh {words}", ended.returncode == 0 and ended.stdout.split() == gone and there == left and not os.path.exists(f"{folder}{prefix}/bin"))
-    subprocess.run(["sh", script, "/opt"], env={**os.environ, "DESTDIR": folder}, capture_output=True, check=True)
+
+
+def installed_tools(prefix: str) -> None:
+    """The commands that are installed: from another folder, and with the program beside them."""
+    for tool in TOOLS:
+        ended = subprocess.run([f"{prefix}/bin/zarfepoch-{tool}", "--help"], cwd="/", capture_output=True, text=True)
+        expect(f"zarfepoch-{tool}: {ended.stderr}", ended.returncode == 0 and ended.stdout.startswith(f"usage: zarfepoch-{tool} "))
+    unnamed = {name: text for name, text in os.environ.items() if name != "ZARFEPOCH"}
+    board = os.path.join(TOP, "examples", "mutilated-chessboard.dlx")
+    ended = subprocess.run([f"{prefix}/bin/zarfepoch-why-none", board], cwd="/", env=unnamed, capture_output=True, text=True)
+    expect(f"a command finds the program beside it: {ended.stderr}", ended.returncode == 0 and ended.stdout)
+
+
+def installing_again(folder: str) -> None:
+    """An install that is stopped, one under another CDPATH, words that are refused, and what bash completes."""
+    install(folder, "/opt", check=True)
     room, stopped = os.path.join(folder, "room"), os.path.join(folder, "python3")
     os.makedirs(room)
     with open(stopped, "w", encoding="ascii") as file:
         file.write("#!/bin/sh\nkill -TERM $PPID\n")
     os.chmod(stopped, 0o755)
-    path = folder + os.pathsep + os.environ["PATH"]
-    ended = subprocess.run(["sh", script], env={**os.environ, "DESTDIR": folder, "PATH": path, "TMPDIR": room}, capture_output=True, text=True)
+    ended = install(folder, env={"PATH": folder + os.pathsep + os.environ["PATH"], "TMPDIR": room})
     expect("install.sh leaves nothing when it is stopped", ended.returncode == 1 and not os.listdir(room))
     for name in ("a b", "a*c", "axc"):
         open(os.path.join(room, name), "w", encoding="ascii").close()
     complete = 'source "$0"; COMP_WORDS=(solve_cli alone a); COMP_CWORD=2; _solve_cli; printf "%s\\n" "${COMPREPLY[@]}"'
-    ended = subprocess.run(["bash", "-c", complete, f"{folder}/opt/{files[2]}"], cwd=room, capture_output=True, text=True)
-    expect("files are completed", sorted(ended.stdout.splitlines()) == ["a b", "a*c", "axc"])
-    helped = complete.replace("alone a)", "help so)")
-    ended = subprocess.run(["bash", "-c", helped, f"{folder}/opt/{files[2]}"], cwd=room, capture_output=True, text=True)
-    expect("help completes commands", ended.stdout.split() == ["solve"])
+    completions = f"{folder}/opt/share/bash-completion/completions/solve_cli"
+    completed = subprocess.run(["bash", "-c", complete, completions], cwd=room, capture_output=True, text=True)
+    expect("files are completed", sorted(completed.stdout.splitlines()) == ["a b", "a*c", "axc"])
+    completed = subprocess.run(["bash", "-c", complete.replace("alone a)", "help so)"), completions], cwd=room, capture_output=True, text=True)
+    expect("help completes commands", completed.stdout.split() == ["solve"])
     environment = {**os.environ, "DESTDIR": folder, "CDPATH": TOP}
     ended = subprocess.run(["sh", "scripts/install.sh", "/path"], cwd=TOP, env=environment, capture_output=True, text=True)
-    expect("install.sh with CDPATH", ended.returncode == 0 and os.path.isfile(os.path.join(folder, "path", files[0])))
+    expect("install.sh with CDPATH", ended.returncode == 0 and os.path.isfile(os.path.join(folder, "path", INSTALLED[0])))
     for words in ([""], ["-h"], ["/opt", "/usr"]):
-        ended = subprocess.run(["sh", script, *words], env={**os.environ, "DESTDIR": folder}, capture_output=True, text=True)
+        ended = install(folder, *words)
         expect(f"install.sh {words} is refused", ended.returncode == 2 and ended.stderr.startswith("usage: "))
 
 
@@ -358,6 +433,7 @@ def main() -> int:
     parser.add_argument("program", nargs="?", metavar="PROGRAM", default=SOLVE_CLI, help="the built program")
     PROGRAM = os.path.abspath(parser.parse_args().program)
     want_program(PROGRAM)
+    want_command("cc")
     os.environ["ZARFEPOCH"] = PROGRAM
     with tempfile.TemporaryDirectory() as folder:
         examples(folder)
@@ -365,11 +441,12 @@ def main() -> int:
         many_visits(folder)
         timed(folder)
         installing(os.path.join(folder, "dest"))
+        installing_again(os.path.join(folder, "dest"))
+        options_of_solve(folder)
     from_python()
     helps()
     failing_outputs()
     progress()
-    options_of_solve()
     command_line()
     return trial.end()
 
