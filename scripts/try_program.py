@@ -182,7 +182,7 @@ def progress() -> None:
 
 
 def search_of_years(folder: str) -> str:
-    """A file whose search nobody sees the end of."""
+    """A file whose search by one thread nobody sees the end of."""
     path, names, by_chance = os.path.join(folder, "long"), [str(place) for place in range(180)], random.Random(1)
     with open(path, "w", encoding="ascii") as file:
         # (a cover may be among so few triples, but nobody finds it soon)

@@ -1,6 +1,7 @@
 """Problems of exact covering, as items and options of Python, and how the program answers them."""
 from __future__ import annotations
 
+import math
 import os
 import subprocess
 from collections.abc import Hashable, Iterable, Iterator
@@ -12,6 +13,8 @@ from .errors import (
     ColoredPrimary, NoAnswer, OutOfMemory, ProblemError, ProgramError, RepeatedItem, TimeIsUp, TooLarge, UncleanAudit, UnknownItem)
 from .programs import find_program
 
+# the program takes a limit of at most a million seconds
+MOST_SECONDS = 999_999
 # a limit of so many seconds is none: Python waits for a program 24 days at most
 LONGEST = 2_000_000
 
@@ -192,8 +195,10 @@ class Problem:
         if limit is not None and not limit > 0:
             raise TimeIsUp(f"no answer after {seconds} seconds")
         text = self._numbered_text(lines)
+        # (a program whose Python was killed ends by itself, a second after it should have)
+        own = ["--seconds", str(math.ceil(limit) + 1)] if limit is not None and limit < MOST_SECONDS and words[0] != "why" else []
         try:
-            ran = subprocess.run([find_program(), *words], input=text, capture_output=True, timeout=limit)
+            ran = subprocess.run([find_program(), *words, *own], input=text, capture_output=True, timeout=limit)
         except subprocess.TimeoutExpired:
             raise TimeIsUp(f"no answer after {seconds} seconds") from None
         except OSError as why:
