@@ -6,7 +6,7 @@
 The examples of the package and those of python/README.md are run as they stand. Of random problems, with items that aren't texts, secondary items
 and colours, each answer is compared with a plain search. Problems are written and read again. Then the package is installed into an environment of
 its own, without a network and as an archive too, and the examples are run there: from another folder, without HOME, with the program on the path
-alone. A killed Python leaves no file behind. A line says how long a call takes, over 200 calls.
+alone. A killed Python leaves no file behind, and its program ends. A line says how long a call takes, over 200 calls.
 
 It wants the program: (cd crates/solve_cli && rt run -- --version) builds it. The last line is 'N passed, M failed'. The exit status is 0 where all
 passed, 1 where something failed, 2 for a mistake on the command line or where there is no program.
@@ -217,9 +217,18 @@ def installed(folder: str) -> None:
     expect("installed to be edited", ran(python, "-c", CALL, cwd=elsewhere).rstrip().endswith(ours))
 
 
+def is_alone(group: int) -> bool:
+    """Whether no process of this group is left."""
+    try:
+        os.killpg(group, 0)
+    except ProcessLookupError:
+        return True
+    return False
+
+
 def killed(folder: str) -> None:
-    """A Python that is killed while the program searches leaves no file behind."""
-    code = "import sys; sys.path.insert(0, sys.argv[1]); import try_python; print(flush=True); try_python.langford(17).solve()"
+    """A Python that is killed while the program searches leaves no file behind, and no program for longer than a second more than it had."""
+    code = "import sys; sys.path.insert(0, sys.argv[1]); import try_python; print(flush=True); try_python.langford(17).solve(2)"
     words, environment = [sys.executable, "-c", code, os.path.join(TOP, "scripts")], {**os.environ, "TMPDIR": folder}
     with subprocess.Popen(words, stdout=subprocess.PIPE, env=environment, cwd=folder, start_new_session=True) as run:
         assert run.stdout
@@ -228,6 +237,11 @@ def killed(folder: str) -> None:
         run.send_signal(signal.SIGKILL)
         run.wait()
         expect("no file is left", os.listdir(folder) == [])
+        expect("the program searches", not is_alone(run.pid))
+        until = time.monotonic() + 30
+        while not is_alone(run.pid) and time.monotonic() < until:
+            time.sleep(0.1)
+        expect("the program has ended", is_alone(run.pid))
         with contextlib.suppress(ProcessLookupError):
             os.killpg(run.pid, signal.SIGKILL)
 
