@@ -60,7 +60,7 @@ fn siblings(alloc: Global, serials: [u32; 2]) -> Result<Body, AllocError> {
     })
 }
 
-/// Children: two attempts at one, and two pairs that share one.
+/// Children: two attempts at one, and three pairs, of which each shares one with the next.
 fn gifts(alloc: Global) -> Result<Script, AllocError> {
     let mut script = Script::new(alloc);
     for body in [
@@ -69,6 +69,7 @@ fn gifts(alloc: Global) -> Result<Script, AllocError> {
         gift(alloc, 7, 1),
         siblings(alloc, [8, 9])?,
         siblings(alloc, [9, 10])?,
+        siblings(alloc, [10, 11])?,
         gift(alloc, 8, 1),
         gift(alloc, 10, 1),
     ] {
@@ -134,7 +135,7 @@ fn members(alloc: Global) -> Result<Script, AllocError> {
 fn what_was_entered_is_heard_once(rt: HostRuntime) -> Result<(), Fail> {
     let alloc = rt.alloc();
     for (script, heard) in [
-        (gifts(alloc)?, 4),
+        (gifts(alloc)?, 5),
         (others(alloc)?, 6 * TIMES),
         (members(alloc)?, 3),
     ] {
