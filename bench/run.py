@@ -29,6 +29,8 @@ HERE = os.path.dirname(os.path.abspath(__file__))
 sys.path.insert(0, os.path.join(HERE, "..", "scripts"))
 from built import number_from_one, parser_of, SOLVE_CLI, stop, want_command, want_program  # noqa: E402
 
+# less time than this counts as this, in seconds: the system counts no less
+LEAST = 0.0005
 HEADER = "dancing_links_c.h"
 INSTALLED = "/usr/lib/python3/dist-packages/sage/combinat/matrices"
 
@@ -102,7 +104,7 @@ def main() -> None:
             outcome, visits, (ours, baseline, *sage) = compare([[SOLVE_CLI, "alone"], *peers], file, given.times)
             name = os.path.basename(file).removesuffix(".dlx")
             theirs = min(baseline, *sage) if sage else baseline
-            ratio = ours / theirs if theirs > 0.01 else None
+            ratio = max(ours, LEAST) / theirs if theirs > 0.01 else None
             if ratio:
                 ratios.append((visits > 100000, ratio))
             cells = [name, outcome, f"{visits:,}", f"{baseline:.3f}", f"{sage[0]:.3f}" if sage else "-", f"{ours:.3f}"]
