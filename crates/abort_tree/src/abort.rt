@@ -11,7 +11,7 @@ use std::alloc::{AllocError, Global};
 
 /// Aborts each open unit below the given one, and appends those that were out, by serial.
 ///
-/// The only error is want of memory, which changes nothing: all memory is taken before the first abort. It costs a walk
+/// The only error is out of memory, which changes nothing: all memory is taken before the first abort. It costs a walk
 /// down to what is below the unit, a sort of the serials found, and two passes through them, however many other units
 /// there are.
 pub fn abort_below(

@@ -34,7 +34,7 @@ impl Model for Reach {
 }
 
 impl Reach {
-    /// Finds what is below the units: their children, and what is below these. The only error is want of memory.
+    /// Finds what is below the units: their children, and what is below these. The only error is out of memory.
     ///
     /// It costs a look for each unit and for each own child below them, and a sort of their serials, however many others
     /// there are. What is below two of the units is looked at twice.

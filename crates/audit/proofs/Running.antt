@@ -42,7 +42,7 @@ pub record Reaches (problem : Problem) (nodes : ℕ) (limits : ℕ → ℕ) (las
   pub plays : Plays problem start world run merged
   pub keeps : Keeps problem nodes limits lasts world left merged
 
--- the site's node holds its view, from which the rest of its book leads on, once it has begun anew if it must
+-- the site's node holds its view, from which the rest of its book leads on, once it has restarted if it must
 pub record Ready (problem : Problem) (nodes : ℕ) (limits : ℕ → ℕ) (lasts : ℕ → View) (start : World) (left : List Book) (merged : List SiteEntry) (k : ℕ) (site : Site) (entries : List Entry) : Type 0 where
   pub world : World
   pub run : Run problem start world
@@ -70,7 +70,7 @@ pub record SitesStay : Type 0 where
       → new.nodes ≡ old.nodes
 
 module _ (stay_so : SitesStay) (problem : Problem) (nodes : ℕ) (limits : ℕ → ℕ) (lasts : ℕ → View) (start : World) where
-  -- ---- a site begins anew
+  -- ---- a site restarts
 
   -- another book of the node whose next run begins
   left_behind : (names : ℕ) (view : View) (site other : Site) (entries : List Entry) (limit : ℕ) (last : View) → other.node ≡ site.node → view.site.incarnation < site.incarnation

@@ -21,7 +21,7 @@ pub fn branch(links: &Links) -> Branch
     }
 }
 
-/// Appends the live options of an uncovered item, in file order; at want of memory the list is as it was.
+/// Appends the live options of an uncovered item, in file order; if memory runs out, the list is as it was.
 pub fn children(links: &Links, item: u16, list: &mut Vec<u16>) -> Result<(), AllocError>
     requires item { item < length links.now.problem.names }
     requires uncovered { is_covered links.now.problem links.now.chosen item ≡ false }

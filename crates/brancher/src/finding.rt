@@ -130,7 +130,7 @@ impl Finding {
         }
     }
 
-    /// An equal finding; the only error is want of memory.
+    /// An equal finding; the only error is out of memory.
     pub fn copy(&self) -> Result<Finding, AllocError>
         ensures { IfOk result (λ copied. copied ≡ self.now) }
     {

@@ -21,14 +21,14 @@ use live_rows::LiveRows;
 use std::alloc::{AllocError, Global};
 
 impl<'a> Kernel<'a> {
-    /// Links of the problem; the only error is want of memory.
+    /// Links of the problem; the only error is out of memory.
     pub(crate) fn linked(alloc: Global, problem: &'a Problem) -> Result<Kernel<'a>, AllocError>
         ensures { IfOk result (λ kernel. (choices_in kernel).problem ≡ problem.now) }
     {
         Ok(Kernel::Links(Links::build(alloc, problem)?))
     }
 
-    /// Live rows over the tables' sets, or links where there are none; the only error is want of memory.
+    /// Live rows over the tables' sets, or links where there are none; the only error is out of memory.
     pub(crate) fn over(alloc: Global, tables: &'a Tables<'a>) -> Result<Kernel<'a>, AllocError>
         ensures { IfOk result (λ kernel. (choices_in kernel).problem ≡ tables.now) }
     {

@@ -47,7 +47,7 @@ impl<'a> Searcher<'a> {
     ghost use Rattle.brancher.specs.Finding.{finding_by};
     ghost use Rattle.brancher.specs.Visit.{outcome_told, IsVisit, took};
 
-    /// A search over the problem, by dancing links; the only error is want of memory.
+    /// A search over the problem, by dancing links; the only error is out of memory.
     pub fn new(alloc: Global, problem: &'a Problem) -> Result<Searcher<'a>, AllocError>
         ensures { IfOk result (λ s. s.problem ≡ problem.now) }
     {
@@ -155,7 +155,7 @@ impl<'a> Searcher<'a> {
     }
 
     /// Searches as `search` does, and copies out what it came to; `found` is the cover then, too. It takes the room for a
-    /// cover first: at want of memory nothing is searched, and the prefix comes back.
+    /// cover first: if memory runs out, nothing is searched, and the prefix comes back.
     pub fn find(&mut self, prefix: Vec<u16>, fuel: u64) -> Result<Finding, Vec<u16>>
         requires prefix { is_prefix self.old.problem prefix.items ≡ true }
         requires fuel { 1 ≤ fuel }
@@ -188,7 +188,7 @@ impl<'a> Searcher<'a> {
     }
 
     /// Searches as `find` does until the watch stops it; none where it did. With the finding it tells how many visits were made: all
-    /// those of a prefix without a cover, else the fuel. It takes the room for a cover first: at want of memory nothing is searched,
+    /// those of a prefix without a cover, else the fuel. It takes the room for a cover first: if memory runs out, nothing is searched,
     /// and the prefix comes back.
     pub fn find_until<W: Watch>(
         &mut self,

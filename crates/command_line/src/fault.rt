@@ -17,7 +17,7 @@ pub enum SettingsFault {
 }
 
 impl SettingsFault {
-    /// The exit status: 2 for words that are no command line, 0 where they ask for help or the version, 5 for want of memory.
+    /// The exit status: 2 for words that are no command line, 0 where they ask for help or the version, 5 if memory ran out.
     pub fn status(&self) -> u8
         ensures line { (error : Error) → self.now ≡ SettingsFault.Line error →
             IsLineStatus (kind_of error) result }

@@ -38,7 +38,7 @@ struct State<'a, E: Sink> {
 }
 
 impl<'a, E: Sink, R: Wait + Clock> FollowedRun<'a, E, R> {
-    /// A gate of a run that begins now and lasts so long at most, if it is limited. The only error is want of memory.
+    /// A gate of a run that begins now and lasts so long at most, if it is limited. The only error is out of memory.
     pub fn new(
         rt: &'a R,
         alloc: Global,

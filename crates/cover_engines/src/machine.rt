@@ -37,7 +37,7 @@ impl<N: Network, R: Threads + Wait + Clock + Sync> Machine<'_, N, R> {
     /// Reads a problem to its end, lets sites search it as the request has it, writes the answer, and with an audit what that found, and
     /// returns the exit status: 0 for a cover, 1 for none, 4 for no answer, 6 where the audit is unclean.
     ///
-    /// The other statuses are 3, where a device failed, the text is refused or no links could be had, and 5 for want of memory. Where
+    /// The other statuses are 3, where a device failed, the text is refused or no links could be had, and 5 if memory ran out. Where
     /// the sink failed a beginning of the text was written, else nothing. The links are had before any thread starts. The other
     /// sink is told what is wrong, how many options were ignored, and how far the search is, if the request has it so; a fault of it is
     /// passed over.
@@ -169,7 +169,7 @@ fn limit_of(request: &Request<'_>) -> Option<Duration> {
     Some(Duration::from_secs(u64::from(seconds)))
 }
 
-/// Tells that no links could be had, and returns the exit status: 5 for want of memory, else 3.
+/// Tells that no links could be had, and returns the exit status: 5 if memory ran out, else 3.
 fn tell_unlinked<E: Sink>(error: &io::Error, errors: &mut E) -> u8
     ensures { (result ≡ 3) ⊎ (result ≡ 5) }
 {

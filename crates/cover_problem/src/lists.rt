@@ -68,7 +68,7 @@ impl Name {
         &self.bytes
     }
 
-    /// An equal name; the only error is want of memory.
+    /// An equal name; the only error is out of memory.
     pub fn copy(&self) -> Result<Name, AllocError>
         ensures { IfOk result (λ name. name ≡ self.now) }
     {
@@ -137,7 +137,7 @@ impl Numbers {
         &self.numbers
     }
 
-    /// An equal list; the only error is want of memory.
+    /// An equal list; the only error is out of memory.
     pub fn copy(&self) -> Result<Numbers, AllocError>
         ensures { IfOk result (λ numbers. numbers ≡ self.now) }
     {

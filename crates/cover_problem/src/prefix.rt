@@ -123,7 +123,7 @@ pub fn in_file_order(problem: &Problem, options: &[u16]) -> bool
     are_options(problem, options) && ascends(options)
 }
 
-/// The options of the list in the order of the file, each of them once; the only error is want of memory.
+/// The options of the list in the order of the file, each of them once; the only error is out of memory.
 pub fn in_order(alloc: Global, problem: &Problem, chosen: &[u16]) -> Result<Numbers, AllocError>
     ensures options { IfOk result (λ options. options ≡ in_order problem.now chosen.now) }
     ensures order { IfOk result (InFileOrder problem.now) }

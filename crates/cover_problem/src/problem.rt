@@ -144,7 +144,7 @@ impl Problem {
         self.colour_names[colour as usize - 1].as_slice()
     }
 
-    /// An equal problem; the only error is want of memory.
+    /// An equal problem; the only error is out of memory.
     pub fn copy(&self) -> Result<Problem, AllocError>
         ensures { IfOk result (λ copied. copied ≡ self.now) }
     {

@@ -11,7 +11,7 @@ pub struct Bits {
 }
 
 impl Bits {
-    /// The empty set of numbers below a bound; the only error is want of memory.
+    /// The empty set of numbers below a bound; the only error is out of memory.
     pub fn empty(alloc: Global, bound: usize) -> Result<Bits, AllocError> {
         Ok(Bits {
             words: vec![in alloc; 0; bound / 64 + 1]?,

@@ -30,7 +30,7 @@ fn insert_from(items: &[u16], set: &Bits, into: &mut Bits) {
 }
 
 impl Demand {
-    /// Of each primary item no need; the only error is want of memory.
+    /// Of each primary item no need; the only error is out of memory.
     pub fn new(alloc: Global, problem: &Problem) -> Result<Demand, AllocError> {
         Ok(Demand {
             needs: Row::zeros(alloc, problem.primary())?,

@@ -95,7 +95,7 @@ fn factor_for(modulus: u8, pivot: Pivot, sum: u8) -> u8
 }
 
 impl Kernel {
-    /// Of each item a vector in which it alone weighs 1; the only error is want of memory.
+    /// Of each item a vector in which it alone weighs 1; the only error is out of memory.
     pub fn new(alloc: Global, modulus: u8, count: usize) -> Result<Kernel, AllocError> {
         let mut items = Vec::with_capacity(alloc, count)?;
         for item in 0..count {

@@ -26,7 +26,7 @@ pub struct Kind {
 }
 
 impl Kind {
-    /// A kind of no item; the only error is want of memory.
+    /// A kind of no item; the only error is out of memory.
     pub fn new(alloc: Global, problem: &Problem) -> Result<Kind, AllocError> {
         let items = problem.items();
         Ok(Kind {

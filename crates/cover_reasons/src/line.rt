@@ -11,7 +11,7 @@ pub struct Line {
 }
 
 impl Line {
-    /// So many zeros; the only error is want of memory.
+    /// So many zeros; the only error is out of memory.
     pub fn zeros(alloc: Global, count: usize) -> Result<Line, AllocError> {
         Ok(Line {
             numbers: vec![in alloc; 0; count]?,

@@ -32,7 +32,7 @@ pub struct Matching {
 }
 
 impl Matching {
-    /// A matching of nothing; the only error is want of memory.
+    /// A matching of nothing; the only error is out of memory.
     pub fn new(alloc: Global, problem: &Problem) -> Result<Matching, AllocError> {
         let items = problem.items();
         let primary = problem.primary();
@@ -180,7 +180,7 @@ impl Matching {
     }
 }
 
-/// Of each of so many items 1 where it is in the set, else 0; the only error is want of memory.
+/// Of each of so many items 1 where it is in the set, else 0; the only error is out of memory.
 pub fn ones_of(alloc: Global, count: usize, set: &Bits) -> Result<Row, AllocError> {
     let mut ones = Row::zeros(alloc, count)?;
     for item in 0..count {

@@ -17,7 +17,7 @@ pub struct Neighbours {
     coloured: Bits,
 }
 
-/// So many empty sets of numbers below a bound; the only error is want of memory.
+/// So many empty sets of numbers below a bound; the only error is out of memory.
 pub fn empty_sets(alloc: Global, count: usize, bound: usize) -> Result<Vec<Bits>, AllocError> {
     let mut sets = Vec::with_capacity(alloc, count)?;
     for _ in 0..count {
@@ -46,7 +46,7 @@ fn collect_primary(primary: usize, items: &[u16], set: &mut Bits) {
 }
 
 impl Neighbours {
-    /// What is known of a problem's items; the only error is want of memory.
+    /// What is known of a problem's items; the only error is out of memory.
     pub fn new(alloc: Global, problem: &Problem) -> Result<Neighbours, AllocError> {
         let items = problem.items();
         let mut neighbours = Neighbours {

@@ -17,7 +17,7 @@ const MODULI: [u8; 8] = [2, 3, 4, 8, 9, 5, 7, 16];
 /// A reason why the problem has no exact cover: too little room, or else weights modulo 2, 3, 4, 8, 9, 5, 7 or 16.
 ///
 /// Where it finds none there may be a cover or none. It takes memory of the order of the items' square, and time of the order of their
-/// cube. The only error is want of memory.
+/// cube. The only error is out of memory.
 pub fn find_reason(alloc: Global, problem: &Problem) -> Result<Option<Reason>, AllocError>
     ensures holds { IfOk result (λ found.
         IfSome found (λ reason. holds_of problem.now reason ≡ true)) }

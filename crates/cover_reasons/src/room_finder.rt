@@ -22,7 +22,7 @@ const MOST_STEPS: usize = 20_000_000;
 /// each of whose options names some of it; or of one side, as the dark squares of a board, for the items of the other.
 ///
 /// Where it finds none there may be a cover or none. It looks at some 20,000,000 items of options at most, each option's items counted as
-/// often as it looks at them, and takes memory of the order of the items' square. The only error is want of memory.
+/// often as it looks at them, and takes memory of the order of the items' square. The only error is out of memory.
 pub fn find_room(alloc: Global, problem: &Problem) -> Result<Option<Room>, AllocError>
     ensures { IfOk result (λ found. IfSome found (λ room. is_too_little problem.now room ≡ true)) }
 {
@@ -73,7 +73,7 @@ fn bare_room(
 }
 
 /// The items in the order in which their kinds are looked at: secondary ones first, and of these the ones that stand beside most primary
-/// items; the only error is want of memory.
+/// items; the only error is out of memory.
 fn seeds(
     alloc: Global,
     problem: &Problem,

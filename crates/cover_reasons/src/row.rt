@@ -11,7 +11,7 @@ pub struct Row {
 }
 
 impl Row {
-    /// So many zeros; the only error is want of memory.
+    /// So many zeros; the only error is out of memory.
     pub fn zeros(alloc: Global, count: usize) -> Result<Row, AllocError> {
         Ok(Row {
             numbers: vec![in alloc; 0; count]?,

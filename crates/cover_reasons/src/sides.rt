@@ -37,7 +37,7 @@ pub fn are_pairs(problem: &Problem) -> bool {
 }
 
 impl Sides {
-    /// Sides of nothing; the only error is want of memory.
+    /// Sides of nothing; the only error is out of memory.
     pub fn new(alloc: Global, problem: &Problem) -> Result<Sides, AllocError> {
         let items = problem.items();
         let primary = problem.primary();

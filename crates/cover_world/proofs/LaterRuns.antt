@@ -1,4 +1,4 @@
--- The run in which nodes begin anew while the root is out.
+-- The run in which nodes restart while the root is out.
 use Rattle.std.proofs.Common.{[], ◌∷◌, inl, inr, refl, slice_set, arith}
 use Rattle.std.proofs.lemmas.Option.{none-some}
 use Rattle.cover_problem.specs.Examples.{bare}
@@ -21,7 +21,7 @@ s2 =
     acts s1 0 (Deliver root_steal) Moved _ _ _ refl (0, refl)
     (refl, omega arith, (refl, inr (gives_first root_entry refl refl refl)))
 
--- the second node begins anew
+-- the second node restarts
 abbrev pub s3 : Stage bare
 s3 = record {
   end = record { sites = slice_set s2.end.sites 2 (opening_node 2 2 2 9); sent = s2.end.sent };
@@ -81,7 +81,7 @@ s9 =
 abbrev pub s10 : Stage bare
 s10 = acts s9 1 (Deliver no_work) Ignored _ _ _ refl (7, refl) (refl, (refl, omega arith, (refl, (refl, refl))))
 
--- the thief begins anew
+-- the thief restarts
 abbrev pub s11 : Stage bare
 s11 = record {
   end = record { sites = slice_set s10.end.sites 1 (opening_node 2 1 2 9); sent = s10.end.sent };

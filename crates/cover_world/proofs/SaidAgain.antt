@@ -22,7 +22,7 @@ redoable lost k entry thief is out gone = each_of_one (λ c. c.attempt < last_at
 abbrev pub s1 : Stage bare
 s1 = acts (opening bare) 2 Greet Moved _ _ _ refl tt (refl, (refl, refl, refl))
 
--- the second node begins anew
+-- the second node restarts
 abbrev pub s2 : Stage bare
 s2 = record {
   end = record { sites = slice_set s1.end.sites 2 (opening_node 2 2 2 9); sent = s1.end.sent };

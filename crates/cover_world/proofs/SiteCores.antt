@@ -198,7 +198,7 @@ pub node_refuses : (problem : Problem) (view : View) (event : Event) (node : ℕ
 node_refuses problem view event zero l = absurd (omega (arith, l))
 node_refuses problem view event (suc node) l = refl
 
--- ---- a node that begins anew
+-- ---- a node that restarts
 
 -- where there is a node's view there is its core
 pub within : (registry : SiteCore) (nodes : List SiteCore) (node : ℕ) (view : View) → 0 < node → slice_get (views_of registry nodes) node ≡ Some view

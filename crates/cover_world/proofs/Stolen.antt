@@ -227,7 +227,7 @@ late16 =
     acts late15 0 (Deliver late_return) Moved _ _ _ refl (6, refl)
     (refl, omega arith, (refl, (Enters, refl, ((refl, counted), refl, refl))))
 
--- the second node begins anew
+-- the second node restarts
 abbrev pub anew11 : Stage small
 anew11 = record {
   end = record { sites = slice_set s10.end.sites 2 (opening_node 2 2 2 9); sent = s10.end.sent };

@@ -45,7 +45,7 @@ module _ (problem : Problem) (old new : World) where
       }
   makes (Err fault) node event was_sent h = tt
 
-  -- a node begins anew
+  -- a node restarts
   pub makes_anew : (node incarnation limit : ℕ) → BeginsAnew old.sites node incarnation limit new.sites → new.sent ≡ old.sent
       → Makes problem old (Restarts node incarnation limit) Moved new
   makes_anew node incarnation limit h kept = record {

@@ -67,7 +67,7 @@ pub record ActsAt (problem : Problem) (old : List View) (node : ℕ) (event : Ev
 abbrev pub Appends : List Packet → List Packet → (List Packet → Type 0) → Type 0
 Appends old new P = (out : List Packet) × (new ≡ old ++ out) × P out
 
--- A node begins anew, under a greater incarnation.
+-- A node restarts, under a greater incarnation.
 pub record BeginsAnew (old : List View) (node incarnation limit : ℕ) (new : List View) : Type 0 where
   pub before : View
   pub is : slice_get old node ≡ Some before

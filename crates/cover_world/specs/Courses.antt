@@ -24,7 +24,7 @@ opening_core problem nodes = record { problem = problem; world = opening_world n
 
 -- ---- one event
 
--- what a step answers: the reply of its site, and of a node that begins anew that something changed
+-- what a step answers: the reply of its site, and of a node that restarts that something changed
 abbrev pub reply_of : (problem : Problem) (old : World) (move : WorldMove) (new : World) → WorldStep problem old move new → Reply
 reply_of problem old (Acts node event) new step = step.reply
 reply_of problem old (Restarts node incarnation limit) new step = Moved

@@ -63,11 +63,11 @@ present (Some view) = view.site.incarnation
 abbrev pub last_incarnation : ℕ
 last_incarnation = 4294967295
 
--- whether the node may begin anew: restarts are left, and incarnations too
+-- whether the node may restart: restarts are left, and incarnations too
 abbrev pub may_restart : ℕ → ℕ → Bool
 may_restart restarts incarnation = nat_lt 0 restarts && not (incarnation == last_incarnation)
 
--- the node begins anew, if it may; else any site says all again
+-- the node restarts, if it may; else any site says all again
 abbrev pub restart_or_again : ℕ → ℕ → ℕ → ℕ → Lcg → Drawn WorldEvent
 restart_or_again nodes node restarts incarnation rng =
     if may_restart restarts incarnation then (Restart node (suc incarnation), rng) else again_any nodes rng

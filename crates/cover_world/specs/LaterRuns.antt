@@ -1,4 +1,4 @@
--- A run in which nodes begin anew while the root is out: first a node that hasn't got it, and then the thief.
+-- A run in which nodes restart while the root is out: first a node that hasn't got it, and then the thief.
 use Rattle.std.specs.Prelude.{List, [], ◌∷◌}
 use Rattle.cover_world.specs.Plays.{site0, site1, site1_again, site2_again}
 use Rattle.cover_world.specs.Worlds.{Acts, Restarts, WorldMove}

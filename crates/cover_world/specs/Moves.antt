@@ -66,7 +66,7 @@ abbrev pub acting_refusal : Problem → Option View → ℕ → Event → Option
 acting_refusal problem None node event = Some faults.NoSuchNode
 acting_refusal problem (Some view) node event = option_map faults.Core (site_refusal node problem view event)
 
--- a node that there is begins anew under a greater incarnation, and the registry never does
+-- a node that there is restarts under a greater incarnation, and the registry never does
 abbrev pub restart_refusal : Option View → ℕ → ℕ → Option WorldFault
 restart_refusal None node incarnation = Some faults.NoSuchNode
 restart_refusal (Some view) node incarnation =
@@ -112,7 +112,7 @@ abbrev pub world_answer : Result Reply ActFault → Result Reply WorldFault
 world_answer (Ok reply) = Ok reply
 world_answer (Err fault) = Err (world_fault fault)
 
--- what a fault tells of the refusal: which it is, and want of memory that there is none
+-- what a fault tells of the refusal: which it is, and that memory ran out, that there is none
 abbrev pub FaultTells : WorldFault → Option WorldFault → Type 0
 FaultTells faults.Memory refusal = refusal ≡ None
 FaultTells fault refusal = refusal ≡ Some fault
@@ -122,7 +122,7 @@ abbrev pub AnswerTells : {A : Type 0} → Result A WorldFault → Option WorldFa
 AnswerTells (Ok answer) refusal = refusal ≡ None
 AnswerTells (Err fault) refusal = FaultTells fault refusal
 
--- the same where memory is taken before the event is tested: want of memory tells nothing
+-- the same where memory is taken before the event is tested: that it ran out tells nothing
 abbrev pub FaultMayTell : WorldFault → Option WorldFault → Type 0
 FaultMayTell faults.Memory refusal = ⊤
 FaultMayTell fault refusal = refusal ≡ Some fault

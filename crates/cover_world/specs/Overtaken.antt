@@ -1,4 +1,4 @@
--- A run in which the root is given out anew, and both thieves settle on the result of the second.
+-- A run in which the root is redone, and both thieves settle on the result of the second.
 use Rattle.std.specs.Prelude.{List, [], ◌∷◌}
 use Rattle.cover_problem.specs.Problem.{Problem, uncoloured}
 use Rattle.cover_problem.specs.Search.{Covers, Spent}

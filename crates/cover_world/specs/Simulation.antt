@@ -64,7 +64,7 @@ Turns problem fuel (suc turns) old new = (middle : Simulation) × Turns problem 
 abbrev pub next_run : Option View → ℕ
 next_run site = min (suc (present site)) last_incarnation
 
--- a node begins anew
+-- a node restarts
 abbrev pub begin_anew : World → ℕ → WorldEvent
 begin_anew world node = Restart node (next_run (slice_get world.sites node))
 
@@ -72,7 +72,7 @@ begin_anew world node = Restart node (next_run (slice_get world.sites node))
 abbrev pub deliver_last : World → WorldEvent
 deliver_last world = Deliver (length world.sent - 1)
 
--- A node begins anew and greets, and is heard.
+-- A node restarts and greets, and is heard.
 pub record Greets (problem : Problem) (node : ℕ) (old new : World) : Type 0 where
   pub anew : World
   pub begins : Tries problem old (begin_anew old node) anew
@@ -110,7 +110,7 @@ pub record Searches (problem : Problem) (old new : World) : Type 0 where
   pub searches : SearchesJob problem (looked_up here_job (slice_get taken.sites 1)) taken searched
   pub heard : Tries problem searched (deliver_last searched) new
 
--- All nodes begin anew and greet; then the first one asks for work and searches it.
+-- All nodes restart and greet; then the first one asks for work and searches it.
 pub record Closes (problem : Problem) (old new : World) : Type 0 where
   pub greeted : World
   pub greet : AllGreet problem (node_count old) old greeted

@@ -102,7 +102,7 @@ late_events =
     ∷ Acts 0 (Deliver late_return)
     ∷ []
 
--- ---- another end: the thief begins anew before its result comes
+-- ---- another end: the thief restarts before its result comes
 
 -- the second node greets in its second run
 abbrev pub anew_hello : Packet

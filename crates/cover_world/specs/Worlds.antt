@@ -36,7 +36,7 @@ opening_nodes nodes node (limit ∷ limits) = opening_node nodes node 1 limit �
 abbrev pub opening_world : ℕ → List ℕ → World
 opening_world nodes limits = record { sites = opening_registry nodes ∷ opening_nodes nodes 1 limits; sent = [] }
 
--- a move of the world: a site has an event, or a node begins anew in this run with this limit on names
+-- a move of the world: a site has an event, or a node restarts in this run with this limit on names
 pub data WorldMove : Type 0 where
   Acts : (node : ℕ) → (event : Event) → WorldMove
   Restarts : (node incarnation limit : ℕ) → WorldMove
@@ -62,7 +62,7 @@ pub record SiteActs (problem : Problem) (old : World) (node : ℕ) (event : Even
   pub step : SiteStep node problem before event reply out after
   pub world : new ≡ record { sites = slice_set old.sites node after; sent = old.sent ++ out }
 
--- a node begins anew, under a greater incarnation
+-- a node restarts, under a greater incarnation
 pub record SiteRestarts (old : World) (node incarnation limit : ℕ) (new : World) : Type 0 where
   pub before : View
   pub is : slice_get old.sites node ≡ Some before

@@ -20,7 +20,7 @@ fn pick(rng: &mut Pcg32, bound: usize) -> usize
 
 impl<'a> World<'a> {
     /// Draws an event by the generator's next words: a delivery, more often of a packet sent lately, or something that a node
-    /// does of itself. Searches have this fuel; nodes begin anew only while restarts are left. It takes no memory.
+    /// does of itself. Searches have this fuel; nodes restart only while restarts are left. It takes no memory.
     ///
     /// Two words say what kind of event it is and at which node; a third one is drawn only where a packet or a second
     /// node is to be picked.
@@ -108,7 +108,7 @@ impl<'a> World<'a> {
         WorldEvent::Ask(node, pick(rng, self.nodes() as usize + 1) as u8)
     }
 
-    /// A child that is out is given out anew; where there is none, the node says all again.
+    /// A child that is out is redone; where there is none, the node says all again.
     fn redo_or_again(&self, node: u8) -> WorldEvent
         ensures { result ≡ redo_or_again node (first_out_at (slice_get self.now.world.sites node)) }
     {
@@ -118,7 +118,7 @@ impl<'a> World<'a> {
         }
     }
 
-    /// The node begins anew, while restarts and incarnations are left; else any site says all again.
+    /// The node restarts, while restarts and incarnations are left; else any site says all again.
     fn restart_or_again(&self, rng: &mut Pcg32, node: u8, restarts_left: u32) -> WorldEvent
         requires { node < length self.now.world.sites }
         ensures { (result, rng.new) ≡ restart_or_again

@@ -89,7 +89,7 @@ pub fn no_such_victim()
         NodeRefuses problem view (Ask victim) }
 {}
 
-/// Only a child that is out is given out anew, and not after its last attempt.
+/// Only a child that is out is redone, and not after its last attempt.
 pub fn redo_of_no_use()
     ensures not_out { (problem : Problem) (view : View) (serial : ℕ) → (IsOut view serial → ⊥) →
         NodeRefuses problem view (Redo serial) }

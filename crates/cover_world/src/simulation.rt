@@ -15,10 +15,10 @@ use rand_pcg::Pcg32;
 use std::alloc::AllocError;
 
 /// Lets a world go on by chance: draws events, so many at most, until an answer is published; each is tried, and passed over
-/// where it is refused. So many restarts are drawn at most. Where nothing is published then, every node begins anew and
+/// where it is refused. So many restarts are drawn at most. Where nothing is published then, every node restarts and
 /// greets the registry, and the first one asks it for work and searches that with the greatest fuel.
 ///
-/// The only error is want of memory; the world then stands where it was met, at the end of a run from where it began.
+/// The only error is out of memory; the world then stands where it was met, at the end of a run from where it began.
 #[tactic(auto, using(crate::proofs::Reached::goes_on))]
 pub fn simulate(
     world: &mut World,
@@ -104,7 +104,7 @@ fn left_after(restarts: u32, event: WorldEvent) -> u32
     }
 }
 
-/// Lets an event happen, or passes it over where it is refused; the only error is want of memory.
+/// Lets an event happen, or passes it over where it is refused; the only error is out of memory.
 #[tactic(auto, using(crate::proofs::Simulating::passed_nodes, crate::proofs::Reached::passed_run, crate::proofs::Reached::same_run))]
 fn attempt(world: &mut World, event: WorldEvent) -> Result<(), AllocError>
     ensures problem { world.new.problem ≡ world.old.problem }
@@ -129,7 +129,7 @@ fn deliver_last(world: &mut World) -> Result<(), AllocError>
     attempt(world, WorldEvent::Deliver(world.sent().saturating_sub(1)))
 }
 
-/// All nodes begin anew and greet; then the first one asks for work and searches it.
+/// All nodes restart and greet; then the first one asks for work and searches it.
 #[tactic(auto, using(crate::proofs::Reached::goes_on))]
 fn close(world: &mut World) -> Result<(), AllocError>
     ensures problem { world.new.problem ≡ world.old.problem }
@@ -141,7 +141,7 @@ fn close(world: &mut World) -> Result<(), AllocError>
     search(world)
 }
 
-/// Every node begins anew and greets, one after another.
+/// Every node restarts and greets, one after another.
 #[tactic(auto, using(crate::proofs::Reached::goes_on))]
 fn all_greet(world: &mut World) -> Result<(), AllocError>
     ensures problem { world.new.problem ≡ world.old.problem }
@@ -155,7 +155,7 @@ fn all_greet(world: &mut World) -> Result<(), AllocError>
     Ok(())
 }
 
-/// A node begins anew and greets, and is heard.
+/// A node restarts and greets, and is heard.
 #[tactic(auto, using(crate::proofs::Reached::goes_on))]
 fn greet(world: &mut World, node: u8) -> Result<(), AllocError>
     requires { node < length world.old.world.sites }

@@ -115,7 +115,7 @@ impl<'a> Sites<'a> {
         world_answer(self.nodes[place].act(event, out))
     }
 
-    /// A node begins anew under a greater incarnation.
+    /// A node restarts under a greater incarnation.
     pub fn restart(&mut self, node: u8, incarnation: u32) -> Result<(), WorldFault>
         ensures problem { self.new.problem ≡ self.old.problem }
         ensures begins { OnOk result

@@ -57,7 +57,7 @@ impl<'a> Model for World<'a> {
 }
 
 impl<'a> World<'a> {
-    /// The registry and 1 to 16 nodes, all in their first run, and nothing sent. The only error is want of memory.
+    /// The registry and 1 to 16 nodes, all in their first run, and nothing sent. The only error is out of memory.
     pub fn start(alloc: Global, problem: &'a Problem, nodes: u8) -> Result<World<'a>, AllocError>
         requires some { 1 ≤ nodes }
         requires most { nodes ≤ LAST_NODE }
@@ -72,10 +72,10 @@ impl<'a> World<'a> {
         })
     }
 
-    /// Lets one event happen, and answers what its site does; a node that begins anew answers `Moved`.
+    /// Lets one event happen, and answers what its site does; a node that restarts answers `Moved`.
     ///
     /// The first of these that holds is the fault: `NoSuchPacket`, where no packet of that number was sent; `NoSuchNode`,
-    /// where the node that acts or begins anew isn't there; `OldIncarnation`, where the registry would begin anew, or a
+    /// where the node that acts or restarts isn't there; `OldIncarnation`, where the registry would restart, or a
     /// node under an incarnation that isn't above its present one; `Core`, where the site refuses the event. A job that
     /// isn't the site's is refused before anything is searched for. `Memory` comes only where memory ran out, and where no
     /// other fault is due; only for the search of a job and for the copy of a packet memory is taken before the rest is
@@ -117,7 +117,7 @@ impl<'a> World<'a> {
 
     /// Lets the events happen in order, and answers how many of them were steps; each that is refused is passed over.
     ///
-    /// At want of memory, the only error, it stops before that event: the events before it were taken.
+    /// If memory runs out, the only error, it stops before that event: the events before it were taken.
     pub fn run(&mut self, events: &[WorldEvent]) -> Result<usize, Starved>
         ensures problem { self.new.problem ≡ self.old.problem }
         ensures taken { IfOk result (λ done.
@@ -149,7 +149,7 @@ impl<'a> World<'a> {
         Ok(done)
     }
 
-    /// Lets one event happen, or passes it over where it is refused: whether it was a step. The only error is want of memory.
+    /// Lets one event happen, or passes it over where it is refused: whether it was a step. The only error is out of memory.
     #[tactic(auto, using(crate::proofs::WorldSteps::event_may_tell))]
     pub(crate) fn pass(&mut self, event: WorldEvent) -> Result<bool, WorldFault>
         ensures problem { self.new.problem ≡ self.old.problem }
@@ -294,7 +294,7 @@ impl<'a> World<'a> {
         self.act(packet.to.node, Event::Deliver(packet))
     }
 
-    /// A node begins anew.
+    /// A node restarts.
     fn restart(&mut self, node: u8, incarnation: u32) -> Result<Reply, WorldFault>
         ensures problem { self.new.problem ≡ self.old.problem }
         ensures step { IfOk result (λ reply.

@@ -12,7 +12,7 @@ pub enum WorldEvent {
     Finish(u8, Unit),
     /// This node asks the other one for work.
     Ask(u8, u8),
-    /// The own child of this serial at this node is given out anew.
+    /// The own child of this serial at this node is redone.
     Redo(u8, u32),
     /// This node says again what may have been lost.
     Again(u8),
@@ -21,6 +21,6 @@ pub enum WorldEvent {
     /// The packet of this number, of all that were ever sent, from 0, comes to the present site of the node
     /// that it is for.
     Deliver(usize),
-    /// This node begins anew under this incarnation.
+    /// This node restarts under this incarnation.
     Restart(u8, u32),
 }

@@ -14,11 +14,11 @@ pub enum WorldFault {
     NoSuchNode,
     /// No packet of that number was ever sent.
     NoSuchPacket,
-    /// The incarnation isn't above the node's present one, or it is the registry that would begin anew.
+    /// The incarnation isn't above the node's present one, or it is the registry that would restart.
     OldIncarnation,
-    /// The site refuses the event, for another cause than want of memory.
+    /// The site refuses the event, for another cause than that memory ran out.
     Core(ActFault),
-    /// Memory is wanting.
+    /// Memory ran out.
     Memory,
 }
 

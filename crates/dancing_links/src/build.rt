@@ -9,7 +9,7 @@ use crate::layout::Layout;
 use crate::link::Link;
 use std::alloc::{AllocError, Global};
 
-/// The links of all nodes, each in its column; the only error is want of memory.
+/// The links of all nodes, each in its column; the only error is out of memory.
 pub fn build_links(alloc: Global, layout: &Layout) -> Result<Vec<Link>, AllocError>
     requires { IsTable layout.now }
     ensures { IfOk result (λ links. IsBuilt layout.now links.items) }

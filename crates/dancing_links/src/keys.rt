@@ -19,7 +19,7 @@ const COVERED: u32 = 2_147_483_648;
 /// How many keys a step looks at.
 const AT_A_TIME: usize = 8;
 
-/// The keys of all items while no node is out; the only error is want of memory.
+/// The keys of all items while no node is out; the only error is out of memory.
 pub fn build_keys(alloc: Global, layout: &Layout) -> Result<Vec<u32>, AllocError>
     requires { IsTable layout.now }
     ensures { IfOk result (λ keys. IsKeyed layout.now [] keys.items) }

@@ -42,7 +42,7 @@ impl Model for Layout {
         (columns_by l.heads l.tails l.places.items l.options.items l.first.items) };
 }
 
-/// The layout of a problem; the only error is want of memory.
+/// The layout of a problem; the only error is out of memory.
 pub fn layout_of(alloc: Global, problem: &Problem) -> Result<Layout, AllocError>
     ensures { IfOk result (λ layout. layout ≡ table problem.now) }
 {

@@ -75,7 +75,7 @@ impl<'a> Model for Links<'a> {
 }
 
 impl<'a> Links<'a> {
-    /// The links of a problem in which nothing is chosen; the only error is want of memory.
+    /// The links of a problem in which nothing is chosen; the only error is out of memory.
     pub fn build(alloc: Global, problem: &'a Problem) -> Result<Links<'a>, AllocError>
         ensures problem { IfOk result (λ links. links.problem ≡ problem.now) }
         ensures chosen { IfOk result (λ links. links.chosen ≡ []) }

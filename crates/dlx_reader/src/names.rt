@@ -49,7 +49,7 @@ impl<'a> Names<'a> {
         }
     }
 
-    /// The names of a problem's items. The only error is want of memory.
+    /// The names of a problem's items. The only error is out of memory.
     pub fn of_problem(alloc: Global, problem: &'a Problem) -> Result<Names<'a>, AllocError>
         ensures names { IfOk result (λ names. names ≡ problem.now.names) }
         ensures problem { IsProblem problem.now }
@@ -61,7 +61,7 @@ impl<'a> Names<'a> {
         Ok(names)
     }
 
-    /// The names of a problem's colours. The only error is want of memory.
+    /// The names of a problem's colours. The only error is out of memory.
     pub fn of_colours(alloc: Global, problem: &'a Problem) -> Result<Names<'a>, AllocError>
         ensures names { IfOk result (λ names. names ≡ problem.now.colour_names) }
         ensures problem { IsProblem problem.now }
@@ -113,7 +113,7 @@ impl<'a> Names<'a> {
         self.item_named(word).is_some()
     }
 
-    /// Adds a name that is new. The only error is want of memory, and the names are then as before.
+    /// Adds a name that is new. The only error is out of memory, and the names are then as before.
     pub fn push(&mut self, alloc: Global, word: &'a [u8]) -> Result<(), AllocError>
         requires fresh { is_among self.old word.now ≡ false }
         requires room { length self.old < MOST_COLOURS }

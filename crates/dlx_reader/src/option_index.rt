@@ -183,7 +183,7 @@ impl<'a> OptionIndex<'a> {
 
     /// Adds the lowest option with this key that isn't among the options yet, if there is one, and answers it.
     ///
-    /// The only error is want of memory, and the options are then as before.
+    /// The only error is out of memory, and the options are then as before.
     pub fn take(&mut self, key: &[u16]) -> Result<Option<u16>, AllocError>
         ensures problem { self.new.problem ≡ self.old.problem }
         ensures some { IfOk result (λ taken.

@@ -23,7 +23,7 @@ pub struct Levels {
 }
 
 impl Levels {
-    /// Room for all levels, and that of the empty prefix; the only error is want of memory.
+    /// Room for all levels, and that of the empty prefix; the only error is out of memory.
     pub fn build(alloc: Global, sets: &OptionSets) -> Result<Levels, AllocError>
         ensures { IfOk result (λ levels. AreLevels sets.now [] levels) }
     {
@@ -87,7 +87,7 @@ impl Levels {
     }
 }
 
-/// Room for the live options of so many levels, in the first of them all options. The only error is want of memory.
+/// Room for the live options of so many levels, in the first of them all options. The only error is out of memory.
 fn first_live(alloc: Global, sets: &OptionSets, levels: usize) -> Result<Vec<u64>, AllocError>
     requires some { words_of sets.now ≤ levels * words_of sets.now }
     requires small { levels * words_of sets.now ≤ 1000000 }

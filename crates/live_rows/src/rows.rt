@@ -50,7 +50,7 @@ impl<'a> Model for LiveRows<'a> {
 }
 
 impl<'a> LiveRows<'a> {
-    /// The live options of a problem in which nothing is chosen; the only error is want of memory.
+    /// The live options of a problem in which nothing is chosen; the only error is out of memory.
     pub fn build(alloc: Global, sets: &'a OptionSets<'a>) -> Result<LiveRows<'a>, AllocError>
         ensures problem { IfOk result (λ rows. rows.problem ≡ sets.now) }
         ensures chosen { IfOk result (λ rows. rows.chosen ≡ []) }

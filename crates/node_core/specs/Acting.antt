@@ -27,7 +27,7 @@ use Rattle.steal_return.specs.Shares.{chosen}
 abbrev pub StepOf : Type 1
 StepOf = Problem → View → Event → Reply → List Packet → View → Type 0
 
--- a fault but want of memory, which is none of the machine's
+-- a fault but that memory ran out, which is none of the machine's
 abbrev pub named_fault : ActFault → Option ActFault
 named_fault Memory = None
 named_fault fault = Some fault

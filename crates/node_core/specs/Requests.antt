@@ -1,4 +1,4 @@
--- What a site does of itself: it asks for work, gives a child out anew, and says again what may be lost.
+-- What a site does of itself: it asks for work, redoes a child, and says again what may be lost.
 use Rattle.std.specs.Prelude.{◌≡◌, ◌≢◌, ℕ, suc, ◌≤◌, List, [], ◌∷◌, ◌++◌, Option, Some, None, slice_index}
 use Rattle.node_core.specs.Results.{return_packets}
 use Rattle.node_core.specs.SiteView.{View, with_ledger}
@@ -33,7 +33,7 @@ pub record AskStep (old : View) (victim : ℕ) (out : List Packet) (new : View) 
   pub after : new ≡ old
   pub sends : out ≡ record { from = old.site; to = known_site old victim; body = Steal } ∷ []
 
--- A child that is out is given out anew.
+-- A child that is out is redone.
 pub record RedoStep (old : View) (serial : ℕ) (out : List Packet) (new : View) : Type 0 where
   pub ledger : Ledger
   pub redoes : RedoesChild old.ledger serial ledger

@@ -15,7 +15,7 @@ pub enum ActFault {
     NotOpen,
     /// The frame to be finished isn't settled.
     NotSettled,
-    /// The child to be given out anew isn't out.
+    /// The child to be redone isn't out.
     NotOut,
     /// The packet is for another site or from a node that there isn't, or the victim is the site's
     /// own node or one that there isn't, or the registry is asked for what only nodes do.
@@ -24,7 +24,7 @@ pub enum ActFault {
     Over,
     /// The names for new children, or the attempts of a child to be redone, are used up.
     NamesSpent,
-    /// Memory is wanting.
+    /// Memory ran out.
     Memory,
     /// The cover that would enter doesn't count right. Only the registry says so.
     BadCover,

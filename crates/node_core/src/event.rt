@@ -16,7 +16,7 @@ pub enum Event {
     Finish(Unit),
     /// The site asks another node for work.
     Ask(u8),
-    /// The own child of this serial is given out anew.
+    /// The own child of this serial is redone.
     Redo(u32),
     /// A packet arrives.
     Deliver(Packet),
@@ -27,7 +27,7 @@ pub enum Event {
 }
 
 impl Event {
-    /// An equal event; the only error is want of memory.
+    /// An equal event; the only error is out of memory.
     pub fn copy(&self) -> Result<Event, AllocError>
         ensures { IfOk result (λ copied. copied ≡ self.now) }
     {

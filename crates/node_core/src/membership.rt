@@ -43,7 +43,7 @@ impl SiteState {
         }
     }
 
-    /// What is told where memory is wanting: that the incarnations can't be learnt comes first.
+    /// What is told if memory runs out: that the incarnations can't be learnt comes first.
     fn learning_fault(&self, incarnations: &[u32]) -> ActFault
         ensures { named_fault result ≡ members_refusal self.now incarnations.now }
     {

@@ -49,7 +49,7 @@ impl<'a> NodeCore<'a> {
     ghost use Rattle.node_core.specs.Acting.{opening_core};
 
     /// A node that begins, one of 1 to 16, in a run from 1 on: it has no units yet, knows the first run of the registry and of
-    /// every node, and may name so many children. The only error is want of memory.
+    /// every node, and may name so many children. The only error is out of memory.
     pub fn start(
         alloc: Global,
         problem: &'a Problem,

@@ -87,7 +87,7 @@ impl Outgoing {
         (packets, copies)
     }
 
-    /// Makes room for so many packets more in each list; the only error is want of memory.
+    /// Makes room for so many packets more in each list; the only error is out of memory.
     pub fn reserve(&mut self, more: usize) -> Result<(), AllocError>
         ensures same { Sends self.old [] self.new }
         ensures room { OnOk result (more ≤ self.new.room) }
@@ -99,7 +99,7 @@ impl Outgoing {
         Ok(())
     }
 
-    /// A packet for each list; the only error is want of memory.
+    /// A packet for each list; the only error is out of memory.
     pub fn load(&self, packet: Packet) -> Result<Load, AllocError>
         ensures { IfOk result (IsLoad self.now.both packet) }
     {
@@ -136,7 +136,7 @@ impl Outgoing {
         }
     }
 
-    /// Puts a packet into each list; the only error is want of memory, and the lists are then as they were.
+    /// Puts a packet into each list; the only error is out of memory, and the lists are then as they were.
     pub fn send(&mut self, packet: Packet) -> Result<(), AllocError>
         ensures ok { OnOk result (Sends self.old (packet ∷ []) self.new) }
         ensures err { OnErr result (Sends self.old [] self.new) }

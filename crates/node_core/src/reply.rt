@@ -20,7 +20,7 @@ pub enum Reply {
 }
 
 impl Reply {
-    /// An equal reply; the only error is want of memory.
+    /// An equal reply; the only error is out of memory.
     pub fn copy(&self) -> Result<Reply, AllocError>
         ensures { IfOk result (λ copied. copied ≡ self.now) }
     {

@@ -1,4 +1,4 @@
-//! What a site does of itself: it asks for work, greets, and gives a child out anew.
+//! What a site does of itself: it asks for work, greets, and redoes a child.
 
 ghost use Rattle.std.specs.Prelude.{◌≡◌, ◌<◌, ◌∷◌, [], length, slice_get, IfOk, None, OnErr, OnOk};
 ghost use Rattle.node_core.specs.Acting.{refusal_told, Answered, MaySend};

@@ -12,7 +12,7 @@ use std::alloc::{AllocError, Global};
 const MOST_KEPT: usize = 8192;
 
 /// Of each option the set of those that it leaves, one behind the other, or of a large problem an empty list. The only error is
-/// want of memory.
+/// out of memory.
 pub fn kept_sets(alloc: Global, tables: &Tables) -> Result<Vec<u64>, AllocError>
     ensures { IfOk result (λ kept. AreKept tables.now kept.items) }
 {

@@ -9,7 +9,7 @@ use crate::row::Row;
 use cover_problem::Problem;
 use std::alloc::{AllocError, Global};
 
-/// So many empty sets; the only error is want of memory.
+/// So many empty sets; the only error is out of memory.
 fn empty_rows(alloc: Global, count: usize) -> Result<Vec<Row>, AllocError>
     ensures { IfOk result (λ rows. rows.items ≡ replicate count []) }
 {
@@ -20,7 +20,7 @@ fn empty_rows(alloc: Global, count: usize) -> Result<Vec<Row>, AllocError>
     Ok(rows)
 }
 
-/// Of each item the options that name it; the only error is want of memory.
+/// Of each item the options that name it; the only error is out of memory.
 pub fn rows_of_items(alloc: Global, problem: &Problem) -> Result<Vec<Row>, AllocError>
     ensures { IfOk result
         (λ rows. AreRowsOf problem.now.options (length problem.now.names) rows.items) }
@@ -44,7 +44,7 @@ fn add_items(rows: &mut [Row], option: u16, items: &[u16]) -> Result<(), AllocEr
     Ok(())
 }
 
-/// Of each tint the options that have it, by the tints of each option; the only error is want of memory.
+/// Of each tint the options that have it, by the tints of each option; the only error is out of memory.
 pub fn rows_of_tints(alloc: Global, count: usize, lists: &[Tints]) -> Result<Vec<Row>, AllocError>
     requires few { length lists.now < 65536 }
     requires inside { All (λ tints. All (λ t. t < count) tints) lists.now }

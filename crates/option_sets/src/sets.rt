@@ -40,7 +40,7 @@ impl<'a> Model for OptionSets<'a> {
 }
 
 impl<'a> OptionSets<'a> {
-    /// The sets of a problem; the only error is want of memory.
+    /// The sets of a problem; the only error is out of memory.
     pub fn build(alloc: Global, problem: &'a Problem) -> Result<OptionSets<'a>, AllocError>
         ensures { IfOk result (λ sets. sets ≡ problem.now) }
     {
@@ -117,7 +117,7 @@ impl<'a> OptionSets<'a> {
     }
 }
 
-/// The primary items of each option; the only error is want of memory.
+/// The primary items of each option; the only error is out of memory.
 fn primary_items(alloc: Global, problem: &Problem) -> Result<Vec<Numbers>, AllocError>
     ensures { IfOk result (λ named. named.items
         ≡ map (primary_of problem.now) (range_with_len 0 (length problem.now.options))) }
@@ -129,7 +129,7 @@ fn primary_items(alloc: Global, problem: &Problem) -> Result<Vec<Numbers>, Alloc
     Ok(lists)
 }
 
-/// The primary items of an option, in its order; the only error is want of memory.
+/// The primary items of an option, in its order; the only error is out of memory.
 fn primary_items_of(alloc: Global, problem: &Problem, option: u16) -> Result<Numbers, AllocError>
     requires { option < length problem.now.options }
     ensures { IfOk result (λ items. items ≡ primary_of problem.now option) }

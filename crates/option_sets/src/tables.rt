@@ -37,7 +37,7 @@ impl<'a> Model for Tables<'a> {
 }
 
 impl<'a> Tables<'a> {
-    /// The tables of a problem; the only error is want of memory.
+    /// The tables of a problem; the only error is out of memory.
     pub fn build(alloc: Global, problem: &'a Problem) -> Result<Tables<'a>, AllocError>
         ensures { IfOk result (λ tables. tables ≡ problem.now) }
     {

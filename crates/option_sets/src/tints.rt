@@ -61,7 +61,7 @@ impl Numbering {
         self.keys.len()
     }
 
-    /// The number of a key, which is given one if it has none. The only error is want of memory.
+    /// The number of a key, which is given one if it has none. The only error is out of memory.
     fn number(&mut self, key: u32) -> Result<u32, AllocError>
         requires { length self.old < 4294967296 }
         ensures number { IfOk result (IsNumberOf self.new key) }
@@ -83,7 +83,7 @@ impl Numbering {
     }
 }
 
-/// The tints of each option, and their keys. The only error is want of memory.
+/// The tints of each option, and their keys. The only error is out of memory.
 pub fn tints_of(alloc: Global, problem: &Problem) -> Result<(Vec<Tints>, Numbering), AllocError>
     ensures tints { IfOk result (λ tints. AreTints problem.now tints.1 tints.0.items) }
     ensures lawful { IfOk result (λ _. IsProblem problem.now) }
@@ -99,7 +99,7 @@ pub fn tints_of(alloc: Global, problem: &Problem) -> Result<(Vec<Tints>, Numberi
     Ok((lists, numbering))
 }
 
-/// The tints of an option with these items and colours. The only error is want of memory.
+/// The tints of an option with these items and colours. The only error is out of memory.
 fn tints_of_option(
     alloc: Global,
     numbering: &mut Numbering,

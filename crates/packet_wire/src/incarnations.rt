@@ -66,7 +66,7 @@ impl Incarnations {
         &self.numbers
     }
 
-    /// An equal list; the only error is want of memory.
+    /// An equal list; the only error is out of memory.
     pub fn copy(&self) -> Result<Incarnations, AllocError>
         ensures { IfOk result (λ copied. copied ≡ self.now) }
     {

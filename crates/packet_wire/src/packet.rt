@@ -72,7 +72,7 @@ pub enum Body {
 }
 
 impl Body {
-    /// An equal body; the only error is want of memory.
+    /// An equal body; the only error is out of memory.
     pub fn copy(&self) -> Result<Body, AllocError>
         ensures { IfOk result (λ copied. copied ≡ self.now) }
     {
@@ -99,7 +99,7 @@ impl Packet {
         self == other
     }
 
-    /// An equal packet; the only error is want of memory.
+    /// An equal packet; the only error is out of memory.
     pub fn copy(&self) -> Result<Packet, AllocError>
         ensures { IfOk result (λ copied. copied ≡ self.now) }
     {

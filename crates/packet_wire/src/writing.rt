@@ -252,7 +252,7 @@ fn spelling_of(alloc: Global, packet: &Packet) -> Result<Vec<u8>, AllocError>
 /// the result, or the cause from 1 to 3. A list of options has its count and each number in two bytes; a result is the byte 0
 /// for none, or 1 and the list of the cover. The highest byte of a number is first.
 ///
-/// The only error is want of memory. The list is then as it was.
+/// The only error is out of memory. The list is then as it was.
 pub fn write_packet(alloc: Global, packet: &Packet, out: &mut Vec<u8>) -> Result<(), AllocError>
     requires { is_well_formed packet.now ≡ true }
     ensures written { OnOk result (out.new.items ≡ out.old.items ++ spelling packet.now) }

@@ -120,7 +120,7 @@ fn room_text(alloc: Global, problem: &Problem, room: &Room) -> Result<Vec<u8>, A
     Ok(text)
 }
 
-/// The text of a reason; the only error is want of memory.
+/// The text of a reason; the only error is out of memory.
 pub fn text_of(alloc: Global, problem: &Problem, reason: &Reason) -> Result<Vec<u8>, AllocError>
     ensures { IfOk result (λ text. text.items ≡ reason_text problem.now reason.now) }
 {

@@ -14,7 +14,7 @@ use packet_wire::{Body, Incarnations};
 use spawn_frame::Site;
 use std::alloc::{AllocError, Global};
 
-/// The runs of the nodes once it is learnt that one of them runs so; the only error is want of memory.
+/// The runs of the nodes once it is learnt that one of them runs so; the only error is out of memory.
 fn raised_runs(alloc: Global, runs: &[u32], from: Site) -> Result<Vec<u32>, AllocError>
     requires some { 1 ≤ from.node }
     requires there { from.node < length runs.now }
@@ -34,7 +34,7 @@ fn later_of(first: u32, second: u32) -> u32
     first.max(second)
 }
 
-/// Tells every node which runs there will be; the only error is want of memory.
+/// Tells every node which runs there will be; the only error is out of memory.
 fn send_members(state: &SiteState, from: Site, out: &mut Outgoing) -> Result<(), AllocError>
     requires most { state.now.nodes ≤ LAST_NODE }
     requires some { 1 ≤ from.node }

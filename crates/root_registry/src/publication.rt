@@ -58,7 +58,7 @@ impl<'a> Publication<'a> {
     }
 }
 
-/// A result as an answer, with the options of a cover in the order of the file; the only error is want of memory.
+/// A result as an answer, with the options of a cover in the order of the file; the only error is out of memory.
 pub fn answer_of(
     alloc: Global,
     problem: &Problem,

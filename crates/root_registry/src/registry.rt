@@ -47,7 +47,7 @@ impl<'a> Registry<'a> {
     ghost use Rattle.root_registry.specs.Core.{opening_registry_core};
 
     /// The registry that begins, of 1 to 16 nodes: it has the root alone, which is ready, and knows the first run of
-    /// every node. The only error is want of memory.
+    /// every node. The only error is out of memory.
     pub fn start(alloc: Global, problem: &'a Problem, nodes: u8) -> Result<Registry<'a>, AllocError>
         requires some { 1 ≤ nodes }
         requires most { nodes ≤ LAST_NODE }

@@ -12,7 +12,7 @@ use packet_wire::{Body, Packet};
 use spawn_frame::Site;
 use std::alloc::AllocError;
 
-/// Sends this body to each of the nodes from 1 on, whose runs these are; the only error is want of memory.
+/// Sends this body to each of the nodes from 1 on, whose runs these are; the only error is out of memory.
 pub(crate) fn send_to_each(
     from: Site,
     body: &Body,
@@ -47,7 +47,7 @@ fn send_to_node(
     out.send(Packet { from, to, body })
 }
 
-/// Tells each node that the search is over; the only error is want of memory.
+/// Tells each node that the search is over; the only error is out of memory.
 pub(crate) fn send_over(state: &SiteState, out: &mut Outgoing) -> Result<(), AllocError>
     requires { state.now.nodes ≤ LAST_NODE }
     ensures ok { OnOk result (Sends out.old (over_packets state.now) out.new) }
@@ -60,7 +60,7 @@ pub(crate) fn send_over(state: &SiteState, out: &mut Outgoing) -> Result<(), All
     send_to_each(state.site(), &body, &ledger.runs()[1..], out)
 }
 
-/// Tells each node that the search is over, if it is; the only error is want of memory.
+/// Tells each node that the search is over, if it is; the only error is out of memory.
 pub(crate) fn send_over_again(state: &SiteState, out: &mut Outgoing) -> Result<(), AllocError>
     requires { state.now.nodes ≤ LAST_NODE }
     ensures ok { OnOk result

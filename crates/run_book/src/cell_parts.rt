@@ -31,7 +31,7 @@ impl Model for CellParts {
 }
 
 impl CellParts {
-    /// A new table of receipts, and a new ledger of seats. The only error is want of memory.
+    /// A new table of receipts, and a new ledger of seats. The only error is out of memory.
     pub fn new(alloc: Global) -> Result<CellParts, AllocError> {
         let (carrier, keeper) = Carrier::ruled(alloc, 1)?;
         Ok(CellParts {

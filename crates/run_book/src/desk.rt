@@ -312,7 +312,7 @@ fn run<C: Core>(
     })
 }
 
-/// A core's fault as one of a book: want of memory is the same here.
+/// A core's fault as one of a book: that memory ran out is the same here.
 fn of_core(fault: ActFault) -> BookFault
     ensures told { (many limit : ℕ) → many < limit → IsTold result many limit }
     ensures fault { fault_told result ≡ named_fault fault }

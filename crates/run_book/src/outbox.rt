@@ -66,7 +66,7 @@ impl Model for Outbox {
 }
 
 impl Outbox {
-    /// An empty outbox and its one drain. The only error is want of memory.
+    /// An empty outbox and its one drain. The only error is out of memory.
     pub fn new(alloc: Global) -> Result<(Outbox, Drain), AllocError>
         ensures drain { IfOk result (λ made. made.1 ≡ record { outbox = made.0; taken = [] }) }
     {

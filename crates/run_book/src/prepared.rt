@@ -64,7 +64,7 @@ impl Prepared {
 }
 
 impl AnswerRoom {
-    /// The room for what comes of this event. The only error is want of memory.
+    /// The room for what comes of this event. The only error is out of memory.
     fn new(alloc: Global, event: &Event) -> Result<AnswerRoom, AllocError>
         ensures { IfOk result (λ room. room_for event.now ≤ vec_capacity room.prefix) }
     {

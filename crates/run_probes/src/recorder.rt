@@ -36,7 +36,7 @@ impl<L: Link> Link for Recorder<L> {
 
     fn send<R: Wait>(&mut self, rt: &R, to: u8, bytes: &[u8]) -> Result<(), LinkFault> {
         if let Ok(packet) = read_packet(self.alloc, bytes) {
-            // (what is not kept for want of memory is missed by the test)
+            // (what is not kept because memory ran out is missed by the test)
             let _ = self.sent.lock(rt).push(packet);
         }
         self.inner.send(rt, to, bytes)

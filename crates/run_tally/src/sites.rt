@@ -77,7 +77,7 @@ fn tally_of(entries: &[Entry]) -> Tally {
     tally
 }
 
-/// The links of so many sites. The only error is want of memory.
+/// The links of so many sites. The only error is out of memory.
 fn links(alloc: Global, sites: u8) -> Result<Vec<MemoryLink>, AllocError>
     ensures { IfOk result (λ links. vec_len links ≡ sites) }
 {
@@ -89,7 +89,7 @@ fn links(alloc: Global, sites: u8) -> Result<Vec<MemoryLink>, AllocError>
     Ok(links)
 }
 
-/// Lets sites search a problem; the only error is want of memory.
+/// Lets sites search a problem; the only error is out of memory.
 pub fn run_over_memory<R: Threads + Wait + Clock + Sync>(
     rt: &R,
     alloc: Global,

@@ -4,7 +4,7 @@ use Rattle.search_engines.specs.declared.engine.EngineEnd.{EngineEnd}
 use Rattle.search_engines.specs.declared.fault.EngineFault.{EngineFault}
 use Rattle.search_engines.specs.declared.fault.EngineFault.TheVariants as faults
 
--- 3 for a refused file or a failed device, 5 for want of memory
+-- 3 for a refused file or a failed device, 5 if memory ran out
 abbrev pub fault_status : EngineFault → ℕ
 fault_status faults.Read = 3
 fault_status (faults.File fault) = 3

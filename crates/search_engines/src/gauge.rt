@@ -35,7 +35,7 @@ impl<'a> Gauge<'a> {
     /// What the whole tree counts for.
     pub const WHOLE: u64 = 1_000_000_000_000_000_000;
 
-    /// A gauge for searches of the problem; the only error is want of memory.
+    /// A gauge for searches of the problem; the only error is out of memory.
     pub fn new(alloc: Global, problem: &'a Problem) -> Result<Gauge<'a>, AllocError> {
         Ok(Gauge {
             links: Links::build(alloc, problem)?,

@@ -177,7 +177,7 @@ pub struct ProgressWatch<'a, E: Sink, C: Clock> {
 }
 
 impl<'a, E: Sink, C: Clock> ProgressWatch<'a, E, C> {
-    /// A watch over a search that begins now and has so much fuel. The only error is want of memory.
+    /// A watch over a search that begins now and has so much fuel. The only error is out of memory.
     pub fn new(
         clock: &'a C,
         alloc: Global,

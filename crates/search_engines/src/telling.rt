@@ -42,7 +42,7 @@ pub fn tell_unopened<E: Sink>(name: &str, kind: ErrorKind, sink: &mut E) -> u8
 }
 
 /// Tells why an engine stopped, and answers the exit status: 3 for a file that is refused or a device that failed,
-/// 5 for want of memory. A fault of the sink is passed over.
+/// 5 if memory ran out. A fault of the sink is passed over.
 pub fn tell_fault<E: Sink>(fault: &EngineFault, sink: &mut E) -> u8
     ensures { result ≡ fault_status fault.now }
 {

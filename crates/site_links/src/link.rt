@@ -34,7 +34,7 @@ pub trait Link: Drop {
         ensures { failed self.new ≡ failed self.old }
     {}
 
-    /// A second value on the same end, which has not failed yet. The only error is want of memory.
+    /// A second value on the same end, which has not failed yet. The only error is out of memory.
     fn twin(&self) -> Result<Self, AllocError>
     where
         Self: Sized,

@@ -17,7 +17,7 @@ pub struct Wires {
 }
 
 impl Wires {
-    /// Nothing is on its way to so many sites. The only error is want of memory.
+    /// Nothing is on its way to so many sites. The only error is out of memory.
     pub fn new(alloc: Global, sites: u8) -> Result<Wires, AllocError> {
         let mut queues = Vec::new(alloc);
         for _ in 0..sites {

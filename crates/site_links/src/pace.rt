@@ -50,7 +50,7 @@ pub struct Pace {
 
 impl Pace {
     /// The pace of a worker before its first search: a first search has so many visits (0 counts as 1), it is alone or not, and no
-    /// prefix is longer than so many options. The only error is want of memory.
+    /// prefix is longer than so many options. The only error is out of memory.
     pub fn new(alloc: Global, base: u64, alone: bool, longest: usize) -> Result<Pace, AllocError> {
         let mut expected = Vec::with_capacity(alloc, longest)?;
         for _ in 0..longest {

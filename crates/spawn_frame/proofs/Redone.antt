@@ -1,4 +1,4 @@
--- A child that was out is given out anew.
+-- A child that was out is redone.
 use Rattle.std.proofs.Common.{◌≡◌, ℕ, suc, ◌+◌, true, false, List, map, Option, is_some, refl, sym, ap, arith}
 use Rattle.std.proofs.lemmas.Bool.{false≢true}
 use Rattle.spawn_frame.specs.Frames.{cover_of}

@@ -3,7 +3,7 @@
 pub enum Cause {
     /// The child is wanted no more.
     Aborted,
-    /// The child was given out anew, or the result is not of the site that has it.
+    /// The child was redone, or the result is not of the site that has it.
     Superseded,
     /// There is no such child, or it never was at that attempt.
     Unknown,

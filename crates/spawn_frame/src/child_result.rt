@@ -13,7 +13,7 @@ pub enum ChildResult {
 }
 
 impl ChildResult {
-    /// An equal result; the only error is want of memory.
+    /// An equal result; the only error is out of memory.
     pub fn copy(&self) -> Result<ChildResult, AllocError>
         ensures { IfOk result (λ copied. copied ≡ self.now) }
     {

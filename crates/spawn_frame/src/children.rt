@@ -57,7 +57,7 @@ impl Children {
         }
     }
 
-    /// The root alone; the only error is want of memory.
+    /// The root alone; the only error is out of memory.
     pub fn with_root(alloc: Global) -> Result<Children, AllocError>
         ensures { IfOk result (λ children. children ≡ root_child ∷ []) }
     {
@@ -93,7 +93,7 @@ impl Children {
     }
 
     /// Puts the children of a unit behind those that are there: for each option one with this prefix and the option. The
-    /// only error is want of memory, which changes no child. It takes memory for whole pages, before any change, and none
+    /// only error is out of memory, which changes no child. It takes memory for whole pages, before any change, and none
     /// where the last page has room.
     pub fn append(&mut self, unit: Unit, path: &Path, options: &[u16]) -> Result<(), AllocError>
         requires { length self.old + length options.now < 2 ^ 32 }

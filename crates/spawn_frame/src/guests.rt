@@ -88,7 +88,7 @@ impl Guests {
         None
     }
 
-    /// Puts an open guest at a place; those from there on move by one. The only error is want of memory, which changes
+    /// Puts an open guest at a place; those from there on move by one. The only error is out of memory, which changes
     /// nothing: it is taken before any change.
     pub fn insert(&mut self, place: usize, guest: Guest) -> Result<(), AllocError>
         requires within { place ≤ length self.old }

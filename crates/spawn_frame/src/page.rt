@@ -40,7 +40,7 @@ impl Model for Page {
 }
 
 impl Page {
-    /// A page without children; the only error is want of memory.
+    /// A page without children; the only error is out of memory.
     pub fn new(alloc: Global) -> Result<Page, AllocError>
         ensures { IfOk result (λ page. page ≡ []) }
     {

@@ -15,7 +15,7 @@ use crate::wanted::Wanted;
 use std::alloc::{AllocError, Global};
 
 /// Makes sure that there are so many pages at least; those that are there stay, and new ones have no children. The only
-/// error is want of memory.
+/// error is out of memory.
 pub fn add_pages(alloc: Global, pages: &mut Vec<Page>, end: usize) -> Result<(), AllocError>
     requires { AreFilled pages.old.items }
     ensures filled { AreFilled pages.new.items }

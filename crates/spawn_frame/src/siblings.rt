@@ -86,7 +86,7 @@ impl Siblings {
         &self.items
     }
 
-    /// An equal list; the only error is want of memory.
+    /// An equal list; the only error is out of memory.
     pub fn copy(&self) -> Result<Siblings, AllocError>
         ensures { IfOk result (λ copied. copied ≡ self.now) }
     {

@@ -3,7 +3,7 @@
 /// The greatest number of a node; 0 is the registry's.
 pub const LAST_NODE: u8 = 16;
 
-/// The last attempt, after which no child is given out anew: the greatest number that a packet can tell.
+/// The last attempt, after which no child is redone: the greatest number that a packet can tell.
 pub const LAST_ATTEMPT: Attempt = 4_294_967_295;
 
 /// One run of one node: each start of a node has a greater incarnation.
@@ -24,5 +24,5 @@ pub struct ChildName {
     pub serial: u32,
 }
 
-/// How often a child was given out anew: from 1, and one more for each redo.
+/// How often a child was redone: from 1, and one more for each redo.
 pub type Attempt = u32;

@@ -85,7 +85,7 @@ impl Status {
         )
     }
 
-    /// An equal status; the only error is want of memory.
+    /// An equal status; the only error is out of memory.
     pub fn copy(&self) -> Result<Status, AllocError>
         ensures { IfOk result (λ copied. copied ≡ self.now) }
     {

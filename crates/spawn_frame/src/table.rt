@@ -84,7 +84,7 @@ impl Table {
         }
     }
 
-    /// The registry's table at the beginning, with the root; the only error is want of memory.
+    /// The registry's table at the beginning, with the root; the only error is out of memory.
     pub fn with_root(alloc: Global) -> Result<Table, AllocError>
         ensures { IfOk result (λ table. table ≡ root_table) }
     {
@@ -216,7 +216,7 @@ impl Table {
         Some(&work.status)
     }
 
-    /// Appends a unit's prefix to the list; the only error is want of memory, and the list is then as it was. It costs
+    /// Appends a unit's prefix to the list; the only error is out of memory, and the list is then as it was. It costs
     /// a step for each option of own children, a look for the guest above them, and its prefix.
     pub fn prefix_into(&self, unit: Unit, list: &mut Vec<u16>) -> Result<(), AllocError>
         requires { IsSome (unit_of self.now unit) }
@@ -463,7 +463,7 @@ impl Table {
         Ok(())
     }
 
-    /// Other children of a site become ready guests, each unless it is there already; the only error is want of memory, which
+    /// Other children of a site become ready guests, each unless it is there already; the only error is out of memory, which
     /// changes nothing. Each costs what `admit` does.
     pub fn admit_each(&mut self, from: Site, gifts: Vec<Gift>) -> Result<(), AllocError>
         requires { AllByRecursion (λ g. 1 ≤ g.attempt) gifts.items }

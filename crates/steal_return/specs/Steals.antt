@@ -1,4 +1,4 @@
--- Children that are given to thieves, and given out anew (steals and redo of Cilk-NOW).
+-- Children that are given to thieves, and redone (steals and redo of Cilk-NOW).
 use Rattle.std.specs.Prelude.{◌≡◌, ◌≢◌, ◌⊎◌, ℕ, ◌<◌, ◌≤◌, Bool, true, false, List, [], ◌∷◌, length, Option, Some, None, slice_get, slice_index, nat_lt}
 use Rattle.std.specs.List.{position_from}
 use Rattle.spawn_frame.specs.Gifts.{rise_from, serials_of}

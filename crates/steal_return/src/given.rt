@@ -23,7 +23,7 @@ pub enum Given {
 }
 
 impl Given {
-    /// Each child that is given, with its whole prefix; the only error is want of memory.
+    /// Each child that is given, with its whole prefix; the only error is out of memory.
     pub fn into_gifts(self, alloc: Global) -> Result<Vec<Gift>, AllocError>
         ensures { IfOk result (λ gifts. gifts.items ≡ gifts_of self) }
     {

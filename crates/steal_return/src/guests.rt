@@ -10,7 +10,7 @@ use crate::known::Known;
 use spawn_frame::{Attempt, ChildName, GuestView, Table, Unit};
 use std::alloc::{AllocError, Global};
 
-/// The open guests of owners of which a later run is known; the only error is want of memory. It costs a pass through
+/// The open guests of owners of which a later run is known; the only error is out of memory. It costs a pass through
 /// the open guests.
 pub fn lost_guests(alloc: Global, table: &Table, known: &Known) -> Result<Vec<Unit>, AllocError>
     ensures lost { IfOk result (λ lost. lost.items ≡ lost_units known.now table.now.guests) }

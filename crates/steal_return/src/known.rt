@@ -30,7 +30,7 @@ impl Model for Known {
 }
 
 impl Known {
-    /// The first run of the registry and of each of so many nodes; the only error is want of memory.
+    /// The first run of the registry and of each of so many nodes; the only error is out of memory.
     pub fn start(alloc: Global, nodes: u8) -> Result<Known, AllocError>
         requires { nodes ≤ LAST_NODE }
         ensures { IfOk result (λ known. known ≡ replicate (suc nodes) 1) }
@@ -142,7 +142,7 @@ fn later_of(first: u32, second: u32) -> u32
     first.max(second)
 }
 
-/// All known runs then; the only error is want of memory.
+/// All known runs then; the only error is out of memory.
 fn later_runs(
     alloc: Global,
     known: &[u32],

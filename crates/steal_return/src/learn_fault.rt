@@ -8,7 +8,7 @@ use std::alloc::AllocError;
 /// Why incarnations aren't learnt.
 #[derive(Clone, Copy, Debug, PartialEq, Eq)]
 pub enum LearnFault {
-    /// A child that would have to be given out anew stands at its last attempt, 4,294,967,295.
+    /// A child that would have to be redone stands at its last attempt, 4,294,967,295.
     NamesSpent,
     /// Memory ran out.
     Memory,

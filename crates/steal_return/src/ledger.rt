@@ -69,7 +69,7 @@ impl Model for Ledger {
 
 impl Ledger {
     /// The ledger of a node that begins, one of so many: no units, and the first run known of the registry and of every
-    /// node. It may name so many children. The only error is want of memory.
+    /// node. It may name so many children. The only error is out of memory.
     pub fn start(
         alloc: Global,
         site: Site,
@@ -91,7 +91,7 @@ impl Ledger {
     }
 
     /// The registry's ledger when the search of so many nodes begins: the root alone, and the first run known of every
-    /// node. The only error is want of memory.
+    /// node. The only error is out of memory.
     pub fn with_root(alloc: Global, nodes: u8) -> Result<Ledger, AllocError>
         requires some { 1 ≤ nodes }
         requires most { nodes ≤ LAST_NODE }
@@ -205,7 +205,7 @@ impl Ledger {
         Ok(())
     }
 
-    /// What a settled frame came to; the only error is want of memory. It costs looks for the unit and for the child that
+    /// What a settled frame came to; the only error is out of memory. It costs looks for the unit and for the child that
     /// has the cover, and the copy of it.
     pub fn frame_result(&self, unit: Unit) -> Result<ChildResult, AllocError>
         requires split { has_status is_split (unit_of self.now.table unit) ≡ true }
@@ -247,7 +247,7 @@ impl Ledger {
         Some(share_with(&self.table, serial))
     }
 
-    /// What a thief is told of children that may be given together; the only error is want of memory.
+    /// What a thief is told of children that may be given together; the only error is out of memory.
     pub fn given(&self, serials: &[u32]) -> Result<Given, AllocError>
         requires { MayGoTogether self.now.own serials.now }
         ensures gifts { IfOk result (λ given.
@@ -304,7 +304,7 @@ impl Ledger {
         }
     }
 
-    /// What a thief is told of an own child; the only error is want of memory.
+    /// What a thief is told of an own child; the only error is out of memory.
     pub fn gift(&self, serial: u32) -> Result<Gift, AllocError>
         requires { serial < length self.now.own }
         ensures { IfOk result (λ gift. gift ≡ gift_at self.now.own serial) }
@@ -346,7 +346,7 @@ impl Ledger {
     }
 
     /// Gives a thief its share of the ready own children, if one is ready and no later run of the thief's node is known:
-    /// those of `ready_share`, which are out then. The only error is want of memory, which changes nothing.
+    /// those of `ready_share`, which are out then. The only error is out of memory, which changes nothing.
     pub fn give(&mut self, thief: Site) -> Result<Option<Given>, AllocError>
         ensures gives { IfOk result (λ answer. TellsSteal self.old thief answer self.new) }
         ensures chosen { IfOk result (λ answer. IfSome answer (λ given.
@@ -418,7 +418,7 @@ impl Ledger {
     }
 
     /// Judges a result that a site returns for an own child at an attempt, and lets it enter where it may: the child is
-    /// done with it. The answer tells what is accepted or why nothing is. The only error is want of memory, which changes
+    /// done with it. The answer tells what is accepted or why nothing is. The only error is out of memory, which changes
     /// nothing.
     pub fn receive_return(
         &mut self,
@@ -448,7 +448,7 @@ impl Ledger {
 
     /// Children of another site, given to this one at attempts of at least 1, become ready guests, those that aren't there
     /// yet. None does where a later run of their owner is known, or where all are there already. True where any does. The
-    /// only error is want of memory, which changes nothing.
+    /// only error is out of memory, which changes nothing.
     pub fn receive_give(&mut self, from: Site, given: Given) -> Result<bool, AllocError>
         requires { AllByRecursion (λ g. 1 ≤ g.attempt) (gifts_of given) }
         ensures ok { IfOk result (λ moved.
@@ -497,7 +497,7 @@ impl Ledger {
     }
 
     /// Children of another site become ready guests, those that aren't there yet; each keeps the prefix that is handed in.
-    /// The only error is want of memory, which changes nothing.
+    /// The only error is out of memory, which changes nothing.
     pub fn admit_each(&mut self, from: Site, gifts: Vec<Gift>) -> Result<(), AllocError>
         requires not_older { is_older self.old.known from ≡ false }
         requires some_new { list_all (is_there from self.old.guests) gifts.items ≡ false }
@@ -532,7 +532,7 @@ impl Ledger {
 
     /// An open guest is wanted no more, since its owner refused its result or aborted it: it is dropped. All open units
     /// below become Aborted, and each of them that was out is appended to the list, by serial. True where it is dropped;
-    /// a guest that isn't there or isn't open is left as it is. The only error is want of memory, which changes nothing.
+    /// a guest that isn't there or isn't open is left as it is. The only error is out of memory, which changes nothing.
     ///
     /// It costs looks for the guest, and where it is dropped a walk down to what is below it, and the aborts.
     pub fn receive_refuse(

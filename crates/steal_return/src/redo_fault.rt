@@ -1,4 +1,4 @@
-/// Why a child isn't given out anew.
+/// Why a child isn't redone.
 #[derive(Clone, Copy, Debug, PartialEq, Eq)]
 pub enum RedoFault {
     /// There is no such child that is out.

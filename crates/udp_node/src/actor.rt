@@ -117,7 +117,7 @@ fn tells_no_work(packets: &[Packet]) -> bool {
         .any(|packet| matches!(packet.body, Body::NoWork))
 }
 
-/// The packet's spelling, for its receiver. The only error is want of memory.
+/// The packet's spelling, for its receiver. The only error is out of memory.
 fn parcel_of(alloc: Global, packet: &Packet) -> Result<Parcel, AllocError>
     requires { is_well_formed packet.now ≡ true }
 {

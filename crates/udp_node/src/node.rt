@@ -312,7 +312,7 @@ struct Crew<'a, J: Run, C: Core + Drop, N: CellName, L: Link, G: Gate> {
 }
 
 impl<'a, J: Run, C: Core + Drop, N: CellName, L: Link, G: Gate> Crew<'a, J, C, N, L, G> {
-    /// The threads before their start: the one that receives, and so many workers. The only error is want of memory, or that no
+    /// The threads before their start: the one that receives, and so many workers. The only error is out of memory, or that no
     /// seats are left.
     fn new<R: Wait>(
         rt: &R,
@@ -378,7 +378,7 @@ fn run_places<
     );
 }
 
-/// The threads before their start: the one that receives, and so many workers. The only error is want of memory, or that no seats
+/// The threads before their start: the one that receives, and so many workers. The only error is out of memory, or that no seats
 /// are left.
 fn places_for<'a, J: Run, C: Core + Drop, N: CellName, L: Link, G: Gate, R: Wait>(
     rt: &R,
@@ -401,7 +401,7 @@ fn places_for<'a, J: Run, C: Core + Drop, N: CellName, L: Link, G: Gate, R: Wait
     Ok(places)
 }
 
-/// Adds a thread before its start. The only error is want of memory, or that no seats are left.
+/// Adds a thread before its start. The only error is out of memory, or that no seats are left.
 fn add_place<'a, J: Run, C: Core + Drop, N: CellName, L: Link, G: Gate, R: Wait>(
     rt: &R,
     shared: &'a Shared<'a, J, C, N, G>,

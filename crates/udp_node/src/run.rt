@@ -39,7 +39,7 @@ pub struct RunEnd<J: Run> {
 /// is over at a start, the later ones give up at their first receive without a packet.
 ///
 /// All sites end where one has failed: with any cause but that the search is over, once a thread of each kind has begun there. A site
-/// that had no memory to start or to close has no book. The only error is want of memory for the run itself: for its tables and the
+/// that had no memory to start or to close has no book. The only error is out of memory for the run itself: for its tables and the
 /// list of its sites before any has started, or for the answer at the end.
 pub fn run_sites<
     J: Run + Send + Sync,
@@ -114,7 +114,7 @@ pub fn run_sites_within<
     })
 }
 
-/// The sites before they run, each with its link; node 1 restarts so many times. The only error is want of memory.
+/// The sites before they run, each with its link; node 1 restarts so many times. The only error is out of memory.
 fn runs_for<J: Run, L: Link>(
     alloc: Global,
     restarts: u8,
@@ -153,7 +153,7 @@ fn run_all<J: Run + Send + Sync, L: Link + Send, G: Gate + Sync, R: Threads + Wa
     );
 }
 
-/// The books of the sites that have some, and how each site ended. The only error is want of memory.
+/// The books of the sites that have some, and how each site ended. The only error is out of memory.
 fn gathered<J: Run, L: Link>(
     runs: Vec<SiteRun<J, L>>,
     mut books: Vec<Book<J>>,
@@ -172,7 +172,7 @@ fn gathered<J: Run, L: Link>(
     Ok((books, sites))
 }
 
-/// The books with these after them. The only error is want of memory.
+/// The books with these after them. The only error is out of memory.
 fn with_all<J: Run>(mut books: Vec<Book<J>>, own: Vec<Book<J>>) -> Result<Vec<Book<J>>, AllocError>
     requires { All (IsBook J.run) books.items }
     ensures more { IfOk result (λ more. more.items ≡ books.items ++ own.items) }

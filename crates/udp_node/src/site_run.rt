@@ -77,7 +77,7 @@ pub struct SiteRun<J: Run, L: Link> {
 }
 
 impl<J: Run, L: Link> SiteRun<J, L> {
-    /// The site of a node before it runs; node 1 restarts so many times. The only error is want of memory.
+    /// The site of a node before it runs; node 1 restarts so many times. The only error is out of memory.
     pub fn new(alloc: Global, node: u8, restarts: u8, link: L) -> Result<SiteRun<J, L>, AllocError>
         requires { node ≤ J.run.nodes }
         ensures { IfOk result (λ site. site.node ≡ node) }
@@ -212,7 +212,7 @@ fn run_site<J: Run + Send + Sync, L: Link + Send, G: Gate + Sync, R: Threads + W
     }
 }
 
-/// Starts the registry, and runs it to its end. The only error is want of memory at the start.
+/// Starts the registry, and runs it to its end. The only error is out of memory at the start.
 fn start_registry<J: Run + Send + Sync, L: Link + Send, G: Gate, R: Threads + Wait + Clock + Sync>(
     rt: &R,
     whole: &Whole<'_, J, G>,
@@ -228,7 +228,7 @@ fn start_registry<J: Run + Send + Sync, L: Link + Send, G: Gate, R: Threads + Wa
     Ok(run_registry::<J, Brand, L, G, R>(rt, whole, start, cell_parts, core, link))
 }
 
-/// Starts the site of a node, and runs it to its end. The only error is want of memory at the start.
+/// Starts the site of a node, and runs it to its end. The only error is out of memory at the start.
 fn start_node<
     J: Run + Send + Sync,
     L: Link + Send,

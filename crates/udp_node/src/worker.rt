@@ -55,7 +55,7 @@ pub struct Worker<'a, J: Run> {
 }
 
 impl<'a, J: Run> Worker<'a, J> {
-    /// The worker of this number at a node, before its first turn. The only error is want of memory.
+    /// The worker of this number at a node, before its first turn. The only error is out of memory.
     pub fn new(
         alloc: Global,
         tables: &'a Tables<'a>,

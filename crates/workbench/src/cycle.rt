@@ -41,7 +41,7 @@ pub struct Pair<'a> {
 }
 
 impl<'a> Pair<'a> {
-    /// Both before their first event. The only error is want of memory.
+    /// Both before their first event. The only error is out of memory.
     pub fn new(alloc: Global, problem: &'a Problem) -> Result<Pair<'a>, AllocError> {
         Ok(Pair {
             registry: Registry::start(alloc, problem, 1)?,

@@ -342,7 +342,7 @@ pub static STOLEN: [Row; 18] = [
     (Again, Ignored, &[]),
 ];
 
-/// A thief begins anew: its child is redone, and the result of its earlier run refused; a child that is done tells what it holds.
+/// A thief restarts: its child is redone, and the result of its earlier run refused; a child that is done tells what it holds.
 pub static RUNS_ANEW: [Row; 15] = [
     ROOT_GIVEN,
     (Take, Taken(&[]), &[]),

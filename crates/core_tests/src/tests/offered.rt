@@ -183,7 +183,7 @@ static RUNS: [Run; 5] = [
             &[(0, "0sssss-ss-spss0s--ssspss")],
         ],
     ),
-    // The root is given out anew.
+    // The root is redone.
     (
         "a\na\na\n",
         &[
@@ -408,7 +408,7 @@ impl<'a> Stage<'a> {
         self.act(rt, copy.to.node, Event::Deliver(copy))
     }
 
-    /// Node 2 begins anew.
+    /// Node 2 restarts.
     fn restart<R: Abort>(&mut self, rt: &R) -> Result<Reply, ActFault> {
         self.two = NodeCore::start(self.alloc, self.problem, TWO_AGAIN, 2, 1000).expect(
             rt, "memory",

@@ -266,7 +266,7 @@ pub static COVERED: [Row; 17] = [
     ),
 ];
 
-/// The root is given out anew, by a call and since its thief begins anew; it comes to nothing.
+/// The root is redone, by a call and since its thief restarts; it comes to nothing.
 pub static GIVEN_ANEW: [Row; 17] = [
     (Take, Fault(OtherSite), &[]),
     (Post, Fault(OtherSite), &[]),

@@ -57,7 +57,7 @@ fn without_twins(alloc: Global, links: Vec<UdpLink>) -> Result<Vec<Single>, Allo
     Ok(all)
 }
 
-/// Whether a run of sites that can't start ends for want of memory.
+/// Whether a run of sites that can't start ends because memory ran out.
 fn is_starved<J: Run + Send + Sync, R: Threads + Wait + Clock + Net + Sync>(
     rt: &R,
     alloc: Global,

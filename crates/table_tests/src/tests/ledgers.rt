@@ -40,7 +40,7 @@ enum Step {
     End(Unit, Came, Heard),
     /// A thief is given these: one by itself, several together; or nothing.
     Give(Site, &'static [Told]),
-    /// An own child is given out anew.
+    /// An own child is redone.
     Redo(u32, Result<(), RedoFault>),
     /// A site returns a serial, an attempt and a result: the result that is accepted, or why it is refused.
     Return(Site, (u32, u32, Came), Result<Came, Cause>),
@@ -564,7 +564,7 @@ static MEMBERS: &[Step] = &[
     Learn(&[9, 1, 1, 5], false),
     Outs(&[]),
     Children("O1O1O1O1O1"),
-    // Node 2 began anew: what is out to it is redone, its guests are dropped, and what is below them is aborted.
+    // Node 2 restarted: what is out to it is redone, its guests are dropped, and what is below them is aborted.
     Learn(&[1, 2, 1], true),
     Children("A1A1A2R2O1"),
     Outs(OUT_TO_3),

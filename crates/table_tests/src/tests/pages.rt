@@ -16,7 +16,7 @@ enum Step {
     TakeUp(u32),
     /// This one is given to a thief.
     Give(u32),
-    /// This one is given out anew.
+    /// This one is redone.
     Redo(u32),
     /// This one is split; the first child's serial.
     Split(u32, u32),

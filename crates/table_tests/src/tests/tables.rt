@@ -29,7 +29,7 @@ enum Step {
     End(Unit, Came, Heard),
     /// An own child is given to a thief.
     Give(u32),
-    /// An own child is given out anew.
+    /// An own child is redone.
     Redo(u32),
     /// An own child is aborted.
     Cancel(u32),
@@ -183,7 +183,7 @@ fn may_redo(table: &Table, serial: u32) -> bool
     }
 }
 
-/// Gives out anew an own child that is out.
+/// Redoes an own child that is out.
 pub fn redo<R: Abort>(rt: &R, table: &mut Table, serial: u32) {
     assert!(rt; may_redo(table, serial));
     table.redo(serial);

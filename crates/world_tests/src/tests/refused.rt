@@ -189,7 +189,7 @@ fn events_of<R: Abort>(rt: &R, alloc: Global, scripts: &[&[Step]]) -> Vec<WorldE
     events
 }
 
-/// Runs on where a run stopped for want of memory: the events before that one were taken or passed over, as in a new world. How many
+/// Runs on where a run stopped because memory ran out: the events before that one were taken or passed over, as in a new world. How many
 /// were taken in all.
 fn go_on<R: Abort>(
     rt: &R,

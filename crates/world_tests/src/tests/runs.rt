@@ -214,7 +214,7 @@ pub static NO_COVER: &[Step] = &[
     Holds(1, ROOT, 1, Settled(None)),
 ];
 
-/// The root is given out anew, and both thieves settle on the result of the second.
+/// The root is redone, and both thieves settle on the result of the second.
 pub static OVERTAKEN: &[Step] = &[
     Happens(Ask(1, 0), Moved, &[(NODE_1, REGISTRY, Steal)]),
     Happens(Deliver(0), Moved, &[(REGISTRY, NODE_1, Give(0, 1, &[]))]),
@@ -402,7 +402,7 @@ pub static LATE_RESULT: &[Step] = &[
     Publishes(Some(Some(&[0, 3, 4]))),
 ];
 
-/// The thief begins anew before its result comes.
+/// The thief restarts before its result comes.
 pub static THIEF_ANEW: &[Step] = &[
     Happens(Restart(2, 2), Moved, &[]),
     Happens(Greet(2), Moved, &[(NODE_2_ANEW, REGISTRY, Hello)]),

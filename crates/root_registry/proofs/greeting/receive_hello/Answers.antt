@@ -7,7 +7,7 @@ use Rattle.node_core.specs.declared.reply.Reply.{Reply}
 use Rattle.root_registry.proofs.Hellos.{hello_able, hello_refused}
 use Rattle.root_registry.proofs.greeting.receive_hello.Goals as goal
 
--- want of memory is no refusal
+-- that memory ran out is no refusal
 memory_told : (result : Result Reply ActFault) → IsErrAnd result (λ fault. fault ≡ Memory) → refusal_told result ≡ None
 memory_told (Ok reply) is = absurd is
 memory_told (Err fault) is = ap named_fault is
