@@ -13,7 +13,8 @@ use crate::engine::EngineEnd;
 use crate::fault::EngineFault;
 use crate::input::{problem_of, read_all};
 use crate::lines::{write_line, write_solution};
-use crate::progress::{Follows, ProgressLog, ProgressWatch};
+use crate::progress_log::ProgressLog;
+use crate::progress_watch::{EndWatch, ProgressWatch};
 use brancher::{Outcome, ROOM, Searcher, Tables, Unwatched};
 use cover_problem::{Answer, Problem, in_order};
 use dlx_reader::{Sink, Source};
@@ -63,7 +64,7 @@ fn write_outcome<W: Sink>(
 
 /// Searches the empty prefix under a watch, with so many visits at most, writes what comes of it, and answers the status.
 #[tactic(auto, unfolding(crate::specs::Alone::alone_said))]
-fn write_alone<V: Follows, W: Sink>(
+fn write_alone<V: EndWatch, W: Sink>(
     alloc: Global,
     problem: &Problem,
     fuel: u64,
@@ -89,7 +90,7 @@ fn write_alone<V: Follows, W: Sink>(
 }
 
 /// Finds the first cover under a watch without a limit, writes it, or that there is none, and answers the status.
-fn write_decided<V: Follows, W: Sink, C: Clock>(
+fn write_decided<V: EndWatch, W: Sink, C: Clock>(
     clock: &C,
     alloc: Global,
     problem: &Problem,

@@ -5,7 +5,7 @@ ghost use Rattle.cover_problem.specs.Search.{first};
 ghost use Rattle.dlx_reader.specs.Writing.{IsWritable};
 ghost use Rattle.search_engines.specs.Alone.{answer_by};
 
-use crate::progress::Seconds;
+use crate::stopwatch::Stopwatch;
 use brancher::{ROOM, Tables, Watch};
 use cover_problem::{Answer, Problem, in_order};
 use cover_reasons::{find_reason, holds_of};
@@ -20,7 +20,7 @@ const SHORT: u64 = 100;
 #[derive(Drop)]
 struct ShortWatch<'a, C: Clock> {
     clock: &'a C,
-    seconds: Seconds,
+    stopwatch: Stopwatch,
 }
 
 impl<'a, C: Clock> Watch for ShortWatch<'a, C> {
@@ -29,7 +29,7 @@ impl<'a, C: Clock> Watch for ShortWatch<'a, C> {
     ghost may_stop = { true };
 
     fn look(&mut self, _chosen: &[u16], _left: u64) -> bool {
-        match self.seconds.elapsed(self.clock) {
+        match self.stopwatch.elapsed(self.clock) {
             Some(elapsed) => elapsed >= Duration::from_millis(SHORT),
             None => true,
         }
@@ -80,8 +80,8 @@ pub fn answer_until<V: Watch, C: Clock>(
     ensures order { IfOk result (λ found. IfSome found (IsWritable problem.now)) }
 {
     let tables = Tables::build(alloc, problem)?;
-    let seconds = Seconds::new(clock);
-    let mut short = ShortWatch { clock, seconds };
+    let stopwatch = Stopwatch::new(clock);
+    let mut short = ShortWatch { clock, stopwatch };
     if let Some(answer) = searched(alloc, &tables, &mut short)? {
         return Ok(Some(answer));
     }

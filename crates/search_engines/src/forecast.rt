@@ -2,11 +2,11 @@
 
 ghost use Rattle.std.specs.Prelude.{◌≤◌};
 
-use crate::gauge::Gauge;
+use crate::tree_estimate::TreeEstimate;
 use std::fmt::{self, Display, Formatter, Write};
 
 /// Of this much of the tree each part counts, and a forecast wants a hundred of them: with less behind it a search tells little.
-const PART: u64 = Gauge::WHOLE / 1_000_000;
+const PART: u64 = TreeEstimate::WHOLE / 1_000_000;
 
 const LEAST: u64 = 100;
 

@@ -15,9 +15,11 @@ use crate::deciding::answer_until;
 use crate::engine::EngineEnd;
 use crate::fault::EngineFault;
 use crate::input::{answer_of, problem_of, read_all};
-use crate::limits::{Limits, TimedWatch};
 use crate::lines::{write_line, write_published};
-use crate::progress::{Follows, ProgressLog, ProgressWatch};
+use crate::progress_log::ProgressLog;
+use crate::progress_watch::{EndWatch, ProgressWatch};
+use crate::search_limits::SearchLimits;
+use crate::timed_watch::TimedWatch;
 use brancher::{Finding, Outcome, ROOM, Searcher, Tables, Unwatched, Watch};
 use cover_problem::{Answer, Problem, in_order};
 use dlx_reader::{Sink, Source};
@@ -80,11 +82,11 @@ fn given_answer<V: Watch, C: Clock>(
 }
 
 /// Searches under a watch until the limits are met, writes what comes of it, and answers the status.
-fn write_given<V: Follows, W: Sink, C: Clock>(
+fn write_given<V: EndWatch, W: Sink, C: Clock>(
     clock: &C,
     alloc: Global,
     problem: &Problem,
-    limits: &Limits,
+    limits: &SearchLimits,
     watch: &mut V,
     sink: &mut W,
 ) -> Result<u8, EngineFault>
@@ -110,7 +112,7 @@ fn write_given<V: Follows, W: Sink, C: Clock>(
 pub fn alone_within<R: Source, W: Sink, C: Clock>(
     clock: &C,
     alloc: Global,
-    limits: &Limits,
+    limits: &SearchLimits,
     source: &mut R,
     sink: &mut W,
 ) -> Result<AloneEnd, EngineFault>
@@ -135,7 +137,7 @@ pub fn alone_within<R: Source, W: Sink, C: Clock>(
 pub fn alone_within_with_progress<R: Source, W: Sink, E: Sink, C: Clock>(
     clock: &C,
     alloc: Global,
-    limits: &Limits,
+    limits: &SearchLimits,
     source: &mut R,
     sink: &mut W,
     log: ProgressLog<'_, E>,
@@ -192,7 +194,7 @@ fn write_none_within<W: Sink, C: Clock>(
     clock: &C,
     alloc: Global,
     problem: &Problem,
-    limits: &Limits,
+    limits: &SearchLimits,
     sink: &mut W,
 ) -> Result<u8, EngineFault>
     requires failed { W.failed sink.old < 2 ^ 64 - 1 }
@@ -218,7 +220,7 @@ fn write_check_within<W: Sink, C: Clock>(
     alloc: Global,
     problem: &Problem,
     answer: &Answer,
-    limits: &Limits,
+    limits: &SearchLimits,
     sink: &mut W,
 ) -> Result<u8, EngineFault>
     requires options { IsListedAnswer problem.now answer.now }
@@ -237,7 +239,7 @@ fn write_check_within<W: Sink, C: Clock>(
 fn check_texts_within<W: Sink, C: Clock>(
     clock: &C,
     alloc: Global,
-    limits: &Limits,
+    limits: &SearchLimits,
     file: &[u8],
     answer: &[u8],
     sink: &mut W,
@@ -262,7 +264,7 @@ fn check_texts_within<W: Sink, C: Clock>(
 pub fn check_within<R: Source, S: Source, W: Sink, C: Clock>(
     clock: &C,
     alloc: Global,
-    limits: &Limits,
+    limits: &SearchLimits,
     file: &mut R,
     answer: &mut S,
     sink: &mut W,

@@ -10,9 +10,10 @@ pub use cover_engines::{
     simulate_engine, solve_engine, tell, tell_fault,
 };
 use cover_engines::{
-    Limits, Lines, Loopback, Machine, ProgressLog, Remembered, Unanswered, alone_unlimited,
-    alone_unlimited_with_progress, alone_with_progress, alone_within, alone_within_with_progress,
-    check_unlimited, check_within, tell_end_of, tell_unanswered, tell_unopened,
+    LineStyle, Loopback, Machine, ProgressLog, Remembered, SearchLimits, Unanswered,
+    alone_unlimited, alone_unlimited_with_progress, alone_with_progress, alone_within,
+    alone_within_with_progress, check_unlimited, check_within, tell_end_of, tell_unanswered,
+    tell_unopened,
 };
 use dlx_reader::{CountedReader, CountedWriter, Sink, Source};
 use either::Either;
@@ -53,17 +54,17 @@ fn open_file(rt: &HostRuntime, name: &str) -> io::Result<File> {
 }
 
 /// The limits of what is asked for, from now on, if it is limited in time.
-fn limits_of(rt: &HostRuntime, request: &Request<'_>) -> Option<Limits> {
+fn limits_of(rt: &HostRuntime, request: &Request<'_>) -> Option<SearchLimits> {
     let seconds = request.seconds?;
     let time = Duration::from_secs(u64::from(seconds));
     if request.unlimited {
-        return Some(Limits::from_now(rt, None, time));
+        return Some(SearchLimits::from_now(rt, None, time));
     }
-    Some(Limits::from_now(rt, Some(request.settings.fuel), time))
+    Some(SearchLimits::from_now(rt, Some(request.settings.fuel), time))
 }
 
 /// Why a search by one thread ends without an answer, if it does now.
-fn unanswered(rt: &HostRuntime, request: &Request<'_>, limits: Option<Limits>) -> Unanswered {
+fn unanswered(rt: &HostRuntime, request: &Request<'_>, limits: Option<SearchLimits>) -> Unanswered {
     let is_late = match limits {
         Some(limits) => limits.is_late(rt),
         None => false,
@@ -76,11 +77,11 @@ fn unanswered(rt: &HostRuntime, request: &Request<'_>, limits: Option<Limits>) -
 }
 
 /// How lines of progress follow one another on standard error.
-fn lines_of(rt: &HostRuntime) -> Lines {
+fn line_style(rt: &HostRuntime) -> LineStyle {
     if rt.stderr().is_terminal() {
-        Lines::Overwritten
+        LineStyle::Overwritten
     } else {
-        Lines::Listed
+        LineStyle::Listed
     }
 }
 
@@ -113,7 +114,7 @@ fn search_alone<W: Sink>(
 {
     let mut sink = CountedWriter::new(rt.stdout());
     let (alloc, fuel) = (rt.alloc(), request.settings.fuel);
-    let log = ProgressLog::new(errors, lines_of(rt));
+    let log = ProgressLog::new(errors, line_style(rt));
     match (request.unlimited, request.progress) {
         (false, false) => alone_engine(alloc, fuel, source, &mut sink),
         (true, false) => alone_unlimited(rt, alloc, source, &mut sink),
@@ -126,7 +127,7 @@ fn search_alone<W: Sink>(
 fn search_within<W: Sink>(
     rt: &HostRuntime,
     request: &Request<'_>,
-    limits: &Limits,
+    limits: &SearchLimits,
     source: &mut Input,
     errors: &mut W,
 ) -> Result<AloneEnd, EngineFault>
@@ -136,7 +137,7 @@ fn search_within<W: Sink>(
     if !request.progress {
         return alone_within(rt, rt.alloc(), limits, source, &mut sink);
     }
-    let log = ProgressLog::new(errors, lines_of(rt));
+    let log = ProgressLog::new(errors, line_style(rt));
     alone_within_with_progress(rt, rt.alloc(), limits, source, &mut sink, log)
 }
 
@@ -174,7 +175,7 @@ fn run_check(rt: &HostRuntime, request: &Request<'_>) -> u8
 fn check_inputs(
     rt: &HostRuntime,
     request: &Request<'_>,
-    limits: Option<Limits>,
+    limits: Option<SearchLimits>,
     file: &mut Input,
     answer: &mut Input,
 ) -> Result<CheckEnd, EngineFault>
@@ -236,7 +237,7 @@ fn run_solve<R: Threads + Wait + Clock + Net + Sync>(
         rt: threads,
         alloc: rt.alloc(),
         network: Loopback { rt: threads },
-        lines: lines_of(rt),
+        lines: line_style(rt),
     };
     let status = machine.solve(request, &mut source, &mut sink, &mut errors);
     source.tell_unknown(status, &mut errors);

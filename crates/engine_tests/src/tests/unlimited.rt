@@ -7,7 +7,8 @@ use super::texts::{LETTERS, NO_COVER};
 use super::told::Told;
 use dlx_reader::{CountedReader, CountedWriter};
 use search_engines::{
-    Lines, ProgressLog, alone_unlimited, alone_unlimited_with_progress, check_unlimited, tell_end,
+    LineStyle, ProgressLog, alone_unlimited, alone_unlimited_with_progress, check_unlimited,
+    tell_end,
 };
 use std::alloc::Global;
 use std::process::Abort;
@@ -122,7 +123,7 @@ fn progress_changes_no_answer_without_a_limit(rt: HostRuntime) {
         let mut source = CountedReader::new(text.as_bytes());
         let mut sink = CountedWriter::new(&mut written);
         let mut errors = CountedWriter::new(&mut lines);
-        let log = ProgressLog::new(&mut errors, Lines::Listed);
+        let log = ProgressLog::new(&mut errors, LineStyle::Listed);
         let ended = alone_unlimited_with_progress(&rt, rt.alloc(), &mut source, &mut sink, log);
         let told = match &ended {
             Ok(end) => end.status,

@@ -5,7 +5,7 @@ use super::texts::{LETTERS, NO_COVER};
 use super::told::Told;
 use dlx_reader::{CountedReader, CountedWriter};
 use search_engines::{
-    EngineEnd, EngineFault, Limits, Lines, ProgressLog, Unanswered, alone_within,
+    EngineEnd, EngineFault, LineStyle, ProgressLog, SearchLimits, Unanswered, alone_within,
     alone_within_with_progress, check_within, tell_end_of, tell_unanswered, tell_unopened,
 };
 use std::alloc::Global;
@@ -17,17 +17,17 @@ use std::time::{Clock, Duration};
 const LONG: u64 = 1_000_000;
 
 /// The limits of a search that begins now: so many visits, or any number for 0, and so many seconds.
-fn limits<C: Clock>(clock: &C, fuel: u64, seconds: u64) -> Limits {
+fn limits<C: Clock>(clock: &C, fuel: u64, seconds: u64) -> SearchLimits {
     let time = Duration::from_secs(seconds);
     if fuel == 0 {
-        Limits::from_now(clock, None, time)
+        SearchLimits::from_now(clock, None, time)
     } else {
-        Limits::from_now(clock, Some(fuel), time)
+        SearchLimits::from_now(clock, Some(fuel), time)
     }
 }
 
 /// What `alone` tells of a problem within limits.
-fn alone<C: Clock>(clock: &C, alloc: Global, text: &str, limits: &Limits) -> Told {
+fn alone<C: Clock>(clock: &C, alloc: Global, text: &str, limits: &SearchLimits) -> Told {
     let mut out = Vec::new(alloc);
     let mut errors = Vec::new(alloc);
     let mut source = CountedReader::new(text.as_bytes());
@@ -42,7 +42,13 @@ fn alone<C: Clock>(clock: &C, alloc: Global, text: &str, limits: &Limits) -> Tol
 }
 
 /// What `check` tells of an answer to a problem within limits.
-fn check<C: Clock>(clock: &C, alloc: Global, text: &str, answer: &str, limits: &Limits) -> Told {
+fn check<C: Clock>(
+    clock: &C,
+    alloc: Global,
+    text: &str,
+    answer: &str,
+    limits: &SearchLimits,
+) -> Told {
     let mut out = Vec::new(alloc);
     let mut errors = Vec::new(alloc);
     let mut file = CountedReader::new(text.as_bytes());
@@ -151,7 +157,7 @@ fn progress_goes_on_until_the_time_is_over(rt: HostRuntime) {
     let mut source = CountedReader::new(QUEENS.as_bytes());
     let mut sink = CountedWriter::new(&mut out);
     let mut errors = CountedWriter::new(&mut lines);
-    let log = ProgressLog::new(&mut errors, Lines::Listed);
+    let log = ProgressLog::new(&mut errors, LineStyle::Listed);
     let limits = limits(&clock, u64::MAX, 3);
     let ended = alone_within_with_progress(
         &clock,
