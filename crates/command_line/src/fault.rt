@@ -29,7 +29,7 @@ impl SettingsFault {
         }
     }
 
-    /// Prints why there are no settings, or the help that was asked for, and answers the exit status as `status` has it. A fault
+    /// Prints why there are no settings, or the help that was asked for, and returns the exit status as `status` has it. A fault
     /// of the device is passed over.
     pub fn tell(&self, rt: &HostRuntime) -> u8
         ensures line { (error : Error) → self.now ≡ SettingsFault.Line error →

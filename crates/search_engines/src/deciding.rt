@@ -16,7 +16,8 @@ use std::time::{Clock, Duration};
 /// How many milliseconds a search lasts before a reason is looked for. Most searches are shorter, and to look may take most of a second.
 const SHORT: u64 = 100;
 
-/// A watch that stops a search some time after it was made. Where the clock can't be read it stops it when it first looks.
+/// A watch that stops a search `SHORT` after it was made. Where the clock can't be read it stops it at its first look: the search is
+/// then begun again under a watch that needs no clock.
 #[derive(Drop)]
 struct ShortWatch<'a, C: Clock> {
     clock: &'a C,
@@ -36,8 +37,8 @@ impl<'a, C: Clock> Watch for ShortWatch<'a, C> {
     }
 }
 
-/// Searches the problem until it is decided or the watch stops it: the answer, or none where it was stopped. The only error is out of
-/// memory.
+/// Searches the problem until it is decided or the watch stops it, and returns the answer, or none where it was stopped. The only error
+/// is out of memory.
 fn searched<V: Watch>(
     alloc: Global,
     tables: &Tables<'_>,
@@ -56,7 +57,8 @@ fn searched<V: Watch>(
     }
 }
 
-/// Whether a reason is found why there is no cover. Where memory runs out none is found, since a search may need less.
+/// Returns whether a reason is found why there is no cover. Where memory runs out none is found, and that is no error: a search may need
+/// less.
 fn is_excluded(alloc: Global, problem: &Problem) -> bool
     ensures { result ≡ true → first problem.now [] ≡ None }
 {
@@ -66,9 +68,9 @@ fn is_excluded(alloc: Global, problem: &Problem) -> bool
     }
 }
 
-/// The answer of a problem: its first cover, with its options in the order of the file, or that there is none; none where the watch
-/// stopped the search. A search that lasts longer than a tenth of a second is begun again under the watch, if no reason is found that excludes a
-/// cover. The only error is out of memory.
+/// Returns the answer of a problem: its first cover, with its options in the order of the file, or that there is none; no answer where the
+/// watch stopped the search. A search that lasts longer than a tenth of a second is begun again under the watch, if no reason is found
+/// that excludes a cover. The only error is out of memory.
 pub fn answer_until<V: Watch, C: Clock>(
     clock: &C,
     alloc: Global,
@@ -91,7 +93,7 @@ pub fn answer_until<V: Watch, C: Clock>(
     searched(alloc, &tables, watch)
 }
 
-/// The answer that `answer_until` gives under a watch that stops nothing.
+/// Returns the answer that `answer_until` gives under a watch that stops nothing, so there is always one.
 pub fn first_answer<V: Watch, C: Clock>(
     clock: &C,
     alloc: Global,

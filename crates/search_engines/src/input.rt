@@ -1,4 +1,4 @@
-//! All bytes of a source, and the problem or the answer that they are.
+//! Reading a source to its end, and the problem or the answer that its bytes spell.
 
 ghost use Rattle.std.specs.Prelude.{◌≡◌, ◌≢◌, ◌-◌, ◌<◌, ◌^◌, IfErr, IfOk, IfSome};
 ghost use Rattle.std.specs.Io.KnownBytes.{Consumes, IsAtEnd};
@@ -12,10 +12,14 @@ use cover_problem::{Answer, Problem};
 use dlx_reader::{AnswerFault, Read, ReadFault, Source, read_answer, read_problem};
 use std::alloc::Global;
 
+/// How many bytes one read asks for.
 const PIECE: usize = 16384;
 
-/// Reads all bytes, to the end of the source. The faults are `Read`, where a read failed, and `Memory`. After either the source
-/// stands behind the bytes that were read, and these are let go.
+/// Reads all bytes, to the end of the source.
+///
+/// # Errors
+///
+/// `Read` if a read failed, and `Memory`. After either the bytes that were read are lost: the source goes on behind them.
 pub fn read_all<R: Source>(alloc: Global, source: &mut R) -> Result<Vec<u8>, EngineFault>
     requires { R.failed source.old < 2 ^ 64 - 1 }
     ensures read { IfOk result (λ text.
@@ -39,7 +43,11 @@ pub fn read_all<R: Source>(alloc: Global, source: &mut R) -> Result<Vec<u8>, Eng
     }
 }
 
-/// The problem of a text. The faults are `File`, with the text's first fault, and `Memory`.
+/// Returns the problem of a text.
+///
+/// # Errors
+///
+/// `File` with the text's first fault, and `Memory`.
 pub fn problem_of(alloc: Global, text: &[u8]) -> Result<Read, EngineFault>
     ensures problem { IfOk result (λ read. IsProblemOf text.now read.problem read.ignored) }
     ensures fault { IfErr result (IsFileFault text.now) }
@@ -51,8 +59,12 @@ pub fn problem_of(alloc: Global, text: &[u8]) -> Result<Read, EngineFault>
     }
 }
 
-/// The problem of all that a source has. The faults are `Read`, where a read failed, `File`, with the text's first fault, and
-/// `Memory`.
+/// Reads a source to its end and returns the problem of its text. The text itself is let go: a search may go on for hours, and needs
+/// only the problem.
+///
+/// # Errors
+///
+/// `Read` if a read failed, `File` with the text's first fault, and `Memory`.
 pub fn read_whole<R: Source>(alloc: Global, source: &mut R) -> Result<Read, EngineFault>
     requires { R.failed source.old < 2 ^ 64 - 1 }
     ensures problem { IfOk result (λ read.
@@ -62,12 +74,17 @@ pub fn read_whole<R: Source>(alloc: Global, source: &mut R) -> Result<Read, Engi
     ensures fault { IfErr result (λ fault.
         IfSome (R.remaining source.old) (λ text. IsSourceFault text fault)) }
     ensures failed { result ≡ Err EngineFault.Read → R.failed source.old < R.failed source.new }
+    ensures unwritten { result ≢ Err EngineFault.Write }
 {
     let text = read_all(alloc, source)?;
     problem_of(alloc, &text)
 }
 
-/// The answer of a text to a problem. The faults are `Answer`, with the text's first fault, and `Memory`.
+/// Returns the answer of a text to a problem.
+///
+/// # Errors
+///
+/// `Answer` with the text's first fault, and `Memory`.
 pub fn answer_of(alloc: Global, text: &[u8], problem: &Problem) -> Result<Answer, EngineFault>
     ensures answer { IfOk result (IsAnswerOf text.now problem.now) }
     ensures listed { IfOk result (IsListedAnswer problem.now) }

@@ -14,7 +14,7 @@ use crate::check::{CheckEnd, write_verdict};
 use crate::deciding::answer_until;
 use crate::engine::EngineEnd;
 use crate::fault::EngineFault;
-use crate::input::{answer_of, problem_of, read_all};
+use crate::input::{answer_of, problem_of, read_all, read_whole};
 use crate::lines::{write_line, write_published};
 use crate::progress_log::ProgressLog;
 use crate::progress_watch::{EndWatch, ProgressWatch};
@@ -26,7 +26,7 @@ use dlx_reader::{Sink, Source};
 use std::alloc::{AllocError, Global};
 use std::time::Clock;
 
-/// The answer of a finding of the empty prefix, with a cover's options in the order of the file; none where the fuel was spent.
+/// Returns the answer of a finding of the empty prefix, with a cover's options in the order of the file; none where the fuel was spent.
 fn found_answer(
     alloc: Global,
     problem: &Problem,
@@ -43,7 +43,7 @@ fn found_answer(
     }
 }
 
-/// The answer that a search with so many visits at most comes to; none where they were made, or the watch stopped it.
+/// Searches with so many visits at most and returns the answer; none where they were all made, or the watch stopped it.
 fn fueled_answer<V: Watch>(
     alloc: Global,
     problem: &Problem,
@@ -63,7 +63,7 @@ fn fueled_answer<V: Watch>(
     }
 }
 
-/// The answer that a search comes to, with so many visits at most or any number; none where they were made, or the watch stopped it.
+/// Searches with so many visits at most, or any number, and returns the answer; none where they were all made, or the watch stopped it.
 fn given_answer<V: Watch, C: Clock>(
     clock: &C,
     alloc: Global,
@@ -81,7 +81,7 @@ fn given_answer<V: Watch, C: Clock>(
     }
 }
 
-/// Searches under a watch until the limits are met, writes what comes of it, and answers the status.
+/// Searches under a watch until the limits are met, writes the answer, or that there is none yet, and returns the status.
 fn write_given<V: EndWatch, W: Sink, C: Clock>(
     clock: &C,
     alloc: Global,
@@ -107,8 +107,8 @@ fn write_given<V: EndWatch, W: Sink, C: Clock>(
     write_published(problem, answer.as_ref(), sink)
 }
 
-/// Does what `alone_engine` does within limits: it writes the first cover, or `none`, or `no answer` once a limit is met, of visits, if
-/// there is one, or of time.
+/// Does what `alone_engine` does within limits: it writes the first cover, or `none`, or `no answer` once a limit is met, of time or, if
+/// there is one, of visits.
 pub fn alone_within<R: Source, W: Sink, C: Clock>(
     clock: &C,
     alloc: Global,
@@ -126,8 +126,7 @@ pub fn alone_within<R: Source, W: Sink, C: Clock>(
     ensures read_fault { result ≡ Err EngineFault.Read → R.failed source.old < R.failed source.new }
     ensures write_fault { result ≡ Err EngineFault.Write → W.failed sink.old < W.failed sink.new }
 {
-    let text = read_all(alloc, source)?;
-    let read = problem_of(alloc, &text)?;
+    let read = read_whole(alloc, source)?;
     let status = write_given(clock, alloc, &read.problem, limits, &mut Unwatched, sink)?;
     let ignored = read.ignored;
     Ok(EngineEnd { status, ignored })
@@ -152,8 +151,7 @@ pub fn alone_within_with_progress<R: Source, W: Sink, E: Sink, C: Clock>(
     ensures read_fault { result ≡ Err EngineFault.Read → R.failed source.old < R.failed source.new }
     ensures write_fault { result ≡ Err EngineFault.Write → W.failed sink.old < W.failed sink.new }
 {
-    let text = read_all(alloc, source)?;
-    let read = problem_of(alloc, &text)?;
+    let read = read_whole(alloc, source)?;
     let fuel = limits.fuel.unwrap_or(u64::MAX);
     let Ok(mut watch) = ProgressWatch::new(clock, alloc, &read.problem, fuel, log) else {
         return Err(EngineFault::Memory);
@@ -163,7 +161,7 @@ pub fn alone_within_with_progress<R: Source, W: Sink, E: Sink, C: Clock>(
     Ok(EngineEnd { status, ignored })
 }
 
-/// Writes what this answer of a search says of the answer that there is no cover, and answers the status.
+/// Writes whether none is right where a search gave this answer, and returns the status.
 fn write_none_given<W: Sink>(given: &Answer, sink: &mut W) -> Result<u8, EngineFault>
     requires failed { W.failed sink.old < 2 ^ 64 - 1 }
     ensures output { IsOutput (none_by (Some given.now)) (W.contents sink.old)
@@ -176,7 +174,7 @@ fn write_none_given<W: Sink>(given: &Answer, sink: &mut W) -> Result<u8, EngineF
     }
 }
 
-/// Writes what a search that gave this, or no answer, says of the answer that there is no cover, and answers the status.
+/// Writes whether none is right where a search gave this answer, or none in its limits, and returns the status.
 fn write_none_by<W: Sink>(given: Option<&Answer>, sink: &mut W) -> Result<u8, EngineFault>
     requires failed { W.failed sink.old < 2 ^ 64 - 1 }
     ensures output { IsOutput (none_by (option_map (λ answer. answer.now) given.entry))
@@ -189,7 +187,7 @@ fn write_none_by<W: Sink>(given: Option<&Answer>, sink: &mut W) -> Result<u8, En
     }
 }
 
-/// Searches for a cover until the limits are met, writes whether none is right, and answers the status.
+/// Searches for a cover until the limits are met, writes whether none is right, and returns the status.
 fn write_none_within<W: Sink, C: Clock>(
     clock: &C,
     alloc: Global,
@@ -214,7 +212,7 @@ fn write_none_within<W: Sink, C: Clock>(
     }
 }
 
-/// Tests an answer within limits, writes what comes of it, and answers the status.
+/// Tests an answer within limits, writes whether it is right, and returns the status.
 fn write_check_within<W: Sink, C: Clock>(
     clock: &C,
     alloc: Global,
@@ -235,7 +233,7 @@ fn write_check_within<W: Sink, C: Clock>(
     }
 }
 
-/// Tests the answer of one text to the problem of another within limits, and writes what comes of it.
+/// Tests the answer of one text to the problem of another within limits, and writes whether it is right.
 fn check_texts_within<W: Sink, C: Clock>(
     clock: &C,
     alloc: Global,
@@ -259,8 +257,8 @@ fn check_texts_within<W: Sink, C: Clock>(
     })
 }
 
-/// Does what `check_engine` does within limits: that there is no cover is tested by a search, and `no answer` is written once one is met, of
-/// visits, if there is one, or of time.
+/// Does what `check_engine` does within limits: that there is no cover is tested by a search, and `no answer` is written once a limit is
+/// met, of time or, if there is one, of visits.
 pub fn check_within<R: Source, S: Source, W: Sink, C: Clock>(
     clock: &C,
     alloc: Global,

@@ -29,7 +29,7 @@ use std::sync::Wait;
 use std::thread::Threads;
 use std::time::{Clock, Duration};
 
-/// What is read: a file, or standard input, of which the text is kept.
+/// What is read: a file, or standard input. The text is kept, so that a message can quote a name in it.
 type Input = Remembered<CountedReader<Either<File, Stdin>>>;
 
 /// Opens what a word of the command line names: a file, or standard input for `-`. A folder can't be opened.
@@ -44,7 +44,7 @@ fn open(rt: &HostRuntime, name: &str) -> io::Result<Input>
     Ok(Remembered::new(rt.alloc(), CountedReader::new(input)))
 }
 
-/// Opens the file of this name, which is no folder.
+/// Opens the file of this name. A folder is refused here: the system opens it, and fails only at the first read.
 fn open_file(rt: &HostRuntime, name: &str) -> io::Result<File> {
     let file = File::open(rt, name)?;
     if file.metadata()?.is_dir() {
@@ -53,7 +53,7 @@ fn open_file(rt: &HostRuntime, name: &str) -> io::Result<File> {
     Ok(file)
 }
 
-/// The limits of what is asked for, from now on, if it is limited in time.
+/// Returns the limits of what is asked for, from now on, if it is limited in time.
 fn limits_of(rt: &HostRuntime, request: &Request<'_>) -> Option<SearchLimits> {
     let seconds = request.seconds?;
     let time = Duration::from_secs(u64::from(seconds));
@@ -63,7 +63,7 @@ fn limits_of(rt: &HostRuntime, request: &Request<'_>) -> Option<SearchLimits> {
     Some(SearchLimits::from_now(rt, Some(request.settings.fuel), time))
 }
 
-/// Why a search by one thread ends without an answer, if it does now.
+/// Returns why a search by one thread ends without an answer, if it does now. Where both limits are met, the time comes first.
 fn unanswered(rt: &HostRuntime, request: &Request<'_>, limits: Option<SearchLimits>) -> Unanswered {
     let is_late = match limits {
         Some(limits) => limits.is_late(rt),
@@ -76,7 +76,7 @@ fn unanswered(rt: &HostRuntime, request: &Request<'_>, limits: Option<SearchLimi
     }
 }
 
-/// How lines of progress follow one another on standard error.
+/// Returns how lines of progress follow one another on standard error.
 fn line_style(rt: &HostRuntime) -> LineStyle {
     if rt.stderr().is_terminal() {
         LineStyle::Overwritten
@@ -85,7 +85,7 @@ fn line_style(rt: &HostRuntime) -> LineStyle {
     }
 }
 
-/// Runs `alone` on a file, and answers the exit status.
+/// Runs `alone` on a file, and returns the exit status.
 fn run_alone(rt: &HostRuntime, request: &Request<'_>) -> u8 {
     let mut errors = CountedWriter::new(rt.stderr());
     let limits = limits_of(rt, request);
@@ -103,7 +103,7 @@ fn run_alone(rt: &HostRuntime, request: &Request<'_>) -> u8 {
     status
 }
 
-/// Searches what a source has, and writes what comes of it; progress, if it is asked for, goes to the other sink.
+/// Searches the problem in a source, and writes the answer; progress, if it is asked for, goes to the other sink.
 fn search_alone<W: Sink>(
     rt: &HostRuntime,
     request: &Request<'_>,
@@ -141,7 +141,7 @@ fn search_within<W: Sink>(
     alone_within_with_progress(rt, rt.alloc(), limits, source, &mut sink, log)
 }
 
-/// Runs `check` on a file and an answer's file, and answers the exit status.
+/// Runs `check` on a file and an answer's file, and returns the exit status.
 fn run_check(rt: &HostRuntime, request: &Request<'_>) -> u8
     requires { request.now.settings.mode ≡ Mode.Check }
 {
@@ -160,6 +160,7 @@ fn run_check(rt: &HostRuntime, request: &Request<'_>) -> u8
         Err(error) => return tell_unopened(answer_name, error.kind(), &mut errors),
     };
     let ended = check_inputs(rt, request, limits, &mut file, &mut answer);
+    // (the problem is read first, so a fault is the answer's only where the problem had none)
     let unread = if file.failures() > 0 {
         settings.file
     } else {
@@ -171,7 +172,7 @@ fn run_check(rt: &HostRuntime, request: &Request<'_>) -> u8
     status
 }
 
-/// Tests what one source has as the answer to what another has, and writes what comes of it.
+/// Tests the answer in one source to the problem in the other, and writes whether it is right.
 fn check_inputs(
     rt: &HostRuntime,
     request: &Request<'_>,
@@ -191,7 +192,7 @@ fn check_inputs(
     }
 }
 
-/// Runs `why` on a file, and answers the exit status.
+/// Runs `why` on a file, and returns the exit status.
 fn run_why(rt: &HostRuntime, settings: &Settings<'_>) -> u8 {
     let mut errors = CountedWriter::new(rt.stderr());
     let mut source = match open(rt, settings.file) {
@@ -205,7 +206,7 @@ fn run_why(rt: &HostRuntime, settings: &Settings<'_>) -> u8 {
     status
 }
 
-/// Runs `simulate` on a file, and answers the exit status.
+/// Runs `simulate` on a file, and returns the exit status.
 fn run_simulate(rt: &HostRuntime, settings: &Settings<'_>) -> u8 {
     let mut errors = CountedWriter::new(rt.stderr());
     let mut source = match open(rt, settings.file) {
@@ -220,7 +221,7 @@ fn run_simulate(rt: &HostRuntime, settings: &Settings<'_>) -> u8 {
     status
 }
 
-/// Runs `solve` on a file, and answers the exit status.
+/// Runs `solve` on a file, and returns the exit status.
 fn run_solve<R: Threads + Wait + Clock + Net + Sync>(
     rt: &HostRuntime,
     threads: &R,
@@ -244,7 +245,7 @@ fn run_solve<R: Threads + Wait + Clock + Net + Sync>(
     status
 }
 
-/// Runs what is asked for, and answers the exit status.
+/// Runs what is asked for, and returns the exit status.
 fn run_request<R: Threads + Wait + Clock + Net + Sync>(
     rt: &HostRuntime,
     threads: &R,
@@ -260,7 +261,7 @@ fn run_request<R: Threads + Wait + Clock + Net + Sync>(
     }
 }
 
-/// Runs what a command line asks for, and answers the exit status: 2 for a mistake on the command line, 0 for help.
+/// Runs what a command line asks for, and returns the exit status: 2 for a mistake on the command line, 0 for help.
 fn run_words<R: Threads + Wait + Clock + Net + Sync>(
     rt: &HostRuntime,
     threads: &R,
@@ -281,7 +282,7 @@ fn given_words(rt: &HostRuntime) -> io::Result<Vec<String>> {
     Ok(given)
 }
 
-/// Runs what these words ask for, and answers the exit status.
+/// Runs what these words ask for, and returns the exit status.
 fn run_given<R: Threads + Wait + Clock + Net + Sync>(
     rt: &HostRuntime,
     threads: &R,

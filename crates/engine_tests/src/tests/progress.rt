@@ -163,9 +163,9 @@ fn followed(
     style: LineStyle,
 ) -> Result<(Vec<u8>, u8, Vec<u8>), Fail> {
     let mut out = Vec::new(alloc);
-    let mut told = Vec::new(alloc);
+    let mut log_text = Vec::new(alloc);
     let mut source = CountedReader::new(text.as_bytes());
-    let mut errors = CountedWriter::new(&mut told);
+    let mut errors = CountedWriter::new(&mut log_text);
     let clock = Ticking {
         seconds: AtomicU64::new(0),
     };
@@ -178,7 +178,7 @@ fn followed(
         &mut CountedWriter::new(&mut out),
         log,
     )?;
-    Ok((out, end.status, told))
+    Ok((out, end.status, log_text))
 }
 
 /// Problems and fuels, with the lines of their progress where a second goes by from look to look.
@@ -193,23 +193,23 @@ static SEARCHES: [(&str, u64, &str); 4] = [
 fn progress_changes_no_answer(rt: HostRuntime) -> Result<(), Fail> {
     for (text, fuel, lines) in SEARCHES.iter() {
         let (out, status) = alone(rt.alloc(), text, *fuel)?;
-        let (followed_out, followed_status, told) = followed(
+        let (followed_out, followed_status, log_text) = followed(
             rt.alloc(),
             text,
             *fuel,
             LineStyle::Listed,
         )?;
         assert!(rt; followed_out.as_slice() == out.as_slice() && followed_status == status);
-        assert!(rt; told.as_slice() == lines.as_bytes(), "{text}");
+        assert!(rt; log_text.as_slice() == lines.as_bytes(), "{text}");
     }
     Ok(())
 }
 
 #[test]
 fn a_terminal_has_one_line(rt: HostRuntime) -> Result<(), Fail> {
-    let (_out, _status, told) = followed(rt.alloc(), QUEENS, 1500, LineStyle::Overwritten)?;
+    let (_out, _status, log_text) = followed(rt.alloc(), QUEENS, 1500, LineStyle::Overwritten)?;
     assert!(rt;
-        told.as_slice() == b"\r1 s: 1024 visits,  43.6607 % of the tree \x1b[K\n".as_slice()
+        log_text.as_slice() == b"\r1 s: 1024 visits,  43.6607 % of the tree \x1b[K\n".as_slice()
     );
     Ok(())
 }
