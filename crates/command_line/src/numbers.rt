@@ -4,7 +4,7 @@ ghost use Rattle.std.specs.Prelude.{ℕ, Option, ◌≡◌, ◌≤◌, ◌<◌, 
 ghost use Rattle.std.specs.Option.{ForSome};
 ghost use Rattle.std.specs.Str.Parse.{IsNumeral, digits_value};
 ghost use Rattle.clap.specs.Words.{first_value, found_of};
-ghost use Rattle.command_line.specs.CommandLine.{Spells, SpellsIf, SpellsOr};
+ghost use Rattle.command_line.specs.CommandLine.{Spells, SpellsIf, SpellsOr, greatest_fuel};
 
 use crate::ranges::{
     ENTRIES_REFUSED, FUEL_REFUSED, MOST_ENTRIES, MOST_NODES, MOST_RESTARTS, MOST_SECONDS,
@@ -136,10 +136,10 @@ pub fn seconds(inner: &ArgMatches<'_>) -> Option<Option<u32>>
 /// Returns how many visits a search may take, from 1; none where the value is out of this range.
 pub fn fuel(inner: &ArgMatches<'_>) -> Option<u64>
     ensures given { IfSome result
-        (SpellsOr 18446744073709551615 (first_value (found_of inner.now) (codes "fuel"))) }
+        (SpellsOr greatest_fuel (first_value (found_of inner.now) (codes "fuel"))) }
     ensures some { IfSome result (λ fuel. 1 ≤ fuel) }
     ensures none { IfNone result ((n : ℕ) →
-        SpellsOr 18446744073709551615 (first_value (found_of inner.now) (codes "fuel")) n →
+        SpellsOr greatest_fuel (first_value (found_of inner.now) (codes "fuel")) n →
         1 ≤ n → n < 2 ^ 64 → ⊥) }
 {
     let fuel = number_or(inner, "fuel", u64::MAX)?;
