@@ -13,7 +13,7 @@ const LEAST: u64 = 100;
 /// After so many seconds there is a forecast: the first ones would swing from line to line.
 const EARLIEST: u64 = 10;
 
-/// A unit of time is used from two of them on, so that a forecast is never rounded to less than half.
+/// A unit of time is used from two of them on: what rounding to whole ones takes away is then less than a third.
 const MINUTE: u64 = 60;
 
 const HOUR: u64 = 60 * MINUTE;

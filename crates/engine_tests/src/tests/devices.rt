@@ -1,7 +1,7 @@
 //! What is written where devices fail or memory runs out.
 //!
 //! Of the bugs of `search_engines` that are kept outside the gate, `a_writer_that_fails_at_each_byte` finds
-//! `failed_write_is_right_as_memory`.
+//! `failed_write_is_returned_as_memory`.
 
 use super::run_output::RunOutput;
 use super::texts::LETTERS;
