@@ -12,7 +12,7 @@ ghost use Rattle.search_engines.specs.Output.{IsOutput};
 use crate::deciding::first_answer;
 use crate::engine::EngineEnd;
 use crate::fault::EngineFault;
-use crate::input::{answer_of, problem_of, read_all};
+use crate::input::read_given;
 use crate::lines::write_line;
 use brancher::{Outcome, ROOM, Searcher, Tables, Unwatched};
 use cover_problem::{Answer, Problem, Verdict, check_cover};
@@ -190,53 +190,6 @@ fn write_check_decided<W: Sink, C: Clock>(
     }
 }
 
-/// Tests the answer of one text to the problem of another, and writes whether it is right.
-fn check_texts<W: Sink>(
-    alloc: Global,
-    fuel: u64,
-    file: &[u8],
-    answer: &[u8],
-    sink: &mut W,
-) -> Result<CheckEnd, EngineFault>
-    requires fuel { 1 ≤ fuel }
-    requires failed { W.failed sink.old < 2 ^ 64 - 1 }
-    ensures ended { IsEnded (CheckSays answer.now fuel) (CheckRefuses answer.now) file.now
-        (W.contents sink.old) (W.contents sink.new) result }
-    ensures unread { result ≢ Err EngineFault.Read }
-    ensures failed { result ≡ Err EngineFault.Write → W.failed sink.old < W.failed sink.new }
-{
-    let read = problem_of(alloc, file)?;
-    let given = answer_of(alloc, answer, &read.problem)?;
-    let status = write_check(alloc, &read.problem, &given, fuel, sink)?;
-    Ok(EngineEnd {
-        status,
-        ignored: read.ignored,
-    })
-}
-
-/// Tests the answer of one text to the problem of another without a limit, and writes whether it is right.
-fn check_texts_decided<W: Sink, C: Clock>(
-    clock: &C,
-    alloc: Global,
-    file: &[u8],
-    answer: &[u8],
-    sink: &mut W,
-) -> Result<CheckEnd, EngineFault>
-    requires failed { W.failed sink.old < 2 ^ 64 - 1 }
-    ensures ended { IsEnded (DecidedCheckSays answer.now) (CheckRefuses answer.now) file.now
-        (W.contents sink.old) (W.contents sink.new) result }
-    ensures unread { result ≢ Err EngineFault.Read }
-    ensures failed { result ≡ Err EngineFault.Write → W.failed sink.old < W.failed sink.new }
-{
-    let read = problem_of(alloc, file)?;
-    let given = answer_of(alloc, answer, &read.problem)?;
-    let status = write_check_decided(clock, alloc, &read.problem, &given, sink)?;
-    Ok(EngineEnd {
-        status,
-        ignored: read.ignored,
-    })
-}
-
 /// Reads a problem and an answer to it, both to their ends, tests the answer, and writes `right`, or what is wrong, or
 /// `no answer`: a cover is tested by counting, and that there is none by a search of so many visits at most.
 ///
@@ -269,9 +222,10 @@ pub fn check_engine<R: Source, S: Source, W: Sink>(
         (R.failed file.old < R.failed file.new) ⊎ (S.failed answer.old < S.failed answer.new) }
     ensures write_fault { result ≡ Err EngineFault.Write → W.failed sink.old < W.failed sink.new }
 {
-    let file = read_all(alloc, file)?;
-    let answer = read_all(alloc, answer)?;
-    check_texts(alloc, fuel, &file, &answer, sink)
+    let given = read_given(alloc, file, answer)?;
+    let status = write_check(alloc, &given.read.problem, &given.answer, fuel, sink)?;
+    let ignored = given.read.ignored;
+    Ok(EngineEnd { status, ignored })
 }
 
 /// Does what `check_engine` does without a limit: that there is no cover is decided whatever number of visits it takes.
@@ -296,7 +250,8 @@ pub fn check_unlimited<R: Source, S: Source, W: Sink, C: Clock>(
         (R.failed file.old < R.failed file.new) ⊎ (S.failed answer.old < S.failed answer.new) }
     ensures write_fault { result ≡ Err EngineFault.Write → W.failed sink.old < W.failed sink.new }
 {
-    let file = read_all(alloc, file)?;
-    let answer = read_all(alloc, answer)?;
-    check_texts_decided(clock, alloc, &file, &answer, sink)
+    let given = read_given(alloc, file, answer)?;
+    let status = write_check_decided(clock, alloc, &given.read.problem, &given.answer, sink)?;
+    let ignored = given.read.ignored;
+    Ok(EngineEnd { status, ignored })
 }

@@ -1,10 +1,10 @@
 //! Reading a source to its end, and the problem or the answer that its bytes spell.
 
-ghost use Rattle.std.specs.Prelude.{◌≡◌, ◌≢◌, ◌-◌, ◌<◌, ◌^◌, IfErr, IfOk, IfSome};
+ghost use Rattle.std.specs.Prelude.{◌≡◌, ◌≢◌, ◌-◌, ◌<◌, ◌^◌, ◌⊎◌, IfErr, IfOk, IfSome};
 ghost use Rattle.std.specs.Io.KnownBytes.{Consumes, IsAtEnd};
 ghost use Rattle.dlx_reader.specs.Answers.{IsAnswerOf};
 ghost use Rattle.dlx_reader.specs.ProblemOf.{IsProblemOf};
-ghost use Rattle.search_engines.specs.Check.{IsListedAnswer};
+ghost use Rattle.search_engines.specs.Check.{IsListedAnswer, IsSourcesFault, IsTextsFault};
 ghost use Rattle.search_engines.specs.Engines.{IsReadFault, IsFileFault, IsAnswerFault, IsSourceFault};
 
 use crate::fault::EngineFault;
@@ -95,4 +95,60 @@ pub fn answer_of(alloc: Global, text: &[u8], problem: &Problem) -> Result<Answer
         Err(AnswerFault::Memory) => Err(EngineFault::Memory),
         Err(fault) => Err(EngineFault::Answer(fault)),
     }
+}
+
+/// A problem that was read, and the answer that is given to it.
+#[derive(Drop)]
+pub struct Given {
+    pub read: Read,
+    pub answer: Answer,
+}
+
+/// Returns the problem of one text, and the answer that the other gives to it.
+///
+/// # Errors
+///
+/// `File` with the first fault of the problem's text, else `Answer` with that of the answer's, and `Memory`.
+fn given_by(alloc: Global, file: &[u8], answer: &[u8]) -> Result<Given, EngineFault>
+    ensures problem { IfOk result (λ given. IsProblemOf file.now given.read.problem given.read.ignored) }
+    ensures answer { IfOk result (λ given. IsAnswerOf answer.now given.read.problem given.answer) }
+    ensures listed { IfOk result (λ given. IsListedAnswer given.read.problem given.answer) }
+    ensures fault { IfErr result (IsTextsFault file.now answer.now) }
+{
+    let read = problem_of(alloc, file)?;
+    let answer = answer_of(alloc, answer, &read.problem)?;
+    Ok(Given { read, answer })
+}
+
+/// Reads both sources to their ends, and returns the problem of the first and the answer that the second gives to it. The texts are let
+/// go: a search may go on for hours, and needs only the problem.
+///
+/// # Errors
+///
+/// `Read` if a read failed, `File` with the first fault of the problem's text, else `Answer` with that of the answer's, and `Memory`.
+pub fn read_given<R: Source, S: Source>(
+    alloc: Global,
+    file: &mut R,
+    answer: &mut S,
+) -> Result<Given, EngineFault>
+    requires file { R.failed file.old < 2 ^ 64 - 1 }
+    requires answer { S.failed answer.old < 2 ^ 64 - 1 }
+    ensures problem { IfOk result (λ given. IfSome (R.remaining file.old)
+        (λ text. IsProblemOf text given.read.problem given.read.ignored)) }
+    ensures answer { IfOk result (λ given. IfSome (S.remaining answer.old)
+        (λ text. IsAnswerOf text given.read.problem given.answer)) }
+    ensures listed { IfOk result (λ given. IsListedAnswer given.read.problem given.answer) }
+    ensures fault { IfErr result (λ fault. IfSome (R.remaining file.old) (λ text.
+        IfSome (S.remaining answer.old) (λ given. IsSourcesFault text given fault))) }
+    ensures file_read { result ≢ Err EngineFault.Read → result ≢ Err EngineFault.Memory →
+        IsAtEnd (R.remaining file.new) }
+    ensures answer_read { result ≢ Err EngineFault.Read → result ≢ Err EngineFault.Memory →
+        IsAtEnd (S.remaining answer.new) }
+    ensures read_fault { result ≡ Err EngineFault.Read →
+        (R.failed file.old < R.failed file.new) ⊎ (S.failed answer.old < S.failed answer.new) }
+    ensures unwritten { result ≢ Err EngineFault.Write }
+{
+    let file = read_all(alloc, file)?;
+    let answer = read_all(alloc, answer)?;
+    given_by(alloc, &file, &answer)
 }

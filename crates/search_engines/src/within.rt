@@ -14,7 +14,7 @@ use crate::check::{CheckEnd, write_verdict};
 use crate::deciding::answer_until;
 use crate::engine::EngineEnd;
 use crate::fault::EngineFault;
-use crate::input::{answer_of, problem_of, read_all, read_whole};
+use crate::input::{read_given, read_whole};
 use crate::lines::{write_line, write_published};
 use crate::progress_log::ProgressLog;
 use crate::progress_watch::{EndWatch, ProgressWatch};
@@ -233,30 +233,6 @@ fn write_check_within<W: Sink, C: Clock>(
     }
 }
 
-/// Tests the answer of one text to the problem of another within limits, and writes whether it is right.
-fn check_texts_within<W: Sink, C: Clock>(
-    clock: &C,
-    alloc: Global,
-    limits: &SearchLimits,
-    file: &[u8],
-    answer: &[u8],
-    sink: &mut W,
-) -> Result<CheckEnd, EngineFault>
-    requires failed { W.failed sink.old < 2 ^ 64 - 1 }
-    ensures ended { IsEnded (CheckSaysWithin answer.now limits.now.fuel) (CheckRefuses answer.now)
-        file.now (W.contents sink.old) (W.contents sink.new) result }
-    ensures unread { result ≢ Err EngineFault.Read }
-    ensures failed { result ≡ Err EngineFault.Write → W.failed sink.old < W.failed sink.new }
-{
-    let read = problem_of(alloc, file)?;
-    let given = answer_of(alloc, answer, &read.problem)?;
-    let status = write_check_within(clock, alloc, &read.problem, &given, limits, sink)?;
-    Ok(EngineEnd {
-        status,
-        ignored: read.ignored,
-    })
-}
-
 /// Does what `check_engine` does within limits: that there is no cover is tested by a search, and `no answer` is written once a limit is
 /// met, of time or, if there is one, of visits.
 pub fn check_within<R: Source, S: Source, W: Sink, C: Clock>(
@@ -281,7 +257,9 @@ pub fn check_within<R: Source, S: Source, W: Sink, C: Clock>(
         (R.failed file.old < R.failed file.new) ⊎ (S.failed answer.old < S.failed answer.new) }
     ensures write_fault { result ≡ Err EngineFault.Write → W.failed sink.old < W.failed sink.new }
 {
-    let file = read_all(alloc, file)?;
-    let answer = read_all(alloc, answer)?;
-    check_texts_within(clock, alloc, limits, &file, &answer, sink)
+    let given = read_given(alloc, file, answer)?;
+    let problem = &given.read.problem;
+    let status = write_check_within(clock, alloc, problem, &given.answer, limits, sink)?;
+    let ignored = given.read.ignored;
+    Ok(EngineEnd { status, ignored })
 }
