@@ -100,7 +100,9 @@ pub fn answer_of(alloc: Global, text: &[u8], problem: &Problem) -> Result<Answer
 /// A problem that was read, and the answer that is given to it.
 #[derive(Drop)]
 pub struct Given {
+    /// The problem, with the number of options that were ignored.
     pub read: Read,
+    /// The answer, whose options are those of the problem, each once.
     pub answer: Answer,
 }
 
