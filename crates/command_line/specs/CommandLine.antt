@@ -26,7 +26,11 @@ limit_rule id = record (new_rule id) { long = Some id }
 abbrev pub flag_rule : Text → Rule
 flag_rule id = record (new_rule id) { long = Some id; action = Some SetTrue }
 
--- the fuel, which is the greatest number where it is not given or there is no such option
+-- the fuel where it is not given or there is no such option: the greatest that it may be
+abbrev pub greatest_fuel : ℕ
+greatest_fuel = 18446744073709551615
+
+-- the option for it, with that default
 abbrev pub greatest_fuel_rule : Rule
 greatest_fuel_rule = number_rule (codes "fuel") (codes "18446744073709551615")
 
@@ -125,7 +129,7 @@ pub record AreSpelled (name : Text) (given : Text → Option Text) (settings : S
   pub mode_named : mode_word settings.mode ≡ name
   pub file_given : given (codes "file") ≡ Some settings.file.now
   pub answer_given : IsAnswerFile settings.mode (option_map (λ answer. answer.now) settings.answer) (given (codes "answer"))
-  pub fuel_given : SpellsOr 18446744073709551615 (given (codes "fuel")) settings.fuel
+  pub fuel_given : SpellsOr greatest_fuel (given (codes "fuel")) settings.fuel
   pub fuel_fits : settings.fuel < 2 ^ 64
   pub nodes_given : SpellsOr 4 (given (codes "nodes")) settings.nodes
   pub seed_given : SpellsOr 1 (given (codes "seed")) settings.seed
@@ -151,7 +155,7 @@ pub record ReadsInputTwice (settings : Settings) : Type 0 where
 -- There is no limit of visits, and there is one.
 pub record IsLimitedTwice (request : Request) : Type 0 where
   pub unlimited : request.unlimited ≡ true
-  pub limited : request.settings.fuel ≢ 18446744073709551615
+  pub limited : request.settings.fuel ≢ greatest_fuel
 
 -- They are spelled by the subcommand that clap's definition of a simple command's matches gives for the words, with its values.
 pub record AreMet (met : Option (Text × List Row)) (settings : Settings) : Type 0 where

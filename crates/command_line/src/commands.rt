@@ -5,6 +5,11 @@ ghost use Rattle.clap.specs.Words.{app_of, new_app, rule_of, with_rule};
 ghost use Rattle.clap.specs.declared.builder.command.Command.TheViews.{out-Command};
 ghost use Rattle.command_line.specs.CommandLine.{alone_app, check_app, file_rule, flag_rule, greatest_fuel_rule, limit_rule, number_rule, one_thread_app, reasoning_app, simulate_app, sites_app, solve_app, solver_app, threads_app, versioned, why_app};
 
+use crate::ranges::{
+    ENTRIES_HELP, FUEL_HELP, GREATEST_FUEL, JOB_FUEL_HELP, NODE_RESTARTS_HELP, NODES_HELP,
+    RESTARTS_HELP, RUN_SECONDS_HELP, SECONDS_HELP, SEED_HELP, THREAD_TURNS_HELP, TURNS_HELP,
+    WORKERS_HELP,
+};
 use clap::error::ErrorKind;
 use clap::{Arg, ArgAction, Command, Error};
 use run_settings::Mode;
@@ -13,15 +18,15 @@ use std::alloc::{AllocError, Global};
 /// The version of the program.
 const VERSION: &str = "1.0.0";
 
-/// The exit statuses of a search, as help tells them.
+/// The exit statuses of a search, as help lists them.
 const SEARCH_STATUSES: &str =
     "Statuses: 0 a cover, 1 none, 2 a mistake on the command line, 3 a refused file or a failed device, 4 no answer, 5 out of memory";
 
-/// The exit statuses of a check, as help tells them.
+/// The exit statuses of a check, as help lists them.
 const CHECK_STATUSES: &str =
     "Statuses: 0 right, 1 wrong, 2 a mistake on the command line, 3 a refused file or a failed device, 4 no answer, 5 out of memory";
 
-/// The exit statuses of the search for a reason, as help tells them.
+/// The exit statuses of the search for a reason, as help lists them.
 const WHY_STATUSES: &str =
     "Statuses: 1 none, 2 a mistake on the command line, 3 a refused file or a failed device, 4 no reason found, 5 out of memory";
 
@@ -49,8 +54,8 @@ fn fuel_argument<'a>(alloc: Global) -> Arg<'a>
 {
     Arg::new(alloc, "fuel")
         .long("fuel")
-        .default_value("18446744073709551615")
-        .help("How many prefixes the whole search may visit, from 1")
+        .default_value(GREATEST_FUEL)
+        .help(FUEL_HELP)
 }
 
 fn progress_argument<'a>(alloc: Global) -> Arg<'a>
@@ -134,11 +139,7 @@ fn time_argument<'a>(alloc: Global) -> Arg<'a>
     ensures rule { rule_of result ≡ limit_rule (codes "seconds") }
     ensures own { result.global ≡ false }
 {
-    limit_argument(
-        alloc,
-        "seconds",
-        "After how many seconds the search ends without an answer, 1 to 1000000; no limit if not given",
-    )
+    limit_argument(alloc, "seconds", SECONDS_HELP)
 }
 
 fn alone_command<'a>(alloc: Global) -> Result<Command<'a>, AllocError>
@@ -183,18 +184,15 @@ fn sites_command<'a>(
     ensures app { IfOk result (λ command. app_of command ≡ sites_app name.now) }
     ensures local { IfOk result (λ command. (out-Command command).has_globals ≡ false) }
 {
-    let fuel =
-        "How many prefixes one job may visit, from 1; a job that needs more is split, so it limits no search";
-    let nodes = "How many nodes there are, 1 to 16";
     let searching = with_two(
         described(alloc, name, about),
         file_argument(alloc),
-        number_argument(alloc, "fuel", "1000", fuel),
+        number_argument(alloc, "fuel", "1000", JOB_FUEL_HELP),
     )?;
     with_two(
         searching,
-        number_argument(alloc, "nodes", "4", nodes),
-        number_argument(alloc, "seed", "1", "The seed of what is drawn"),
+        number_argument(alloc, "nodes", "4", NODES_HELP),
+        number_argument(alloc, "seed", "1", SEED_HELP),
     )
 }
 
@@ -204,12 +202,10 @@ fn simulate_command<'a>(alloc: Global) -> Result<Command<'a>, AllocError>
 {
     let about =
         "Lets a world of nodes search the problem, by chance, and writes what it publishes. Statuses: as of alone";
-    let turns = "How many turns are taken, up to 10000000";
-    let restarts = "How many restarts are drawn, up to 100";
     with_two(
         sites_command(alloc, "simulate", about)?,
-        number_argument(alloc, "turns", "10000", turns),
-        number_argument(alloc, "restarts", "0", restarts),
+        number_argument(alloc, "turns", "10000", TURNS_HELP),
+        number_argument(alloc, "restarts", "0", RESTARTS_HELP),
     )
 }
 
@@ -220,19 +216,15 @@ fn threads_command<'a>(alloc: Global) -> Result<Command<'a>, AllocError>
 {
     let about =
         "Lets nodes with threads of their own search the problem over UDP on this machine, and writes what they publish. Statuses: as of alone";
-    let turns = "How many turns a thread takes, up to 10000000";
-    let restarts = "How often node 1 is restarted, up to 100";
-    let workers = "How many workers a node has, 1 to 8";
-    let entries = "How many entries the book of a site may have, 1 to 1000000000";
     let limited = with_two(
         sites_command(alloc, "solve", about)?,
-        number_argument(alloc, "turns", "1000000", turns),
-        number_argument(alloc, "restarts", "0", restarts),
+        number_argument(alloc, "turns", "1000000", THREAD_TURNS_HELP),
+        number_argument(alloc, "restarts", "0", NODE_RESTARTS_HELP),
     )?;
     with_two(
         limited,
-        number_argument(alloc, "workers", "2", workers),
-        number_argument(alloc, "entries", "1000000", entries),
+        number_argument(alloc, "workers", "2", WORKERS_HELP),
+        number_argument(alloc, "entries", "1000000", ENTRIES_HELP),
     )
 }
 
@@ -242,12 +234,10 @@ fn solve_command<'a>(alloc: Global) -> Result<Command<'a>, AllocError>
 {
     let audit =
         "Tests whether the sites' books are one run, and writes a line that says so; status 6 where they are not found to be";
-    let seconds =
-        "After how many seconds the run ends without an answer, 1 to 1000000; no limit if not given";
     let audited = with_two(
         threads_command(alloc)?,
         flag_argument(alloc, "audit", audit),
-        limit_argument(alloc, "seconds", seconds),
+        limit_argument(alloc, "seconds", RUN_SECONDS_HELP),
     )?;
     audited.arg(progress_argument(alloc))
 }

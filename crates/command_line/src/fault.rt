@@ -10,14 +10,14 @@ use clap::error::ErrorKind;
 /// Why there are no settings.
 #[derive(Debug, Drop)]
 pub enum SettingsFault {
-    /// The words are no command line of the program, or ask for help: what clap has to say.
+    /// The words are no command line of the program, or ask for help: what clap prints.
     Line(Error),
-    /// Memory was refused.
+    /// Memory ran out.
     Memory,
 }
 
 impl SettingsFault {
-    /// The exit status: 2 for words that are no command line, 0 where they ask for help or the version, 5 if memory ran out.
+    /// Returns the exit status: 2 for words that are no command line, 0 where they ask for help or the version, 5 if memory ran out.
     pub fn status(&self) -> u8
         ensures line { (error : Error) → self.now ≡ SettingsFault.Line error →
             IsLineStatus (kind_of error) result }
@@ -29,8 +29,8 @@ impl SettingsFault {
         }
     }
 
-    /// Prints why there are no settings, or the help that was asked for, and answers the exit status as `status` has it. A fault
-    /// of the device is passed over.
+    /// Prints why there are no settings, or the help that was asked for, and returns the exit status as `status` does. A fault of the
+    /// device is passed over: there is nowhere else to report it.
     pub fn tell(&self, rt: &HostRuntime) -> u8
         ensures line { (error : Error) → self.now ≡ SettingsFault.Line error →
             IsLineStatus (kind_of error) result }
@@ -48,14 +48,14 @@ impl SettingsFault {
     }
 }
 
-/// The exit status of what clap has to say.
+/// Returns the exit status of what clap prints: what goes to standard error is a mistake, help and the version go to standard output.
 fn line_status(error: &Error) -> u8
     ensures { IsLineStatus (kind_of error.now) result }
 {
     if error.use_stderr() { 2 } else { 0 }
 }
 
-/// What a failed call of clap stands for.
+/// Returns the fault of a failed call of clap.
 pub fn fault_of(error: Error) -> SettingsFault
     ensures { (result ≡ SettingsFault.Memory) ↔ (kind_of error ≡ ErrorKind.OutOfMemory) }
 {

@@ -4,6 +4,7 @@
 mod commands;
 mod fault;
 mod numbers;
+mod ranges;
 mod words;
 
 pub use fault::SettingsFault;

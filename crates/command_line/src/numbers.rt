@@ -4,11 +4,16 @@ ghost use Rattle.std.specs.Prelude.{ℕ, Option, ◌≡◌, ◌≤◌, ◌<◌, 
 ghost use Rattle.std.specs.Option.{ForSome};
 ghost use Rattle.std.specs.Str.Parse.{IsNumeral, digits_value};
 ghost use Rattle.clap.specs.Words.{first_value, found_of};
-ghost use Rattle.command_line.specs.CommandLine.{Spells, SpellsIf, SpellsOr};
+ghost use Rattle.command_line.specs.CommandLine.{Spells, SpellsIf, SpellsOr, greatest_fuel};
 
+use crate::ranges::{
+    ENTRIES_REFUSED, FUEL_REFUSED, MOST_ENTRIES, MOST_NODES, MOST_RESTARTS, MOST_SECONDS,
+    MOST_TURNS, MOST_WORKERS, NODES_REFUSED, RESTARTS_REFUSED, SECONDS_REFUSED, SEED_REFUSED,
+    TURNS_REFUSED, WORKERS_REFUSED,
+};
 use clap::ArgMatches;
 
-/// The number that decimal digits spell, without a sign.
+/// Returns the number that decimal digits spell; none for a sign, which `parse` would take as `+`, and for a number of 2^64 or more.
 fn number(text: &str) -> Option<u64>
     ensures spelled { IfSome result (Spells text.now) }
     ensures found { IsNumeral 10 text.now → digits_value 10 text.now < 2 ^ 64 → IsSome result }
@@ -19,7 +24,7 @@ fn number(text: &str) -> Option<u64>
     }
 }
 
-/// The number that an option spells, or its default where the subcommand lacks the option.
+/// Returns the number that an option spells, or its default where the subcommand lacks the option; none where it spells none.
 pub fn number_or(inner: &ArgMatches<'_>, id: &str, default: u64) -> Option<u64>
     ensures given { IfSome result (SpellsOr default (first_value (found_of inner.now) id.now)) }
     ensures none { IfNone result ((n : ℕ) →
@@ -31,7 +36,7 @@ pub fn number_or(inner: &ArgMatches<'_>, id: &str, default: u64) -> Option<u64>
     }
 }
 
-/// How many nodes there are, from 1 to 16.
+/// Returns how many nodes there are, from 1 to 16; none where the value is out of this range.
 pub fn nodes(inner: &ArgMatches<'_>) -> Option<u8>
     ensures given { IfSome result (SpellsOr 4 (first_value (found_of inner.now) (codes "nodes"))) }
     ensures some { IfSome result (λ nodes. 1 ≤ nodes) }
@@ -41,13 +46,13 @@ pub fn nodes(inner: &ArgMatches<'_>) -> Option<u8>
         ⊥) }
 {
     let nodes = number_or(inner, "nodes", 4)?;
-    if nodes == 0 || nodes > 16 {
+    if nodes == 0 || nodes > MOST_NODES {
         return None;
     }
     Some(nodes as u8)
 }
 
-/// How many workers a node has, from 1 to 8.
+/// Returns how many workers a node has, from 1 to 8; none where the value is out of this range.
 pub fn workers(inner: &ArgMatches<'_>) -> Option<u8>
     ensures given { IfSome result
         (SpellsOr 2 (first_value (found_of inner.now) (codes "workers"))) }
@@ -57,13 +62,13 @@ pub fn workers(inner: &ArgMatches<'_>) -> Option<u8>
         SpellsOr 2 (first_value (found_of inner.now) (codes "workers")) n → 1 ≤ n → n ≤ 8 → ⊥) }
 {
     let workers = number_or(inner, "workers", 2)?;
-    if workers == 0 || workers > 8 {
+    if workers == 0 || workers > MOST_WORKERS {
         return None;
     }
     Some(workers as u8)
 }
 
-/// How many turns are taken, up to 10,000,000.
+/// Returns how many turns are taken, up to 10,000,000; none where the value is out of this range.
 pub fn turns(inner: &ArgMatches<'_>) -> Option<u32>
     ensures given { IfSome result
         (SpellsOr 10000 (first_value (found_of inner.now) (codes "turns"))) }
@@ -72,13 +77,13 @@ pub fn turns(inner: &ArgMatches<'_>) -> Option<u32>
         SpellsOr 10000 (first_value (found_of inner.now) (codes "turns")) n → n ≤ 10000000 → ⊥) }
 {
     let turns = number_or(inner, "turns", 10_000)?;
-    if turns > 10_000_000 {
+    if turns > MOST_TURNS {
         return None;
     }
     Some(turns as u32)
 }
 
-/// How many entries a book may have, from 1 to 1,000,000,000.
+/// Returns how many entries a book may have, from 1 to 1,000,000,000; none where the value is out of this range.
 pub fn entries(inner: &ArgMatches<'_>) -> Option<u32>
     ensures given { IfSome result
         (SpellsOr 1000000 (first_value (found_of inner.now) (codes "entries"))) }
@@ -88,13 +93,13 @@ pub fn entries(inner: &ArgMatches<'_>) -> Option<u32>
         SpellsOr 1000000 (first_value (found_of inner.now) (codes "entries")) n → 1 ≤ n → n ≤ 1000000000 → ⊥) }
 {
     let entries = number_or(inner, "entries", 1_000_000)?;
-    if entries == 0 || entries > 1_000_000_000 {
+    if entries == 0 || entries > MOST_ENTRIES {
         return None;
     }
     Some(entries as u32)
 }
 
-/// How many restarts there are, up to 100.
+/// Returns how many restarts there are, up to 100; none where the value is out of this range.
 pub fn restarts(inner: &ArgMatches<'_>) -> Option<u32>
     ensures given { IfSome result
         (SpellsOr 0 (first_value (found_of inner.now) (codes "restarts"))) }
@@ -103,13 +108,13 @@ pub fn restarts(inner: &ArgMatches<'_>) -> Option<u32>
         SpellsOr 0 (first_value (found_of inner.now) (codes "restarts")) n → n ≤ 100 → ⊥) }
 {
     let restarts = number_or(inner, "restarts", 0)?;
-    if restarts > 100 {
+    if restarts > MOST_RESTARTS {
         return None;
     }
     Some(restarts as u32)
 }
 
-/// After how many seconds a run ends, from 1 to 1,000,000, if one is asked to.
+/// Returns after how many seconds a run ends, from 1 to 1,000,000, if it is asked to end; none where the value is out of this range.
 pub fn seconds(inner: &ArgMatches<'_>) -> Option<Option<u32>>
     ensures given { IfSome result (SpellsIf (first_value (found_of inner.now) (codes "seconds"))) }
     ensures some { IfSome result (λ seconds. ForSome seconds (λ seconds. 1 ≤ seconds)) }
@@ -122,19 +127,19 @@ pub fn seconds(inner: &ArgMatches<'_>) -> Option<Option<u32>>
         return Some(None);
     };
     let seconds = number(text)?;
-    if seconds == 0 || seconds > 1_000_000 {
+    if seconds == 0 || seconds > MOST_SECONDS {
         return None;
     }
     Some(Some(seconds as u32))
 }
 
-/// How many visits a search may take, from 1.
+/// Returns how many visits a search may take, from 1; none where the value is out of this range.
 pub fn fuel(inner: &ArgMatches<'_>) -> Option<u64>
     ensures given { IfSome result
-        (SpellsOr 18446744073709551615 (first_value (found_of inner.now) (codes "fuel"))) }
+        (SpellsOr greatest_fuel (first_value (found_of inner.now) (codes "fuel"))) }
     ensures some { IfSome result (λ fuel. 1 ≤ fuel) }
     ensures none { IfNone result ((n : ℕ) →
-        SpellsOr 18446744073709551615 (first_value (found_of inner.now) (codes "fuel")) n →
+        SpellsOr greatest_fuel (first_value (found_of inner.now) (codes "fuel")) n →
         1 ≤ n → n < 2 ^ 64 → ⊥) }
 {
     let fuel = number_or(inner, "fuel", u64::MAX)?;
@@ -144,28 +149,29 @@ pub fn fuel(inner: &ArgMatches<'_>) -> Option<u64>
     Some(fuel)
 }
 
-/// What is reported of the first option whose value is no number of its range.
+/// Returns what is reported of the first option whose value is no number of its range.
 pub fn out_of_range(inner: &ArgMatches<'_>) -> &'static str {
     if fuel(inner).is_none() {
-        return "--fuel takes 1 to 18446744073709551615";
+        return FUEL_REFUSED;
     }
     if nodes(inner).is_none() {
-        return "--nodes takes 1 to 16";
+        return NODES_REFUSED;
     }
     if workers(inner).is_none() {
-        return "--workers takes 1 to 8";
+        return WORKERS_REFUSED;
     }
     if turns(inner).is_none() {
-        return "--turns takes 0 to 10000000";
+        return TURNS_REFUSED;
     }
     if entries(inner).is_none() {
-        return "--entries takes 1 to 1000000000";
+        return ENTRIES_REFUSED;
     }
     if restarts(inner).is_none() {
-        return "--restarts takes 0 to 100";
+        return RESTARTS_REFUSED;
     }
     if seconds(inner).is_none() {
-        return "--seconds takes 1 to 1000000";
+        return SECONDS_REFUSED;
     }
-    "--seed takes 0 to 18446744073709551615"
+    // Only the seed is left: one of them is out of its range.
+    SEED_REFUSED
 }

@@ -1,4 +1,4 @@
-//! What the words of a command line ask for.
+//! From the words of a command line to what they ask for.
 
 ghost use Rattle.std.specs.Prelude.{Option, ◌≡◌, ◌≢◌, ◌↔◌, true, IfNone, IfOk, IfSome, codes, is_some, map, option_map};
 ghost use Rattle.clap.specs.Words.{Text, first_value, found_of, subcommand_of};
@@ -18,14 +18,14 @@ use std::path::Path;
 /// The program's name, where no word has it.
 const PROGRAM: &str = "solve_cli";
 
-/// What is reported where standard input is to be both problem and answer.
+/// What is reported where standard input is named both as problem and as answer.
 const INPUT_TWICE: &str =
     "- is standard input, which can be read once: as the file or as the answer";
 
-/// What is reported where a search is to have no limit, and one.
+/// What is reported where a search is asked to have no limit and given one.
 const LIMITED_TWICE: &str = "--unlimited can't be used with --fuel";
 
-/// What a subcommand's name stands for.
+/// Returns the mode that a subcommand's name asks for.
 fn mode_of(name: &str) -> Option<Mode>
     ensures named { IfSome result (λ mode. mode_word mode ≡ name.now) }
     ensures none { IfNone result ((mode : Mode) → mode_word mode ≢ name.now) }
@@ -48,7 +48,7 @@ fn mode_of(name: &str) -> Option<Mode>
     None
 }
 
-/// The answer's file, for a check alone.
+/// Returns the answer's file, which only `check` has.
 fn answer_file<'a>(mode: Mode, inner: &ArgMatches<'a>) -> Option<Option<&'a str>>
     ensures given { IfSome result (λ given. IsAnswerFile mode (option_map
         (λ answer. answer.now) given)
@@ -63,14 +63,14 @@ fn answer_file<'a>(mode: Mode, inner: &ArgMatches<'a>) -> Option<Option<&'a str>
     }
 }
 
-/// Whether a flag is set; it isn't where the subcommand lacks it.
+/// Returns whether a flag is set; it isn't where the subcommand lacks it.
 fn is_set(inner: &ArgMatches<'_>, id: &str) -> bool
     ensures { IsFlag (first_value (found_of inner.now) id.now) result }
 {
     matches!(inner.get_str(id), Some("true"))
 }
 
-/// The settings that a subcommand's matches spell; none where a number is out of its range.
+/// Returns the settings that a subcommand's matches spell; none where a number is out of its range.
 fn spelled<'a>(name: &'a str, inner: &ArgMatches<'a>) -> Option<Settings<'a>>
     ensures some { IfSome result (AreSpelled name.now (first_value (found_of inner.now))) }
     ensures none { IfNone result ((settings : Settings) →
@@ -92,7 +92,7 @@ fn spelled<'a>(name: &'a str, inner: &ArgMatches<'a>) -> Option<Settings<'a>>
     })
 }
 
-/// The request that a subcommand's matches spell; none where a number is out of its range.
+/// Returns the request that a subcommand's matches spell; none where a number is out of its range.
 fn requested<'a>(name: &'a str, inner: &ArgMatches<'a>) -> Option<Request<'a>>
     ensures some { IfSome result (IsSpelled name.now (first_value (found_of inner.now))) }
     ensures none { IfNone result ((request : Request) →
@@ -106,7 +106,7 @@ fn requested<'a>(name: &'a str, inner: &ArgMatches<'a>) -> Option<Request<'a>>
     })
 }
 
-/// Whether problem and answer are both to be read from standard input, which can be read only once.
+/// Returns whether problem and answer are both to be read from standard input, which can be read only once.
 fn reads_input_twice(settings: &Settings<'_>) -> bool
     ensures { (result ≡ true) ↔ ReadsInputTwice settings.now }
 {
@@ -116,14 +116,15 @@ fn reads_input_twice(settings: &Settings<'_>) -> bool
     }
 }
 
-/// Whether a search is to have no limit of visits, and one.
+/// Returns whether a search is to have no limit of visits, and one. The greatest fuel passes: it is the default, so clap's matches don't
+/// show whether it was given.
 fn is_limited_twice(request: &Request<'_>) -> bool
     ensures { (result ≡ true) ↔ IsLimitedTwice request.now }
 {
     request.unlimited && request.settings.fuel != u64::MAX
 }
 
-/// The name that the program was called by: the first word, without the folders before it.
+/// Returns the name that the program was called by: the first word, without the folders before it.
 fn program_name<'a>(words: &[&'a str]) -> &'a str {
     match words.first() {
         Some(word) => Path::new(*word).file_name().unwrap_or(PROGRAM),
@@ -131,7 +132,7 @@ fn program_name<'a>(words: &[&'a str]) -> &'a str {
     }
 }
 
-/// What is wrong with the values of a subcommand, as a fault.
+/// Returns the fault of a subcommand's values, with this message.
 fn value_fault(alloc: Global, words: &[&str], mode: Mode, message: &str) -> SettingsFault {
     match value_error(alloc, program_name(words), mode, message) {
         Ok(error) => fault_of(error),
@@ -139,7 +140,8 @@ fn value_fault(alloc: Global, words: &[&str], mode: Mode, message: &str) -> Sett
     }
 }
 
-/// The fault of words without a subcommand; clap itself refuses them before.
+/// Returns the fault of words without a subcommand. It never shows, since clap refuses such words first; but clap's contract doesn't
+/// promise that.
 fn no_subcommand(command: Command<'_>) -> SettingsFault {
     let mut command = command;
     match command.error(ErrorKind::MissingSubcommand, "a subcommand is required") {
@@ -148,10 +150,13 @@ fn no_subcommand(command: Command<'_>) -> SettingsFault {
     }
 }
 
-/// What the words of a command line ask for; the first word is the program's name.
+/// Returns what the words of a command line ask for; the first word is the program's name.
 ///
-/// `Line` is clap's fault for words that are no command line, the fault of a value that is no number of its range, of standard input that
-/// is named twice or of a limit of visits beside `--unlimited`, and clap's text for help and version. `Memory` comes where memory was refused, by clap too.
+/// # Errors
+///
+/// `Line` has clap's message for words that are no command line, for a value that is no number of its range, for standard input that
+/// is named twice and for a limit of visits beside `--unlimited`, or clap's text for help and version. `Memory` comes where memory ran
+/// out, in clap too.
 pub fn request<'a>(alloc: Global, words: &'a [&'a str]) -> Result<Request<'a>, SettingsFault>
     ensures met { IfOk result
         (IsMet (subcommand_of solver_app (map (λ word. word.now) words.now))) }
@@ -183,7 +188,7 @@ pub fn request<'a>(alloc: Global, words: &'a [&'a str]) -> Result<Request<'a>, S
     Ok(request)
 }
 
-/// The settings that the words of a command line spell, as `request` has them.
+/// Returns the settings that the words of a command line spell. The errors are those of `request`.
 pub fn settings<'a>(alloc: Global, words: &'a [&'a str]) -> Result<Settings<'a>, SettingsFault>
     ensures met { IfOk result
         (AreMet (subcommand_of solver_app (map (λ word. word.now) words.now))) }

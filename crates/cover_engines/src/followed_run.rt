@@ -4,7 +4,7 @@ use crate::reasons::Reasons;
 use brancher::{Finding, Outcome};
 use cover_problem::Problem;
 use dlx_reader::Sink;
-use search_engines::{Gauge, Progress, ProgressLog, Seconds};
+use search_engines::{LineTimer, Progress, ProgressLog, TreeEstimate};
 use spawn_frame::Job;
 use std::alloc::{AllocError, Global};
 use std::sync::atomic::{AtomicU64, Ordering};
@@ -25,9 +25,9 @@ pub struct FollowedRun<'a, E: Sink, R: Wait + Clock> {
 /// What has been heard of a run.
 #[derive(Drop)]
 struct State<'a, E: Sink> {
-    gauge: Gauge<'a>,
+    estimate: TreeEstimate<'a>,
     log: ProgressLog<'a, E>,
-    seconds: Seconds,
+    timer: LineTimer,
     visits: u64,
     share: u64,
     jobs: u64,
@@ -46,11 +46,11 @@ impl<'a, E: Sink, R: Wait + Clock> FollowedRun<'a, E, R> {
         limit: Option<Duration>,
         log: ProgressLog<'a, E>,
     ) -> Result<FollowedRun<'a, E, R>, AllocError> {
-        let gauge = Gauge::new(alloc, problem)?;
+        let estimate = TreeEstimate::new(alloc, problem)?;
         let state = State {
-            gauge,
+            estimate,
             log,
-            seconds: Seconds::new(rt),
+            timer: LineTimer::new(rt),
             visits: 0,
             share: 0,
             jobs: 0,
@@ -82,8 +82,8 @@ impl<'a, E: Sink> State<'a, E> {
             self.visits = self.visits.saturating_add(visits);
         }
         if finding.outcome() == Outcome::Barren {
-            let part = self.gauge.part(finding.prefix());
-            self.share = self.share.saturating_add(part).min(Gauge::WHOLE);
+            let part = self.estimate.part(finding.prefix());
+            self.share = self.share.saturating_add(part).min(TreeEstimate::WHOLE);
         }
     }
 
@@ -92,7 +92,7 @@ impl<'a, E: Sink> State<'a, E> {
         if self.is_over {
             return None;
         }
-        self.seconds.due(clock, self.log.lines())
+        self.timer.due(clock, self.log.style())
     }
 
     /// No line follows; the last one ends, so that the answer is on one of its own.
@@ -106,7 +106,7 @@ impl<'a, E: Sink> State<'a, E> {
         Progress {
             seconds,
             visits: self.visits.saturating_add(visits),
-            share: self.share.saturating_add(share).min(Gauge::WHOLE),
+            share: self.share.saturating_add(share).min(TreeEstimate::WHOLE),
             jobs: Some(self.jobs),
             fullest: None,
         }
@@ -128,7 +128,7 @@ impl<'a, E: Sink, R: Wait + Clock> Gate for FollowedRun<'a, E, R> {
     fn seen(&self, length: usize, chosen: &[u16], visits: u64) {
         let mut state = self.state.lock(self.rt);
         if let Some(seconds) = state.due(self.rt) {
-            let share = state.gauge.share_below(length, chosen);
+            let share = state.estimate.share_below(length, chosen);
             let progress = state.progress(seconds, visits, share);
             self.write(&mut state, progress);
         }

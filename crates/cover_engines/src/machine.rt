@@ -12,7 +12,7 @@ use crate::solve::solve_problem;
 use dlx_reader::{Read, Sink, Source};
 use run_settings::Request;
 use search_engines::{
-    EngineFault, Lines, ProgressLog, read_whole, tell, tell_fault, tell_fault_of, tell_unbound,
+    EngineFault, LineStyle, ProgressLog, read_whole, tell, tell_fault, tell_fault_of, tell_unbound,
 };
 use std::alloc::Global;
 use std::io::{self, ErrorKind};
@@ -30,7 +30,7 @@ pub struct Machine<'a, N: Network, R: Threads + Wait + Clock + Sync> {
     /// Where its sites get their links.
     pub network: N,
     /// How its lines of progress follow one another.
-    pub lines: Lines,
+    pub lines: LineStyle,
 }
 
 impl<N: Network, R: Threads + Wait + Clock + Sync> Machine<'_, N, R> {

@@ -1,6 +1,6 @@
 //! Why a run has no answer.
 
-use search_engines::Seconds;
+use search_engines::Stopwatch;
 use std::time::{Clock, Duration};
 use udp_node::{Cause, SiteEnd};
 
@@ -9,7 +9,7 @@ use udp_node::{Cause, SiteEnd};
 pub(crate) struct Reasons {
     /// How long the run may last, if it is limited.
     limit: Option<Duration>,
-    began: Seconds,
+    began: Stopwatch,
     /// Why the site ended with which the run ended, if the search was not over.
     first: Option<&'static str>,
 }
@@ -19,7 +19,7 @@ impl Reasons {
     pub(crate) fn new<C: Clock>(clock: &C, limit: Option<Duration>) -> Reasons {
         Reasons {
             limit,
-            began: Seconds::new(clock),
+            began: Stopwatch::new(clock),
             first: None,
         }
     }

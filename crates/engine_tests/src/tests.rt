@@ -1,4 +1,4 @@
-//! What the engines write of texts in memory, and what is told where devices fail.
+//! What the engines write of texts in memory, and where devices fail.
 
 mod alone;
 mod check;
@@ -8,9 +8,9 @@ mod long;
 mod progress;
 mod refused;
 mod remembered;
+mod run_output;
 mod simulate;
 mod texts;
-mod told;
 mod unlimited;
 mod why;
 mod within;

@@ -1,4 +1,4 @@
-//! Reasons to text.
+//! The text of a reason.
 
 ghost use Rattle.std.specs.Prelude.{◌≡◌, ◌<◌, [], ◌∷◌, ◌++◌, length, IfOk, OnOk};
 ghost use Rattle.std.specs.Fmt.{decimal};
@@ -54,7 +54,7 @@ fn push_words(
     push_name(text, problem, item)
 }
 
-/// What a list tells of an item: 0 where it comes after those of the list.
+/// Returns the number that a list has for an item; 0 for an item behind its end.
 fn amount_of(amounts: &[u16], item: u16) -> u16
     ensures { result ≡ amount_of amounts.now item }
 {
@@ -64,7 +64,7 @@ fn amount_of(amounts: &[u16], item: u16) -> u16
     }
 }
 
-/// Adds the line of an item to a text, unless its number in the list is 0.
+/// Adds the line of an item to a text, unless its number in the list is 0: such an item adds nothing to the sum.
 fn push_line(
     text: &mut Vec<u8>,
     problem: &Problem,
@@ -99,7 +99,7 @@ fn push_lines(
     Ok(())
 }
 
-/// The text of weights.
+/// Returns the text of weights. The only error is out of memory.
 fn weights_text(alloc: Global, problem: &Problem, weights: &Weights) -> Result<Vec<u8>, AllocError>
     ensures { IfOk result (λ text. text.items ≡ reason_text problem.now (Reason.Weighed weights.now)) }
 {
@@ -110,7 +110,7 @@ fn weights_text(alloc: Global, problem: &Problem, weights: &Weights) -> Result<V
     Ok(text)
 }
 
-/// The text of needs and room.
+/// Returns the text of needs and room. The only error is out of memory.
 fn room_text(alloc: Global, problem: &Problem, room: &Room) -> Result<Vec<u8>, AllocError>
     ensures { IfOk result (λ text. text.items ≡ reason_text problem.now (Reason.TooLittleRoom room.now)) }
 {
@@ -120,7 +120,7 @@ fn room_text(alloc: Global, problem: &Problem, room: &Room) -> Result<Vec<u8>, A
     Ok(text)
 }
 
-/// The text of a reason; the only error is out of memory.
+/// Returns the text of a reason. The only error is out of memory.
 pub fn text_of(alloc: Global, problem: &Problem, reason: &Reason) -> Result<Vec<u8>, AllocError>
     ensures { IfOk result (λ text. text.items ≡ reason_text problem.now reason.now) }
 {

@@ -16,7 +16,7 @@ use std::alloc::Global;
 /// How a run of `why` ended: with status 1 where a reason was written, 4 where none was found.
 pub type WhyEnd = EngineEnd;
 
-/// Writes a reason, and answers the status.
+/// Writes a reason, and returns the status.
 fn write_reason<W: Sink>(
     alloc: Global,
     problem: &Problem,
@@ -34,7 +34,7 @@ fn write_reason<W: Sink>(
     write_line(&text, 1, sink)
 }
 
-/// Looks for a reason why the problem has no exact cover, writes it, or that none was found, and answers the status.
+/// Looks for a reason why the problem has no exact cover, writes it, or that none was found, and returns the status.
 fn write_why<W: Sink>(alloc: Global, problem: &Problem, sink: &mut W) -> Result<u8, EngineFault>
     requires { W.failed sink.old < 2 ^ 64 - 1 }
     ensures output { IsOutputOf (WhySays problem.now) (W.contents sink.old)
@@ -51,8 +51,10 @@ fn write_why<W: Sink>(alloc: Global, problem: &Problem, sink: &mut W) -> Result<
 /// Reads a problem to its end, looks for a reason why it has no exact cover, and writes `none` and the reason, or `no reason found`,
 /// whether it has a cover or not.
 ///
-/// The faults are `Read` and `Write`, where that device failed, `File`, with the text's first fault, and `Memory`.
-/// After `Write` a beginning of the text was written, after another fault nothing. At `Memory` the source may have been read in part.
+/// # Errors
+///
+/// `Read` and `Write` if that device failed, `File` with the text's first fault, and `Memory`. After `Write` a beginning of the text
+/// was written, after another fault nothing. At `Memory` the source may have been read in part.
 pub fn why_engine<R: Source, W: Sink>(
     alloc: Global,
     source: &mut R,

@@ -1,16 +1,16 @@
-//! What a command line asks for in all.
+//! All that a command line asks for.
 
 ghost use Rattle.std.specs.Prelude.{◌≤◌};
 ghost use Rattle.std.specs.Option.{ForSome};
 
 use crate::settings::Settings;
 
-/// The settings of a run, with what it is asked beside them.
+/// The settings of a run, and what is asked of it beside them.
 #[derive(Clone, Copy)]
 pub struct Request<'a> {
     /// The settings of the run.
     pub settings: Settings<'a>,
-    /// After how many seconds a search by one thread, or a run over sockets, ends, from 1 to 1,000,000; without a limit none.
+    /// After how many seconds a search by one thread, or a run over sockets, ends, from 1 to 1,000,000; none for no limit.
     pub seconds: Option<u32>,
     /// Whether it writes how far its search has come.
     pub progress: bool,

@@ -1,4 +1,4 @@
-//! What the command line asks for.
+//! What a run is to do, and the numbers for it.
 
 ghost use Rattle.std.specs.Prelude.{◌≡◌, ◌≤◌, is_some, true};
 ghost use Rattle.run_settings.specs.declared.settings.Mode.{Mode};
@@ -21,7 +21,7 @@ pub enum Mode {
     Solve,
 }
 
-/// The settings of a run. What goes with another subcommand has its default.
+/// The settings of a run. What only another subcommand uses has its default.
 #[derive(Clone, Copy)]
 pub struct Settings<'a> {
     /// What is to be done.
@@ -34,7 +34,7 @@ pub struct Settings<'a> {
     pub fuel: u64,
     /// How many nodes there are, from 1 to 16.
     pub nodes: u8,
-    /// The seed of what is drawn.
+    /// The seed of the generator that draws, any number.
     pub seed: u64,
     /// How many workers a node has, from 1 to 8.
     pub workers: u8,

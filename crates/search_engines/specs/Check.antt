@@ -1,5 +1,5 @@
 -- What `check` says of a problem and the answer that is given to it.
-use Rattle.std.specs.Prelude.{◌≡◌, ℕ, List, [], ◌∷◌, ◌++◌, codes, true}
+use Rattle.std.specs.Prelude.{◌≡◌, ℕ, List, [], ◌∷◌, ◌++◌, Some, codes, true}
 use Rattle.cover_problem.specs.Numbers.{is_distinct}
 use Rattle.cover_problem.specs.Prefix.{are_options}
 use Rattle.cover_problem.specs.Problem.{Problem}
@@ -10,9 +10,13 @@ use Rattle.cover_problem.specs.declared.answer.Answer.TheVariants.{Cover, NoCove
 use Rattle.cover_problem.specs.declared.verdict.Verdict.{Verdict}
 use Rattle.cover_problem.specs.declared.verdict.Verdict.TheVariants as verdicts
 use Rattle.dlx_reader.specs.Answers.{IsAnswerOf, IsFaultOf}
+use Rattle.dlx_reader.specs.Faults.{first_fault}
 use Rattle.dlx_reader.specs.Writing.{name_text}
 use Rattle.dlx_reader.specs.declared.answer_fault.AnswerFault.{AnswerFault}
+use Rattle.search_engines.specs.Engines.{IsRefused}
 use Rattle.search_engines.specs.Output.{Said, no_answer, said}
+use Rattle.search_engines.specs.declared.fault.EngineFault.{EngineFault}
+use Rattle.search_engines.specs.declared.fault.EngineFault.TheVariants as faults
 
 -- that the answer is right, with status 0
 abbrev pub right : Said
@@ -71,3 +75,21 @@ pub record IsListed (problem : Problem) (options : List ℕ) : Type 0 where
 abbrev pub IsListedAnswer : Problem → Answer → Type 0
 IsListedAnswer problem (Cover options) = IsListed problem options
 IsListedAnswer problem NoCover = Unit {0}
+
+-- ---- faults before anything is written
+
+-- of the problem of a text and the answer that another gives to it, of which the first's come first
+abbrev pub IsTextsFault : List ℕ → List ℕ → EngineFault → Type 0
+IsTextsFault text given (faults.File fault) = (first_fault text ≡ Some fault)
+IsTextsFault text given (faults.Answer fault) = IsRefused (CheckRefuses given) text fault
+IsTextsFault text given faults.Memory = Unit {0}
+IsTextsFault text given faults.Read = ⊥
+IsTextsFault text given faults.Write = ⊥
+
+-- of reading both texts from their sources
+abbrev pub IsSourcesFault : List ℕ → List ℕ → EngineFault → Type 0
+IsSourcesFault text given (faults.File fault) = (first_fault text ≡ Some fault)
+IsSourcesFault text given (faults.Answer fault) = IsRefused (CheckRefuses given) text fault
+IsSourcesFault text given faults.Read = Unit {0}
+IsSourcesFault text given faults.Memory = Unit {0}
+IsSourcesFault text given faults.Write = ⊥

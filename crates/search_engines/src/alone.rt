@@ -11,16 +11,17 @@ ghost use Rattle.search_engines.specs.Output.{IsOutput};
 use crate::deciding::first_answer;
 use crate::engine::EngineEnd;
 use crate::fault::EngineFault;
-use crate::input::{problem_of, read_all};
+use crate::input::read_whole;
 use crate::lines::{write_line, write_solution};
-use crate::progress::{Follows, ProgressLog, ProgressWatch};
+use crate::progress_log::ProgressLog;
+use crate::progress_watch::{EndWatch, ProgressWatch};
 use brancher::{Outcome, ROOM, Searcher, Tables, Unwatched};
 use cover_problem::{Answer, Problem, in_order};
 use dlx_reader::{Sink, Source};
 use std::alloc::Global;
 use std::time::Clock;
 
-/// How a run of `alone` ended: with status 0 for a cover, 1 for none, 4 where the fuel was spent.
+/// How a run of `alone` ended: with status 0 for a cover, 1 for none, 4 for no answer within its limits.
 pub type AloneEnd = EngineEnd;
 
 /// Writes the text of the cover that a search found, with its options in the order of the file.
@@ -41,7 +42,7 @@ fn write_found<W: Sink>(
     write_solution(problem, &Answer::Cover(options), sink)
 }
 
-/// Writes the text of what a search came to, with the cover that it found, and answers the status.
+/// Writes the text of a search's outcome, with the cover that it found, and returns the status.
 fn write_outcome<W: Sink>(
     alloc: Global,
     problem: &Problem,
@@ -61,9 +62,9 @@ fn write_outcome<W: Sink>(
     }
 }
 
-/// Searches the empty prefix under a watch, with so many visits at most, writes what comes of it, and answers the status.
+/// Searches the empty prefix under a watch, with so many visits at most, writes the outcome, and returns the status.
 #[tactic(auto, unfolding(crate::specs::Alone::alone_said))]
-fn write_alone<V: Follows, W: Sink>(
+fn write_alone<V: EndWatch, W: Sink>(
     alloc: Global,
     problem: &Problem,
     fuel: u64,
@@ -88,8 +89,8 @@ fn write_alone<V: Follows, W: Sink>(
     write_outcome(alloc, problem, outcome, searcher.found(), sink)
 }
 
-/// Finds the first cover under a watch without a limit, writes it, or that there is none, and answers the status.
-fn write_decided<V: Follows, W: Sink, C: Clock>(
+/// Finds the first cover under a watch without a limit, writes it, or that there is none, and returns the status.
+fn write_decided<V: EndWatch, W: Sink, C: Clock>(
     clock: &C,
     alloc: Global,
     problem: &Problem,
@@ -112,9 +113,10 @@ fn write_decided<V: Follows, W: Sink, C: Clock>(
 /// Reads a problem to its end, searches it with so many visits at most, and writes its first cover, with the options
 /// in the order of the file, or `none`, or `no answer` where the fuel was spent.
 ///
-/// The faults are `Read` and `Write`, where that device failed, `File`, with the text's first fault, and `Memory`.
-/// After `Write` a beginning of the answer's text was written, after another fault nothing. At `Memory` the source may have been
-/// read in part.
+/// # Errors
+///
+/// `Read` and `Write` if that device failed, `File` with the text's first fault, and `Memory`. After `Write` a beginning of the
+/// answer's text was written, after another fault nothing. At `Memory` the source may have been read in part.
 pub fn alone_engine<R: Source, W: Sink>(
     alloc: Global,
     fuel: u64,
@@ -132,8 +134,7 @@ pub fn alone_engine<R: Source, W: Sink>(
     ensures read_fault { result ≡ Err EngineFault.Read → R.failed source.old < R.failed source.new }
     ensures write_fault { result ≡ Err EngineFault.Write → W.failed sink.old < W.failed sink.new }
 {
-    let text = read_all(alloc, source)?;
-    let read = problem_of(alloc, &text)?;
+    let read = read_whole(alloc, source)?;
     let status = write_alone(alloc, &read.problem, fuel, &mut Unwatched, sink)?;
     Ok(EngineEnd {
         status,
@@ -141,8 +142,8 @@ pub fn alone_engine<R: Source, W: Sink>(
     })
 }
 
-/// Does what `alone_engine` does, and meanwhile writes to the log each second how far the search has come. The log changes no answer: a
-/// fault of its sink is passed over. Memory is taken for what the log needs, too.
+/// Does what `alone_engine` does, and meanwhile writes to the log how far the search has come. The log changes no answer: a fault of its
+/// sink is passed over. `Memory` also comes where there is none for the estimate that the log shows.
 pub fn alone_with_progress<R: Source, W: Sink, E: Sink, C: Clock>(
     clock: &C,
     alloc: Global,
@@ -162,8 +163,7 @@ pub fn alone_with_progress<R: Source, W: Sink, E: Sink, C: Clock>(
     ensures read_fault { result ≡ Err EngineFault.Read → R.failed source.old < R.failed source.new }
     ensures write_fault { result ≡ Err EngineFault.Write → W.failed sink.old < W.failed sink.new }
 {
-    let text = read_all(alloc, source)?;
-    let read = problem_of(alloc, &text)?;
+    let read = read_whole(alloc, source)?;
     let Ok(mut watch) = ProgressWatch::new(clock, alloc, &read.problem, fuel, log) else {
         return Err(EngineFault::Memory);
     };
@@ -190,8 +190,7 @@ pub fn alone_unlimited<R: Source, W: Sink, C: Clock>(
     ensures read_fault { result ≡ Err EngineFault.Read → R.failed source.old < R.failed source.new }
     ensures write_fault { result ≡ Err EngineFault.Write → W.failed sink.old < W.failed sink.new }
 {
-    let text = read_all(alloc, source)?;
-    let read = problem_of(alloc, &text)?;
+    let read = read_whole(alloc, source)?;
     let status = write_decided(clock, alloc, &read.problem, &mut Unwatched, sink)?;
     Ok(EngineEnd {
         status,
@@ -199,8 +198,8 @@ pub fn alone_unlimited<R: Source, W: Sink, C: Clock>(
     })
 }
 
-/// Does what `alone_unlimited` does, and meanwhile writes to the log as `alone_with_progress` does; it counts the prefixes that the search
-/// came to.
+/// Does what `alone_unlimited` does, and meanwhile writes to the log as `alone_with_progress` does. It counts
+/// the visits that the search made itself: what lies below a state that it knows is skipped.
 pub fn alone_unlimited_with_progress<R: Source, W: Sink, E: Sink, C: Clock>(
     clock: &C,
     alloc: Global,
@@ -218,8 +217,7 @@ pub fn alone_unlimited_with_progress<R: Source, W: Sink, E: Sink, C: Clock>(
     ensures read_fault { result ≡ Err EngineFault.Read → R.failed source.old < R.failed source.new }
     ensures write_fault { result ≡ Err EngineFault.Write → W.failed sink.old < W.failed sink.new }
 {
-    let text = read_all(alloc, source)?;
-    let read = problem_of(alloc, &text)?;
+    let read = read_whole(alloc, source)?;
     let Ok(mut watch) = ProgressWatch::new(clock, alloc, &read.problem, u64::MAX, log) else {
         return Err(EngineFault::Memory);
     };

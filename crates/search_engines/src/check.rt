@@ -12,7 +12,7 @@ ghost use Rattle.search_engines.specs.Output.{IsOutput};
 use crate::deciding::first_answer;
 use crate::engine::EngineEnd;
 use crate::fault::EngineFault;
-use crate::input::{answer_of, problem_of, read_all};
+use crate::input::read_given;
 use crate::lines::write_line;
 use brancher::{Outcome, ROOM, Searcher, Tables, Unwatched};
 use cover_problem::{Answer, Problem, Verdict, check_cover};
@@ -23,7 +23,7 @@ use std::time::Clock;
 /// How a run of `check` ended: with status 0 for right, 1 for wrong, 4 where the fuel was spent.
 pub type CheckEnd = EngineEnd;
 
-/// The line that says what is wrong with an item.
+/// Returns the line that says what is wrong with an item. The only error is out of memory.
 fn item_line(
     alloc: Global,
     problem: &Problem,
@@ -39,7 +39,7 @@ fn item_line(
     Ok(line)
 }
 
-/// Writes what is wrong with an item, and answers the status.
+/// Writes what is wrong with an item, and returns the status.
 fn write_wrong<W: Sink>(
     alloc: Global,
     problem: &Problem,
@@ -59,7 +59,7 @@ fn write_wrong<W: Sink>(
     }
 }
 
-/// Tests a list of options, writes the verdict, and answers the status.
+/// Tests a list of options, writes the verdict, and returns the status.
 pub(crate) fn write_verdict<W: Sink>(
     alloc: Global,
     problem: &Problem,
@@ -84,7 +84,7 @@ pub(crate) fn write_verdict<W: Sink>(
     }
 }
 
-/// What the search of the empty prefix comes to; the only error is out of memory.
+/// Searches the empty prefix with so many visits at most and returns the outcome; the only error is out of memory.
 fn searched(alloc: Global, problem: &Problem, fuel: u64) -> Result<Outcome, AllocError>
     requires { 1 ≤ fuel }
     ensures { IfOk result (λ came. (found : List ℕ)
@@ -95,7 +95,7 @@ fn searched(alloc: Global, problem: &Problem, fuel: u64) -> Result<Outcome, Allo
     Ok(searcher.search(&[], fuel))
 }
 
-/// Writes what an outcome says of the answer that there is no cover, and answers the status.
+/// Writes whether none is right where a search has this outcome, and returns the status.
 fn write_outcome_of_none<W: Sink>(outcome: Outcome, sink: &mut W) -> Result<u8, EngineFault>
     requires failed { W.failed sink.old < 2 ^ 64 - 1 }
     ensures output { (found : List ℕ) → IsOutput (none_said (outcome_told outcome found))
@@ -109,7 +109,7 @@ fn write_outcome_of_none<W: Sink>(outcome: Outcome, sink: &mut W) -> Result<u8, 
     }
 }
 
-/// Searches the empty prefix for a cover, writes whether none is right, and answers the status.
+/// Searches the empty prefix for a cover, writes whether none is right, and returns the status.
 fn write_none<W: Sink>(
     alloc: Global,
     problem: &Problem,
@@ -128,7 +128,7 @@ fn write_none<W: Sink>(
     }
 }
 
-/// Decides whether there is a cover, writes whether none is right, and answers the status.
+/// Decides whether there is a cover, writes whether none is right, and returns the status.
 fn write_none_decided<W: Sink, C: Clock>(
     clock: &C,
     alloc: Global,
@@ -147,7 +147,7 @@ fn write_none_decided<W: Sink, C: Clock>(
     }
 }
 
-/// Tests an answer, writes what comes of it, and answers the status.
+/// Tests an answer, writes whether it is right, and returns the status.
 #[tactic(auto, unfolding(crate::specs::Check::check_said))]
 fn write_check<W: Sink>(
     alloc: Global,
@@ -169,7 +169,7 @@ fn write_check<W: Sink>(
     }
 }
 
-/// Tests an answer without a limit, writes what comes of it, and answers the status.
+/// Tests an answer without a limit, writes whether it is right, and returns the status.
 #[tactic(auto, unfolding(crate::specs::Check::decided_check_said))]
 fn write_check_decided<W: Sink, C: Clock>(
     clock: &C,
@@ -190,59 +190,14 @@ fn write_check_decided<W: Sink, C: Clock>(
     }
 }
 
-/// Tests the answer of one text to the problem of another, and writes what comes of it.
-fn check_texts<W: Sink>(
-    alloc: Global,
-    fuel: u64,
-    file: &[u8],
-    answer: &[u8],
-    sink: &mut W,
-) -> Result<CheckEnd, EngineFault>
-    requires fuel { 1 ≤ fuel }
-    requires failed { W.failed sink.old < 2 ^ 64 - 1 }
-    ensures ended { IsEnded (CheckSays answer.now fuel) (CheckRefuses answer.now) file.now
-        (W.contents sink.old) (W.contents sink.new) result }
-    ensures unread { result ≢ Err EngineFault.Read }
-    ensures failed { result ≡ Err EngineFault.Write → W.failed sink.old < W.failed sink.new }
-{
-    let read = problem_of(alloc, file)?;
-    let given = answer_of(alloc, answer, &read.problem)?;
-    let status = write_check(alloc, &read.problem, &given, fuel, sink)?;
-    Ok(EngineEnd {
-        status,
-        ignored: read.ignored,
-    })
-}
-
-/// Tests the answer of one text to the problem of another without a limit, and writes what comes of it.
-fn check_texts_decided<W: Sink, C: Clock>(
-    clock: &C,
-    alloc: Global,
-    file: &[u8],
-    answer: &[u8],
-    sink: &mut W,
-) -> Result<CheckEnd, EngineFault>
-    requires failed { W.failed sink.old < 2 ^ 64 - 1 }
-    ensures ended { IsEnded (DecidedCheckSays answer.now) (CheckRefuses answer.now) file.now
-        (W.contents sink.old) (W.contents sink.new) result }
-    ensures unread { result ≢ Err EngineFault.Read }
-    ensures failed { result ≡ Err EngineFault.Write → W.failed sink.old < W.failed sink.new }
-{
-    let read = problem_of(alloc, file)?;
-    let given = answer_of(alloc, answer, &read.problem)?;
-    let status = write_check_decided(clock, alloc, &read.problem, &given, sink)?;
-    Ok(EngineEnd {
-        status,
-        ignored: read.ignored,
-    })
-}
-
 /// Reads a problem and an answer to it, both to their ends, tests the answer, and writes `right`, or what is wrong, or
 /// `no answer`: a cover is tested by counting, and that there is none by a search of so many visits at most.
 ///
-/// The faults are `Read` and `Write`, where a device failed, `File`, with the first fault of the problem's text, else
-/// `Answer`, with that of the answer's, and `Memory`. After `Write` a beginning of the line was written, after another
-/// fault nothing. At `Memory` both may have been read in part.
+/// # Errors
+///
+/// `Read` and `Write` if that device failed, `File` with the first fault of the problem's text, else `Answer` with that of the
+/// answer's, and `Memory`. After `Write` a beginning of the line was written, after another fault nothing. At `Memory` both sources
+/// may have been read in part.
 pub fn check_engine<R: Source, S: Source, W: Sink>(
     alloc: Global,
     fuel: u64,
@@ -267,9 +222,10 @@ pub fn check_engine<R: Source, S: Source, W: Sink>(
         (R.failed file.old < R.failed file.new) ⊎ (S.failed answer.old < S.failed answer.new) }
     ensures write_fault { result ≡ Err EngineFault.Write → W.failed sink.old < W.failed sink.new }
 {
-    let file = read_all(alloc, file)?;
-    let answer = read_all(alloc, answer)?;
-    check_texts(alloc, fuel, &file, &answer, sink)
+    let given = read_given(alloc, file, answer)?;
+    let status = write_check(alloc, &given.read.problem, &given.answer, fuel, sink)?;
+    let ignored = given.read.ignored;
+    Ok(EngineEnd { status, ignored })
 }
 
 /// Does what `check_engine` does without a limit: that there is no cover is decided whatever number of visits it takes.
@@ -294,7 +250,8 @@ pub fn check_unlimited<R: Source, S: Source, W: Sink, C: Clock>(
         (R.failed file.old < R.failed file.new) ⊎ (S.failed answer.old < S.failed answer.new) }
     ensures write_fault { result ≡ Err EngineFault.Write → W.failed sink.old < W.failed sink.new }
 {
-    let file = read_all(alloc, file)?;
-    let answer = read_all(alloc, answer)?;
-    check_texts_decided(clock, alloc, &file, &answer, sink)
+    let given = read_given(alloc, file, answer)?;
+    let status = write_check_decided(clock, alloc, &given.read.problem, &given.answer, sink)?;
+    let ignored = given.read.ignored;
+    Ok(EngineEnd { status, ignored })
 }

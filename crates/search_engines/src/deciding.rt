@@ -5,7 +5,7 @@ ghost use Rattle.cover_problem.specs.Search.{first};
 ghost use Rattle.dlx_reader.specs.Writing.{IsWritable};
 ghost use Rattle.search_engines.specs.Alone.{answer_by};
 
-use crate::progress::Seconds;
+use crate::stopwatch::Stopwatch;
 use brancher::{ROOM, Tables, Watch};
 use cover_problem::{Answer, Problem, in_order};
 use cover_reasons::{find_reason, holds_of};
@@ -16,11 +16,12 @@ use std::time::{Clock, Duration};
 /// How many milliseconds a search lasts before a reason is looked for. Most searches are shorter, and to look may take most of a second.
 const SHORT: u64 = 100;
 
-/// A watch that stops a search some time after it was made. Where the clock can't be read it stops it when it first looks.
+/// A watch that stops a search `SHORT` after it was made. Where the clock can't be read it stops it at its first look: the search is
+/// then begun again under a watch that needs no clock.
 #[derive(Drop)]
 struct ShortWatch<'a, C: Clock> {
     clock: &'a C,
-    seconds: Seconds,
+    stopwatch: Stopwatch,
 }
 
 impl<'a, C: Clock> Watch for ShortWatch<'a, C> {
@@ -29,15 +30,15 @@ impl<'a, C: Clock> Watch for ShortWatch<'a, C> {
     ghost may_stop = { true };
 
     fn look(&mut self, _chosen: &[u16], _left: u64) -> bool {
-        match self.seconds.elapsed(self.clock) {
+        match self.stopwatch.elapsed(self.clock) {
             Some(elapsed) => elapsed >= Duration::from_millis(SHORT),
             None => true,
         }
     }
 }
 
-/// Searches the problem until it is decided or the watch stops it: the answer, or none where it was stopped. The only error is out of
-/// memory.
+/// Searches the problem until it is decided or the watch stops it, and returns the answer, or none where it was stopped. The only error
+/// is out of memory.
 fn searched<V: Watch>(
     alloc: Global,
     tables: &Tables<'_>,
@@ -56,7 +57,8 @@ fn searched<V: Watch>(
     }
 }
 
-/// Whether a reason is found why there is no cover. Where memory runs out none is found, since a search may need less.
+/// Returns whether a reason is found why there is no cover. Where memory runs out none is found, and that is no error: a search may need
+/// less.
 fn is_excluded(alloc: Global, problem: &Problem) -> bool
     ensures { result ≡ true → first problem.now [] ≡ None }
 {
@@ -66,9 +68,9 @@ fn is_excluded(alloc: Global, problem: &Problem) -> bool
     }
 }
 
-/// The answer of a problem: its first cover, with its options in the order of the file, or that there is none; none where the watch
-/// stopped the search. A search that lasts longer than a tenth of a second is begun again under the watch, if no reason is found that excludes a
-/// cover. The only error is out of memory.
+/// Returns the answer of a problem: its first cover, with its options in the order of the file, or that there is none; no answer where the
+/// watch stopped the search. A search that lasts longer than a tenth of a second is begun again under the watch, if no reason is found
+/// that excludes a cover. The only error is out of memory.
 pub fn answer_until<V: Watch, C: Clock>(
     clock: &C,
     alloc: Global,
@@ -80,8 +82,8 @@ pub fn answer_until<V: Watch, C: Clock>(
     ensures order { IfOk result (λ found. IfSome found (IsWritable problem.now)) }
 {
     let tables = Tables::build(alloc, problem)?;
-    let seconds = Seconds::new(clock);
-    let mut short = ShortWatch { clock, seconds };
+    let stopwatch = Stopwatch::new(clock);
+    let mut short = ShortWatch { clock, stopwatch };
     if let Some(answer) = searched(alloc, &tables, &mut short)? {
         return Ok(Some(answer));
     }
@@ -91,7 +93,7 @@ pub fn answer_until<V: Watch, C: Clock>(
     searched(alloc, &tables, watch)
 }
 
-/// The answer that `answer_until` gives under a watch that stops nothing.
+/// Returns the answer that `answer_until` gives under a watch that stops nothing, so there is always one.
 pub fn first_answer<V: Watch, C: Clock>(
     clock: &C,
     alloc: Global,

@@ -1,10 +1,12 @@
+//! Why an engine stops.
+
 use dlx_reader::{AnswerFault, ReadFault};
 use thiserror::Error;
 
 /// Why an engine stopped without an answer.
 #[derive(Debug, Drop, Error)]
 pub enum EngineFault {
-    /// A file can't be read.
+    /// A read failed, of the file or of the answer.
     #[error("cannot read")]
     Read,
     /// The problem file is refused, for this fault.
@@ -13,10 +15,10 @@ pub enum EngineFault {
     /// The answer file is refused, for this fault.
     #[error("the answer file is refused")]
     Answer(AnswerFault),
-    /// The output can't be written.
+    /// The output can't be written; a beginning of it may have been.
     #[error("cannot write")]
     Write,
-    /// Memory was refused.
+    /// Memory ran out.
     #[error("out of memory")]
     Memory,
 }

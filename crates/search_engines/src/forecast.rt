@@ -1,34 +1,35 @@
-//! How long a search is thought to go on.
+//! How long a search may still go on.
 
 ghost use Rattle.std.specs.Prelude.{◌≤◌};
 
-use crate::gauge::Gauge;
+use crate::tree_estimate::TreeEstimate;
 use std::fmt::{self, Display, Formatter, Write};
 
-/// Of this much of the tree each part counts, and a forecast wants a hundred of them: with less behind it a search tells little.
-const PART: u64 = Gauge::WHOLE / 1_000_000;
+/// A millionth of the tree. A forecast wants a hundred of them: with less behind it, how fast a search goes says little.
+const PART: u64 = TreeEstimate::WHOLE / 1_000_000;
 
 const LEAST: u64 = 100;
 
-/// After so many seconds there is a forecast.
+/// After so many seconds there is a forecast: the first ones would swing from line to line.
 const EARLIEST: u64 = 10;
 
-/// A unit of time is used from two of them on.
+/// A unit of time is used from two of them on: what rounding to whole ones takes away is then less than a third.
 const MINUTE: u64 = 60;
 
 const HOUR: u64 = 60 * MINUTE;
 
 const DAY: u64 = 24 * HOUR;
 
-/// How many seconds a search is thought to go on.
+/// How many seconds a search may still go on.
 #[derive(Clone, Copy, Debug, PartialEq, Eq)]
 pub struct Forecast {
     seconds: u64,
 }
 
 impl Forecast {
-    /// The forecast of a search that has this much of the tree behind it after so many seconds, if that tells anything: the rest is
-    /// thought to take as long for its size. A tree's parts are no equal work, so it is rough, and near the end of a search often wrong.
+    /// Returns the forecast of a search that has this share of the tree behind it, of `TreeEstimate::WHOLE`, after so many seconds; none
+    /// while that is too little to judge by, and none at the end. The rest is taken to go as fast. The parts of a tree are no equal work,
+    /// so a forecast is rough, and near the end of a search often wrong.
     pub fn of(seconds: u64, share: u64) -> Option<Forecast> {
         let parts = share / PART;
         if seconds < EARLIEST || parts < LEAST {
@@ -50,7 +51,7 @@ impl Display for Forecast {
     }
 }
 
-/// The greatest unit of which there are two in so many seconds, in seconds, and its name.
+/// Returns the greatest unit of which there are two in so many seconds, in seconds, and its name.
 fn unit_of(seconds: u64) -> (u64, &'static str)
     ensures { 1 ≤ result.0 }
 {

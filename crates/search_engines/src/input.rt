@@ -1,10 +1,10 @@
-//! All bytes of a source, and the problem or the answer that they are.
+//! Reading a source to its end, and the problem or the answer that its bytes spell.
 
-ghost use Rattle.std.specs.Prelude.{◌≡◌, ◌≢◌, ◌-◌, ◌<◌, ◌^◌, IfErr, IfOk, IfSome};
+ghost use Rattle.std.specs.Prelude.{◌≡◌, ◌≢◌, ◌-◌, ◌<◌, ◌^◌, ◌⊎◌, IfErr, IfOk, IfSome};
 ghost use Rattle.std.specs.Io.KnownBytes.{Consumes, IsAtEnd};
 ghost use Rattle.dlx_reader.specs.Answers.{IsAnswerOf};
 ghost use Rattle.dlx_reader.specs.ProblemOf.{IsProblemOf};
-ghost use Rattle.search_engines.specs.Check.{IsListedAnswer};
+ghost use Rattle.search_engines.specs.Check.{IsListedAnswer, IsSourcesFault, IsTextsFault};
 ghost use Rattle.search_engines.specs.Engines.{IsReadFault, IsFileFault, IsAnswerFault, IsSourceFault};
 
 use crate::fault::EngineFault;
@@ -12,10 +12,14 @@ use cover_problem::{Answer, Problem};
 use dlx_reader::{AnswerFault, Read, ReadFault, Source, read_answer, read_problem};
 use std::alloc::Global;
 
+/// How many bytes one read asks for.
 const PIECE: usize = 16384;
 
-/// Reads all bytes, to the end of the source. The faults are `Read`, where a read failed, and `Memory`. After either the source
-/// stands behind the bytes that were read, and these are let go.
+/// Reads all bytes, to the end of the source.
+///
+/// # Errors
+///
+/// `Read` if a read failed, and `Memory`. After either the bytes that were read are lost: the source goes on behind them.
 pub fn read_all<R: Source>(alloc: Global, source: &mut R) -> Result<Vec<u8>, EngineFault>
     requires { R.failed source.old < 2 ^ 64 - 1 }
     ensures read { IfOk result (λ text.
@@ -39,7 +43,11 @@ pub fn read_all<R: Source>(alloc: Global, source: &mut R) -> Result<Vec<u8>, Eng
     }
 }
 
-/// The problem of a text. The faults are `File`, with the text's first fault, and `Memory`.
+/// Returns the problem of a text.
+///
+/// # Errors
+///
+/// `File` with the text's first fault, and `Memory`.
 pub fn problem_of(alloc: Global, text: &[u8]) -> Result<Read, EngineFault>
     ensures problem { IfOk result (λ read. IsProblemOf text.now read.problem read.ignored) }
     ensures fault { IfErr result (IsFileFault text.now) }
@@ -51,8 +59,12 @@ pub fn problem_of(alloc: Global, text: &[u8]) -> Result<Read, EngineFault>
     }
 }
 
-/// The problem of all that a source has. The faults are `Read`, where a read failed, `File`, with the text's first fault, and
-/// `Memory`.
+/// Reads a source to its end and returns the problem of its text. The text itself is let go: a search may go on for hours, and needs
+/// only the problem.
+///
+/// # Errors
+///
+/// `Read` if a read failed, `File` with the text's first fault, and `Memory`.
 pub fn read_whole<R: Source>(alloc: Global, source: &mut R) -> Result<Read, EngineFault>
     requires { R.failed source.old < 2 ^ 64 - 1 }
     ensures problem { IfOk result (λ read.
@@ -62,12 +74,17 @@ pub fn read_whole<R: Source>(alloc: Global, source: &mut R) -> Result<Read, Engi
     ensures fault { IfErr result (λ fault.
         IfSome (R.remaining source.old) (λ text. IsSourceFault text fault)) }
     ensures failed { result ≡ Err EngineFault.Read → R.failed source.old < R.failed source.new }
+    ensures unwritten { result ≢ Err EngineFault.Write }
 {
     let text = read_all(alloc, source)?;
     problem_of(alloc, &text)
 }
 
-/// The answer of a text to a problem. The faults are `Answer`, with the text's first fault, and `Memory`.
+/// Returns the answer of a text to a problem.
+///
+/// # Errors
+///
+/// `Answer` with the text's first fault, and `Memory`.
 pub fn answer_of(alloc: Global, text: &[u8], problem: &Problem) -> Result<Answer, EngineFault>
     ensures answer { IfOk result (IsAnswerOf text.now problem.now) }
     ensures listed { IfOk result (IsListedAnswer problem.now) }
@@ -78,4 +95,62 @@ pub fn answer_of(alloc: Global, text: &[u8], problem: &Problem) -> Result<Answer
         Err(AnswerFault::Memory) => Err(EngineFault::Memory),
         Err(fault) => Err(EngineFault::Answer(fault)),
     }
+}
+
+/// A problem that was read, and the answer that is given to it.
+#[derive(Drop)]
+pub struct Given {
+    /// The problem, with the number of options that were ignored.
+    pub read: Read,
+    /// The answer, whose options are those of the problem, each once.
+    pub answer: Answer,
+}
+
+/// Returns the problem of one text, and the answer that the other gives to it.
+///
+/// # Errors
+///
+/// `File` with the first fault of the problem's text, else `Answer` with that of the answer's, and `Memory`.
+fn given_by(alloc: Global, file: &[u8], answer: &[u8]) -> Result<Given, EngineFault>
+    ensures problem { IfOk result (λ given. IsProblemOf file.now given.read.problem given.read.ignored) }
+    ensures answer { IfOk result (λ given. IsAnswerOf answer.now given.read.problem given.answer) }
+    ensures listed { IfOk result (λ given. IsListedAnswer given.read.problem given.answer) }
+    ensures fault { IfErr result (IsTextsFault file.now answer.now) }
+{
+    let read = problem_of(alloc, file)?;
+    let answer = answer_of(alloc, answer, &read.problem)?;
+    Ok(Given { read, answer })
+}
+
+/// Reads both sources to their ends, and returns the problem of the first and the answer that the second gives to it. The texts are let
+/// go: a search may go on for hours, and needs only the problem.
+///
+/// # Errors
+///
+/// `Read` if a read failed, `File` with the first fault of the problem's text, else `Answer` with that of the answer's, and `Memory`.
+pub fn read_given<R: Source, S: Source>(
+    alloc: Global,
+    file: &mut R,
+    answer: &mut S,
+) -> Result<Given, EngineFault>
+    requires file { R.failed file.old < 2 ^ 64 - 1 }
+    requires answer { S.failed answer.old < 2 ^ 64 - 1 }
+    ensures problem { IfOk result (λ given. IfSome (R.remaining file.old)
+        (λ text. IsProblemOf text given.read.problem given.read.ignored)) }
+    ensures answer { IfOk result (λ given. IfSome (S.remaining answer.old)
+        (λ text. IsAnswerOf text given.read.problem given.answer)) }
+    ensures listed { IfOk result (λ given. IsListedAnswer given.read.problem given.answer) }
+    ensures fault { IfErr result (λ fault. IfSome (R.remaining file.old) (λ text.
+        IfSome (S.remaining answer.old) (λ given. IsSourcesFault text given fault))) }
+    ensures file_read { result ≢ Err EngineFault.Read → result ≢ Err EngineFault.Memory →
+        IsAtEnd (R.remaining file.new) }
+    ensures answer_read { result ≢ Err EngineFault.Read → result ≢ Err EngineFault.Memory →
+        IsAtEnd (S.remaining answer.new) }
+    ensures read_fault { result ≡ Err EngineFault.Read →
+        (R.failed file.old < R.failed file.new) ⊎ (S.failed answer.old < S.failed answer.new) }
+    ensures unwritten { result ≢ Err EngineFault.Write }
+{
+    let file = read_all(alloc, file)?;
+    let answer = read_all(alloc, answer)?;
+    given_by(alloc, &file, &answer)
 }

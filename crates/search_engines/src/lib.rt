@@ -1,4 +1,4 @@
-//! The engines that search in one thread: each reads sources, writes a text to a sink and answers an exit status. What is read and
+//! The engines that search in one thread: each reads sources, writes a text to a sink and returns an exit status. What is read and
 //! written is a type parameter, so that the contracts can name the bytes.
 #![tactic(auto)]
 
@@ -8,13 +8,18 @@ mod deciding;
 mod engine;
 mod fault;
 mod forecast;
-mod gauge;
 mod input;
-mod limits;
+mod line_timer;
 mod lines;
 mod progress;
+mod progress_log;
+mod progress_watch;
 mod remembered;
+mod search_limits;
+mod stopwatch;
 mod telling;
+mod timed_watch;
+mod tree_estimate;
 mod unanswered;
 mod within;
 
@@ -25,14 +30,17 @@ pub use check::{CheckEnd, check_engine, check_unlimited};
 pub use engine::EngineEnd;
 pub use fault::EngineFault;
 pub use forecast::Forecast;
-pub use gauge::Gauge;
 pub use input::{problem_of, read_all, read_whole};
-pub use limits::Limits;
+pub use line_timer::LineTimer;
 pub use lines::{write_line, write_published};
-pub use progress::{Lines, Progress, ProgressLog, Seconds};
+pub use progress::Progress;
+pub use progress_log::{LineStyle, ProgressLog};
 pub use remembered::Remembered;
+pub use search_limits::SearchLimits;
+pub use stopwatch::Stopwatch;
 pub use telling::{
     tell, tell_end, tell_end_of, tell_fault, tell_fault_of, tell_unbound, tell_unopened,
 };
+pub use tree_estimate::TreeEstimate;
 pub use unanswered::{Unanswered, tell_unanswered};
 pub use within::{alone_within, alone_within_with_progress, check_within};

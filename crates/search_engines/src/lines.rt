@@ -9,7 +9,7 @@ use crate::fault::EngineFault;
 use cover_problem::{Answer, Problem};
 use dlx_reader::{Sink, WriteFault, write_answer, write_bytes};
 
-/// Writes all of a text, and answers the status.
+/// Writes all of a text, and returns the status that is given for it. The only fault is `Write`; then a beginning was written.
 pub fn write_line<W: Sink>(text: &[u8], status: u8, sink: &mut W) -> Result<u8, EngineFault>
     requires { W.failed sink.old < 2 ^ 64 - 1 }
     ensures output { IsOutput (said text.now status) (W.contents sink.old)
@@ -24,7 +24,7 @@ pub fn write_line<W: Sink>(text: &[u8], status: u8, sink: &mut W) -> Result<u8, 
     }
 }
 
-/// Writes the text of an answer, and answers the status: 0 for a cover, 1 for none.
+/// Writes the text of an answer, and returns the status: 0 for a cover, 1 for none.
 pub fn write_solution<W: Sink>(
     problem: &Problem,
     answer: &Answer,
@@ -46,7 +46,7 @@ pub fn write_solution<W: Sink>(
     }
 }
 
-/// Writes what is published, or that nothing is, and answers the status.
+/// Writes what is published, or that nothing is, and returns the status.
 pub fn write_published<W: Sink>(
     problem: &Problem,
     published: Option<&Answer>,

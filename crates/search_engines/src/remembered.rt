@@ -1,4 +1,4 @@
-//! What was read of a source, for whoever says what is wrong there.
+//! A source whose text is kept, so that a message can quote it.
 
 ghost use Rattle.std.specs.Prelude.{◌≡◌, ◌-◌, ◌<◌, ◌≤◌, ◌^◌, ℕ, length, IfOk};
 ghost use Rattle.std.specs.Io.KnownBytes.{ReadConsumes};
@@ -9,7 +9,8 @@ use std::alloc::Global;
 use std::io;
 use std::io::Read;
 
-/// How many bytes are kept at most: of a longer text nothing is said beside its fault.
+/// How many bytes are kept at most; of a longer text only the fault is reported. A file that a search may take hours for is seldom longer,
+/// and one that is must not be held twice.
 const MOST: usize = 1 << 20;
 
 /// A source that keeps what is read of it.
@@ -17,13 +18,13 @@ const MOST: usize = 1 << 20;
 pub struct Remembered<S: Source> {
     inner: S,
     text: Vec<u8>,
-    /// All that was read is kept.
+    /// Whether all that was read is kept.
     is_whole: bool,
     alloc: Global,
 }
 
 impl<S: Source> Remembered<S> {
-    /// This source, of which nothing was read.
+    /// Returns this source, of which nothing was read yet.
     pub fn new(alloc: Global, inner: S) -> Remembered<S>
         ensures { result.inner ≡ inner }
     {
@@ -35,7 +36,7 @@ impl<S: Source> Remembered<S> {
         }
     }
 
-    /// Keeps these bytes, unless they are too many or memory is refused: then nothing more is.
+    /// Keeps these bytes, unless they are too many or memory runs out: then nothing more is kept, since the text has a gap.
     fn keep(&mut self, bytes: &[u8])
         ensures { self.new.inner ≡ self.old.inner }
     {
@@ -43,7 +44,7 @@ impl<S: Source> Remembered<S> {
         self.is_whole = self.is_whole && fits && self.text.extend_from_slice(bytes).is_ok();
     }
 
-    /// Tells the name that no item has, where a run ended with status 3 because the text is refused for that. A fault of the sink is
+    /// Writes the name that no item has, if a run ended with status 3 because the text is refused for that. A fault of the sink is
     /// passed over.
     pub fn tell_unknown<E: Sink>(&self, status: u8, sink: &mut E) {
         if status != 3 || !self.is_whole {
@@ -58,7 +59,7 @@ impl<S: Source> Remembered<S> {
     }
 }
 
-/// Tells that no item has this name.
+/// Writes that no item has this name.
 fn tell_name<E: Sink>(name: &[u8], sink: &mut E) -> io::Result<()> {
     sink.write_all(b"no item is named ")?;
     sink.write_all(name)?;

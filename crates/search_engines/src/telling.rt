@@ -1,4 +1,6 @@
-//! What standard error is told, and the exit status that goes with it.
+//! What is written to standard error, and the exit status that goes with it.
+//!
+//! A fault of that sink is passed over throughout: there is nowhere left to report it, and the status still says how the run ended.
 
 ghost use Rattle.std.specs.Prelude.{◌≡◌};
 ghost use Rattle.search_engines.specs.Status.{end_status, fault_status};
@@ -8,7 +10,7 @@ use crate::fault::EngineFault;
 use dlx_reader::{AnswerFault, ReadFault, Sink};
 use std::io::ErrorKind;
 
-/// Tells how many options were ignored, if any, and answers the exit status. A fault of the sink is passed over.
+/// Reports how many options were ignored, if any, and returns the exit status. A fault of the sink is passed over.
 pub fn tell<E: Sink>(status: u8, ignored: usize, sink: &mut E) -> u8
     ensures { result ≡ status }
 {
@@ -18,7 +20,7 @@ pub fn tell<E: Sink>(status: u8, ignored: usize, sink: &mut E) -> u8
     status
 }
 
-/// Tells that the file of this name can't be read, and why, and answers the exit status. A fault of the sink is passed over.
+/// Reports that the file of this name can't be read, and why, and returns the exit status, which is 3.
 fn tell_unread<E: Sink>(name: &str, why: &str, sink: &mut E) -> u8
     ensures { result ≡ 3 }
 {
@@ -26,7 +28,7 @@ fn tell_unread<E: Sink>(name: &str, why: &str, sink: &mut E) -> u8
     3
 }
 
-/// Tells that the file of this name can't be opened, and why, and answers the exit status. A fault of the sink is passed over.
+/// Reports that the file of this name can't be opened, and why, and returns the exit status, which is 3.
 pub fn tell_unopened<E: Sink>(name: &str, kind: ErrorKind, sink: &mut E) -> u8
     ensures { result ≡ 3 }
 {
@@ -41,7 +43,7 @@ pub fn tell_unopened<E: Sink>(name: &str, kind: ErrorKind, sink: &mut E) -> u8
     tell_unread(name, why, sink)
 }
 
-/// Tells why an engine stopped, and answers the exit status: 3 for a file that is refused or a device that failed,
+/// Reports why an engine stopped, and returns the exit status: 3 for a file that is refused or a device that failed,
 /// 5 if memory ran out. A fault of the sink is passed over.
 pub fn tell_fault<E: Sink>(fault: &EngineFault, sink: &mut E) -> u8
     ensures { result ≡ fault_status fault.now }
@@ -70,7 +72,7 @@ pub fn tell_fault<E: Sink>(fault: &EngineFault, sink: &mut E) -> u8
     }
 }
 
-/// Tells how an engine ended, and answers the exit status. A fault of the sink is passed over.
+/// Reports how an engine ended, and returns the exit status: of its answer, or as `tell_fault` does.
 pub fn tell_end<E: Sink>(ended: &Result<EngineEnd, EngineFault>, sink: &mut E) -> u8
     ensures { result ≡ end_status ended.now }
 {
@@ -80,7 +82,7 @@ pub fn tell_end<E: Sink>(ended: &Result<EngineEnd, EngineFault>, sink: &mut E) -
     }
 }
 
-/// Tells what `tell_fault` does, but of a file that can't be read its name. A fault of the sink is passed over.
+/// Does what `tell_fault` does, and names the file if a read failed.
 pub fn tell_fault_of<E: Sink>(fault: &EngineFault, name: &str, sink: &mut E) -> u8
     ensures { result ≡ fault_status fault.now }
 {
@@ -90,7 +92,7 @@ pub fn tell_fault_of<E: Sink>(fault: &EngineFault, name: &str, sink: &mut E) -> 
     }
 }
 
-/// Tells what `tell_end` does, but of a file that can't be read its name. A fault of the sink is passed over.
+/// Does what `tell_end` does, and names the file if a read failed.
 pub fn tell_end_of<E: Sink>(ended: &Result<EngineEnd, EngineFault>, name: &str, sink: &mut E) -> u8
     ensures { result ≡ end_status ended.now }
 {
@@ -100,7 +102,7 @@ pub fn tell_end_of<E: Sink>(ended: &Result<EngineEnd, EngineFault>, name: &str, 
     }
 }
 
-/// Tells that no sockets can be bound, and answers the exit status. A fault of the sink is passed over.
+/// Reports that no sockets can be bound, and returns the exit status, which is 3.
 pub fn tell_unbound<E: Sink>(sink: &mut E) -> u8
     ensures { result ≡ 3 }
 {
@@ -108,17 +110,17 @@ pub fn tell_unbound<E: Sink>(sink: &mut E) -> u8
     3
 }
 
-/// The name of a fault, and the line that it stands on, if it has one.
-type Named = (&'static str, Option<usize>);
+/// The name of a fault, and its line in the file, from 1, if it has one.
+type NamedFault = (&'static str, Option<usize>);
 
-fn tell_refusal<E: Sink>(refused: &str, fault: Named, sink: &mut E) {
+fn tell_refusal<E: Sink>(refused: &str, fault: NamedFault, sink: &mut E) {
     let _ = match fault {
         (name, Some(line)) => writeln!(sink, "{refused}: {name} line {line}"),
         (name, None) => writeln!(sink, "{refused}: {name}"),
     };
 }
 
-fn read_fault(fault: &ReadFault) -> Named {
+fn read_fault(fault: &ReadFault) -> NamedFault {
     match fault {
         ReadFault::NoItems => ("NoItems", None),
         ReadFault::IllegalByte(line) => ("IllegalByte", Some(*line)),
@@ -137,7 +139,7 @@ fn read_fault(fault: &ReadFault) -> Named {
     }
 }
 
-fn answer_fault(fault: &AnswerFault) -> Named {
+fn answer_fault(fault: &AnswerFault) -> NamedFault {
     match fault {
         AnswerFault::BadHead => ("BadHead", None),
         AnswerFault::WrongCount => ("WrongCount", None),

@@ -8,18 +8,18 @@ use std::fmt::{self, Display, Formatter, Write};
 /// Why a search by one thread has no answer, with what may give one.
 #[derive(Clone, Copy, Debug, PartialEq, Eq)]
 pub enum Unanswered {
-    /// It has visited as many prefixes as it might.
+    /// It has visited as many prefixes as its limit allows.
     Fuel,
-    /// It has visited as many prefixes as a limit may be.
+    /// It has visited as many prefixes as the greatest limit allows, so there is no more fuel to advise.
     GreatestFuel,
-    /// It has lasted as long as it might.
+    /// It has lasted as long as its limit allows.
     Time,
-    /// A simulated world has published nothing, since its last job has visited as many prefixes as a limit may be.
+    /// A simulated world has published nothing: its last job has visited as many prefixes as the greatest limit allows.
     Unpublished,
 }
 
 impl Unanswered {
-    /// Why a search with so much fuel ended that was not stopped by its time.
+    /// Returns why a search with so much fuel has no answer, if its time didn't stop it.
     pub fn by_fuel(fuel: u64) -> Unanswered {
         if fuel == u64::MAX {
             Unanswered::GreatestFuel
@@ -40,7 +40,7 @@ impl Display for Unanswered {
     }
 }
 
-/// Tells why an engine that ended so has no answer, if it has none. A fault of the sink is passed over.
+/// Writes why an engine has no answer, if it ended with status 4. A fault of the sink is passed over.
 pub fn tell_unanswered<E: Sink>(
     ended: &Result<EngineEnd, EngineFault>,
     why: Unanswered,

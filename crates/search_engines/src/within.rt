@@ -14,17 +14,19 @@ use crate::check::{CheckEnd, write_verdict};
 use crate::deciding::answer_until;
 use crate::engine::EngineEnd;
 use crate::fault::EngineFault;
-use crate::input::{answer_of, problem_of, read_all};
-use crate::limits::{Limits, TimedWatch};
+use crate::input::{read_given, read_whole};
 use crate::lines::{write_line, write_published};
-use crate::progress::{Follows, ProgressLog, ProgressWatch};
+use crate::progress_log::ProgressLog;
+use crate::progress_watch::{EndWatch, ProgressWatch};
+use crate::search_limits::SearchLimits;
+use crate::timed_watch::TimedWatch;
 use brancher::{Finding, Outcome, ROOM, Searcher, Tables, Unwatched, Watch};
 use cover_problem::{Answer, Problem, in_order};
 use dlx_reader::{Sink, Source};
 use std::alloc::{AllocError, Global};
 use std::time::Clock;
 
-/// The answer of a finding of the empty prefix, with a cover's options in the order of the file; none where the fuel was spent.
+/// Returns the answer of a finding of the empty prefix, with a cover's options in the order of the file; none where the fuel was spent.
 fn found_answer(
     alloc: Global,
     problem: &Problem,
@@ -41,7 +43,7 @@ fn found_answer(
     }
 }
 
-/// The answer that a search with so many visits at most comes to; none where they were made, or the watch stopped it.
+/// Searches with so many visits at most and returns the answer; none where they were all made, or the watch stopped it.
 fn fueled_answer<V: Watch>(
     alloc: Global,
     problem: &Problem,
@@ -61,7 +63,7 @@ fn fueled_answer<V: Watch>(
     }
 }
 
-/// The answer that a search comes to, with so many visits at most or any number; none where they were made, or the watch stopped it.
+/// Searches with so many visits at most, or any number, and returns the answer; none where they were all made, or the watch stopped it.
 fn given_answer<V: Watch, C: Clock>(
     clock: &C,
     alloc: Global,
@@ -79,12 +81,12 @@ fn given_answer<V: Watch, C: Clock>(
     }
 }
 
-/// Searches under a watch until the limits are met, writes what comes of it, and answers the status.
-fn write_given<V: Follows, W: Sink, C: Clock>(
+/// Searches under a watch until the limits are met, writes the answer, or that there is none yet, and returns the status.
+fn write_given<V: EndWatch, W: Sink, C: Clock>(
     clock: &C,
     alloc: Global,
     problem: &Problem,
-    limits: &Limits,
+    limits: &SearchLimits,
     watch: &mut V,
     sink: &mut W,
 ) -> Result<u8, EngineFault>
@@ -105,12 +107,12 @@ fn write_given<V: Follows, W: Sink, C: Clock>(
     write_published(problem, answer.as_ref(), sink)
 }
 
-/// Does what `alone_engine` does within limits: it writes the first cover, or `none`, or `no answer` once a limit is met, of visits, if
-/// there is one, or of time.
+/// Does what `alone_engine` does within limits: it writes the first cover, or `none`, or `no answer` once a limit is met, of time or, if
+/// there is one, of visits.
 pub fn alone_within<R: Source, W: Sink, C: Clock>(
     clock: &C,
     alloc: Global,
-    limits: &Limits,
+    limits: &SearchLimits,
     source: &mut R,
     sink: &mut W,
 ) -> Result<AloneEnd, EngineFault>
@@ -124,8 +126,7 @@ pub fn alone_within<R: Source, W: Sink, C: Clock>(
     ensures read_fault { result ≡ Err EngineFault.Read → R.failed source.old < R.failed source.new }
     ensures write_fault { result ≡ Err EngineFault.Write → W.failed sink.old < W.failed sink.new }
 {
-    let text = read_all(alloc, source)?;
-    let read = problem_of(alloc, &text)?;
+    let read = read_whole(alloc, source)?;
     let status = write_given(clock, alloc, &read.problem, limits, &mut Unwatched, sink)?;
     let ignored = read.ignored;
     Ok(EngineEnd { status, ignored })
@@ -135,7 +136,7 @@ pub fn alone_within<R: Source, W: Sink, C: Clock>(
 pub fn alone_within_with_progress<R: Source, W: Sink, E: Sink, C: Clock>(
     clock: &C,
     alloc: Global,
-    limits: &Limits,
+    limits: &SearchLimits,
     source: &mut R,
     sink: &mut W,
     log: ProgressLog<'_, E>,
@@ -150,8 +151,7 @@ pub fn alone_within_with_progress<R: Source, W: Sink, E: Sink, C: Clock>(
     ensures read_fault { result ≡ Err EngineFault.Read → R.failed source.old < R.failed source.new }
     ensures write_fault { result ≡ Err EngineFault.Write → W.failed sink.old < W.failed sink.new }
 {
-    let text = read_all(alloc, source)?;
-    let read = problem_of(alloc, &text)?;
+    let read = read_whole(alloc, source)?;
     let fuel = limits.fuel.unwrap_or(u64::MAX);
     let Ok(mut watch) = ProgressWatch::new(clock, alloc, &read.problem, fuel, log) else {
         return Err(EngineFault::Memory);
@@ -161,7 +161,7 @@ pub fn alone_within_with_progress<R: Source, W: Sink, E: Sink, C: Clock>(
     Ok(EngineEnd { status, ignored })
 }
 
-/// Writes what this answer of a search says of the answer that there is no cover, and answers the status.
+/// Writes whether none is right where a search gave this answer, and returns the status.
 fn write_none_given<W: Sink>(given: &Answer, sink: &mut W) -> Result<u8, EngineFault>
     requires failed { W.failed sink.old < 2 ^ 64 - 1 }
     ensures output { IsOutput (none_by (Some given.now)) (W.contents sink.old)
@@ -174,7 +174,7 @@ fn write_none_given<W: Sink>(given: &Answer, sink: &mut W) -> Result<u8, EngineF
     }
 }
 
-/// Writes what a search that gave this, or no answer, says of the answer that there is no cover, and answers the status.
+/// Writes whether none is right where a search gave this answer, or none in its limits, and returns the status.
 fn write_none_by<W: Sink>(given: Option<&Answer>, sink: &mut W) -> Result<u8, EngineFault>
     requires failed { W.failed sink.old < 2 ^ 64 - 1 }
     ensures output { IsOutput (none_by (option_map (λ answer. answer.now) given.entry))
@@ -187,12 +187,12 @@ fn write_none_by<W: Sink>(given: Option<&Answer>, sink: &mut W) -> Result<u8, En
     }
 }
 
-/// Searches for a cover until the limits are met, writes whether none is right, and answers the status.
+/// Searches for a cover until the limits are met, writes whether none is right, and returns the status.
 fn write_none_within<W: Sink, C: Clock>(
     clock: &C,
     alloc: Global,
     problem: &Problem,
-    limits: &Limits,
+    limits: &SearchLimits,
     sink: &mut W,
 ) -> Result<u8, EngineFault>
     requires failed { W.failed sink.old < 2 ^ 64 - 1 }
@@ -212,13 +212,13 @@ fn write_none_within<W: Sink, C: Clock>(
     }
 }
 
-/// Tests an answer within limits, writes what comes of it, and answers the status.
+/// Tests an answer within limits, writes whether it is right, and returns the status.
 fn write_check_within<W: Sink, C: Clock>(
     clock: &C,
     alloc: Global,
     problem: &Problem,
     answer: &Answer,
-    limits: &Limits,
+    limits: &SearchLimits,
     sink: &mut W,
 ) -> Result<u8, EngineFault>
     requires options { IsListedAnswer problem.now answer.now }
@@ -233,36 +233,12 @@ fn write_check_within<W: Sink, C: Clock>(
     }
 }
 
-/// Tests the answer of one text to the problem of another within limits, and writes what comes of it.
-fn check_texts_within<W: Sink, C: Clock>(
-    clock: &C,
-    alloc: Global,
-    limits: &Limits,
-    file: &[u8],
-    answer: &[u8],
-    sink: &mut W,
-) -> Result<CheckEnd, EngineFault>
-    requires failed { W.failed sink.old < 2 ^ 64 - 1 }
-    ensures ended { IsEnded (CheckSaysWithin answer.now limits.now.fuel) (CheckRefuses answer.now)
-        file.now (W.contents sink.old) (W.contents sink.new) result }
-    ensures unread { result ≢ Err EngineFault.Read }
-    ensures failed { result ≡ Err EngineFault.Write → W.failed sink.old < W.failed sink.new }
-{
-    let read = problem_of(alloc, file)?;
-    let given = answer_of(alloc, answer, &read.problem)?;
-    let status = write_check_within(clock, alloc, &read.problem, &given, limits, sink)?;
-    Ok(EngineEnd {
-        status,
-        ignored: read.ignored,
-    })
-}
-
-/// Does what `check_engine` does within limits: that there is no cover is tested by a search, and `no answer` is written once one is met, of
-/// visits, if there is one, or of time.
+/// Does what `check_engine` does within limits: that there is no cover is tested by a search, and `no answer` is written once a limit is
+/// met, of time or, if there is one, of visits.
 pub fn check_within<R: Source, S: Source, W: Sink, C: Clock>(
     clock: &C,
     alloc: Global,
-    limits: &Limits,
+    limits: &SearchLimits,
     file: &mut R,
     answer: &mut S,
     sink: &mut W,
@@ -281,7 +257,9 @@ pub fn check_within<R: Source, S: Source, W: Sink, C: Clock>(
         (R.failed file.old < R.failed file.new) ⊎ (S.failed answer.old < S.failed answer.new) }
     ensures write_fault { result ≡ Err EngineFault.Write → W.failed sink.old < W.failed sink.new }
 {
-    let file = read_all(alloc, file)?;
-    let answer = read_all(alloc, answer)?;
-    check_texts_within(clock, alloc, limits, &file, &answer, sink)
+    let given = read_given(alloc, file, answer)?;
+    let problem = &given.read.problem;
+    let status = write_check_within(clock, alloc, problem, &given.answer, limits, sink)?;
+    let ignored = given.read.ignored;
+    Ok(EngineEnd { status, ignored })
 }

@@ -10,9 +10,10 @@ pub use cover_engines::{
     simulate_engine, solve_engine, tell, tell_fault,
 };
 use cover_engines::{
-    Limits, Lines, Loopback, Machine, ProgressLog, Remembered, Unanswered, alone_unlimited,
-    alone_unlimited_with_progress, alone_with_progress, alone_within, alone_within_with_progress,
-    check_unlimited, check_within, tell_end_of, tell_unanswered, tell_unopened,
+    LineStyle, Loopback, Machine, ProgressLog, Remembered, SearchLimits, Unanswered,
+    alone_unlimited, alone_unlimited_with_progress, alone_with_progress, alone_within,
+    alone_within_with_progress, check_unlimited, check_within, tell_end_of, tell_unanswered,
+    tell_unopened,
 };
 use dlx_reader::{CountedReader, CountedWriter, Sink, Source};
 use either::Either;
@@ -28,7 +29,7 @@ use std::sync::Wait;
 use std::thread::Threads;
 use std::time::{Clock, Duration};
 
-/// What is read: a file, or standard input, of which the text is kept.
+/// What is read: a file, or standard input. The text is kept, so that a message can quote a name in it.
 type Input = Remembered<CountedReader<Either<File, Stdin>>>;
 
 /// Opens what a word of the command line names: a file, or standard input for `-`. A folder can't be opened.
@@ -43,7 +44,7 @@ fn open(rt: &HostRuntime, name: &str) -> io::Result<Input>
     Ok(Remembered::new(rt.alloc(), CountedReader::new(input)))
 }
 
-/// Opens the file of this name, which is no folder.
+/// Opens the file of this name. A folder is refused here: the system opens it, and fails only at the first read.
 fn open_file(rt: &HostRuntime, name: &str) -> io::Result<File> {
     let file = File::open(rt, name)?;
     if file.metadata()?.is_dir() {
@@ -52,18 +53,18 @@ fn open_file(rt: &HostRuntime, name: &str) -> io::Result<File> {
     Ok(file)
 }
 
-/// The limits of what is asked for, from now on, if it is limited in time.
-fn limits_of(rt: &HostRuntime, request: &Request<'_>) -> Option<Limits> {
+/// Returns the limits of what is asked for, from now on, if it is limited in time.
+fn limits_of(rt: &HostRuntime, request: &Request<'_>) -> Option<SearchLimits> {
     let seconds = request.seconds?;
     let time = Duration::from_secs(u64::from(seconds));
     if request.unlimited {
-        return Some(Limits::from_now(rt, None, time));
+        return Some(SearchLimits::from_now(rt, None, time));
     }
-    Some(Limits::from_now(rt, Some(request.settings.fuel), time))
+    Some(SearchLimits::from_now(rt, Some(request.settings.fuel), time))
 }
 
-/// Why a search by one thread ends without an answer, if it does now.
-fn unanswered(rt: &HostRuntime, request: &Request<'_>, limits: Option<Limits>) -> Unanswered {
+/// Returns why a search by one thread ends without an answer, if it does now. Where both limits are met, the time comes first.
+fn unanswered(rt: &HostRuntime, request: &Request<'_>, limits: Option<SearchLimits>) -> Unanswered {
     let is_late = match limits {
         Some(limits) => limits.is_late(rt),
         None => false,
@@ -75,16 +76,16 @@ fn unanswered(rt: &HostRuntime, request: &Request<'_>, limits: Option<Limits>) -
     }
 }
 
-/// How lines of progress follow one another on standard error.
-fn lines_of(rt: &HostRuntime) -> Lines {
+/// Returns how lines of progress follow one another on standard error.
+fn line_style(rt: &HostRuntime) -> LineStyle {
     if rt.stderr().is_terminal() {
-        Lines::Overwritten
+        LineStyle::Overwritten
     } else {
-        Lines::Listed
+        LineStyle::Listed
     }
 }
 
-/// Runs `alone` on a file, and answers the exit status.
+/// Runs `alone` on a file, and returns the exit status.
 fn run_alone(rt: &HostRuntime, request: &Request<'_>) -> u8 {
     let mut errors = CountedWriter::new(rt.stderr());
     let limits = limits_of(rt, request);
@@ -102,7 +103,7 @@ fn run_alone(rt: &HostRuntime, request: &Request<'_>) -> u8 {
     status
 }
 
-/// Searches what a source has, and writes what comes of it; progress, if it is asked for, goes to the other sink.
+/// Searches the problem in a source, and writes the answer; progress, if it is asked for, goes to the other sink.
 fn search_alone<W: Sink>(
     rt: &HostRuntime,
     request: &Request<'_>,
@@ -113,7 +114,7 @@ fn search_alone<W: Sink>(
 {
     let mut sink = CountedWriter::new(rt.stdout());
     let (alloc, fuel) = (rt.alloc(), request.settings.fuel);
-    let log = ProgressLog::new(errors, lines_of(rt));
+    let log = ProgressLog::new(errors, line_style(rt));
     match (request.unlimited, request.progress) {
         (false, false) => alone_engine(alloc, fuel, source, &mut sink),
         (true, false) => alone_unlimited(rt, alloc, source, &mut sink),
@@ -126,7 +127,7 @@ fn search_alone<W: Sink>(
 fn search_within<W: Sink>(
     rt: &HostRuntime,
     request: &Request<'_>,
-    limits: &Limits,
+    limits: &SearchLimits,
     source: &mut Input,
     errors: &mut W,
 ) -> Result<AloneEnd, EngineFault>
@@ -136,11 +137,11 @@ fn search_within<W: Sink>(
     if !request.progress {
         return alone_within(rt, rt.alloc(), limits, source, &mut sink);
     }
-    let log = ProgressLog::new(errors, lines_of(rt));
+    let log = ProgressLog::new(errors, line_style(rt));
     alone_within_with_progress(rt, rt.alloc(), limits, source, &mut sink, log)
 }
 
-/// Runs `check` on a file and an answer's file, and answers the exit status.
+/// Runs `check` on a file and an answer's file, and returns the exit status.
 fn run_check(rt: &HostRuntime, request: &Request<'_>) -> u8
     requires { request.now.settings.mode ≡ Mode.Check }
 {
@@ -159,6 +160,7 @@ fn run_check(rt: &HostRuntime, request: &Request<'_>) -> u8
         Err(error) => return tell_unopened(answer_name, error.kind(), &mut errors),
     };
     let ended = check_inputs(rt, request, limits, &mut file, &mut answer);
+    // (the problem is read first, so a fault is the answer's only where the problem had none)
     let unread = if file.failures() > 0 {
         settings.file
     } else {
@@ -170,11 +172,11 @@ fn run_check(rt: &HostRuntime, request: &Request<'_>) -> u8
     status
 }
 
-/// Tests what one source has as the answer to what another has, and writes what comes of it.
+/// Tests the answer in one source to the problem in the other, and writes whether it is right.
 fn check_inputs(
     rt: &HostRuntime,
     request: &Request<'_>,
-    limits: Option<Limits>,
+    limits: Option<SearchLimits>,
     file: &mut Input,
     answer: &mut Input,
 ) -> Result<CheckEnd, EngineFault>
@@ -190,7 +192,7 @@ fn check_inputs(
     }
 }
 
-/// Runs `why` on a file, and answers the exit status.
+/// Runs `why` on a file, and returns the exit status.
 fn run_why(rt: &HostRuntime, settings: &Settings<'_>) -> u8 {
     let mut errors = CountedWriter::new(rt.stderr());
     let mut source = match open(rt, settings.file) {
@@ -204,7 +206,7 @@ fn run_why(rt: &HostRuntime, settings: &Settings<'_>) -> u8 {
     status
 }
 
-/// Runs `simulate` on a file, and answers the exit status.
+/// Runs `simulate` on a file, and returns the exit status.
 fn run_simulate(rt: &HostRuntime, settings: &Settings<'_>) -> u8 {
     let mut errors = CountedWriter::new(rt.stderr());
     let mut source = match open(rt, settings.file) {
@@ -219,7 +221,7 @@ fn run_simulate(rt: &HostRuntime, settings: &Settings<'_>) -> u8 {
     status
 }
 
-/// Runs `solve` on a file, and answers the exit status.
+/// Runs `solve` on a file, and returns the exit status.
 fn run_solve<R: Threads + Wait + Clock + Net + Sync>(
     rt: &HostRuntime,
     threads: &R,
@@ -236,14 +238,14 @@ fn run_solve<R: Threads + Wait + Clock + Net + Sync>(
         rt: threads,
         alloc: rt.alloc(),
         network: Loopback { rt: threads },
-        lines: lines_of(rt),
+        lines: line_style(rt),
     };
     let status = machine.solve(request, &mut source, &mut sink, &mut errors);
     source.tell_unknown(status, &mut errors);
     status
 }
 
-/// Runs what is asked for, and answers the exit status.
+/// Runs what is asked for, and returns the exit status.
 fn run_request<R: Threads + Wait + Clock + Net + Sync>(
     rt: &HostRuntime,
     threads: &R,
@@ -259,7 +261,7 @@ fn run_request<R: Threads + Wait + Clock + Net + Sync>(
     }
 }
 
-/// Runs what a command line asks for, and answers the exit status: 2 for a mistake on the command line, 0 for help.
+/// Runs what a command line asks for, and returns the exit status: 2 for a mistake on the command line, 0 for help.
 fn run_words<R: Threads + Wait + Clock + Net + Sync>(
     rt: &HostRuntime,
     threads: &R,
@@ -280,7 +282,7 @@ fn given_words(rt: &HostRuntime) -> io::Result<Vec<String>> {
     Ok(given)
 }
 
-/// Runs what these words ask for, and answers the exit status.
+/// Runs what these words ask for, and returns the exit status.
 fn run_given<R: Threads + Wait + Clock + Net + Sync>(
     rt: &HostRuntime,
     threads: &R,

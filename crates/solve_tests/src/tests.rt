@@ -15,7 +15,7 @@ mod starved;
 
 ghost use Rattle.std.specs.Prelude.{◌≡◌, ◌≤◌};
 
-use cover_engines::{Lines, Loopback, Machine, Network, links, solve_engine};
+use cover_engines::{LineStyle, Loopback, Machine, Network, links, solve_engine};
 use cover_problem::Problem;
 use dlx_reader::{CountedReader, CountedWriter, read_problem};
 use run_book::Run;
@@ -129,7 +129,7 @@ fn solve_over<N: Network, R: Threads + Wait + Clock + Sync>(
         rt,
         alloc,
         network,
-        lines: Lines::Listed,
+        lines: LineStyle::Listed,
     };
     let status = machine.solve(
         request,

@@ -20,7 +20,7 @@ use std::alloc::Global;
 /// How a run of `simulate` ended: with status 0 for a cover, 1 for none, 4 where nothing was published.
 pub type SimulateEnd = EngineEnd;
 
-/// A copy of what is published; the only fault is `Memory`.
+/// Returns a copy of what is published. The only fault is `Memory`.
 fn copied(published: Option<&Answer>) -> Result<Option<Answer>, EngineFault>
     ensures answer { IfOk result (λ answer.
         answer ≡ option_map (λ given. given.now) published.entry) }
@@ -35,7 +35,7 @@ fn copied(published: Option<&Answer>) -> Result<Option<Answer>, EngineFault>
     }
 }
 
-/// Lets a world that has just begun go on as the settings have it, and answers what it publishes then. The only fault is `Memory`.
+/// Lets a world that has just begun go on as the settings say, and returns what it publishes in the end. The only fault is `Memory`.
 fn played_out(world: &mut World, settings: &Settings) -> Result<Option<Answer>, EngineFault>
     requires { world.old ≡ opening_core world.old.problem settings.now.nodes }
     ensures simulated { IfOk result (IsSimulated world.old.problem settings.now) }
@@ -56,8 +56,7 @@ fn played_out(world: &mut World, settings: &Settings) -> Result<Option<Answer>, 
     }
 }
 
-/// Simulates a world that begins with the problem, as the settings have it, and answers what it publishes. The only fault is
-/// `Memory`.
+/// Simulates a world that begins with the problem, as the settings say, and returns what it publishes. The only fault is `Memory`.
 fn simulated(
     alloc: Global,
     settings: &Settings,
@@ -73,7 +72,7 @@ fn simulated(
     }
 }
 
-/// Writes what a simulation of the problem publishes, and answers the status.
+/// Writes what a simulation of the problem publishes, and returns the status.
 fn write_simulation<W: Sink>(
     alloc: Global,
     settings: &Settings,
@@ -89,12 +88,13 @@ fn write_simulation<W: Sink>(
     write_published(problem, answer.as_ref(), sink)
 }
 
-/// Reads a problem to its end, lets a world of sites search it by chance, as the settings have it, and writes the answer
-/// that it publishes, or `no answer` where it publishes none.
+/// Reads a problem to its end, lets a world of sites search it by chance, as the settings say, and writes the answer that it publishes,
+/// or `no answer` where it publishes none.
 ///
-/// The faults are `Read` and `Write`, where that device failed, `File`, with the text's first fault, and `Memory`.
-/// After `Write` a beginning of the answer's text was written, after another fault nothing. At `Memory` the source may have been
-/// read in part.
+/// # Errors
+///
+/// `Read` and `Write` if that device failed, `File` with the text's first fault, and `Memory`. After `Write` a beginning of the
+/// answer's text was written, after another fault nothing. At `Memory` the source may have been read in part.
 pub fn simulate_engine<R: Source, W: Sink>(
     alloc: Global,
     settings: &Settings,

@@ -1,4 +1,4 @@
-//! Command lines: what they ask for, and what is told of those that are none.
+//! Command lines: what they ask for, and what is reported of those that are none.
 
 use command_line::{SettingsFault, request, settings};
 use run_settings::Mode;
@@ -302,15 +302,15 @@ fn refuses_words(rt: HostRuntime) {
     }
 }
 
-/// What is told of words that are no command line.
-fn line_told<R: Abort>(rt: &R, alloc: Global, words: &[&str]) -> String {
+/// Returns what is reported of words that are no command line.
+fn reported<R: Abort>(rt: &R, alloc: Global, words: &[&str]) -> String {
     match settings(alloc, words) {
         Err(SettingsFault::Line(error)) => error.to_string(alloc).expect(rt, "memory"),
         _ => String::new(alloc),
     }
 }
 
-/// Values that are refused, each with what is told: the option and its range, and the usage of its own subcommand by the name that
+/// Values that are refused, each with what is reported: the option and its range, and the usage of its own subcommand by the name that
 /// the program was called by.
 static VALUES: [(&[&str], &str); 10] = [
     (
@@ -358,7 +358,7 @@ static VALUES: [(&[&str], &str); 10] = [
 #[test]
 fn a_refused_value_tells_its_range_and_the_usage_of_its_subcommand(rt: HostRuntime) {
     for (words, begin) in VALUES.iter() {
-        let told = line_told(&rt, rt.alloc(), words);
-        assert!(rt; told.as_str().starts_with(begin), "{told}");
+        let text = reported(&rt, rt.alloc(), words);
+        assert!(rt; text.as_str().starts_with(begin), "{text}");
     }
 }

@@ -3,15 +3,15 @@
 ghost use Rattle.std.specs.Prelude.{◌≤◌};
 
 use super::long::{lines, names};
+use super::run_output::RunOutput;
 use super::texts::{LETTERS, NO_COVER};
-use super::told::Told;
 use dlx_reader::{CountedReader, CountedWriter};
 use search_engines::{alone_engine, tell_end};
 use std::alloc::Global;
 use std::process::Abort;
 
-/// What `alone` tells of a problem.
-pub fn alone(alloc: Global, text: &str, fuel: u64) -> Told
+/// Runs `alone` on a problem and returns what is written.
+pub fn alone(alloc: Global, text: &str, fuel: u64) -> RunOutput
     requires { 1 ≤ fuel }
 {
     let mut out = Vec::new(alloc);
@@ -20,7 +20,7 @@ pub fn alone(alloc: Global, text: &str, fuel: u64) -> Told
     let ended = alone_engine(alloc, fuel, &mut source, &mut CountedWriter::new(&mut out));
     let mut sink = CountedWriter::new(&mut errors);
     let status = tell_end(&ended, &mut sink);
-    Told {
+    RunOutput {
         out,
         errors,
         status,
@@ -52,8 +52,8 @@ pub static ANSWERS: [(&str, u64, &str, &str, u8); 15] = [
     ("a b\nb\na\n", u64::MAX, "cover 2\nb\na\n", "", 0),
 ];
 
-/// `alone` tells this of a problem.
-fn tells<R: Abort>(
+/// Asserts that `alone` writes this of a problem.
+fn writes<R: Abort>(
     rt: &R,
     alloc: Global,
     (text, fuel): (&str, u64),
@@ -68,7 +68,7 @@ fn tells<R: Abort>(
 #[test]
 fn answers(rt: HostRuntime) {
     for (text, fuel, out, errors, status) in ANSWERS.iter() {
-        tells(&rt, rt.alloc(), (text, *fuel), (out, errors, *status));
+        writes(&rt, rt.alloc(), (text, *fuel), (out, errors, *status));
     }
 }
 
@@ -88,9 +88,9 @@ pub static REFUSALS: [(&str, &str); 10] = [
     ("a\na a\n", "refused: DuplicateInOption line 2\n"),
 ];
 
-/// `alone` refuses a text so.
+/// Asserts that `alone` refuses a text so.
 fn is_refused<R: Abort>(rt: &R, alloc: Global, text: &str, errors: &str) {
-    tells(rt, alloc, (text, u64::MAX), ("", errors, 3));
+    writes(rt, alloc, (text, u64::MAX), ("", errors, 3));
 }
 
 #[test]
@@ -103,13 +103,13 @@ fn refuses(rt: HostRuntime) {
 #[test]
 fn longest_name(rt: HostRuntime) {
     let text = "aaaaaaaabbbbbbbbccccccccdddddddd\n";
-    tells(&rt, rt.alloc(), (text, u64::MAX), ("none\n", "", 1));
+    writes(&rt, rt.alloc(), (text, u64::MAX), ("none\n", "", 1));
 }
 
 #[test]
 fn limits_items(rt: HostRuntime) {
     let most = names(&rt, rt.alloc(), 1000);
-    tells(
+    writes(
         &rt,
         rt.alloc(),
         (most.as_str(), u64::MAX),
@@ -146,5 +146,5 @@ fn greatest_file(rt: HostRuntime) {
     let out = "cover 1\nitem-0 item-1 item-2 item-3 item-4 item-5 item-6 item-7 item-8 item-9\n";
     let text = lines(&rt, rt.alloc(), line, 20001);
     assert!(rt; text.len() > 1 << 20);
-    tells(&rt, rt.alloc(), (text.as_str(), u64::MAX), (out, "", 0));
+    writes(&rt, rt.alloc(), (text.as_str(), u64::MAX), (out, "", 0));
 }

@@ -2,15 +2,15 @@
 
 ghost use Rattle.std.specs.Prelude.{◌≤◌};
 
+use super::run_output::RunOutput;
 use super::texts::{LETTERS, NO_COVER};
-use super::told::Told;
 use dlx_reader::{CountedReader, CountedWriter};
 use search_engines::{check_engine, tell_end};
 use std::alloc::Global;
 use std::process::Abort;
 
-/// What `check` tells of an answer to a problem.
-pub fn check(alloc: Global, text: &str, answer: &str, fuel: u64) -> Told
+/// Runs `check` on an answer to a problem and returns what is written.
+pub fn check(alloc: Global, text: &str, answer: &str, fuel: u64) -> RunOutput
     requires { 1 ≤ fuel }
 {
     let mut out = Vec::new(alloc);
@@ -26,7 +26,7 @@ pub fn check(alloc: Global, text: &str, answer: &str, fuel: u64) -> Told
     );
     let mut sink = CountedWriter::new(&mut errors);
     let status = tell_end(&ended, &mut sink);
-    Told {
+    RunOutput {
         out,
         errors,
         status,
@@ -147,21 +147,21 @@ pub static VERDICTS: [(&str, &str, u64, &str, &str, u8); 24] = [
     ("a\n", "cover 0\n", 1, "wrong: Uncovered a\n", "", 1),
 ];
 
-/// `check` tells this of an answer to a problem.
-fn tells<R: Abort>(
+/// Asserts that `check` writes this of an answer to a problem.
+fn writes<R: Abort>(
     rt: &R,
     alloc: Global,
     (text, answer, fuel): (&str, &str, u64),
     (out, errors, status): (&str, &str, u8),
 ) {
-    let told = check(alloc, text, answer, fuel.max(1));
-    assert!(rt; told.is(out, errors, status), "{answer}");
+    let output = check(alloc, text, answer, fuel.max(1));
+    assert!(rt; output.is(out, errors, status), "{answer}");
 }
 
 #[test]
 fn verdicts(rt: HostRuntime) {
     for (text, answer, fuel, out, errors, status) in VERDICTS.iter() {
-        tells(
+        writes(
             &rt,
             rt.alloc(),
             (text, answer, *fuel),
@@ -215,6 +215,6 @@ pub static REFUSALS: [(&str, &str, &str); 15] = [
 #[test]
 fn refusals(rt: HostRuntime) {
     for (text, answer, errors) in REFUSALS.iter() {
-        tells(&rt, rt.alloc(), (text, answer, u64::MAX), ("", errors, 3));
+        writes(&rt, rt.alloc(), (text, answer, u64::MAX), ("", errors, 3));
     }
 }

@@ -2,7 +2,7 @@
 
 ghost use Rattle.std.specs.Prelude.{◌≤◌};
 
-use super::told::Told;
+use super::run_output::RunOutput;
 use dlx_reader::{CountedReader, CountedWriter};
 use search_engines::{alone_engine, check_engine, tell_end};
 use std::alloc::Global;
@@ -17,8 +17,8 @@ const TWO_COLOURS: &str = "a b | x\na x:1\nb x:2\n";
 
 const COLOUR_AND_NONE: &str = "a b | x\na x:1\nb x\n";
 
-/// What `alone` tells of a problem.
-fn alone(alloc: Global, text: &str, fuel: u64) -> Told
+/// Runs `alone` on a problem and returns what is written.
+fn alone(alloc: Global, text: &str, fuel: u64) -> RunOutput
     requires { 1 ≤ fuel }
 {
     let mut out = Vec::new(alloc);
@@ -26,15 +26,15 @@ fn alone(alloc: Global, text: &str, fuel: u64) -> Told
     let mut source = CountedReader::new(text.as_bytes());
     let ended = alone_engine(alloc, fuel, &mut source, &mut CountedWriter::new(&mut out));
     let status = tell_end(&ended, &mut CountedWriter::new(&mut errors));
-    Told {
+    RunOutput {
         out,
         errors,
         status,
     }
 }
 
-/// What `check` tells of an answer to a problem.
-fn check(alloc: Global, text: &str, answer: &str) -> Told {
+/// Runs `check` on an answer to a problem and returns what is written.
+fn check(alloc: Global, text: &str, answer: &str) -> RunOutput {
     let mut out = Vec::new(alloc);
     let mut errors = Vec::new(alloc);
     let mut file = CountedReader::new(text.as_bytes());
@@ -42,7 +42,7 @@ fn check(alloc: Global, text: &str, answer: &str) -> Told {
     let mut sink = CountedWriter::new(&mut out);
     let ended = check_engine(alloc, 1, &mut file, &mut source, &mut sink);
     let status = tell_end(&ended, &mut CountedWriter::new(&mut errors));
-    Told {
+    RunOutput {
         out,
         errors,
         status,
@@ -61,8 +61,8 @@ static ANSWERS: [(&str, u64, &str, u8); 5] = [
 #[test]
 fn covers_with_colours(rt: HostRuntime) {
     for (text, fuel, out, status) in ANSWERS.iter() {
-        let told = alone(rt.alloc(), text, (*fuel).max(1));
-        assert!(rt; told.is(out, "", *status), "{text}");
+        let output = alone(rt.alloc(), text, (*fuel).max(1));
+        assert!(rt; output.is(out, "", *status), "{text}");
     }
 }
 
@@ -88,7 +88,7 @@ static VERDICTS: [(&str, &str, &str, u8); 5] = [
 #[test]
 fn answers_with_colours(rt: HostRuntime) {
     for (text, answer, out, status) in VERDICTS.iter() {
-        let told = check(rt.alloc(), text, answer);
-        assert!(rt; told.is(out, "", *status), "{text}");
+        let output = check(rt.alloc(), text, answer);
+        assert!(rt; output.is(out, "", *status), "{text}");
     }
 }

@@ -1,10 +1,10 @@
-//! What is told where devices fail or memory is refused.
+//! What is written where devices fail or memory runs out.
 //!
 //! Of the bugs of `search_engines` that are kept outside the gate, `a_writer_that_fails_at_each_byte` finds
-//! `failed_write_is_told_as_memory`.
+//! `failed_write_is_returned_as_memory`.
 
+use super::run_output::RunOutput;
 use super::texts::LETTERS;
-use super::told::Told;
 use dlx_reader::{CountedReader, CountedWriter};
 use search_engines::{EngineFault, alone_engine, check_engine, tell, tell_fault};
 use std::alloc::Global;
@@ -45,30 +45,30 @@ impl Write for Closed {
     }
 }
 
-/// What is told of a fault: the status, and the text.
-fn told(alloc: Global, fault: &EngineFault) -> Told {
+/// Reports a fault and returns what is written, with the status.
+fn fault_output(alloc: Global, fault: &EngineFault) -> RunOutput {
     let mut errors = Vec::new(alloc);
     let status = tell_fault(fault, &mut CountedWriter::new(&mut errors));
-    Told {
+    RunOutput {
         out: Vec::new(alloc),
         errors,
         status,
     }
 }
 
-/// Whether this is told of a reader after so many reads, and nothing is written.
-fn tells_of_a_reader<R: Abort>(rt: &R, alloc: Global, reads: u8) -> bool {
+/// Whether a reader that fails after so many reads is reported, and no answer is written.
+fn reports_a_reader<R: Abort>(rt: &R, alloc: Global, reads: u8) -> bool {
     let mut out = Vec::new(alloc);
     let mut source = CountedReader::new(FailsTwice { reads });
     let ended = alone_engine(alloc, 1, &mut source, &mut CountedWriter::new(&mut out));
     let fault = ended.err().expect(rt, "a failing reader");
-    out.is_empty() && told(alloc, &fault).is("", "cannot read\n", 3)
+    out.is_empty() && fault_output(alloc, &fault).is("", "cannot read\n", 3)
 }
 
 #[test]
 fn failing_readers(rt: HostRuntime) {
     for reads in [0u8, 1] {
-        assert!(rt; tells_of_a_reader(&rt, rt.alloc(), reads));
+        assert!(rt; reports_a_reader(&rt, rt.alloc(), reads));
     }
 }
 
@@ -77,7 +77,7 @@ fn a_closed_writer(rt: HostRuntime) {
     let mut source = CountedReader::new(b"a\n".as_slice());
     let ended = alone_engine(rt.alloc(), 1, &mut source, &mut CountedWriter::new(Closed));
     let fault = ended.err().expect(&rt, "a closed writer");
-    assert!(rt; told(rt.alloc(), &fault).is("", "cannot write\n", 3));
+    assert!(rt; fault_output(rt.alloc(), &fault).is("", "cannot write\n", 3));
 }
 
 /// A writer that takes one byte a call, so many times, and then fails.
@@ -106,7 +106,7 @@ impl Write for ByteByByte {
 /// The answer to the problem of the letters.
 static COVER: &[u8] = b"cover 3\nc e\na d f\nb g\n";
 
-/// Whether all before this call of the writer is written, and the fault told, or the status where the answer has no more bytes.
+/// Whether all before this call of the writer is written, and the fault is returned, or status 0 where the answer has no more bytes.
 fn writes_until(alloc: Global, call: usize) -> bool {
     let mut writer = ByteByByte {
         taken: Vec::new(alloc),
@@ -119,12 +119,12 @@ fn writes_until(alloc: Global, call: usize) -> bool {
         &mut source,
         &mut CountedWriter::new(&mut writer),
     );
-    let is_told = match ended {
+    let is_right = match ended {
         Err(EngineFault::Write) => call <= COVER.len(),
         Ok(end) => call > COVER.len() && end.status == 0,
         Err(_) => false,
     };
-    is_told && COVER.get(..call.saturating_sub(1)) == Some(writer.taken.as_slice())
+    is_right && COVER.get(..call.saturating_sub(1)) == Some(writer.taken.as_slice())
 }
 
 #[test]
@@ -137,10 +137,10 @@ fn a_writer_that_fails_at_each_byte(rt: HostRuntime) {
 
 #[test]
 fn want_of_memory(rt: HostRuntime) {
-    assert!(rt; told(rt.alloc(), &EngineFault::Memory).is("", "out of memory\n", 5));
+    assert!(rt; fault_output(rt.alloc(), &EngineFault::Memory).is("", "out of memory\n", 5));
 }
 
-/// Whether an answer that can't be read is told, where the file is refused too, and nothing is written.
+/// Whether the fault is that of an answer that can't be read, where the file would be refused too, and nothing is written.
 fn is_unreadable(alloc: Global) -> bool {
     let mut out = Vec::new(alloc);
     let mut file = CountedReader::new(b"a a\n".as_slice());

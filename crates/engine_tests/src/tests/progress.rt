@@ -6,7 +6,8 @@
 
 use dlx_reader::{CountedReader, CountedWriter, read_problem};
 use search_engines::{
-    Forecast, Gauge, Lines, Progress, ProgressLog, Seconds, alone_engine, alone_with_progress,
+    Forecast, LineStyle, LineTimer, Progress, ProgressLog, TreeEstimate, alone_engine,
+    alone_with_progress,
 };
 use std::alloc::Global;
 use std::io;
@@ -37,9 +38,9 @@ static SHARES: [(&str, &[u16], u64); 9] = [
 fn shares_are_those_of_the_children_behind(rt: HostRuntime) -> Result<(), Fail> {
     for (text, chosen, share) in SHARES.iter() {
         let read = read_problem(rt.alloc(), text.as_bytes())?;
-        let mut gauge = Gauge::new(rt.alloc(), &read.problem)?;
-        assert_eq!(rt; gauge.share(chosen), *share, "{text}");
-        assert_eq!(rt; gauge.share(chosen), *share, "{text}");
+        let mut estimate = TreeEstimate::new(rt.alloc(), &read.problem)?;
+        assert_eq!(rt; estimate.share(chosen), *share, "{text}");
+        assert_eq!(rt; estimate.share(chosen), *share, "{text}");
     }
     Ok(())
 }
@@ -56,9 +57,9 @@ static SHARES_BELOW: [(usize, &[u16], u64); 5] = [
 #[test]
 fn what_comes_before_a_prefix_is_not_behind_its_search(rt: HostRuntime) -> Result<(), Fail> {
     let read = read_problem(rt.alloc(), SIX.as_bytes())?;
-    let mut gauge = Gauge::new(rt.alloc(), &read.problem)?;
+    let mut estimate = TreeEstimate::new(rt.alloc(), &read.problem)?;
     for (length, chosen, share) in SHARES_BELOW.iter() {
-        assert_eq!(rt; gauge.share_below(*length, chosen), *share);
+        assert_eq!(rt; estimate.share_below(*length, chosen), *share);
     }
     Ok(())
 }
@@ -89,7 +90,7 @@ static PROGRESSES: [(Progress, &str); 4] = [
         Progress {
             seconds: 60,
             visits: 5,
-            share: Gauge::WHOLE / 2,
+            share: TreeEstimate::WHOLE / 2,
             jobs: Some(1),
             fullest: Some(100),
         },
@@ -99,7 +100,7 @@ static PROGRESSES: [(Progress, &str); 4] = [
         Progress {
             seconds: 300,
             visits: u64::MAX,
-            share: Gauge::WHOLE,
+            share: TreeEstimate::WHOLE,
             jobs: None,
             fullest: None,
         },
@@ -159,16 +160,16 @@ fn followed(
     alloc: Global,
     text: &str,
     fuel: u64,
-    lines: Lines,
+    style: LineStyle,
 ) -> Result<(Vec<u8>, u8, Vec<u8>), Fail> {
     let mut out = Vec::new(alloc);
-    let mut told = Vec::new(alloc);
+    let mut log_text = Vec::new(alloc);
     let mut source = CountedReader::new(text.as_bytes());
-    let mut errors = CountedWriter::new(&mut told);
+    let mut errors = CountedWriter::new(&mut log_text);
     let clock = Ticking {
         seconds: AtomicU64::new(0),
     };
-    let log = ProgressLog::new(&mut errors, lines);
+    let log = ProgressLog::new(&mut errors, style);
     let end = alone_with_progress(
         &clock,
         alloc,
@@ -177,7 +178,7 @@ fn followed(
         &mut CountedWriter::new(&mut out),
         log,
     )?;
-    Ok((out, end.status, told))
+    Ok((out, end.status, log_text))
 }
 
 /// Problems and fuels, with the lines of their progress where a second goes by from look to look.
@@ -192,38 +193,38 @@ static SEARCHES: [(&str, u64, &str); 4] = [
 fn progress_changes_no_answer(rt: HostRuntime) -> Result<(), Fail> {
     for (text, fuel, lines) in SEARCHES.iter() {
         let (out, status) = alone(rt.alloc(), text, *fuel)?;
-        let (followed_out, followed_status, told) = followed(
+        let (followed_out, followed_status, log_text) = followed(
             rt.alloc(),
             text,
             *fuel,
-            Lines::Listed,
+            LineStyle::Listed,
         )?;
         assert!(rt; followed_out.as_slice() == out.as_slice() && followed_status == status);
-        assert!(rt; told.as_slice() == lines.as_bytes(), "{text}");
+        assert!(rt; log_text.as_slice() == lines.as_bytes(), "{text}");
     }
     Ok(())
 }
 
 #[test]
 fn a_terminal_has_one_line(rt: HostRuntime) -> Result<(), Fail> {
-    let (_out, _status, told) = followed(rt.alloc(), QUEENS, 1500, Lines::Overwritten)?;
+    let (_out, _status, log_text) = followed(rt.alloc(), QUEENS, 1500, LineStyle::Overwritten)?;
     assert!(rt;
-        told.as_slice() == b"\r1 s: 1024 visits,  43.6607 % of the tree \x1b[K\n".as_slice()
+        log_text.as_slice() == b"\r1 s: 1024 visits,  43.6607 % of the tree \x1b[K\n".as_slice()
     );
     Ok(())
 }
 
 /// How much of a tree is done after so many seconds, and what is thought of the rest.
 static FORECASTS: [(u64, u64, &str); 9] = [
-    (9, Gauge::WHOLE / 2, ""),
-    (10, Gauge::WHOLE / 2, "some 10 s left"),
-    (119, Gauge::WHOLE / 2, "some 119 s left"),
-    (100, Gauge::WHOLE / 4, "some 5 min left"),
-    (3_600, Gauge::WHOLE / 10, "some 9 h left"),
-    (86_400, Gauge::WHOLE / 100, "some 99 days left"),
-    (50, Gauge::WHOLE / 10_000 - 1, ""),
-    (50, Gauge::WHOLE / 10_000, "some 5 days left"),
-    (1_000, Gauge::WHOLE, ""),
+    (9, TreeEstimate::WHOLE / 2, ""),
+    (10, TreeEstimate::WHOLE / 2, "some 10 s left"),
+    (119, TreeEstimate::WHOLE / 2, "some 119 s left"),
+    (100, TreeEstimate::WHOLE / 4, "some 5 min left"),
+    (3_600, TreeEstimate::WHOLE / 10, "some 9 h left"),
+    (86_400, TreeEstimate::WHOLE / 100, "some 99 days left"),
+    (50, TreeEstimate::WHOLE / 10_000 - 1, ""),
+    (50, TreeEstimate::WHOLE / 10_000, "some 5 days left"),
+    (1_000, TreeEstimate::WHOLE, ""),
 ];
 
 #[test]
@@ -239,14 +240,14 @@ fn a_forecast_is_of_the_rest(rt: HostRuntime) -> Result<(), Fail> {
 }
 
 /// How many lines there are in so many seconds.
-fn lines_in(seconds: u64, lines: Lines) -> u64 {
+fn lines_in(seconds: u64, style: LineStyle) -> u64 {
     let clock = Ticking {
         seconds: AtomicU64::new(0),
     };
-    let mut due = Seconds::new(&clock);
+    let mut timer = LineTimer::new(&clock);
     let mut count = 0u64;
     for _second in 0..seconds {
-        if due.due(&clock, lines).is_some() {
+        if timer.due(&clock, style).is_some() {
             count = count.saturating_add(1);
         }
     }
@@ -256,9 +257,9 @@ fn lines_in(seconds: u64, lines: Lines) -> u64 {
 /// Each second in the first minute, each tenth in the first hour, and then each minute; a terminal's line each second.
 #[test]
 fn listed_lines_become_rarer(rt: HostRuntime) -> Result<(), Fail> {
-    assert_eq!(rt; lines_in(60, Lines::Listed), 60);
-    assert_eq!(rt; lines_in(3_600, Lines::Listed), 60 + 354);
-    assert_eq!(rt; lines_in(4_000, Lines::Listed), 60 + 354 + 6);
-    assert_eq!(rt; lines_in(4_000, Lines::Overwritten), 4_000);
+    assert_eq!(rt; lines_in(60, LineStyle::Listed), 60);
+    assert_eq!(rt; lines_in(3_600, LineStyle::Listed), 60 + 354);
+    assert_eq!(rt; lines_in(4_000, LineStyle::Listed), 60 + 354 + 6);
+    assert_eq!(rt; lines_in(4_000, LineStyle::Overwritten), 4_000);
     Ok(())
 }

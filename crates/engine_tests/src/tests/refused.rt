@@ -1,11 +1,11 @@
 //! Engines where memory is refused: the fault is `Memory`, nothing is written, and with a new source and sink the engine writes what
 //! the row says.
 //!
-//! No memory is refused here: `scripts/try_memory.py` does it from outside, and is told by marks where an engine begins and ends.
+//! No memory is refused here: `scripts/try_memory.py` does it from outside, and marks show it where an engine begins and ends.
 
 ghost use Rattle.std.specs.Prelude.{◌≤◌};
 
-use super::told::Told;
+use super::run_output::RunOutput;
 use super::{alone, check};
 use dlx_reader::{CountedReader, CountedWriter};
 use growth_marks::{begin, end};
@@ -21,7 +21,7 @@ const CHECK: usize = 116;
 /// Room for all that is written, so that the sink asks for no memory.
 const ROOM: usize = 1000;
 
-/// Marks the end of an engine, and answers whether memory was refused. Then nothing is written.
+/// Marks the end of an engine, and returns whether memory was refused. Then nothing may be written.
 fn is_refused<R: Abort>(
     rt: &R,
     alloc: Global,
@@ -34,20 +34,20 @@ fn is_refused<R: Abort>(
     refused
 }
 
-/// What is told of an engine that ended so.
-fn told_of(alloc: Global, out: Vec<u8>, ended: &Result<AloneEnd, EngineFault>) -> Told {
+/// Returns what is written in all where an engine ended so.
+fn output_of(alloc: Global, out: Vec<u8>, ended: &Result<AloneEnd, EngineFault>) -> RunOutput {
     let mut errors = Vec::new(alloc);
     let mut sink = CountedWriter::new(&mut errors);
     let status = tell_end(ended, &mut sink);
-    Told {
+    RunOutput {
         out,
         errors,
         status,
     }
 }
 
-/// What `alone` tells of a problem between marks, and where memory is refused, what it tells then.
-fn alone_told<R: Abort>(rt: &R, alloc: Global, text: &str, fuel: u64) -> Told
+/// Runs `alone` on a problem between marks and returns what is written; where memory is refused, once more and without marks.
+fn alone_output<R: Abort>(rt: &R, alloc: Global, text: &str, fuel: u64) -> RunOutput
     requires { 1 ≤ fuel }
 {
     let mut out = Vec::with_capacity(alloc, ROOM).expect(rt, "memory");
@@ -57,27 +57,27 @@ fn alone_told<R: Abort>(rt: &R, alloc: Global, text: &str, fuel: u64) -> Told
     if is_refused(rt, alloc, &ended, &out) {
         return alone::alone(alloc, text, fuel);
     }
-    told_of(alloc, out, &ended)
+    output_of(alloc, out, &ended)
 }
 
 #[test]
 fn refused_memory_in_alone(rt: HostRuntime) {
     for (text, fuel, out, errors, status) in alone::ANSWERS.iter() {
-        let told = alone_told(&rt, rt.alloc(), text, (*fuel).max(1));
-        assert!(rt; told.is(out, errors, *status), "{text}");
+        let output = alone_output(&rt, rt.alloc(), text, (*fuel).max(1));
+        assert!(rt; output.is(out, errors, *status), "{text}");
     }
 }
 
 #[test]
 fn refused_memory_where_alone_refuses(rt: HostRuntime) {
     for (text, errors) in alone::REFUSALS.iter() {
-        let told = alone_told(&rt, rt.alloc(), text, 1);
-        assert!(rt; told.is("", errors, 3), "{text}");
+        let output = alone_output(&rt, rt.alloc(), text, 1);
+        assert!(rt; output.is("", errors, 3), "{text}");
     }
 }
 
-/// What `check` tells of an answer between marks, and where memory is refused, what it tells then.
-fn check_told<R: Abort>(rt: &R, alloc: Global, texts: (&str, &str), fuel: u64) -> Told
+/// Runs `check` on an answer between marks and returns what is written; where memory is refused, once more and without marks.
+fn check_output<R: Abort>(rt: &R, alloc: Global, texts: (&str, &str), fuel: u64) -> RunOutput
     requires { 1 ≤ fuel }
 {
     let (text, answer) = texts;
@@ -90,21 +90,21 @@ fn check_told<R: Abort>(rt: &R, alloc: Global, texts: (&str, &str), fuel: u64) -
     if is_refused(rt, alloc, &ended, &out) {
         return check::check(alloc, text, answer, fuel);
     }
-    told_of(alloc, out, &ended)
+    output_of(alloc, out, &ended)
 }
 
 #[test]
 fn refused_memory_in_check(rt: HostRuntime) {
     for (text, answer, fuel, out, errors, status) in check::VERDICTS.iter() {
-        let told = check_told(&rt, rt.alloc(), (text, answer), (*fuel).max(1));
-        assert!(rt; told.is(out, errors, *status), "{answer}");
+        let output = check_output(&rt, rt.alloc(), (text, answer), (*fuel).max(1));
+        assert!(rt; output.is(out, errors, *status), "{answer}");
     }
 }
 
 #[test]
 fn refused_memory_where_check_refuses(rt: HostRuntime) {
     for (text, answer, errors) in check::REFUSALS.iter() {
-        let told = check_told(&rt, rt.alloc(), (text, answer), 1);
-        assert!(rt; told.is("", errors, 3), "{answer}");
+        let output = check_output(&rt, rt.alloc(), (text, answer), 1);
+        assert!(rt; output.is("", errors, 3), "{answer}");
     }
 }

@@ -1,13 +1,13 @@
-//! What is told of a text beside its fault: the name that no item has.
+//! What is written of a text beside its fault: the name that no item has.
 
-use super::told::Told;
+use super::run_output::RunOutput;
 use dlx_reader::{CountedReader, CountedWriter};
 use search_engines::{Remembered, alone_engine, tell_end};
 use std::alloc::{AllocError, Global};
 use std::test::Fail;
 
-/// What `alone` tells of a text, and what is told of it beside.
-fn told(alloc: Global, text: &[u8]) -> Told {
+/// Runs `alone` on a text that is remembered, and returns what is written, with the unknown name.
+fn alone(alloc: Global, text: &[u8]) -> RunOutput {
     let mut out = Vec::new(alloc);
     let mut errors = Vec::new(alloc);
     let mut source = Remembered::new(alloc, CountedReader::new(text));
@@ -20,15 +20,15 @@ fn told(alloc: Global, text: &[u8]) -> Told {
     let mut sink = CountedWriter::new(&mut errors);
     let status = tell_end(&ended, &mut sink);
     source.tell_unknown(status, &mut sink);
-    Told {
+    RunOutput {
         out,
         errors,
         status,
     }
 }
 
-/// A text; what is written to both outputs, and the status.
-static TOLD: [(&str, &str, &str, u8); 6] = [
+/// Texts, each with what is written to both outputs, and the status.
+static OUTPUTS: [(&str, &str, &str, u8); 6] = [
     (
         "a\nb\n",
         "",
@@ -51,9 +51,9 @@ static TOLD: [(&str, &str, &str, u8); 6] = [
 
 #[test]
 fn names_are_told(rt: HostRuntime) {
-    for (text, out, errors, status) in TOLD.iter() {
+    for (text, out, errors, status) in OUTPUTS.iter() {
         assert!(rt;
-            told(rt.alloc(), text.as_bytes()).is(out, errors, *status),
+            alone(rt.alloc(), text.as_bytes()).is(out, errors, *status),
             "{text:?}"
         );
     }
@@ -75,7 +75,7 @@ fn only_texts_of_a_megabyte_are_kept(rt: HostRuntime) -> Result<(), Fail> {
     );
     for (bytes, errors) in [(20_000, both), (1_000_000, both), (1_100_000, first)] {
         let text = behind(alloc, bytes)?;
-        assert!(rt; told(alloc, &text).is("", errors, 3), "{bytes} bytes");
+        assert!(rt; alone(alloc, &text).is("", errors, 3), "{bytes} bytes");
     }
     Ok(())
 }

@@ -1,7 +1,7 @@
 //! `simulate` over texts in memory: whatever is drawn, it answers as a search would.
 
+use super::run_output::RunOutput;
 use super::texts::{LETTERS, NO_COVER};
-use super::told::Told;
 use dlx_reader::{CountedReader, CountedWriter};
 use run_settings::{Mode, Settings};
 use search_engines::tell_end;
@@ -9,8 +9,8 @@ use std::alloc::Global;
 use std::process::Abort;
 use world_engine::simulate_engine;
 
-/// What `simulate` tells of a problem.
-fn simulate(alloc: Global, text: &str, settings: &Settings<'_>) -> Told {
+/// Runs `simulate` on a problem and returns what is written.
+fn simulate(alloc: Global, text: &str, settings: &Settings<'_>) -> RunOutput {
     let mut out = Vec::new(alloc);
     let mut errors = Vec::new(alloc);
     let mut source = CountedReader::new(text.as_bytes());
@@ -22,7 +22,7 @@ fn simulate(alloc: Global, text: &str, settings: &Settings<'_>) -> Told {
     );
     let mut sink = CountedWriter::new(&mut errors);
     let status = tell_end(&ended, &mut sink);
-    Told {
+    RunOutput {
         out,
         errors,
         status,
@@ -49,12 +49,12 @@ fn four_nodes(seed: u64, (fuel, turns, restarts): (u64, u32, u32)) -> Settings<'
 /// Fuel, turns and restarts: those that the command line lacks, no turn at all, and little fuel with restarts.
 static NUMBERS: [(u64, u32, u32); 3] = [(1000, 10000, 0), (1000, 0, 0), (1, 10000, 5)];
 
-/// `simulate` with these seeds tells this of a problem.
-fn tells<R: Abort>(rt: &R, alloc: Global, text: &str, (out, status): (&str, u8)) {
+/// Asserts that `simulate` writes this of a problem, whatever the seed.
+fn writes<R: Abort>(rt: &R, alloc: Global, text: &str, (out, status): (&str, u8)) {
     for numbers in NUMBERS.iter() {
         for seed in 0..10 {
-            let told = simulate(alloc, text, &four_nodes(seed, *numbers));
-            assert!(rt; told.is(out, "", status), "seed {seed}");
+            let output = simulate(alloc, text, &four_nodes(seed, *numbers));
+            assert!(rt; output.is(out, "", status), "seed {seed}");
         }
     }
 }
@@ -62,10 +62,10 @@ fn tells<R: Abort>(rt: &R, alloc: Global, text: &str, (out, status): (&str, u8))
 #[test]
 fn finds_the_cover(rt: HostRuntime) {
     let cover = "cover 3\nc e\na d f\nb g\n";
-    tells(&rt, rt.alloc(), LETTERS, (cover, 0));
+    writes(&rt, rt.alloc(), LETTERS, (cover, 0));
 }
 
 #[test]
 fn finds_that_there_is_none(rt: HostRuntime) {
-    tells(&rt, rt.alloc(), NO_COVER, ("none\n", 1));
+    writes(&rt, rt.alloc(), NO_COVER, ("none\n", 1));
 }

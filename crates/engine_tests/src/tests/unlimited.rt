@@ -3,32 +3,33 @@
 //! Of the bugs of `search_engines` that are kept outside the gate, `a_reason_decides_without_a_search` finds `no_reason_before_a_long_search`.
 
 use super::long::names;
+use super::run_output::RunOutput;
 use super::texts::{LETTERS, NO_COVER};
-use super::told::Told;
 use dlx_reader::{CountedReader, CountedWriter};
 use search_engines::{
-    Lines, ProgressLog, alone_unlimited, alone_unlimited_with_progress, check_unlimited, tell_end,
+    LineStyle, ProgressLog, alone_unlimited, alone_unlimited_with_progress, check_unlimited,
+    tell_end,
 };
 use std::alloc::Global;
 use std::process::Abort;
 use std::time::Clock;
 
-/// What `alone` tells of a problem.
-fn alone<C: Clock>(clock: &C, alloc: Global, text: &str) -> Told {
+/// Runs `alone` on a problem and returns what is written.
+fn alone<C: Clock>(clock: &C, alloc: Global, text: &str) -> RunOutput {
     let mut out = Vec::new(alloc);
     let mut errors = Vec::new(alloc);
     let mut source = CountedReader::new(text.as_bytes());
     let ended = alone_unlimited(clock, alloc, &mut source, &mut CountedWriter::new(&mut out));
     let status = tell_end(&ended, &mut CountedWriter::new(&mut errors));
-    Told {
+    RunOutput {
         out,
         errors,
         status,
     }
 }
 
-/// What `check` tells of an answer to a problem.
-fn check<C: Clock>(clock: &C, alloc: Global, text: &str, answer: &str) -> Told {
+/// Runs `check` on an answer to a problem and returns what is written.
+fn check<C: Clock>(clock: &C, alloc: Global, text: &str, answer: &str) -> RunOutput {
     let mut out = Vec::new(alloc);
     let mut errors = Vec::new(alloc);
     let mut file = CountedReader::new(text.as_bytes());
@@ -36,7 +37,7 @@ fn check<C: Clock>(clock: &C, alloc: Global, text: &str, answer: &str) -> Told {
     let mut sink = CountedWriter::new(&mut out);
     let ended = check_unlimited(clock, alloc, &mut file, &mut answer, &mut sink);
     let status = tell_end(&ended, &mut CountedWriter::new(&mut errors));
-    Told {
+    RunOutput {
         out,
         errors,
         status,
@@ -107,7 +108,7 @@ fn pairs<R: Abort>(rt: &R, alloc: Global, count: u16) -> String {
     text
 }
 
-/// An odd number of items can't be told into pairs: a search would go on for years.
+/// An odd number of items can't be split into pairs, but a search alone would go on for years.
 #[test]
 fn a_reason_decides_without_a_search(rt: HostRuntime) {
     let text = pairs(&rt, rt.alloc(), 41);
@@ -122,14 +123,14 @@ fn progress_changes_no_answer_without_a_limit(rt: HostRuntime) {
         let mut source = CountedReader::new(text.as_bytes());
         let mut sink = CountedWriter::new(&mut written);
         let mut errors = CountedWriter::new(&mut lines);
-        let log = ProgressLog::new(&mut errors, Lines::Listed);
+        let log = ProgressLog::new(&mut errors, LineStyle::Listed);
         let ended = alone_unlimited_with_progress(&rt, rt.alloc(), &mut source, &mut sink, log);
-        let told = match &ended {
+        let ended_with = match &ended {
             Ok(end) => end.status,
             Err(_) => 3,
         };
         assert!(rt;
-            written.as_slice() == out.as_bytes() && told == *status,
+            written.as_slice() == out.as_bytes() && ended_with == *status,
             "{text}"
         );
     }

@@ -2,21 +2,21 @@
 //!
 //! Of the bugs of `reason_engine` that are kept outside the gate, `why_writes_reasons` finds `no_reason_is_looked_for`.
 
+use super::run_output::RunOutput;
 use super::texts::{LETTERS, NO_COVER};
-use super::told::Told;
 use dlx_reader::{CountedReader, CountedWriter};
 use reason_engine::why_engine;
 use search_engines::tell_end;
 use std::alloc::Global;
 
-/// What `why` tells of a problem.
-fn why(alloc: Global, text: &str) -> Told {
+/// Runs `why` on a problem and returns what is written.
+fn why(alloc: Global, text: &str) -> RunOutput {
     let mut out = Vec::new(alloc);
     let mut errors = Vec::new(alloc);
     let mut source = CountedReader::new(text.as_bytes());
     let ended = why_engine(alloc, &mut source, &mut CountedWriter::new(&mut out));
     let status = tell_end(&ended, &mut CountedWriter::new(&mut errors));
-    Told {
+    RunOutput {
         out,
         errors,
         status,

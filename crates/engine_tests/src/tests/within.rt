@@ -1,11 +1,11 @@
-//! `alone` and `check` within a limit of time, and what is told where there is no answer or a file can't be read.
+//! `alone` and `check` within a limit of time, and what is written where there is no answer or a file can't be read.
 
 use super::progress::{QUEENS, Ticking};
+use super::run_output::RunOutput;
 use super::texts::{LETTERS, NO_COVER};
-use super::told::Told;
 use dlx_reader::{CountedReader, CountedWriter};
 use search_engines::{
-    EngineEnd, EngineFault, Limits, Lines, ProgressLog, Unanswered, alone_within,
+    EngineEnd, EngineFault, LineStyle, ProgressLog, SearchLimits, Unanswered, alone_within,
     alone_within_with_progress, check_within, tell_end_of, tell_unanswered, tell_unopened,
 };
 use std::alloc::Global;
@@ -17,32 +17,38 @@ use std::time::{Clock, Duration};
 const LONG: u64 = 1_000_000;
 
 /// The limits of a search that begins now: so many visits, or any number for 0, and so many seconds.
-fn limits<C: Clock>(clock: &C, fuel: u64, seconds: u64) -> Limits {
+fn limits<C: Clock>(clock: &C, fuel: u64, seconds: u64) -> SearchLimits {
     let time = Duration::from_secs(seconds);
     if fuel == 0 {
-        Limits::from_now(clock, None, time)
+        SearchLimits::from_now(clock, None, time)
     } else {
-        Limits::from_now(clock, Some(fuel), time)
+        SearchLimits::from_now(clock, Some(fuel), time)
     }
 }
 
-/// What `alone` tells of a problem within limits.
-fn alone<C: Clock>(clock: &C, alloc: Global, text: &str, limits: &Limits) -> Told {
+/// Runs `alone` on a problem within limits and returns what is written.
+fn alone<C: Clock>(clock: &C, alloc: Global, text: &str, limits: &SearchLimits) -> RunOutput {
     let mut out = Vec::new(alloc);
     let mut errors = Vec::new(alloc);
     let mut source = CountedReader::new(text.as_bytes());
     let mut sink = CountedWriter::new(&mut out);
     let ended = alone_within(clock, alloc, limits, &mut source, &mut sink);
     let status = tell_end_of(&ended, "p.dlx", &mut CountedWriter::new(&mut errors));
-    Told {
+    RunOutput {
         out,
         errors,
         status,
     }
 }
 
-/// What `check` tells of an answer to a problem within limits.
-fn check<C: Clock>(clock: &C, alloc: Global, text: &str, answer: &str, limits: &Limits) -> Told {
+/// Runs `check` on an answer to a problem within limits and returns what is written.
+fn check<C: Clock>(
+    clock: &C,
+    alloc: Global,
+    text: &str,
+    answer: &str,
+    limits: &SearchLimits,
+) -> RunOutput {
     let mut out = Vec::new(alloc);
     let mut errors = Vec::new(alloc);
     let mut file = CountedReader::new(text.as_bytes());
@@ -50,7 +56,7 @@ fn check<C: Clock>(clock: &C, alloc: Global, text: &str, answer: &str, limits: &
     let mut sink = CountedWriter::new(&mut out);
     let ended = check_within(clock, alloc, limits, &mut file, &mut answer, &mut sink);
     let status = tell_end_of(&ended, "p.dlx", &mut CountedWriter::new(&mut errors));
-    Told {
+    RunOutput {
         out,
         errors,
         status,
@@ -72,8 +78,8 @@ static ANSWERS: [(&str, u64, &str, &str, u8); 8] = [
 #[test]
 fn within_its_time_alone_has_the_same_answer(rt: HostRuntime) {
     for (text, fuel, out, errors, status) in ANSWERS.iter() {
-        let told = alone(&rt, rt.alloc(), text, &limits(&rt, *fuel, LONG));
-        assert!(rt; told.is(out, errors, *status), "{text} {fuel}");
+        let output = alone(&rt, rt.alloc(), text, &limits(&rt, *fuel, LONG));
+        assert!(rt; output.is(out, errors, *status), "{text} {fuel}");
     }
 }
 
@@ -98,8 +104,8 @@ static VERDICTS: [(&str, &str, u64, &str, &str, u8); 7] = [
 #[test]
 fn within_its_time_check_has_the_same_answer(rt: HostRuntime) {
     for (text, answer, fuel, out, errors, status) in VERDICTS.iter() {
-        let told = check(&rt, rt.alloc(), text, answer, &limits(&rt, *fuel, LONG));
-        assert!(rt; told.is(out, errors, *status), "{text} {fuel}");
+        let output = check(&rt, rt.alloc(), text, answer, &limits(&rt, *fuel, LONG));
+        assert!(rt; output.is(out, errors, *status), "{text} {fuel}");
     }
 }
 
@@ -122,17 +128,17 @@ static TIMES: [(u64, &str, &str, u8); 3] = [
 fn a_search_ends_once_its_time_is_over(rt: HostRuntime) {
     for (seconds, out, verdict, status) in TIMES.iter() {
         let clock = ticking();
-        let told = alone(
+        let output = alone(
             &clock,
             rt.alloc(),
             QUEENS,
             &limits(&clock, u64::MAX, *seconds),
         );
-        assert!(rt; told.is(out, "", *status), "{seconds}");
+        assert!(rt; output.is(out, "", *status), "{seconds}");
         let clock = ticking();
         let limits = limits(&clock, u64::MAX, *seconds);
-        let told = check(&clock, rt.alloc(), QUEENS, "none\n", &limits);
-        assert!(rt; told.out.as_slice() == verdict.as_bytes(), "{seconds}");
+        let output = check(&clock, rt.alloc(), QUEENS, "none\n", &limits);
+        assert!(rt; output.out.as_slice() == verdict.as_bytes(), "{seconds}");
     }
 }
 
@@ -140,8 +146,8 @@ fn a_search_ends_once_its_time_is_over(rt: HostRuntime) {
 fn a_cover_is_tested_whatever_the_time(rt: HostRuntime) {
     let clock = ticking();
     let cover = "cover 3\nc e\na d f\nb g\n";
-    let told = check(&clock, rt.alloc(), LETTERS, cover, &limits(&clock, 1, 0));
-    assert!(rt; told.is("right\n", "", 0));
+    let output = check(&clock, rt.alloc(), LETTERS, cover, &limits(&clock, 1, 0));
+    assert!(rt; output.is("right\n", "", 0));
 }
 
 #[test]
@@ -151,7 +157,7 @@ fn progress_goes_on_until_the_time_is_over(rt: HostRuntime) {
     let mut source = CountedReader::new(QUEENS.as_bytes());
     let mut sink = CountedWriter::new(&mut out);
     let mut errors = CountedWriter::new(&mut lines);
-    let log = ProgressLog::new(&mut errors, Lines::Listed);
+    let log = ProgressLog::new(&mut errors, LineStyle::Listed);
     let limits = limits(&clock, u64::MAX, 3);
     let ended = alone_within_with_progress(
         &clock,
@@ -166,7 +172,7 @@ fn progress_goes_on_until_the_time_is_over(rt: HostRuntime) {
     assert!(rt; lines.as_slice() == b"1 s: 1024 visits,  43.6607 % of the tree\n".as_slice());
 }
 
-/// Ends, each with what is told of them.
+/// Statuses and reasons, each with the line that is written.
 static UNANSWERED: [(u8, Unanswered, &str); 6] = [
     (0, Unanswered::Fuel, ""),
     (1, Unanswered::Time, ""),
@@ -195,13 +201,13 @@ static UNANSWERED: [(u8, Unanswered, &str); 6] = [
 #[test]
 fn no_answer_has_its_reason(rt: HostRuntime) {
     for (status, why, line) in UNANSWERED.iter() {
-        let mut told = Vec::new(rt.alloc());
+        let mut errors = Vec::new(rt.alloc());
         let end = EngineEnd {
             status: *status,
             ignored: 0,
         };
-        tell_unanswered(&Ok(end), *why, &mut CountedWriter::new(&mut told));
-        assert!(rt; told.as_slice() == line.as_bytes(), "{line}");
+        tell_unanswered(&Ok(end), *why, &mut CountedWriter::new(&mut errors));
+        assert!(rt; errors.as_slice() == line.as_bytes(), "{line}");
     }
     assert!(rt; Unanswered::by_fuel(u64::MAX) == Unanswered::GreatestFuel);
     assert!(rt; Unanswered::by_fuel(7) == Unanswered::Fuel);
@@ -235,12 +241,15 @@ static KINDS: [(ErrorKind, &str); 6] = [
 #[test]
 fn a_file_that_cannot_be_read_is_named(rt: HostRuntime) {
     for (kind, line) in KINDS.iter() {
-        let mut told = Vec::new(rt.alloc());
-        let status = tell_unopened("p.dlx", *kind, &mut CountedWriter::new(&mut told));
-        assert!(rt; status == 3 && told.as_slice() == line.as_bytes(), "{line}");
+        let mut errors = Vec::new(rt.alloc());
+        let status = tell_unopened("p.dlx", *kind, &mut CountedWriter::new(&mut errors));
+        assert!(rt;
+            status == 3 && errors.as_slice() == line.as_bytes(),
+            "{line}"
+        );
     }
-    let mut told = Vec::new(rt.alloc());
+    let mut errors = Vec::new(rt.alloc());
     let ended = Err(EngineFault::Read);
-    let status = tell_end_of(&ended, "q", &mut CountedWriter::new(&mut told));
-    assert!(rt; status == 3 && told.as_slice() == b"cannot read: q: a read failed\n".as_slice());
+    let status = tell_end_of(&ended, "q", &mut CountedWriter::new(&mut errors));
+    assert!(rt; status == 3 && errors.as_slice() == b"cannot read: q: a read failed\n".as_slice());
 }

@@ -4,7 +4,7 @@
 //! `last_reason_stays`, and `searches_are_summed` finds `visits_are_not_summed` and `shares_are_not_summed`.
 
 use brancher::{Finding, Searcher};
-use cover_engines::{FollowedRun, Lines, ProgressLog, QuietRun};
+use cover_engines::{FollowedRun, LineStyle, ProgressLog, QuietRun};
 use cover_problem::{Problem, is_prefix};
 use dlx_reader::{CountedWriter, read_problem};
 use std::alloc::Global;
@@ -74,7 +74,7 @@ fn told<R: Wait + Clock>(
     let read = read_problem(alloc, b"a\na\n")?;
     let mut told = Vec::new(alloc);
     let mut errors = CountedWriter::new(&mut told);
-    let log = ProgressLog::new(&mut errors, Lines::Listed);
+    let log = ProgressLog::new(&mut errors, LineStyle::Listed);
     let run = FollowedRun::new(rt, alloc, &read.problem, limit, log)?;
     for (node, cause, is_manned) in sites {
         run.ended(*node, &ended(*cause, *is_manned));
@@ -163,7 +163,7 @@ fn told_of_searches<R: Wait + Clock>(rt: &R, alloc: Global) -> Result<Vec<u8>, F
     let read = read_problem(alloc, TWO_CHILDREN)?;
     let mut told = Vec::new(alloc);
     let mut errors = CountedWriter::new(&mut told);
-    let log = ProgressLog::new(&mut errors, Lines::Listed);
+    let log = ProgressLog::new(&mut errors, LineStyle::Listed);
     let run = FollowedRun::new(rt, alloc, &read.problem, None, log)?;
     for child in 0..2u16 {
         run.begun();

@@ -2,7 +2,7 @@ use Rattle.std.proofs.Common.{◌≡◌, ◌∙◌, ap, refl, sym, subst, codes,
 use Rattle.clap.specs.Words.{App, Text, app_of, is_simple, subcommand_of, subcommand_rows_of, found_of, rows_of}
 use Rattle.clap.proofs.OnLiterals.{clap_on_literals}
 use Rattle.clap.proofs.WalkLemmas.{first_value-rows}
-use Rattle.command_line.specs.CommandLine.{solver_app, IsAnswerFile, IsFlag, SpellsIf, SpellsOr}
+use Rattle.command_line.specs.CommandLine.{solver_app, IsAnswerFile, IsFlag, SpellsIf, SpellsOr, greatest_fuel}
 use Rattle.command_line.proofs.Pairs.{met_pair}
 use Rattle.command_line.proofs.words.request.Goals as goal
 
@@ -32,7 +32,7 @@ returns-clause-met c =
           mode_named = given.mode_named;
           file_given = sym (first_value-rows f (codes "file")) ∙ given.file_given;
           answer_given = subst Answered (first_value-rows f (codes "answer")) given.answer_given;
-          fuel_given = subst (λ (value : Option Text). SpellsOr 18446744073709551615 value s.fuel) (first_value-rows f (codes "fuel")) given.fuel_given;
+          fuel_given = subst (λ (value : Option Text). SpellsOr greatest_fuel value s.fuel) (first_value-rows f (codes "fuel")) given.fuel_given;
           fuel_fits = given.fuel_fits;
           nodes_given = subst (λ (value : Option Text). SpellsOr 4 value s.nodes) (first_value-rows f (codes "nodes")) given.nodes_given;
           seed_given = subst (λ (value : Option Text). SpellsOr 1 value s.seed) (first_value-rows f (codes "seed")) given.seed_given;

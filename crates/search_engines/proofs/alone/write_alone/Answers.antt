@@ -1,7 +1,7 @@
 use Rattle.std.proofs.Common.{◌≡◌, []}
 use Rattle.brancher.specs.Visit.{outcome_told}
 use Rattle.cover_problem.specs.Search.{outcome}
-use Rattle.search_engines.proofs.Told.{tells}
+use Rattle.search_engines.proofs.Outcomes.{tells}
 use Rattle.search_engines.proofs.alone.write_alone.Goals as goal
 
 pub returns-clause-output : goal.returns-clause-output

@@ -1,4 +1,4 @@
-use Rattle.search_engines.proofs.Told.{answers}
+use Rattle.search_engines.proofs.Outcomes.{answers}
 use Rattle.search_engines.proofs.alone.write_decided.Goals as goal
 
 pub returns-clause-output : goal.returns-clause-output

@@ -1,6 +1,6 @@
 use Rattle.std.proofs.Common.{[], sym, ◌∙◌}
 use Rattle.cover_problem.specs.Search.{first}
-use Rattle.search_engines.proofs.Told.{refutes}
+use Rattle.search_engines.proofs.Outcomes.{refutes}
 use Rattle.search_engines.proofs.check.write_none_decided.Goals as goal
 
 pub returns-in-Ok-Cover-clause-output : goal.returns-in-Ok-Cover-clause-output

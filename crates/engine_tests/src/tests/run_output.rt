@@ -1,14 +1,14 @@
-//! What a run of the program tells.
+//! What an engine writes.
 
 /// What is written to both outputs, and the status.
 #[derive(Drop)]
-pub struct Told {
+pub struct RunOutput {
     pub out: Vec<u8>,
     pub errors: Vec<u8>,
     pub status: u8,
 }
 
-impl Told {
+impl RunOutput {
     /// Whether it is this.
     pub fn is(&self, out: &str, errors: &str, status: u8) -> bool {
         self.out.as_slice() == out.as_bytes()

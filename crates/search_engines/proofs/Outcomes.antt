@@ -1,4 +1,4 @@
--- What the outcome of the whole search says, and the first cover.
+-- What the outcome of the whole search says, and what the first cover says.
 use Rattle.std.proofs.Common.{◌≡◌, ℕ, List, [], Option, Some, None, codes, Bool, true, false, refl, sym, ap, ◌∙◌}
 use Rattle.std.proofs.lemmas.Bool.{both_ways}
 use Rattle.cover_problem.specs.Problem.{Problem}

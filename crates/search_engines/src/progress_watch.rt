@@ -1,0 +1,78 @@
+//! Watches that learn when the search ends, and the one of them that writes progress.
+
+use crate::line_timer::LineTimer;
+use crate::progress::Progress;
+use crate::progress_log::ProgressLog;
+use crate::tree_estimate::TreeEstimate;
+use brancher::{Unwatched, Watch};
+use cover_problem::Problem;
+use dlx_reader::Sink;
+use std::alloc::{AllocError, Global};
+use std::time::Clock;
+
+/// A watch that learns when the search ends.
+pub trait EndWatch: Watch {
+    /// Is called once, when the search has ended.
+    fn end(&mut self);
+}
+
+impl EndWatch for Unwatched {
+    fn end(&mut self) {}
+}
+
+/// A watch that stops nothing, and writes now and then how far a search of the empty prefix has come. Where the clock can't be
+/// read it writes nothing.
+#[derive(Drop)]
+pub struct ProgressWatch<'a, E: Sink, C: Clock> {
+    clock: &'a C,
+    estimate: TreeEstimate<'a>,
+    log: ProgressLog<'a, E>,
+    fuel: u64,
+    timer: LineTimer,
+}
+
+impl<'a, E: Sink, C: Clock> ProgressWatch<'a, E, C> {
+    /// Returns a watch over a search that begins now and has so much fuel. The only error is out of memory.
+    pub fn new(
+        clock: &'a C,
+        alloc: Global,
+        problem: &'a Problem,
+        fuel: u64,
+        log: ProgressLog<'a, E>,
+    ) -> Result<ProgressWatch<'a, E, C>, AllocError> {
+        Ok(ProgressWatch {
+            clock,
+            estimate: TreeEstimate::new(alloc, problem)?,
+            log,
+            fuel,
+            timer: LineTimer::new(clock),
+        })
+    }
+}
+
+impl<'a, E: Sink, C: Clock> EndWatch for ProgressWatch<'a, E, C> {
+    /// Ends the last line before the answer is written, which on a terminal would else follow it on the same line.
+    fn end(&mut self) {
+        self.log.end();
+    }
+}
+
+impl<'a, E: Sink, C: Clock> Watch for ProgressWatch<'a, E, C> {
+    ghost use Rattle.std.specs.Prelude.{false};
+
+    ghost may_stop = { false };
+
+    fn look(&mut self, chosen: &[u16], left: u64) -> bool {
+        let Some(seconds) = self.timer.due(self.clock, self.log.style()) else {
+            return false;
+        };
+        self.log.write(Progress {
+            seconds,
+            visits: self.fuel.saturating_sub(left),
+            share: self.estimate.share(chosen),
+            jobs: None,
+            fullest: None,
+        });
+        false
+    }
+}
