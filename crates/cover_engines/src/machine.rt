@@ -8,7 +8,7 @@ ghost use Rattle.search_engines.specs.Output.{IsOutputOf};
 use crate::followed_run::FollowedRun;
 use crate::network::Network;
 use crate::quiet_run::QuietRun;
-use crate::solve::solve_problem;
+use crate::solve::{SolveTask, solve_problem};
 use dlx_reader::{Read, Sink, Source};
 use run_settings::Request;
 use search_engines::{
@@ -122,10 +122,9 @@ impl<N: Network, R: Threads + Wait + Clock + Sync> Machine<'_, N, R> {
         ensures { IsOutputOf (SolveSays request.now.settings read.now.problem)
             (W.contents sink.old) (W.contents sink.new) result }
     {
-        let (rt, alloc, settings) = (self.rt, self.alloc, &request.settings);
-        let (limit, problem) = (limit_of(request), &read.problem);
-        let quiet = QuietRun::new(rt, limit);
-        let solved = solve_problem(rt, alloc, settings, limit, problem, links, &quiet, sink);
+        let task = task_of(request, read);
+        let quiet = QuietRun::new(self.rt, task.limit);
+        let solved = solve_problem(self.rt, self.alloc, task, links, &quiet, sink);
         if let Ok(status) = &solved {
             tell(*status, read.ignored, errors);
             quiet.tell(errors);
@@ -148,18 +147,30 @@ impl<N: Network, R: Threads + Wait + Clock + Sync> Machine<'_, N, R> {
         ensures { IsOutputOf (SolveSays request.now.settings read.now.problem)
             (W.contents sink.old) (W.contents sink.new) result }
     {
-        let (rt, alloc, settings) = (self.rt, self.alloc, &request.settings);
-        let (limit, problem) = (limit_of(request), &read.problem);
+        let (rt, alloc) = (self.rt, self.alloc);
+        let task = task_of(request, read);
         let log = ProgressLog::new(&mut *errors, self.lines);
-        let Ok(followed) = FollowedRun::new(rt, alloc, problem, limit, log) else {
+        let Ok(followed) = FollowedRun::new(rt, alloc, task.problem, task.limit, log) else {
             return Err(EngineFault::Memory);
         };
-        let solved = solve_problem(rt, alloc, settings, limit, problem, links, &followed, sink);
+        let solved = solve_problem(rt, alloc, task, links, &followed, sink);
         drop(followed);
         if let Ok(status) = &solved {
             tell(*status, read.ignored, errors);
         }
         solved
+    }
+}
+
+/// The problem that was read, to be searched as the request has it.
+fn task_of<'a>(request: &'a Request<'_>, read: &'a Read) -> SolveTask<'a>
+    ensures settings { result.settings.now ≡ request.now.settings }
+    ensures problem { result.problem.now ≡ read.now.problem }
+{
+    SolveTask {
+        problem: &read.problem,
+        settings: &request.settings,
+        limit: limit_of(request),
     }
 }
 

@@ -14,7 +14,7 @@ use std::marker::Brand;
 use std::sync::{Arc, Wait};
 use std::thread::Threads;
 use std::time::Clock;
-use udp_node::{MemoryLink, Open, Plan, RunEnd, SiteEnd, Wires, run_sites};
+use udp_node::{MemoryLink, Open, Plan, RunEnd, RunPlan, SiteEnd, Wires, run_sites};
 
 /// What a site's book tells of its searches. The greatest numbers stay.
 #[derive(Clone, Copy, Debug, PartialEq, Eq)]
@@ -114,7 +114,7 @@ fn run_named<J: Run + Send + Sync, R: Threads + Wait + Clock + Sync>(
     requires most { plan.nodes ≤ LAST_NODE }
 {
     let links = links(alloc, plan.nodes + 1)?;
-    let end: RunEnd<J> = run_sites(rt, alloc, problem, plan, 0, links, &Open)?;
+    let end: RunEnd<J> = run_sites(rt, alloc, problem, RunPlan::new(plan), links, &Open)?;
     let RunEnd {
         answer,
         books,

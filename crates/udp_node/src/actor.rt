@@ -4,22 +4,22 @@ ghost use Rattle.node_core.specs.Refusal.{IsFit};
 ghost use Rattle.packet_wire.specs.WellFormed.{is_well_formed};
 ghost use Rattle.run_book.specs.Desks.{IsLawful};
 
+use crate::seat_receipts::{Refused, SeatReceipts};
 use crate::shared::Shared;
-use crate::stand::{Refused, Stand};
 use node_core::{Core, Event, Reply};
 use packet_wire::{Body, Packet, write_packet};
 use run_book::{CellName, Parcel, Pass, Run, Step};
-use site_links::Gate;
+use site_network::Gate;
 use std::alloc::{AllocError, Global};
 use std::sync::Wait;
 
-/// A thread that acts at a site: its stand, and its way into the outbox.
+/// A thread that acts at a site: its seat with the receipts, and its way into the outbox.
 #[derive(Drop)]
 pub struct Actor<'a, J: Run, C: Core + Drop, N: CellName, G: Gate> {
     /// What the threads of the site share.
     pub shared: &'a Shared<'a, J, C, N, G>,
     /// Its seat and receipts.
-    stand: Stand<N>,
+    receipts: SeatReceipts<N>,
     /// Its right to put parcels into the outbox.
     pass: Pass,
     /// How many parcels didn't get into the outbox; the greatest number stays.
@@ -35,7 +35,7 @@ impl<'a, J: Run, C: Core + Drop, N: CellName, G: Gate> Actor<'a, J, C, N, G> {
     ) -> Result<Actor<'a, J, C, N, G>, AllocError> {
         Ok(Actor {
             shared,
-            stand: Stand::new(rt, shared.alloc, shared.cell)?,
+            receipts: SeatReceipts::new(rt, shared.alloc, shared.cell)?,
             pass: shared.outbox.pass(),
             losses: 0,
         })
@@ -49,19 +49,19 @@ impl<'a, J: Run, C: Core + Drop, N: CellName, G: Gate> Actor<'a, J, C, N, G> {
         ensures back { IfErr result (λ back. back.0 ≡ event) }
     {
         let stirs = may_stir(&event);
-        let step = self.stand.act(rt, self.shared.cell, event)?;
+        let step = self.receipts.act(rt, self.shared.cell, event)?;
         let shared = self.shared;
         shared
             .gate
-            .recorded(self.stand.entries(), shared.plan.entries);
+            .recorded(self.receipts.entries(), shared.plan.entries);
         self.signal(&step, stirs);
         self.put_all(rt, step.packets());
         Ok(step)
     }
 
     /// Its seat and receipts.
-    pub fn into_stand(self) -> Stand<N> {
-        self.stand
+    pub fn into_receipts(self) -> SeatReceipts<N> {
+        self.receipts
     }
 
     /// Signals to the other threads of the site what came of an event: that there may be something to do, or that work is short.

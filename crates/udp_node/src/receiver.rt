@@ -7,7 +7,7 @@ use crate::worker::{after, after_refusal};
 use node_core::{Core, Event};
 use packet_wire::{Body, Packet, WireFault, read_packet};
 use run_book::{CellName, Run};
-use site_links::{Cause, Gate, Link, Turn};
+use site_network::{Cause, Gate, Link, Turn};
 use std::alloc::Global;
 use std::sync::Wait;
 use std::thread;

@@ -4,7 +4,7 @@ ghost use Rattle.std.specs.Prelude.{◌≡◌};
 
 use crate::signals::Signals;
 use run_book::{Drain, Outbox};
-use site_links::{Limits, Link, Taken};
+use site_network::{Limits, Link, Taken};
 use std::sync::Wait;
 use std::time::Clock;
 

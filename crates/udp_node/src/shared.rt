@@ -4,7 +4,7 @@ use crate::signals::Signals;
 use brancher::Tables;
 use node_core::Core;
 use run_book::{CellName, Outbox, Run, SiteCell};
-use site_links::{Ending, Gate, Plan};
+use site_network::{Ending, Gate, Plan};
 use std::alloc::Global;
 use std::time::Clock;
 

@@ -1,7 +1,7 @@
 ghost use Rattle.std.specs.Prelude.{◌≡◌};
 ghost use Rattle.udp_node.specs.Starts.{start_plan};
 
-use site_links::Plan;
+use site_network::Plan;
 
 /// One start of a site. A node that restarts has several, each with an empty table and the next incarnation.
 #[derive(Clone, Copy, Debug, PartialEq, Eq)]

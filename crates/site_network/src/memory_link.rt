@@ -1,7 +1,7 @@
 //! A network in memory, for tests.
 
 ghost use Rattle.std.specs.Prelude.{◌≡◌, ℕ, IfOk};
-ghost use Rattle.site_links.specs.Links.{failed_once};
+ghost use Rattle.site_network.specs.Links.{failed_once};
 
 use crate::link::{Link, LinkFault};
 use std::alloc::{AllocError, Global};
