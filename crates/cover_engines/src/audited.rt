@@ -19,14 +19,14 @@ const UNCLEAN: u8 = 6;
 /// What an audit found.
 pub type AuditFinding = Result<Clean, Unclean>;
 
-/// A text, a number in decimal digits, and what stands behind it.
+/// A text, a number in decimal digits, and what follows it.
 fn numbered(alloc: Global, front: &str, number: u64, behind: &str) -> Result<String, AllocError>
     ensures { IfOk result (λ text. string_bytes text ≡ front.now ++ decimal number ++ behind.now) }
 {
     format!(in alloc; "{front}{number}{behind}")
 }
 
-/// A text, a site's node and incarnation, and what stands behind them.
+/// A text, a site's node and incarnation, and what follows them.
 fn with_site(alloc: Global, front: &str, site: Site, behind: &str) -> Result<String, AllocError>
     ensures { IfOk result (λ text. string_bytes text
         ≡ front.now ++ decimal site.node ++ codes " incarnation " ++ decimal site.incarnation
@@ -76,7 +76,7 @@ fn status_of(found: AuditFinding, status: u8) -> u8
     }
 }
 
-/// Writes what is published, or that nothing is, then the line of what was found, and answers the status. The line is made
+/// Writes what is published, or that nothing is, then the line of what was found, and returns the status. The line is made
 /// before anything is written, so that nothing is written where memory runs out, here or in the audit.
 pub fn write_audited<W: Sink>(
     alloc: Global,

@@ -38,9 +38,9 @@ impl<N: Network, R: Threads + Wait + Clock + Sync> Machine<'_, N, R> {
     /// returns the exit status: 0 for a cover, 1 for none, 4 for no answer, 6 where the audit is unclean.
     ///
     /// The other statuses are 3, where a device failed, the text is refused or no links could be had, and 5 if memory ran out. Where
-    /// the sink failed a beginning of the text was written, else nothing. The links are had before any thread starts. The other
-    /// sink is told what is wrong, how many options were ignored, and how far the search is, if the request has it so; a fault of it is
-    /// passed over.
+    /// the sink failed a beginning of the text was written, else nothing. The links are had before any thread starts. What is
+    /// wrong, how many options were ignored, and how far the search is, if the request has it so, is written to the other sink, whose faults
+    /// are passed over.
     #[tactic(auto, using(crate::proofs::Ends::ends_unread))]
     pub fn solve<S: Source, W: Sink, E: Sink + Send>(
         &self,
@@ -85,8 +85,8 @@ impl<N: Network, R: Threads + Wait + Clock + Sync> Machine<'_, N, R> {
         }
     }
 
-    /// Lets sites search a problem over these links, tells how many options were ignored and why there is no answer, and returns the exit
-    /// status of what is written.
+    /// Lets sites search a problem over these links, reports how many options were ignored and why there is no answer, and returns the
+    /// exit status of what is written.
     fn search<W: Sink, E: Sink + Send>(
         &self,
         request: &Request<'_>,
@@ -154,6 +154,7 @@ impl<N: Network, R: Threads + Wait + Clock + Sync> Machine<'_, N, R> {
             return Err(EngineFault::Memory);
         };
         let solved = solve_problem(rt, alloc, task, links, &followed, sink);
+        // (it borrows the sink of errors, to which a line is written next)
         drop(followed);
         if let Ok(status) = &solved {
             tell(*status, read.ignored, errors);
@@ -180,7 +181,7 @@ fn limit_of(request: &Request<'_>) -> Option<Duration> {
     Some(Duration::from_secs(u64::from(seconds)))
 }
 
-/// Tells that no links could be had, and returns the exit status: 5 if memory ran out, else 3.
+/// Reports that no links could be had, and returns the exit status: 5 if memory ran out, else 3.
 fn tell_unlinked<E: Sink>(error: &io::Error, errors: &mut E) -> u8
     ensures { (result ≡ 3) ⊎ (result ≡ 5) }
 {

@@ -127,7 +127,7 @@ fn has_starved(sites: &[SiteEnd]) -> bool {
     sites.iter().any(|site| matches!(site.cause, Cause::Memory))
 }
 
-/// Lets sites search the problem that the type names, writes what the registry published, and answers the status.
+/// Lets sites search the problem that the type names, writes what the registry published, and returns the status.
 fn write_run<
     J: Run + Send + Sync,
     L: Link + Send,
@@ -154,7 +154,7 @@ fn write_run<
 }
 
 /// Lets sites search the problem that the type names, audits their books, writes what the registry published and what was found,
-/// and answers the status. Nothing is written before the audit ends.
+/// and returns the status. Nothing is written before the audit ends.
 fn write_audited_run<
     J: Run + Send + Sync,
     L: Link + Send,
@@ -184,7 +184,7 @@ fn write_audited_run<
 }
 
 /// Lets sites search a problem, as `solve_engine` does, writes what the registry published, or `no answer` where it published
-/// nothing, and answers the status: 0 for a cover, 1 for none, 4 for no answer. A run with a limit ends once that time is over.
+/// nothing, and returns the status: 0 for a cover, 1 for none, 4 for no answer. A run with a limit ends once that time is over.
 ///
 /// Where the settings ask for an audit, the books of the run are audited before anything is written, and a line of what was found
 /// follows: `audit clean`, and the answer is right whatever the network delivered, or `audit unclean` with the cause, and the status

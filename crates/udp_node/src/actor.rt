@@ -28,7 +28,7 @@ pub struct Actor<'a, J: Run, C: Core + Drop, N: CellName, G: Gate> {
 }
 
 impl<'a, J: Run, C: Core + Drop, N: CellName, G: Gate> Actor<'a, J, C, N, G> {
-    /// A thread that hasn't acted so far. The only error is that no seats are left.
+    /// Returns an actor that hasn't acted so far. The only error is that no seats are left.
     pub fn new<R: Wait>(
         rt: &R,
         shared: &'a Shared<'a, J, C, N, G>,
@@ -41,8 +41,12 @@ impl<'a, J: Run, C: Core + Drop, N: CellName, G: Gate> Actor<'a, J, C, N, G> {
         })
     }
 
-    /// Hands an event to the site's cell, and once it is entered puts its packets into the outbox: the lock of the core is
-    /// free then. It returns what was entered; an event that is refused comes back.
+    /// Hands an event to the site's cell, and once it is entered puts its packets into the outbox. The lock of the core is free by then,
+    /// so that no thread waits for it while packets are written. Returns what was entered.
+    ///
+    /// # Errors
+    ///
+    /// An event that is refused comes back with the reason.
     pub fn act<R: Wait>(&mut self, rt: &R, event: Event) -> Result<Step, (Event, Refused)>
         requires { IsFit J.run.problem event }
         ensures lawful { IfOk result (λ entry. IsLawful J.run.problem entry) }
@@ -86,7 +90,7 @@ impl<'a, J: Run, C: Core + Drop, N: CellName, G: Gate> Actor<'a, J, C, N, G> {
         }
     }
 
-    /// Puts a packet into the outbox. It is lost where there is no memory for its spelling, or the outbox is full.
+    /// Puts a packet into the outbox. It is lost, and counted, if memory runs out or the outbox is full.
     fn put<R: Wait>(&mut self, rt: &R, packet: &Packet)
         requires { is_well_formed packet.now ≡ true }
     {
@@ -101,7 +105,8 @@ impl<'a, J: Run, C: Core + Drop, N: CellName, G: Gate> Actor<'a, J, C, N, G> {
     }
 }
 
-/// Whether an idle worker may have something to do after the event. What asks others, or tells that they ask, leaves none.
+/// Whether an idle worker may have something to do after the event. One that asks others for work, or reports that they ask, leaves
+/// none.
 fn may_stir(event: &Event) -> bool {
     match event {
         Event::Take | Event::Ask(_) | Event::Again | Event::Greet => false,
@@ -110,7 +115,7 @@ fn may_stir(event: &Event) -> bool {
     }
 }
 
-/// Whether someone who asked for work is told that there is none.
+/// Whether a packet refuses someone who asked for work.
 fn tells_no_work(packets: &[Packet]) -> bool {
     packets
         .iter()

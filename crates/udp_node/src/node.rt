@@ -43,8 +43,8 @@ enum Task<L: Link> {
 }
 
 impl<L: Link> Task<L> {
-    /// How many turns it may take, and in how many more it may wait. In a start that another follows, the one that receives waits in
-    /// none more: else the start would last for hours.
+    /// How many turns it may take, and in how many more it may wait. In an incarnation that another follows, the one that
+    /// receives waits in none more: else it would last for hours.
     fn limits(&self, turns: u64, is_last: bool) -> Limits {
         match self {
             Task::Work(_) => Limits::new(turns, REST),
@@ -99,7 +99,7 @@ impl<'a, J: Run, C: Core + Drop, N: CellName, L: Link, G: Gate> ActingThread<'a,
     }
 }
 
-/// Notes what a turn came to, and waits a little where memory ran out. Returns the cause where the thread ends by it.
+/// Counts a turn, and waits a little if memory ran out, so that others may give some back. Returns the cause if the thread ends by it.
 fn noted<R: Wait + Clock>(rt: &R, left: &mut Limits, turn: Turn) -> Option<Cause> {
     if turn == Turn::Starved {
         thread::sleep(rt, Duration::from_millis(SHORTAGE));
@@ -107,7 +107,7 @@ fn noted<R: Wait + Clock>(rt: &R, left: &mut Limits, turn: Turn) -> Option<Cause
     left.note(turn)
 }
 
-/// A worker's turns.
+/// Runs a worker to its end. It begins its turns once a thread of each kind has begun.
 fn work<J: Run, C: Core + Drop, N: CellName, G: Gate, R: Wait + Clock>(
     rt: &R,
     actor: &mut Actor<'_, J, C, N, G>,
@@ -150,7 +150,7 @@ fn take_turns<'a, J: Run, C: Core + Drop, N: CellName, G: Gate, R: Wait + Clock>
     Cause::Turns
 }
 
-/// The turns of the thread that receives.
+/// Runs the thread that receives to its end. It begins its turns once a thread of each kind has begun.
 fn receive<J: Run, C: Core + Drop, N: CellName, L: Link, G: Gate, R: Wait + Clock>(
     rt: &R,
     actor: &mut Actor<'_, J, C, N, G>,
@@ -244,7 +244,7 @@ pub fn run_root<
     run_threads(rt, cell, link, Start::only(plan), context)
 }
 
-/// Runs the threads of a site in one of its starts, as `run_node` and `run_root` do, and ends them where the run ends. A plan without
+/// Runs the threads of a site in one of its incarnations, as `run_node` and `run_root` do, and ends them where the run ends. A plan without
 /// workers is that of the registry.
 pub(crate) fn run_threads<
     J: Run + Send + Sync,
@@ -416,7 +416,7 @@ fn add_thread<'a, J: Run, C: Core + Drop, N: CellName, L: Link, G: Gate, R: Wait
     Ok(())
 }
 
-/// What came of all threads; whether there was one of each kind.
+/// Returns how the threads of a site ended, and whether there was one of each kind.
 fn end_of<J: Run, C: Core + Drop, N: CellName, L: Link, G: Gate>(
     crew: Crew<'_, J, C, N, L, G>,
     sent: Sent,

@@ -7,7 +7,7 @@ use run_book::{CellName, Seat, Stub};
 use site_network::{Cause, Taken};
 use std::alloc::Global;
 
-/// How the threads of a site ended. The greatest numbers stay.
+/// How the threads of a site ended. Counts stop at the greatest number.
 #[derive(Drop)]
 pub struct NodeEnd<N: CellName> {
     /// The seats of all of them, each with the stubs of as many receipts as it counts.
@@ -45,8 +45,11 @@ impl<N: CellName> NodeEnd<N> {
         }
     }
 
-    /// All seats, and the stubs of all receipts. It comes back whole where memory ran out, or no list has room
-    /// for so many.
+    /// Returns all seats, and the stubs of all receipts.
+    ///
+    /// # Errors
+    ///
+    /// The end comes back as it was if memory runs out, or no list has room for so many.
     pub fn into_lists(self, alloc: Global) -> Result<(Vec<Seat<N>>, Vec<Stub<N>>), NodeEnd<N>>
         ensures seats { IfOk result (λ lists. vec_len lists.0 ≡ vec_len self.seats) }
         ensures counted { IfOk result (λ lists. sum lists.0.items ≡ vec_len lists.1) }

@@ -7,7 +7,7 @@ use run_book::{BookFault, CellName, Run, Seat, SiteCell, Step, Stub};
 use std::alloc::{AllocError, Global};
 use std::sync::Wait;
 
-/// A seat with the stubs of its receipts: as many as it counts.
+/// A thread's seat at a cell, with the stubs of the receipts that it got there: as many as the seat counts.
 #[derive(Drop)]
 pub struct SeatReceipts<N: CellName> {
     seat: Seat<N>,
@@ -41,7 +41,11 @@ impl<N: CellName> SeatReceipts<N> {
         })
     }
 
-    /// Hands an event to the cell, and returns what was entered. Else the event comes back.
+    /// Hands an event to the cell, and returns what was entered. Room for the stub is reserved before, so that no receipt is lost.
+    ///
+    /// # Errors
+    ///
+    /// An event that is refused comes back with the reason.
     pub fn act<J: Run, C: Core + Drop, R: Wait>(
         &mut self,
         rt: &R,

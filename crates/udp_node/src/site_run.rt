@@ -1,4 +1,4 @@
-//! One site of a run, from its first start to its books.
+//! One site of a run, from its first incarnation to its books.
 
 ghost use Rattle.std.specs.Prelude.{◌≡◌, ◌+◌, ◌≤◌, None, true, is_some, suc, vec_len, IfOk, IfSome};
 ghost use Rattle.std.specs.Vec.{vec_capacity};
@@ -50,7 +50,7 @@ pub struct RunContext<'a, J: Run, G: Gate> {
 }
 
 impl<J: Run, G: Gate> RunContext<'_, J, G> {
-    /// The run ends with the site of this node, which ended so.
+    /// Ends the run with the site of this node, which ended so.
     fn end(&self, node: u8, end: &SiteEnd) {
         self.gate.ended(node, end);
         self.ending.raise();
@@ -64,9 +64,9 @@ pub struct SiteRun<J: Run, L: Link> {
     pub link: Option<L>,
     /// How often it restarts.
     pub restarts: u8,
-    /// How many starts there were.
+    /// How many incarnations there were.
     pub starts: u32,
-    /// The books of these starts, in their order, with room for one of each.
+    /// The books of these, in their order, with room for one of each.
     pub books: Vec<Book<J>>,
     pub end: SiteEnd,
     pub ghost there: { node ≤ J.run.nodes },
@@ -94,8 +94,9 @@ impl<J: Run, L: Link> SiteRun<J, L> {
         })
     }
 
-    /// Runs all starts of the site to their ends, once, one after the other; a node's once the registry's threads have begun, so that
-    /// it gets its own where few can be started. The run ends where the others can't go on without the site then, or no node is left.
+    /// Runs all incarnations of the site to their ends, once, one after the other. A node waits until the registry's threads have begun,
+    /// so that the registry gets its own where few can be started. The run ends if the others can't go on without the site afterwards, or
+    /// no node is left.
     pub fn run<G: Gate + Sync, R: Threads + Wait + Clock + Sync>(
         &mut self,
         rt: &R,
@@ -119,7 +120,8 @@ impl<J: Run, L: Link> SiteRun<J, L> {
         }
     }
 
-    /// Runs all starts of the site to their ends. Its link stays open over all of them: the last has it, the others a twin of it.
+    /// Runs all incarnations of the site to their ends. Its link stays open over all of them: the last has
+    /// it, the others a twin of it.
     fn run_starts<G: Gate + Sync, R: Threads + Wait + Clock + Sync>(
         &mut self,
         rt: &R,
@@ -140,7 +142,7 @@ impl<J: Run, L: Link> SiteRun<J, L> {
         self.start(rt, context, Ok(link));
     }
 
-    /// Runs one start more to its end, over this link, unless there is no memory for it.
+    /// Runs the next incarnation to its end, over this link, unless there is no memory for it.
     fn start<G: Gate + Sync, R: Threads + Wait + Clock + Sync>(
         &mut self,
         rt: &R,
@@ -172,7 +174,7 @@ impl<J: Run, L: Link> SiteRun<J, L> {
         self.end = self.end.with(end);
     }
 
-    /// The books of its starts, in their order, and how it ended.
+    /// Returns the books of its incarnations, in their order, and how it ended.
     pub fn into_end(self) -> (Vec<Book<J>>, SiteEnd)
         ensures { are_starts self.node 1 (suc self.starts) result.0.items ≡ true }
     {
@@ -188,7 +190,7 @@ impl<J: Run, L: Link> SiteRun<J, L> {
     }
 }
 
-/// Runs a start of a site to its end. There is no book where there was no memory for it.
+/// Runs an incarnation of a site to its end. There is no book if there was no memory for it.
 fn run_site<J: Run + Send + Sync, L: Link + Send, G: Gate + Sync, R: Threads + Wait + Clock + Sync>(
     rt: &R,
     context: &RunContext<'_, J, G>,
