@@ -29,7 +29,7 @@ pub struct SolveTask<'a> {
     /// What is searched.
     pub problem: &'a Problem,
     /// How many nodes and workers search it, and how; whether the books are audited.
-    pub settings: &'a Settings,
+    pub settings: &'a Settings<'a>,
     /// How long the run may last, if it is limited.
     pub limit: Option<Duration>,
 }
