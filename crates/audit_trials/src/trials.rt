@@ -18,7 +18,7 @@ use std::mem;
 use std::sync::{Arc, Wait};
 use std::thread::Threads;
 use std::time::{Clock, Instant};
-use udp_node::{MemoryLink, Open, Plan, RunEnd, Wires, run_sites};
+use udp_node::{MemoryLink, Open, Plan, RunEnd, RunPlan, Wires, run_sites};
 
 /// The links of so many sites. The only error is out of memory.
 fn links(alloc: Global, sites: u8) -> Result<Vec<MemoryLink>, AllocError>
@@ -191,7 +191,8 @@ fn tell_run<J: Run + Send + Sync, R: Threads + Wait + Clock + Sync>(
 {
     let alloc = rt.alloc();
     let links = links(alloc, plan.nodes + 1)?;
-    let end: RunEnd<J> = run_sites(threads, alloc, problem, plan, 0, links, &Open)?;
+    let run_plan = RunPlan::new(plan);
+    let end: RunEnd<J> = run_sites(threads, alloc, problem, run_plan, links, &Open)?;
     let mut books = end.books;
     let trials = Trials {
         rt,

@@ -17,16 +17,16 @@ use std::alloc::{AllocError, Global};
 const UNCLEAN: u8 = 6;
 
 /// What an audit found.
-pub type Finding = Result<Clean, Unclean>;
+pub type AuditFinding = Result<Clean, Unclean>;
 
-/// A text, a number in decimal digits, and what stands behind it.
+/// A text, a number in decimal digits, and what follows it.
 fn numbered(alloc: Global, front: &str, number: u64, behind: &str) -> Result<String, AllocError>
     ensures { IfOk result (λ text. string_bytes text ≡ front.now ++ decimal number ++ behind.now) }
 {
     format!(in alloc; "{front}{number}{behind}")
 }
 
-/// A text, a site's node and incarnation, and what stands behind them.
+/// A text, a site's node and incarnation, and what follows them.
 fn with_site(alloc: Global, front: &str, site: Site, behind: &str) -> Result<String, AllocError>
     ensures { IfOk result (λ text. string_bytes text
         ≡ front.now ++ decimal site.node ++ codes " incarnation " ++ decimal site.incarnation
@@ -54,7 +54,7 @@ fn unsent_line(alloc: Global, site: Site, place: usize) -> Result<String, AllocE
 }
 
 /// The line of what was found. It fails only if memory runs out, here or in the audit.
-fn line_of(alloc: Global, found: Finding) -> Result<String, AllocError>
+fn line_of(alloc: Global, found: AuditFinding) -> Result<String, AllocError>
     ensures line { IfOk result (λ line. string_bytes line ≡ finding_line found) }
     ensures ended { IfOk result (λ _. found ≢ Err unclean.Memory) }
 {
@@ -67,7 +67,7 @@ fn line_of(alloc: Global, found: Finding) -> Result<String, AllocError>
 }
 
 /// The exit status of an answer whose status is this.
-fn status_of(found: Finding, status: u8) -> u8
+fn status_of(found: AuditFinding, status: u8) -> u8
     ensures { result ≡ finding_status found status }
 {
     match found {
@@ -76,13 +76,13 @@ fn status_of(found: Finding, status: u8) -> u8
     }
 }
 
-/// Writes what is published, or that nothing is, then the line of what was found, and answers the status. The line is made
+/// Writes what is published, or that nothing is, then the line of what was found, and returns the status. The line is made
 /// before anything is written, so that nothing is written where memory runs out, here or in the audit.
 pub fn write_audited<W: Sink>(
     alloc: Global,
     problem: &Problem,
     published: Option<&Answer>,
-    found: Finding,
+    found: AuditFinding,
     sink: &mut W,
 ) -> Result<u8, EngineFault>
     requires order { IfSome published (λ answer. IsWritable problem.now answer.now) }

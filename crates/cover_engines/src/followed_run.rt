@@ -13,7 +13,7 @@ use std::time::{Clock, Duration};
 use udp_node::{Gate, SiteEnd};
 
 /// A gate that lets all pass, and meanwhile writes now and then how far the run has come: of the tree, what is below prefixes that were
-/// searched without a cover, and what lies behind the search that is looked at. Where the clock can't be read it writes nothing.
+/// searched without a cover, and what the search that reports has left behind it. Where the clock can't be read it writes nothing.
 #[derive(Drop)]
 pub struct FollowedRun<'a, E: Sink, R: Wait + Clock> {
     rt: &'a R,
@@ -22,7 +22,7 @@ pub struct FollowedRun<'a, E: Sink, R: Wait + Clock> {
     state: Mutex<State<'a, E>>,
 }
 
-/// What has been heard of a run.
+/// What is known of a run so far.
 #[derive(Drop)]
 struct State<'a, E: Sink> {
     estimate: TreeEstimate<'a>,
@@ -75,7 +75,7 @@ impl<'a, E: Sink, R: Wait + Clock> FollowedRun<'a, E, R> {
 }
 
 impl<'a, E: Sink> State<'a, E> {
-    /// A worker has searched a prefix. How many prefixes a search visited that found a cover isn't told, so that none are counted then.
+    /// Counts a prefix that a worker has searched. A search that found a cover doesn't report its visits, so that none are counted then.
     fn note(&mut self, finding: &Finding, visits: u64) {
         self.jobs = self.jobs.saturating_sub(1);
         if finding.outcome() != Outcome::Cover {
@@ -95,7 +95,7 @@ impl<'a, E: Sink> State<'a, E> {
         self.timer.due(clock, self.log.style())
     }
 
-    /// No line follows; the last one ends, so that the answer is on one of its own.
+    /// Ends the last line, so that the answer is on one of its own. No line follows.
     fn end(&mut self) {
         self.is_over = true;
         self.log.end();

@@ -11,7 +11,7 @@ mod reasons;
 mod sockets;
 mod solve;
 
-pub use audited::{Finding, write_audited};
+pub use audited::{AuditFinding, write_audited};
 pub use followed_run::FollowedRun;
 pub use machine::Machine;
 pub use network::{Loopback, Network};
@@ -24,5 +24,5 @@ pub use search_engines::{
     tell_unanswered, tell_unopened,
 };
 pub use sockets::links;
-pub use solve::{SolveEnd, solve_engine, solve_problem};
+pub use solve::{SolveEnd, SolveTask, solve_engine, solve_problem};
 pub use world_engine::{SimulateEnd, simulate_engine};

@@ -8,7 +8,7 @@ ghost use Rattle.search_engines.specs.Output.{IsOutputOf};
 use crate::followed_run::FollowedRun;
 use crate::network::Network;
 use crate::quiet_run::QuietRun;
-use crate::solve::solve_problem;
+use crate::solve::{SolveTask, solve_problem};
 use dlx_reader::{Read, Sink, Source};
 use run_settings::Request;
 use search_engines::{
@@ -38,9 +38,9 @@ impl<N: Network, R: Threads + Wait + Clock + Sync> Machine<'_, N, R> {
     /// returns the exit status: 0 for a cover, 1 for none, 4 for no answer, 6 where the audit is unclean.
     ///
     /// The other statuses are 3, where a device failed, the text is refused or no links could be had, and 5 if memory ran out. Where
-    /// the sink failed a beginning of the text was written, else nothing. The links are had before any thread starts. The other
-    /// sink is told what is wrong, how many options were ignored, and how far the search is, if the request has it so; a fault of it is
-    /// passed over.
+    /// the sink failed a beginning of the text was written, else nothing. The links are had before any thread starts. What is
+    /// wrong, how many options were ignored, and how far the search is, if the request has it so, is written to the other sink, whose faults
+    /// are passed over.
     #[tactic(auto, using(crate::proofs::Ends::ends_unread))]
     pub fn solve<S: Source, W: Sink, E: Sink + Send>(
         &self,
@@ -85,8 +85,8 @@ impl<N: Network, R: Threads + Wait + Clock + Sync> Machine<'_, N, R> {
         }
     }
 
-    /// Lets sites search a problem over these links, tells how many options were ignored and why there is no answer, and returns the exit
-    /// status of what is written.
+    /// Lets sites search a problem over these links, reports how many options were ignored and why there is no answer, and returns the
+    /// exit status of what is written.
     fn search<W: Sink, E: Sink + Send>(
         &self,
         request: &Request<'_>,
@@ -122,10 +122,9 @@ impl<N: Network, R: Threads + Wait + Clock + Sync> Machine<'_, N, R> {
         ensures { IsOutputOf (SolveSays request.now.settings read.now.problem)
             (W.contents sink.old) (W.contents sink.new) result }
     {
-        let (rt, alloc, settings) = (self.rt, self.alloc, &request.settings);
-        let (limit, problem) = (limit_of(request), &read.problem);
-        let quiet = QuietRun::new(rt, limit);
-        let solved = solve_problem(rt, alloc, settings, limit, problem, links, &quiet, sink);
+        let task = task_of(request, read);
+        let quiet = QuietRun::new(self.rt, task.limit);
+        let solved = solve_problem(self.rt, self.alloc, task, links, &quiet, sink);
         if let Ok(status) = &solved {
             tell(*status, read.ignored, errors);
             quiet.tell(errors);
@@ -148,18 +147,31 @@ impl<N: Network, R: Threads + Wait + Clock + Sync> Machine<'_, N, R> {
         ensures { IsOutputOf (SolveSays request.now.settings read.now.problem)
             (W.contents sink.old) (W.contents sink.new) result }
     {
-        let (rt, alloc, settings) = (self.rt, self.alloc, &request.settings);
-        let (limit, problem) = (limit_of(request), &read.problem);
+        let (rt, alloc) = (self.rt, self.alloc);
+        let task = task_of(request, read);
         let log = ProgressLog::new(&mut *errors, self.lines);
-        let Ok(followed) = FollowedRun::new(rt, alloc, problem, limit, log) else {
+        let Ok(followed) = FollowedRun::new(rt, alloc, task.problem, task.limit, log) else {
             return Err(EngineFault::Memory);
         };
-        let solved = solve_problem(rt, alloc, settings, limit, problem, links, &followed, sink);
+        let solved = solve_problem(rt, alloc, task, links, &followed, sink);
+        // (it borrows the sink of errors, to which a line is written next)
         drop(followed);
         if let Ok(status) = &solved {
             tell(*status, read.ignored, errors);
         }
         solved
+    }
+}
+
+/// The problem that was read, to be searched as the request has it.
+fn task_of<'a>(request: &'a Request<'_>, read: &'a Read) -> SolveTask<'a>
+    ensures settings { result.settings.now ≡ request.now.settings }
+    ensures problem { result.problem.now ≡ read.now.problem }
+{
+    SolveTask {
+        problem: &read.problem,
+        settings: &request.settings,
+        limit: limit_of(request),
     }
 }
 
@@ -169,7 +181,7 @@ fn limit_of(request: &Request<'_>) -> Option<Duration> {
     Some(Duration::from_secs(u64::from(seconds)))
 }
 
-/// Tells that no links could be had, and returns the exit status: 5 if memory ran out, else 3.
+/// Reports that no links could be had, and returns the exit status: 5 if memory ran out, else 3.
 fn tell_unlinked<E: Sink>(error: &io::Error, errors: &mut E) -> u8
     ensures { (result ≡ 3) ⊎ (result ≡ 5) }
 {

@@ -7,14 +7,14 @@ use std::sync::{Mutex, Wait};
 use std::time::{Clock, Duration};
 use udp_node::{Gate, SiteEnd};
 
-/// A gate that lets all pass, and hears why a run ended without an answer.
+/// A gate that lets all pass, and keeps why a run ended without an answer.
 #[derive(Drop)]
 pub struct QuietRun<'a, R: Wait + Clock> {
     rt: &'a R,
     state: Mutex<Heard>,
 }
 
-/// What has been heard of a run.
+/// What is known of a run so far.
 #[derive(Drop)]
 struct Heard {
     reasons: Reasons,

@@ -4,7 +4,7 @@ use search_engines::Stopwatch;
 use std::time::{Clock, Duration};
 use udp_node::{Cause, SiteEnd};
 
-/// Why a run has no answer, as far as its sites tell it that have ended.
+/// Why a run has no answer, as far as the ends of its sites show it.
 #[derive(Clone, Copy)]
 pub(crate) struct Reasons {
     /// How long the run may last, if it is limited.
@@ -24,7 +24,7 @@ impl Reasons {
         }
     }
 
-    /// Hears that a site has ended so.
+    /// Notes that a site has ended so. The first that didn't end with the search is kept, since the others end because of it.
     pub(crate) fn hear(&mut self, end: &SiteEnd) {
         if end.cause != Cause::Over && self.first.is_none() {
             self.first = Some(reason_of(end));

@@ -18,12 +18,23 @@ use std::marker::Brand;
 use std::sync::Wait;
 use std::thread::Threads;
 use std::time::{Clock, Duration};
-use udp_node::{Cause, Gate, Link, Plan, SiteEnd, run_sites_within};
+use udp_node::{Cause, Gate, Link, Plan, RunPlan, SiteEnd, run_sites};
 
 /// After how many receives a site gives up that brought it no packet, or a node none of the registry.
 const QUIET: u64 = 6_000;
 
-/// What a run came to.
+/// A problem that sites are to search, and how.
+#[derive(Clone, Copy)]
+pub struct SolveTask<'a> {
+    /// What is searched.
+    pub problem: &'a Problem,
+    /// How many nodes and workers search it, and how; whether the books are audited.
+    pub settings: &'a Settings<'a>,
+    /// How long the run may last, if it is limited.
+    pub limit: Option<Duration>,
+}
+
+/// How a run ended.
 #[derive(Drop)]
 pub struct SolveEnd<J: Run> {
     /// What the registry published, by its book; nothing where it published nothing, or its book is not there.
@@ -54,7 +65,12 @@ pub fn solve_engine<
     ensures told { IfOk result (λ end. IsRunEnd J.run end.answer end.books.items) }
     ensures memory { IfErr result (λ fault. fault ≡ EngineFault.Memory) }
 {
-    solve_within(rt, alloc, settings, None, problem, links, gate)
+    let task = SolveTask {
+        problem,
+        settings,
+        limit: None,
+    };
+    solve_within(rt, alloc, task, links, gate)
 }
 
 /// Lets sites search as `solve_engine` does, for so much time if it is limited: then the run ends, and there is the answer that the
@@ -67,18 +83,17 @@ fn solve_within<
 >(
     rt: &R,
     alloc: Global,
-    settings: &Settings,
-    limit: Option<Duration>,
-    problem: &Problem,
+    task: SolveTask<'_>,
     links: Vec<L>,
     gate: &G,
 ) -> Result<SolveEnd<J>, EngineFault>
-    requires problem { problem.now ≡ J.run.problem }
-    requires nodes { settings.now.nodes ≡ J.run.nodes }
-    requires links { vec_len links ≡ settings.now.nodes + 1 }
+    requires problem { task.problem.now ≡ J.run.problem }
+    requires nodes { task.settings.now.nodes ≡ J.run.nodes }
+    requires links { vec_len links ≡ task.settings.now.nodes + 1 }
     ensures told { IfOk result (λ end. IsRunEnd J.run end.answer end.books.items) }
     ensures memory { IfErr result (λ fault. fault ≡ EngineFault.Memory) }
 {
+    let settings = task.settings;
     let plan = Plan {
         workers: settings.workers,
         nodes: settings.nodes,
@@ -88,8 +103,12 @@ fn solve_within<
         quiet: QUIET,
         entries: u64::from(settings.entries),
     };
-    let restarts = settings.restarts as u8;
-    let ran = run_sites_within(rt, alloc, problem, plan, restarts, limit, links, gate);
+    let run_plan = RunPlan {
+        plan,
+        restarts: settings.restarts as u8,
+        limit: task.limit,
+    };
+    let ran = run_sites(rt, alloc, task.problem, run_plan, links, gate);
     let Ok(end) = ran else {
         return Err(EngineFault::Memory);
     };
@@ -108,7 +127,7 @@ fn has_starved(sites: &[SiteEnd]) -> bool {
     sites.iter().any(|site| matches!(site.cause, Cause::Memory))
 }
 
-/// Lets sites search the problem that the type names, writes what the registry published, and answers the status.
+/// Lets sites search the problem that the type names, writes what the registry published, and returns the status.
 fn write_run<
     J: Run + Send + Sync,
     L: Link + Send,
@@ -118,25 +137,24 @@ fn write_run<
 >(
     rt: &R,
     alloc: Global,
-    settings: &Settings,
-    limit: Option<Duration>,
-    problem: &Problem,
+    task: SolveTask<'_>,
     links: Vec<L>,
     gate: &G,
     sink: &mut W,
 ) -> Result<u8, EngineFault>
-    requires run { J.run ≡ record { problem = problem.now; nodes = settings.now.nodes } }
-    requires links { vec_len links ≡ settings.now.nodes + 1 }
+    requires run { J.run ≡ record { problem = task.problem.now; nodes = task.settings.now.nodes } }
+    requires links { vec_len links ≡ task.settings.now.nodes + 1 }
     requires failed { W.failed sink.old < 2 ^ 64 - 1 }
     ensures output { IsOutputOf (RunSays J.run) (W.contents sink.old) (W.contents sink.new) result }
     ensures failed { result ≡ Err EngineFault.Write → W.failed sink.old < W.failed sink.new }
 {
-    let end: SolveEnd<J> = solve_within(rt, alloc, settings, limit, problem, links, gate)?;
+    let problem = task.problem;
+    let end: SolveEnd<J> = solve_within(rt, alloc, task, links, gate)?;
     write_published(problem, end.answer.as_ref(), sink)
 }
 
 /// Lets sites search the problem that the type names, audits their books, writes what the registry published and what was found,
-/// and answers the status. Nothing is written before the audit ends.
+/// and returns the status. Nothing is written before the audit ends.
 fn write_audited_run<
     J: Run + Send + Sync,
     L: Link + Send,
@@ -146,28 +164,27 @@ fn write_audited_run<
 >(
     rt: &R,
     alloc: Global,
-    settings: &Settings,
-    limit: Option<Duration>,
-    problem: &Problem,
+    task: SolveTask<'_>,
     links: Vec<L>,
     gate: &G,
     sink: &mut W,
 ) -> Result<u8, EngineFault>
-    requires run { J.run ≡ record { problem = problem.now; nodes = settings.now.nodes } }
-    requires links { vec_len links ≡ settings.now.nodes + 1 }
+    requires run { J.run ≡ record { problem = task.problem.now; nodes = task.settings.now.nodes } }
+    requires links { vec_len links ≡ task.settings.now.nodes + 1 }
     requires failed { W.failed sink.old < 2 ^ 64 - 1 }
     ensures output { IsOutputOf (AuditSays J.run) (W.contents sink.old) (W.contents sink.new)
         result }
     ensures failed { result ≡ Err EngineFault.Write → W.failed sink.old < W.failed sink.new }
 {
     a_book_tells_what_is_published();
-    let end: SolveEnd<J> = solve_within(rt, alloc, settings, limit, problem, links, gate)?;
+    let problem = task.problem;
+    let end: SolveEnd<J> = solve_within(rt, alloc, task, links, gate)?;
     let found = audit(alloc, &end.books);
     write_audited(alloc, problem, end.answer.as_ref(), found, sink)
 }
 
 /// Lets sites search a problem, as `solve_engine` does, writes what the registry published, or `no answer` where it published
-/// nothing, and answers the status: 0 for a cover, 1 for none, 4 for no answer. A run with a limit ends once that time is over.
+/// nothing, and returns the status: 0 for a cover, 1 for none, 4 for no answer. A run with a limit ends once that time is over.
 ///
 /// Where the settings ask for an audit, the books of the run are audited before anything is written, and a line of what was found
 /// follows: `audit clean`, and the answer is right whatever the network delivered, or `audit unclean` with the cause, and the status
@@ -178,27 +195,23 @@ fn write_audited_run<
 pub fn solve_problem<L: Link + Send, G: Gate + Sync, W: Sink, R: Threads + Wait + Clock + Sync>(
     rt: &R,
     alloc: Global,
-    settings: &Settings,
-    limit: Option<Duration>,
-    problem: &Problem,
+    task: SolveTask<'_>,
     links: Vec<L>,
     gate: &G,
     sink: &mut W,
 ) -> Result<u8, EngineFault>
-    requires links { vec_len links ≡ settings.now.nodes + 1 }
+    requires links { vec_len links ≡ task.settings.now.nodes + 1 }
     requires failed { W.failed sink.old < 2 ^ 64 - 1 }
-    ensures output { settings.now.audit ≡ false →
-        IsOutputOf (RunSays (run_of problem.now settings.now)) (W.contents sink.old)
+    ensures output { task.settings.now.audit ≡ false →
+        IsOutputOf (RunSays (run_of task.problem.now task.settings.now)) (W.contents sink.old)
         (W.contents sink.new) result }
-    ensures audited { settings.now.audit ≡ true →
-        IsOutputOf (AuditSays (run_of problem.now settings.now)) (W.contents sink.old)
+    ensures audited { task.settings.now.audit ≡ true →
+        IsOutputOf (AuditSays (run_of task.problem.now task.settings.now)) (W.contents sink.old)
         (W.contents sink.new) result }
     ensures failed { result ≡ Err EngineFault.Write → W.failed sink.old < W.failed sink.new }
 {
-    if settings.audit {
-        return write_audited_run::<Brand, L, G, W, R>(
-            rt, alloc, settings, limit, problem, links, gate, sink,
-        );
+    if task.settings.audit {
+        return write_audited_run::<Brand, L, G, W, R>(rt, alloc, task, links, gate, sink);
     }
-    write_run::<Brand, L, G, W, R>(rt, alloc, settings, limit, problem, links, gate, sink)
+    write_run::<Brand, L, G, W, R>(rt, alloc, task, links, gate, sink)
 }

@@ -3,7 +3,7 @@
 ghost use Rattle.std.specs.Prelude.{◌≡◌, ℕ, vec_len, IfOk};
 
 use packet_wire::{Packet, read_packet};
-use site_links::{Link, LinkFault};
+use site_network::{Link, LinkFault};
 use std::alloc::{AllocError, Global};
 use std::sync::{Arc, Mutex, Wait};
 

@@ -2,7 +2,7 @@
 
 use crate::recorder::Sent;
 use packet_wire::{Body, Packet};
-use site_links::Gate;
+use site_network::Gate;
 use spawn_frame::Job;
 use std::sync::Wait;
 use std::thread;

@@ -40,7 +40,7 @@ fn plan_of(nodes: &str, workers: &str, seed: &str, fuel: &str, turns: &str) -> O
     })
 }
 
-/// Lets sites search the problem of a file, and tells how each ended.
+/// Lets sites search the problem of a file, and prints how each ended.
 fn tell_sites<R: Threads + Wait + Clock + Sync>(
     rt: &HostRuntime,
     threads: &R,
@@ -61,7 +61,7 @@ fn tell_sites<R: Threads + Wait + Clock + Sync>(
     tell_tallies(rt, &end.tallies)
 }
 
-/// Tells how each site ended, with its losses, and its turns and waits.
+/// Prints how each site ended, with its losses, and its turns and waits.
 fn tell_ends(rt: &HostRuntime, ends: &[SiteEnd]) -> io::Result<()> {
     for end in ends {
         let taken = end.taken;
@@ -73,7 +73,7 @@ fn tell_ends(rt: &HostRuntime, ends: &[SiteEnd]) -> io::Result<()> {
     Ok(())
 }
 
-/// Tells what each book holds: its entries, searches, visits of spent searches, and names.
+/// Prints what each book holds: its entries, searches, visits of spent searches, and names.
 fn tell_tallies(rt: &HostRuntime, tallies: &[Tally]) -> io::Result<()> {
     for tally in tallies {
         let (entries, searches) = (tally.entries, tally.searches);

@@ -1,4 +1,4 @@
-//! A run of sites with threads over links in memory, and what its books tell.
+//! A run of sites with threads over links in memory, and what its books show.
 
 ghost use Rattle.std.specs.Prelude.{◌≡◌, ◌+◌, ◌≤◌, vec_len, IfOk};
 ghost use Rattle.run_book.specs.Sites.{RunName};
@@ -14,9 +14,9 @@ use std::marker::Brand;
 use std::sync::{Arc, Wait};
 use std::thread::Threads;
 use std::time::Clock;
-use udp_node::{MemoryLink, Open, Plan, RunEnd, SiteEnd, Wires, run_sites};
+use udp_node::{MemoryLink, Open, Plan, RunEnd, RunPlan, SiteEnd, Wires, run_sites};
 
-/// What a site's book tells of its searches. The greatest numbers stay.
+/// What a site's book shows of its searches. Counts stop at the greatest number.
 #[derive(Clone, Copy, Debug, PartialEq, Eq)]
 pub struct Tally {
     /// How many entries the book has.
@@ -64,11 +64,11 @@ pub struct Ran {
     pub is_published: bool,
     /// How each site ended, the registry first.
     pub sites: Vec<SiteEnd>,
-    /// What the books tell, the registry's first.
+    /// What the books show, the registry's first.
     pub tallies: Vec<Tally>,
 }
 
-/// What the entries tell.
+/// Returns what the entries show.
 fn tally_of(entries: &[Entry]) -> Tally {
     let mut tally = Tally::NOTHING;
     for entry in entries {
@@ -114,7 +114,7 @@ fn run_named<J: Run + Send + Sync, R: Threads + Wait + Clock + Sync>(
     requires most { plan.nodes ≤ LAST_NODE }
 {
     let links = links(alloc, plan.nodes + 1)?;
-    let end: RunEnd<J> = run_sites(rt, alloc, problem, plan, 0, links, &Open)?;
+    let end: RunEnd<J> = run_sites(rt, alloc, problem, RunPlan::new(plan), links, &Open)?;
     let RunEnd {
         answer,
         books,

@@ -4,22 +4,22 @@ ghost use Rattle.node_core.specs.Refusal.{IsFit};
 ghost use Rattle.packet_wire.specs.WellFormed.{is_well_formed};
 ghost use Rattle.run_book.specs.Desks.{IsLawful};
 
+use crate::seat_receipts::{Refused, SeatReceipts};
 use crate::shared::Shared;
-use crate::stand::{Refused, Stand};
 use node_core::{Core, Event, Reply};
 use packet_wire::{Body, Packet, write_packet};
 use run_book::{CellName, Parcel, Pass, Run, Step};
-use site_links::Gate;
+use site_network::Gate;
 use std::alloc::{AllocError, Global};
 use std::sync::Wait;
 
-/// A thread that acts at a site: its stand, and its way into the outbox.
+/// A thread that acts at a site: its seat with the receipts, and its way into the outbox.
 #[derive(Drop)]
 pub struct Actor<'a, J: Run, C: Core + Drop, N: CellName, G: Gate> {
     /// What the threads of the site share.
     pub shared: &'a Shared<'a, J, C, N, G>,
     /// Its seat and receipts.
-    stand: Stand<N>,
+    receipts: SeatReceipts<N>,
     /// Its right to put parcels into the outbox.
     pass: Pass,
     /// How many parcels didn't get into the outbox; the greatest number stays.
@@ -28,40 +28,44 @@ pub struct Actor<'a, J: Run, C: Core + Drop, N: CellName, G: Gate> {
 }
 
 impl<'a, J: Run, C: Core + Drop, N: CellName, G: Gate> Actor<'a, J, C, N, G> {
-    /// A thread that hasn't acted so far. The only error is that no seats are left.
+    /// Returns an actor that hasn't acted so far. The only error is that no seats are left.
     pub fn new<R: Wait>(
         rt: &R,
         shared: &'a Shared<'a, J, C, N, G>,
     ) -> Result<Actor<'a, J, C, N, G>, AllocError> {
         Ok(Actor {
             shared,
-            stand: Stand::new(rt, shared.alloc, shared.cell)?,
+            receipts: SeatReceipts::new(rt, shared.alloc, shared.cell)?,
             pass: shared.outbox.pass(),
             losses: 0,
         })
     }
 
-    /// Hands an event to the site's cell, and once it is entered puts its packets into the outbox: the lock of the core is
-    /// free then. It returns what was entered; an event that is refused comes back.
+    /// Hands an event to the site's cell, and once it is entered puts its packets into the outbox. The lock of the core is free by then,
+    /// so that no thread waits for it while packets are written. Returns what was entered.
+    ///
+    /// # Errors
+    ///
+    /// An event that is refused comes back with the reason.
     pub fn act<R: Wait>(&mut self, rt: &R, event: Event) -> Result<Step, (Event, Refused)>
         requires { IsFit J.run.problem event }
         ensures lawful { IfOk result (λ entry. IsLawful J.run.problem entry) }
         ensures back { IfErr result (λ back. back.0 ≡ event) }
     {
         let stirs = may_stir(&event);
-        let step = self.stand.act(rt, self.shared.cell, event)?;
+        let step = self.receipts.act(rt, self.shared.cell, event)?;
         let shared = self.shared;
         shared
             .gate
-            .recorded(self.stand.entries(), shared.plan.entries);
+            .recorded(self.receipts.entries(), shared.plan.entries);
         self.signal(&step, stirs);
         self.put_all(rt, step.packets());
         Ok(step)
     }
 
     /// Its seat and receipts.
-    pub fn into_stand(self) -> Stand<N> {
-        self.stand
+    pub fn into_receipts(self) -> SeatReceipts<N> {
+        self.receipts
     }
 
     /// Signals to the other threads of the site what came of an event: that there may be something to do, or that work is short.
@@ -86,7 +90,7 @@ impl<'a, J: Run, C: Core + Drop, N: CellName, G: Gate> Actor<'a, J, C, N, G> {
         }
     }
 
-    /// Puts a packet into the outbox. It is lost where there is no memory for its spelling, or the outbox is full.
+    /// Puts a packet into the outbox. It is lost, and counted, if memory runs out or the outbox is full.
     fn put<R: Wait>(&mut self, rt: &R, packet: &Packet)
         requires { is_well_formed packet.now ≡ true }
     {
@@ -101,7 +105,8 @@ impl<'a, J: Run, C: Core + Drop, N: CellName, G: Gate> Actor<'a, J, C, N, G> {
     }
 }
 
-/// Whether an idle worker may have something to do after the event. What asks others, or tells that they ask, leaves none.
+/// Whether an idle worker may have something to do after the event. One that asks others for work, or reports that they ask, leaves
+/// none.
 fn may_stir(event: &Event) -> bool {
     match event {
         Event::Take | Event::Ask(_) | Event::Again | Event::Greet => false,
@@ -110,7 +115,7 @@ fn may_stir(event: &Event) -> bool {
     }
 }
 
-/// Whether someone who asked for work is told that there is none.
+/// Whether a packet refuses someone who asked for work.
 fn tells_no_work(packets: &[Packet]) -> bool {
     packets
         .iter()

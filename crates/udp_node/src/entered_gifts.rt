@@ -1,4 +1,4 @@
-//! What a start of a site has entered, and need not hear again.
+//! What an incarnation of a site has entered, and need not receive again.
 
 use packet_wire::{Body, Packet};
 use spawn_frame::{Attempt, Site};
@@ -15,11 +15,11 @@ struct Gift {
     attempt: Attempt,
 }
 
-/// The children that a start of a site was given last, and the last Members.
+/// The children that an incarnation of a site was given most recently, and the most recent Members.
 ///
 /// A guest never leaves the table, whatever becomes of it, and incarnations that are known only grow. So the core ignores a Give
-/// more of such a child, and the same Members once more, for as long as the start lasts: they need not be delivered. Of what else
-/// is said again the answer may have been lost, so that is heard each time. Whole keys are kept, since a hash that two children
+/// more of such a child, and the same Members once more, for as long as the incarnation lasts: they need not be delivered. Of what else
+/// is said again the answer may have been lost, so that is delivered each time. Whole keys are kept, since a hash that two children
 /// share would lose one of them.
 #[derive(Drop)]
 pub struct EnteredGifts {
@@ -63,7 +63,7 @@ impl EnteredGifts {
         }
     }
 
-    /// The packet was entered. What isn't kept, as memory ran out, is only heard again.
+    /// Notes a packet that was entered. What isn't kept, as memory ran out, is only delivered again.
     pub fn note(&mut self, packet: &Packet) {
         let owner = packet.from;
         match &packet.body {

@@ -10,12 +10,26 @@ use std::marker::PhantomData;
 
 /// A job that is to be searched: its prefix, with so many visits.
 #[derive(Drop)]
-pub struct Wanted<J: Run> {
+pub struct SearchJob<J: Run> {
     pub job: Job,
     pub prefix: Numbers,
     pub fuel: u64,
     pub run: PhantomData<J>,
     pub ghost lawful: { is_prefix J.run.problem prefix ≡ true },
+}
+
+impl<J: Run> SearchJob<J> {
+    /// A job whose prefix is to be searched with so many visits.
+    pub fn new(job: Job, prefix: Numbers, fuel: u64) -> SearchJob<J>
+        requires { is_prefix J.run.problem prefix ≡ true }
+    {
+        SearchJob {
+            job,
+            prefix,
+            fuel,
+            run: PhantomData,
+        }
+    }
 }
 
 /// A job that was searched, with what came of it in the run's problem.
@@ -35,7 +49,7 @@ pub enum Hand<J: Run> {
     /// Nothing: it takes up work.
     Nothing,
     /// A job that is to be searched.
-    Search(Wanted<J>),
+    Search(SearchJob<J>),
     /// What came of a search, which is to be posted.
     Post(Searched<J>),
 }

@@ -8,19 +8,22 @@ mod node;
 mod node_end;
 mod receiver;
 mod run;
+mod run_plan;
+mod seat_receipts;
 mod sender;
 mod shared;
 mod signals;
+mod site_context;
 mod site_run;
-mod stand;
 mod start;
 mod worker;
 
 pub use node::{run_node, run_root};
 pub use node_end::NodeEnd;
-pub use run::{RunEnd, run_sites, run_sites_within};
-pub use site_links::{
+pub use run::{RunEnd, run_sites};
+pub use run_plan::RunPlan;
+pub use seat_receipts::SeatReceipts;
+pub use site_network::{
     Cause, Gate, Link, LinkFault, MemoryLink, Open, Pace, Plan, Quota, SiteEnd, Sockets, Taken,
     UdpLink, Wires, bound,
 };
-pub use stand::Stand;

@@ -2,22 +2,23 @@
 
 ghost use Rattle.std.specs.Prelude.{◌≡◌, ◌+◌, ◌<◌, ◌≤◌, ◌⊎◌, IfOk, OnOk, vec_len};
 ghost use Rattle.std.specs.Vec.{vec_capacity};
-ghost use Rattle.site_links.specs.declared.cause.Cause.TheVariants.{Memory};
+ghost use Rattle.site_network.specs.declared.cause.Cause.TheVariants.{Memory};
 
 use crate::actor::Actor;
 use crate::node_end::NodeEnd;
 use crate::receiver::Receiver;
+use crate::seat_receipts::SeatReceipts;
 use crate::sender::{Sender, Sent, send_all};
 use crate::shared::Shared;
 use crate::signals::Signals;
-use crate::stand::Stand;
+use crate::site_context::SiteContext;
 use crate::start::Start;
 use crate::worker::Worker;
 use brancher::Tables;
 use cover_problem::Problem;
 use node_core::Core;
 use run_book::{CellName, Outbox, Run, SiteCell};
-use site_links::{Cause, Ending, Gate, Limits, Link, Open, Plan, Taken, Turn};
+use site_network::{Cause, Ending, Gate, Limits, Link, Open, Plan, Taken, Turn};
 use std::alloc::{AllocError, Global};
 use std::sync::Wait;
 use std::thread::{self, Threads};
@@ -42,8 +43,8 @@ enum Task<L: Link> {
 }
 
 impl<L: Link> Task<L> {
-    /// How many turns it may take, and in how many more it may wait. In a start that another follows, the one that receives waits in
-    /// none more: else the start would last for hours.
+    /// How many turns it may take, and in how many more it may wait. In an incarnation that another follows, the one that
+    /// receives waits in none more: else it would last for hours.
     fn limits(&self, turns: u64, is_last: bool) -> Limits {
         match self {
             Task::Work(_) => Limits::new(turns, REST),
@@ -64,17 +65,17 @@ impl<L: Link> Task<L> {
 
 /// A thread of a site that acts, from its start to its end.
 #[derive(Drop)]
-struct Place<'a, J: Run, C: Core + Drop, N: CellName, L: Link, G: Gate> {
+struct ActingThread<'a, J: Run, C: Core + Drop, N: CellName, L: Link, G: Gate> {
     task: Task<L>,
     actor: Actor<'a, J, C, N, G>,
     taken: Taken,
     cause: Cause,
 }
 
-impl<'a, J: Run, C: Core + Drop, N: CellName, L: Link, G: Gate> Place<'a, J, C, N, L, G> {
+impl<'a, J: Run, C: Core + Drop, N: CellName, L: Link, G: Gate> ActingThread<'a, J, C, N, L, G> {
     /// A thread before its start.
-    fn new(task: Task<L>, actor: Actor<'a, J, C, N, G>) -> Place<'a, J, C, N, L, G> {
-        Place {
+    fn new(task: Task<L>, actor: Actor<'a, J, C, N, G>) -> ActingThread<'a, J, C, N, L, G> {
+        ActingThread {
             task,
             actor,
             taken: Taken::NONE,
@@ -98,7 +99,7 @@ impl<'a, J: Run, C: Core + Drop, N: CellName, L: Link, G: Gate> Place<'a, J, C, 
     }
 }
 
-/// Notes what a turn came to, and waits a little where memory ran out. Returns the cause where the thread ends by it.
+/// Counts a turn, and waits a little if memory ran out, so that others may give some back. Returns the cause if the thread ends by it.
 fn noted<R: Wait + Clock>(rt: &R, left: &mut Limits, turn: Turn) -> Option<Cause> {
     if turn == Turn::Starved {
         thread::sleep(rt, Duration::from_millis(SHORTAGE));
@@ -106,7 +107,7 @@ fn noted<R: Wait + Clock>(rt: &R, left: &mut Limits, turn: Turn) -> Option<Cause
     left.note(turn)
 }
 
-/// A worker's turns.
+/// Runs a worker to its end. It begins its turns once a thread of each kind has begun.
 fn work<J: Run, C: Core + Drop, N: CellName, G: Gate, R: Wait + Clock>(
     rt: &R,
     actor: &mut Actor<'_, J, C, N, G>,
@@ -149,7 +150,7 @@ fn take_turns<'a, J: Run, C: Core + Drop, N: CellName, G: Gate, R: Wait + Clock>
     Cause::Turns
 }
 
-/// The turns of the thread that receives.
+/// Runs the thread that receives to its end. It begins its turns once a thread of each kind has begun.
 fn receive<J: Run, C: Core + Drop, N: CellName, L: Link, G: Gate, R: Wait + Clock>(
     rt: &R,
     actor: &mut Actor<'_, J, C, N, G>,
@@ -193,23 +194,21 @@ pub fn run_node<
     gate: &G,
 ) -> NodeEnd<N>
     requires { problem.now ≡ J.run.problem }
-    ensures all { (vec_len result.stands ≡ plan.workers + 1) ⊎ (result.cause ≡ Memory) }
-    ensures none { (vec_len result.stands ≡ plan.workers + 1)
-        ⊎ ((vec_len result.stands ≡ 0) × (result.taken.turns ≡ 0) × (result.taken.waits ≡ 0)) }
+    ensures all { (vec_len result.seats ≡ plan.workers + 1) ⊎ (result.cause ≡ Memory) }
+    ensures none { (vec_len result.seats ≡ plan.workers + 1)
+        ⊎ ((vec_len result.seats ≡ 0) × (result.taken.turns ≡ 0) × (result.taken.waits ≡ 0)) }
 {
     let Ok(tables) = Tables::build(alloc, problem) else {
         return NodeEnd::starved(alloc);
     };
-    run_threads(
-        rt,
-        alloc,
-        cell,
-        &tables,
-        link,
-        Start::only(plan),
+    let ending = Ending::unlimited();
+    let context = SiteContext {
+        tables: &tables,
         gate,
-        &Ending::unlimited(),
-    )
+        ending: &ending,
+        alloc,
+    };
+    run_threads(rt, cell, link, Start::only(plan), context)
 }
 
 /// Runs the threads of the registry to their ends: one that receives and one that sends. The seat comes back, unless memory ran out
@@ -229,24 +228,23 @@ pub fn run_root<
     plan: Plan,
 ) -> NodeEnd<N>
     requires { problem.now ≡ J.run.problem }
-    ensures all { (vec_len result.stands ≡ 1) ⊎ (result.cause ≡ Memory) }
-    ensures none { (vec_len result.stands ≡ 1)
-        ⊎ ((vec_len result.stands ≡ 0) × (result.taken.turns ≡ 0) × (result.taken.waits ≡ 0)) }
+    ensures all { (vec_len result.seats ≡ 1) ⊎ (result.cause ≡ Memory) }
+    ensures none { (vec_len result.seats ≡ 1)
+        ⊎ ((vec_len result.seats ≡ 0) × (result.taken.turns ≡ 0) × (result.taken.waits ≡ 0)) }
 {
     let plan = Plan { workers: 0, ..plan };
-    run_threads(
-        rt,
+    let tables = Tables::of_links(problem);
+    let ending = Ending::unlimited();
+    let context = SiteContext {
+        tables: &tables,
+        gate: &Open,
+        ending: &ending,
         alloc,
-        cell,
-        &Tables::of_links(problem),
-        link,
-        Start::only(plan),
-        &Open,
-        &Ending::unlimited(),
-    )
+    };
+    run_threads(rt, cell, link, Start::only(plan), context)
 }
 
-/// Runs the threads of a site in one of its starts, as `run_node` and `run_root` do, and ends them where the run ends. A plan without
+/// Runs the threads of a site in one of its incarnations, as `run_node` and `run_root` do, and ends them where the run ends. A plan without
 /// workers is that of the registry.
 pub(crate) fn run_threads<
     J: Run + Send + Sync,
@@ -257,20 +255,23 @@ pub(crate) fn run_threads<
     R: Threads + Wait + Clock + Sync,
 >(
     rt: &R,
-    alloc: Global,
     cell: &SiteCell<J, C, N>,
-    tables: &Tables<'_>,
     link: L,
     start: Start,
-    gate: &G,
-    ending: &Ending,
+    context: SiteContext<'_, G>,
 ) -> NodeEnd<N>
-    requires { tables.now ≡ J.run.problem }
-    ensures all { (vec_len result.stands ≡ start.plan.workers + 1) ⊎ (result.cause ≡ Memory) }
-    ensures none { (vec_len result.stands ≡ start.plan.workers + 1)
-        ⊎ ((vec_len result.stands ≡ 0) × (result.taken.turns ≡ 0) × (result.taken.waits ≡ 0)) }
+    requires { context.tables.now ≡ J.run.problem }
+    ensures all { (vec_len result.seats ≡ start.plan.workers + 1) ⊎ (result.cause ≡ Memory) }
+    ensures none { (vec_len result.seats ≡ start.plan.workers + 1)
+        ⊎ ((vec_len result.seats ≡ 0) × (result.taken.turns ≡ 0) × (result.taken.waits ≡ 0)) }
 {
     let Start { plan, is_last } = start;
+    let SiteContext {
+        tables,
+        gate,
+        ending,
+        alloc,
+    } = context;
     let (Ok((outbox, drain)), Ok(twin)) = (Outbox::new(alloc), link.twin()) else {
         return NodeEnd::starved(alloc);
     };
@@ -303,12 +304,12 @@ pub(crate) fn run_threads<
 /// The threads of a site that act, with the room for what comes of them.
 #[derive(Drop)]
 struct Crew<'a, J: Run, C: Core + Drop, N: CellName, L: Link, G: Gate> {
-    places: Vec<Place<'a, J, C, N, L, G>>,
-    stands: Vec<Stand<N>>,
+    threads: Vec<ActingThread<'a, J, C, N, L, G>>,
+    seats: Vec<SeatReceipts<N>>,
     workers: u8,
-    ghost many: { vec_len places ≡ workers + 1 },
-    ghost none: { vec_len stands ≡ 0 },
-    ghost room: { vec_len places ≤ vec_capacity stands },
+    ghost many: { vec_len threads ≡ workers + 1 },
+    ghost none: { vec_len seats ≡ 0 },
+    ghost room: { vec_len threads ≤ vec_capacity seats },
 }
 
 impl<'a, J: Run, C: Core + Drop, N: CellName, L: Link, G: Gate> Crew<'a, J, C, N, L, G> {
@@ -322,11 +323,11 @@ impl<'a, J: Run, C: Core + Drop, N: CellName, L: Link, G: Gate> Crew<'a, J, C, N
     ) -> Result<Crew<'a, J, C, N, L, G>, AllocError>
         ensures { IfOk result (λ crew. crew.workers ≡ workers) }
     {
-        let stands = Vec::with_capacity(shared.alloc, usize::from(workers) + 1)?;
-        let places = places_for(rt, shared, twin, workers)?;
+        let seats = Vec::with_capacity(shared.alloc, usize::from(workers) + 1)?;
+        let threads = threads_for(rt, shared, twin, workers)?;
         Ok(Crew {
-            places,
-            stands,
+            threads,
+            seats,
             workers,
         })
     }
@@ -342,94 +343,94 @@ impl<'a, J: Run, C: Core + Drop, N: CellName, L: Link, G: Gate> Crew<'a, J, C, N
         ensures { result.workers ≡ self.entry.workers }
     {
         let Crew {
-            mut places,
-            stands,
+            mut threads,
+            seats,
             workers,
         } = self;
-        run_places(rt, &mut places);
+        run_acting(rt, &mut threads);
         Crew {
-            places,
-            stands,
+            threads,
+            seats,
             workers,
         }
     }
 }
 
 /// Runs the threads that act, each to its end, at once.
-fn run_places<
+fn run_acting<
     J: Run + Send + Sync,
     C: Core + Drop + Send,
     N: CellName + Send + Sync,
     L: Link + Send,
     G: Gate + Sync,
     R: Threads + Wait + Clock + Sync,
->(rt: &R, places: &mut Vec<Place<'_, J, C, N, L, G>>)
-    ensures { vec_len places.new ≡ vec_len places.old }
+>(rt: &R, threads: &mut Vec<ActingThread<'_, J, C, N, L, G>>)
+    ensures { vec_len threads.new ≡ vec_len threads.old }
 {
-    let count = places.len();
+    let count = threads.len();
     if count == 0 {
         return;
     }
     thread::for_each_mut(
         rt,
-        places.as_mut_slice(),
+        threads.as_mut_slice(),
         count,
-        &|_, place| { place.run(rt) },
+        &|_, acting_thread| { acting_thread.run(rt) },
     );
 }
 
 /// The threads before their start: the one that receives, and so many workers. The only error is out of memory, or that no seats
 /// are left.
-fn places_for<'a, J: Run, C: Core + Drop, N: CellName, L: Link, G: Gate, R: Wait>(
+fn threads_for<'a, J: Run, C: Core + Drop, N: CellName, L: Link, G: Gate, R: Wait>(
     rt: &R,
     shared: &'a Shared<'a, J, C, N, G>,
     twin: L,
     workers: u8,
-) -> Result<Vec<Place<'a, J, C, N, L, G>>, AllocError>
-    ensures { IfOk result (λ places. vec_len places ≡ workers + 1) }
+) -> Result<Vec<ActingThread<'a, J, C, N, L, G>>, AllocError>
+    ensures { IfOk result (λ threads. vec_len threads ≡ workers + 1) }
 {
-    let mut places = Vec::with_capacity(shared.alloc, usize::from(workers) + 1)?;
-    add_place(
+    let mut threads = Vec::with_capacity(shared.alloc, usize::from(workers) + 1)?;
+    add_thread(
         rt,
         shared,
-        &mut places,
+        &mut threads,
         Task::Receive(Receiver::new(shared.alloc, twin)),
     )?;
     for worker in 0..workers {
-        add_place(rt, shared, &mut places, Task::Work(worker))?;
+        add_thread(rt, shared, &mut threads, Task::Work(worker))?;
     }
-    Ok(places)
+    Ok(threads)
 }
 
 /// Adds a thread before its start. The only error is out of memory, or that no seats are left.
-fn add_place<'a, J: Run, C: Core + Drop, N: CellName, L: Link, G: Gate, R: Wait>(
+fn add_thread<'a, J: Run, C: Core + Drop, N: CellName, L: Link, G: Gate, R: Wait>(
     rt: &R,
     shared: &'a Shared<'a, J, C, N, G>,
-    places: &mut Vec<Place<'a, J, C, N, L, G>>,
+    threads: &mut Vec<ActingThread<'a, J, C, N, L, G>>,
     task: Task<L>,
 ) -> Result<(), AllocError>
-    ensures { OnOk result (vec_len places.new ≡ vec_len places.old + 1) }
+    ensures { OnOk result (vec_len threads.new ≡ vec_len threads.old + 1) }
 {
     let actor = Actor::new(rt, shared)?;
-    places.push(Place::new(task, actor))?;
+    threads.push(ActingThread::new(task, actor))?;
     Ok(())
 }
 
-/// What came of all threads; whether there was one of each kind.
+/// Returns how the threads of a site ended, and whether there was one of each kind.
 fn end_of<J: Run, C: Core + Drop, N: CellName, L: Link, G: Gate>(
     crew: Crew<'_, J, C, N, L, G>,
     sent: Sent,
     is_manned: bool,
 ) -> NodeEnd<N>
-    ensures { vec_len result.stands ≡ crew.entry.workers + 1 }
+    ensures { vec_len result.seats ≡ crew.entry.workers + 1 }
 {
     let Crew {
-        places,
-        stands,
+        threads,
+        seats,
         workers: _,
     } = crew;
     let mut end = NodeEnd {
-        stands,
+        seats,
         losses: sent.losses,
         dropped: 0,
         failures: sent.failures,
@@ -437,27 +438,27 @@ fn end_of<J: Run, C: Core + Drop, N: CellName, L: Link, G: Gate>(
         is_manned,
         cause: Cause::Turns,
     };
-    for place in places {
-        end = with_place(end, place);
+    for acting_thread in threads {
+        end = with_thread(end, acting_thread);
     }
     end
 }
 
 /// The end of a site with that of one thread more.
-fn with_place<J: Run, C: Core + Drop, N: CellName, L: Link, G: Gate>(
+fn with_thread<J: Run, C: Core + Drop, N: CellName, L: Link, G: Gate>(
     end: NodeEnd<N>,
-    place: Place<'_, J, C, N, L, G>,
+    acting_thread: ActingThread<'_, J, C, N, L, G>,
 ) -> NodeEnd<N>
-    requires { vec_len end.stands < vec_capacity end.stands }
-    ensures one { vec_len result.stands ≡ vec_len end.stands + 1 }
-    ensures capacity { vec_capacity result.stands ≡ vec_capacity end.stands }
+    requires { vec_len end.seats < vec_capacity end.seats }
+    ensures one { vec_len result.seats ≡ vec_len end.seats + 1 }
+    ensures capacity { vec_capacity result.seats ≡ vec_capacity end.seats }
 {
-    let Place {
+    let ActingThread {
         task,
         actor,
         taken,
         cause,
-    } = place;
+    } = acting_thread;
     let (dropped, failures) = match &task {
         Task::Receive(receiver) => receiver.counts(),
         Task::Work(_) => (0, 0),
@@ -468,6 +469,6 @@ fn with_place<J: Run, C: Core + Drop, N: CellName, L: Link, G: Gate>(
     end.failures = end.failures.saturating_add(failures);
     end.taken = end.taken.max(taken);
     end.cause = end.cause.min(cause);
-    end.stands.push_reserved(actor.into_stand());
+    end.seats.push_reserved(actor.into_receipts());
     end
 }

@@ -1,17 +1,17 @@
 ghost use Rattle.std.specs.Prelude.{◌≡◌, ◌+◌, ◌≤◌, sum, sum_by, vec_len, IfErr, IfOk, IfSome};
 ghost use Rattle.std.specs.Vec.{vec_capacity};
-ghost use Rattle.site_links.specs.declared.cause.Cause.TheVariants.{Memory};
+ghost use Rattle.site_network.specs.declared.cause.Cause.TheVariants.{Memory};
 
-use crate::stand::Stand;
+use crate::seat_receipts::SeatReceipts;
 use run_book::{CellName, Seat, Stub};
-use site_links::{Cause, Taken};
+use site_network::{Cause, Taken};
 use std::alloc::Global;
 
-/// How the threads of a site ended. The greatest numbers stay.
+/// How the threads of a site ended. Counts stop at the greatest number.
 #[derive(Drop)]
 pub struct NodeEnd<N: CellName> {
-    /// All their seats, each with the stubs of as many receipts as it counts.
-    pub stands: Vec<Stand<N>>,
+    /// The seats of all of them, each with the stubs of as many receipts as it counts.
+    pub seats: Vec<SeatReceipts<N>>,
     /// How many parcels were lost: the outbox was full, or the link didn't send them.
     pub losses: u64,
     /// How many datagrams came that are no packets.
@@ -31,11 +31,11 @@ impl<N: CellName> NodeEnd<N> {
     /// There was no memory to start a thread.
     pub(crate) fn starved(alloc: Global) -> NodeEnd<N>
         ensures cause { result.cause ≡ Memory }
-        ensures stands { vec_len result.stands ≡ 0 }
+        ensures seats { vec_len result.seats ≡ 0 }
         ensures taken { (result.taken.turns ≡ 0) × (result.taken.waits ≡ 0) }
     {
         NodeEnd {
-            stands: Vec::new(alloc),
+            seats: Vec::new(alloc),
             losses: 0,
             dropped: 0,
             failures: 0,
@@ -45,51 +45,54 @@ impl<N: CellName> NodeEnd<N> {
         }
     }
 
-    /// All seats, and the stubs of all receipts. It comes back whole where memory ran out, or no list has room
-    /// for so many.
+    /// Returns all seats, and the stubs of all receipts.
+    ///
+    /// # Errors
+    ///
+    /// The end comes back as it was if memory runs out, or no list has room for so many.
     pub fn into_lists(self, alloc: Global) -> Result<(Vec<Seat<N>>, Vec<Stub<N>>), NodeEnd<N>>
-        ensures seats { IfOk result (λ lists. vec_len lists.0 ≡ vec_len self.stands) }
+        ensures seats { IfOk result (λ lists. vec_len lists.0 ≡ vec_len self.seats) }
         ensures counted { IfOk result (λ lists. sum lists.0.items ≡ vec_len lists.1) }
-        ensures back { IfErr result (λ back. back.stands.items ≡ self.stands.items) }
+        ensures back { IfErr result (λ back. back.seats.items ≡ self.seats.items) }
     {
-        let Some(many) = receipts_of(&self.stands) else {
+        let Some(many) = receipts_of(&self.seats) else {
             return Err(self);
         };
         let (Ok(seats), Ok(stubs)) = (
-            Vec::with_capacity(alloc, self.stands.len()),
+            Vec::with_capacity(alloc, self.seats.len()),
             Vec::with_capacity(alloc, many),
         ) else {
             return Err(self);
         };
-        Ok(parted(self.stands, seats, stubs))
+        Ok(parted(self.seats, seats, stubs))
     }
 }
 
 /// How many receipts there are; none where that is no length.
-fn receipts_of<N: CellName>(stands: &[Stand<N>]) -> Option<usize>
-    ensures { IfSome result (λ many. many ≡ sum_by (λ stand. stand.seat) stands.now) }
+fn receipts_of<N: CellName>(seats: &[SeatReceipts<N>]) -> Option<usize>
+    ensures { IfSome result (λ many. many ≡ sum_by (λ receipts. receipts.seat) seats.now) }
 {
     let mut many = 0usize;
-    for stand in stands {
-        many = many.checked_add(stand.count())?;
+    for receipts in seats {
+        many = many.checked_add(receipts.count())?;
     }
     Some(many)
 }
 
-/// Puts the seats and stubs of all stands into these lists, which have room for them.
+/// Puts all seats and the stubs of their receipts into these lists, which have room for them.
 fn parted<N: CellName>(
-    stands: Vec<Stand<N>>,
+    all: Vec<SeatReceipts<N>>,
     mut seats: Vec<Seat<N>>,
     mut stubs: Vec<Stub<N>>,
 ) -> (Vec<Seat<N>>, Vec<Stub<N>>)
     requires empty { (vec_len seats ≡ 0) × (vec_len stubs ≡ 0) }
-    requires seats { vec_len stands ≤ vec_capacity seats }
-    requires stubs { sum_by (λ stand. stand.seat) stands.items ≤ vec_capacity stubs }
-    ensures seats { vec_len result.0 ≡ vec_len stands }
+    requires seats { vec_len all ≤ vec_capacity seats }
+    requires stubs { sum_by (λ receipts. receipts.seat) all.items ≤ vec_capacity stubs }
+    ensures seats { vec_len result.0 ≡ vec_len all }
     ensures counted { sum result.0.items ≡ vec_len result.1 }
 {
-    for stand in stands {
-        let (seat, own) = stand.into_parts();
+    for receipts in all {
+        let (seat, own) = receipts.into_parts();
         seats.push_reserved(seat);
         stubs = with_all(stubs, own);
     }

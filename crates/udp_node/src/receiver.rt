@@ -7,7 +7,7 @@ use crate::worker::{after, after_refusal};
 use node_core::{Core, Event};
 use packet_wire::{Body, Packet, WireFault, read_packet};
 use run_book::{CellName, Run};
-use site_links::{Cause, Gate, Link, Turn};
+use site_network::{Cause, Gate, Link, Turn};
 use std::alloc::Global;
 use std::sync::Wait;
 use std::thread;
@@ -19,7 +19,7 @@ const BUFFER: usize = 2096;
 /// After how many empty receives a site says again what may be lost.
 const AGAIN: u64 = 20;
 
-/// How often the registry tells the end again before it ends: at each empty receive, counted in all and not in a row, and after
+/// How often the registry announces the end again before it ends: at each empty receive, counted in all and not in a row, and after
 /// each so many datagrams.
 const LAST: u64 = 20;
 
@@ -53,11 +53,11 @@ pub struct Receiver<L: Link> {
     faults: u32,
     /// How many datagrams were no packets; the greatest number stays.
     dropped: u64,
-    /// The registry has told that the search is over.
+    /// The registry has announced that the search is over.
     over: bool,
-    /// How often it has told that again.
+    /// How often it has announced that again.
     last: u64,
-    /// What the site has entered and need not hear again.
+    /// What the site has entered and need not receive again.
     entered: EnteredGifts,
     /// How many packets brought only that; the greatest number stays.
     repeats: u64,
@@ -111,8 +111,8 @@ impl<L: Link> Receiver<L> {
         }
     }
 
-    /// Receives once. Whether the run is over is looked at before: the registry tells the end first, so a receive that is empty after
-    /// that shows that a node has heard it, or never will.
+    /// Receives once. Whether the run is over is read before the receive: the registry announces the end first, so a receive that is empty
+    /// after that shows that the node has received it, or never will.
     fn receive<J: Run, C: Core + Drop, N: CellName, G: Gate, R: Wait + Clock>(
         &mut self,
         rt: &R,
@@ -188,7 +188,7 @@ impl<L: Link> Receiver<L> {
         };
     }
 
-    /// A datagram came that is no packet: that is no turn, or strangers could use them up.
+    /// Counts a datagram that is no packet. It takes no turn, or strangers could use them up.
     fn dropped<J: Run, C: Core + Drop, N: CellName, G: Gate, R: Wait + Clock>(
         &mut self,
         rt: &R,
@@ -198,7 +198,7 @@ impl<L: Link> Receiver<L> {
         waited(self.counted(rt, actor))
     }
 
-    /// A packet came that brings only what was entered: it is lost, and no turn. It shows the run going on, or else says nothing of it.
+    /// Drops a packet that brings only what was entered, which takes no turn. It may show the run going on, but never counts as silence.
     fn repeated<J: Run, C: Core + Drop, N: CellName, G: Gate, R: Wait + Clock>(
         &mut self,
         rt: &R,
@@ -226,8 +226,8 @@ impl<L: Link> Receiver<L> {
         self.say_again(rt, actor, is_over)
     }
 
-    /// What may be lost is said again, unless the site is to end or can't go on. The registry ends once it has told the end often
-    /// enough.
+    /// Says again what may be lost, unless the site is to end or can't go on. The registry ends once it has announced the
+    /// end often enough.
     fn say_again<J: Run, C: Core + Drop, N: CellName, G: Gate, R: Wait + Clock>(
         &mut self,
         rt: &R,
@@ -248,8 +248,8 @@ impl<L: Link> Receiver<L> {
         after(actor.act(rt, Event::Again))
     }
 
-    /// Nothing came: what may be lost is said again now and then, and always once the search is over. The thread ends where the
-    /// site is to end or can't go on.
+    /// Waits a little after an empty receive. What may be lost is said again now and then, and always once the search is over. The thread
+    /// ends where the site is to end or can't go on.
     fn wait<J: Run, C: Core + Drop, N: CellName, G: Gate, R: Wait + Clock>(
         &mut self,
         rt: &R,

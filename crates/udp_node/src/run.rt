@@ -8,16 +8,17 @@ ghost use Rattle.run_book.specs.Sites.{IsRun};
 ghost use Rattle.udp_node.specs.Numbers.{AreNumbered};
 ghost use Rattle.spawn_frame.specs.declared.site.TheConstants.{LAST_NODE};
 
-use crate::site_run::{SiteRun, Whole};
+use crate::run_plan::RunPlan;
+use crate::site_run::{RunContext, SiteRun};
 use brancher::Tables;
 use cover_problem::{Answer, Problem};
 use run_book::{Book, Run, published};
-use site_links::{Ending, Gate, Link, Plan, SiteEnd};
+use site_network::{Ending, Gate, Link, Plan, SiteEnd};
 use std::alloc::{AllocError, Global};
 use std::marker::PhantomData;
 use std::sync::Wait;
 use std::thread::{self, Threads};
-use std::time::{Clock, Duration};
+use std::time::Clock;
 
 /// How a run ended.
 #[derive(Drop)]
@@ -25,7 +26,7 @@ pub struct RunEnd<J: Run> {
     /// What the registry published, by its book; nothing where it published nothing, or its book is not there.
     pub answer: Option<Answer>,
     /// The books of the sites that closed, the registry's first and the nodes' in their order; of a node that restarted, one of each
-    /// start.
+    /// incarnation.
     pub books: Vec<Book<J>>,
     /// How each site ended, the registry first and the nodes in their order.
     pub sites: Vec<SiteEnd>,
@@ -34,13 +35,20 @@ pub struct RunEnd<J: Run> {
 /// Runs a search over these links, one for each site and the registry's first, each site on threads of its own, until all have
 /// ended; then closes each site's cell.
 ///
-/// Node 1 restarts so many times, each time with an empty table and the next incarnation, whatever it held. Its turns are shared
-/// evenly among its starts, and in all but the last an empty receive is a turn. Its link stays open over all of them. Once the search
-/// is over at a start, the later ones give up at their first receive without a packet.
+/// Node 1 restarts as often as the plan has it, each time with an empty table and the next incarnation, whatever it held. Its turns
+/// are shared evenly among its incarnations, and in all but the last an empty receive is a turn. Its link stays open over all of them.
+/// Once the search is over at an incarnation, the later ones give up at their first receive without a packet.
+///
+/// A limited run ends soon after so much time has passed since the call, as each site looks at the clock before it receives. What the
+/// registry published by then is the answer.
 ///
 /// All sites end where one has failed: with any cause but that the search is over, once a thread of each kind has begun there. A site
-/// that had no memory to start or to close has no book. The only error is out of memory for the run itself: for its tables and the
-/// list of its sites before any has started, or for the answer at the end.
+/// that had no memory to start or to close has no book.
+///
+/// # Errors
+///
+/// The only error is out of memory for the run itself: for its tables and the list of its sites before any has started, or for the
+/// answer at the end.
 pub fn run_sites<
     J: Run + Send + Sync,
     L: Link + Send,
@@ -50,50 +58,27 @@ pub fn run_sites<
     rt: &R,
     alloc: Global,
     problem: &Problem,
-    plan: Plan,
-    restarts: u8,
+    run_plan: RunPlan,
     links: Vec<L>,
     gate: &G,
 ) -> Result<RunEnd<J>, AllocError>
     requires problem { problem.now ≡ J.run.problem }
-    requires nodes { plan.nodes ≡ J.run.nodes }
-    requires some { 1 ≤ plan.nodes }
-    requires most { plan.nodes ≤ LAST_NODE }
-    requires links { vec_len links ≡ plan.nodes + 1 }
+    requires nodes { run_plan.plan.nodes ≡ J.run.nodes }
+    requires some { 1 ≤ run_plan.plan.nodes }
+    requires most { run_plan.plan.nodes ≤ LAST_NODE }
+    requires links { vec_len links ≡ run_plan.plan.nodes + 1 }
     ensures { IfOk result (λ end. IsRunEnd J.run end.answer end.books.items) }
 {
-    run_sites_within(rt, alloc, problem, plan, restarts, None, links, gate)
-}
-
-/// Runs a search as `run_sites` does, and ends all sites once so much time is over since the call, if it is limited: soon
-/// after, since each looks at the clock before it receives. What the registry published by then is the answer.
-pub fn run_sites_within<
-    J: Run + Send + Sync,
-    L: Link + Send,
-    G: Gate + Sync,
-    R: Threads + Wait + Clock + Sync,
->(
-    rt: &R,
-    alloc: Global,
-    problem: &Problem,
-    plan: Plan,
-    restarts: u8,
-    limit: Option<Duration>,
-    links: Vec<L>,
-    gate: &G,
-) -> Result<RunEnd<J>, AllocError>
-    requires problem { problem.now ≡ J.run.problem }
-    requires nodes { plan.nodes ≡ J.run.nodes }
-    requires some { 1 ≤ plan.nodes }
-    requires most { plan.nodes ≤ LAST_NODE }
-    requires links { vec_len links ≡ plan.nodes + 1 }
-    ensures { IfOk result (λ end. IsRunEnd J.run end.answer end.books.items) }
-{
+    let RunPlan {
+        plan,
+        restarts,
+        limit,
+    } = run_plan;
     let ending = Ending::within(rt, limit, plan.nodes);
-    // (for what the getter says: that the problem is lawful)
+    // (its contract says that the problem is lawful, as `RunContext` asks)
     let _items = problem.items();
     let tables = Tables::build(alloc, problem)?;
-    let whole = Whole {
+    let context = RunContext {
         problem,
         tables: &tables,
         gate,
@@ -105,7 +90,7 @@ pub fn run_sites_within<
     let books = Vec::with_capacity(alloc, links.len() + usize::from(restarts))?;
     let sites = Vec::with_capacity(alloc, links.len())?;
     let mut runs = runs_for(alloc, restarts, links)?;
-    run_all(rt, &whole, &mut runs);
+    run_all(rt, &context, &mut runs);
     let (books, sites) = gathered(runs, books, sites)?;
     Ok(RunEnd {
         answer: published(alloc, problem, &books)?,
@@ -137,7 +122,7 @@ fn runs_for<J: Run, L: Link>(
 /// Runs all sites to their ends, at once.
 fn run_all<J: Run + Send + Sync, L: Link + Send, G: Gate + Sync, R: Threads + Wait + Clock + Sync>(
     rt: &R,
-    whole: &Whole<'_, J, G>,
+    context: &RunContext<'_, J, G>,
     runs: &mut Vec<SiteRun<J, L>>,
 )
     requires numbered { AreNumbered (λ site. site.node) runs.old.items }
@@ -149,7 +134,7 @@ fn run_all<J: Run + Send + Sync, L: Link + Send, G: Gate + Sync, R: Threads + Wa
         rt,
         runs.as_mut_slice(),
         count,
-        &|_, site| { site.run(rt, whole) },
+        &|_, site| { site.run(rt, context) },
     );
 }
 

@@ -4,7 +4,7 @@ ghost use Rattle.std.specs.Prelude.{◌≡◌};
 
 use crate::signals::Signals;
 use run_book::{Drain, Outbox};
-use site_links::{Limits, Link, Taken};
+use site_network::{Limits, Link, Taken};
 use std::sync::Wait;
 use std::time::Clock;
 
@@ -14,7 +14,7 @@ const LOOKS: u64 = 1_000;
 /// How many parcels a look sends at most, so that the looks of a thread come to an end.
 const BURST: u64 = 1_024;
 
-/// What came of sending; the greatest numbers stay.
+/// How sending ended. Counts stop at the greatest number.
 #[derive(Clone, Copy, Debug, PartialEq, Eq)]
 pub struct Sent {
     /// How many parcels could not be sent: each is a loss.
@@ -34,7 +34,7 @@ pub struct Sender<'a, L: Link> {
     pub drain: Drain,
     /// Where it is sent.
     pub link: L,
-    /// Where it is told that the others of the site are done.
+    /// Where it reads that the other threads of the site are done.
     pub signals: &'a Signals,
     /// A thousandth of the looks that it makes at most.
     pub turns: u64,
@@ -71,7 +71,7 @@ fn send_each<L: Link, R: Wait + Clock>(rt: &R, sender: Sender<'_, L>) -> Sent {
         if left.is_spent() {
             break;
         }
-        // (read before the look: what the last thread put in is found by it)
+        // (read before the look: a thread leaves after its last put, so this look finds whatever it put in)
         let is_last = signals.is_left();
         let found = send_waiting(rt, outbox, &mut drain, &mut link);
         losses = losses.saturating_add(found.losses);

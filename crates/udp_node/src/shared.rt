@@ -4,7 +4,7 @@ use crate::signals::Signals;
 use brancher::Tables;
 use node_core::Core;
 use run_book::{CellName, Outbox, Run, SiteCell};
-use site_links::{Ending, Gate, Plan};
+use site_network::{Ending, Gate, Plan};
 use std::alloc::Global;
 use std::time::Clock;
 
@@ -19,13 +19,13 @@ pub struct Shared<'a, J: Run, C: Core + Drop, N: CellName, G: Gate> {
     pub outbox: &'a Outbox,
     /// What holds workers back.
     pub gate: &'a G,
-    /// What they tell one another beside the lock.
+    /// What they signal to one another without the lock of the core.
     pub signals: &'a Signals,
     /// What ends the run: then the site ends, too.
     pub ending: &'a Ending,
     /// How the site works.
     pub plan: Plan,
-    /// No start of the site follows.
+    /// No incarnation of the site follows.
     pub is_last: bool,
     /// Where memory comes from.
     pub alloc: Global,
@@ -33,8 +33,8 @@ pub struct Shared<'a, J: Run, C: Core + Drop, N: CellName, G: Gate> {
 }
 
 impl<J: Run, C: Core + Drop, N: CellName, G: Gate> Shared<'_, J, C, N, G> {
-    /// Waits until a thread of each kind has begun, for some two seconds: then the nodes may begin, if the site is the registry's. Else
-    /// the site ends.
+    /// Waits until a thread of each kind has begun, for some two seconds at most. Then the nodes may begin, if the site is the registry's:
+    /// they wait for it, so that it gets its threads where few can be started. Where a thread is missing the site ends.
     pub fn muster<R: Clock>(&self, rt: &R) {
         self.signals.muster(rt);
         if self.cell.site().node == 0 && self.signals.is_manned() {

@@ -12,8 +12,9 @@ const NAP: u64 = 100;
 /// How long the thread that sends waits at most, in microseconds, where nobody rouses it.
 const DOZE: u64 = 1_000;
 
-/// What the threads of a site tell one another beside the lock. No answer depends on it: it says when a look at the core is
-/// worth its entry in the book, how small a worker's job should be, which worker works alone, which threads there are, and that all are to end.
+/// What the threads of a site signal to one another without the lock of the core. No answer depends on it: it says when a look at the
+/// core is worth its entry in the book, how small a worker's job should be, which worker works alone, which threads have begun, and that
+/// all are to end.
 #[derive(Drop)]
 pub struct Signals {
     /// The thread that receives has begun.
@@ -37,7 +38,7 @@ pub struct Signals {
 }
 
 impl Signals {
-    /// So many threads that act are to begin, workers among them or not, and nothing was told yet.
+    /// Returns the signals of a site at which so many threads are to act, workers among them or not, before any has begun.
     pub fn new(running: u64, has_workers: bool) -> Signals {
         Signals {
             receives: AtomicBool::new(false),
@@ -74,8 +75,9 @@ impl Signals {
             && self.works.load(Ordering::SeqCst)
     }
 
-    /// Waits until a thread of each kind has begun, or the site is to end. After some two seconds it ends the site: a thread that
-    /// can't be started runs after the others, which would wait for it.
+    /// Waits until a thread of each kind has begun, or the site is to end. After some two seconds it ends the site.
+    ///
+    /// The wait has a limit because a thread that can't be started runs after the others: without one, they would wait for it for ever.
     pub fn muster<R: Clock>(&self, rt: &R) {
         for _look in 0..LOOKS {
             if self.is_manned() || self.is_over() {
@@ -92,12 +94,13 @@ impl Signals {
         self.rouse();
     }
 
-    /// A parcel was put into the outbox: the thread that sends looks into it, if it waits.
+    /// Rouses the thread that sends, as a parcel was put into the outbox.
     pub fn rouse(&self) {
         self.sender.unpark();
     }
 
-    /// The thread that sends waits until it is roused, a millisecond at most. It isn't late where a parcel came since its last look.
+    /// Waits, in the thread that sends, until it is roused, a millisecond at most. A parcel that came since its last look has left a token
+    /// at the parker, so that it doesn't wait at all.
     pub fn doze<R: Wait>(&self, rt: &R) {
         self.sender.park_timeout(rt, Duration::from_micros(DOZE));
     }
@@ -117,24 +120,24 @@ impl Signals {
         self.stirs.fetch_add(1, Ordering::SeqCst);
     }
 
-    /// How often that was so: while it stays the same there is nothing new.
+    /// Returns how often `stir` was called: while that stays the same an idle worker finds nothing new at the core.
     pub fn stirs(&self) -> u64 {
         self.stirs.load(Ordering::SeqCst)
     }
 
-    /// There was no work for someone who asked: so many jobs should be split.
+    /// Asks for so many jobs to be split, as there was no work for someone who asked.
     pub fn starve(&self, jobs: u64) {
         self.hunger.store(jobs, Ordering::Relaxed);
     }
 
-    /// A job was split. (Two at once may count as one: it only makes a few jobs more small ones.)
+    /// Counts a job that was split. Two at once may count as one, since the load and the store are apart: then a few jobs more are small.
     pub fn feed(&self) {
         let hunger = self.hunger.load(Ordering::Relaxed);
         self.hunger
             .store(hunger.saturating_sub(1), Ordering::Relaxed);
     }
 
-    /// Whether jobs should be small.
+    /// Returns whether jobs should be small, as work is short.
     pub fn is_hungry(&self) -> bool {
         self.hunger.load(Ordering::Relaxed) > 0
     }
@@ -158,7 +161,7 @@ impl Signals {
         sole != 0 && sole != u64::from(worker) + 1
     }
 
-    /// The site is to end: its searches are stopped, and no thread of it goes on.
+    /// Ends the site: its searches are stopped, and no thread of it goes on.
     pub fn end(&self) {
         self.over.store(true, Ordering::SeqCst);
     }

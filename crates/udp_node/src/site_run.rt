@@ -1,4 +1,4 @@
-//! One site of a run, from its first start to its books.
+//! One site of a run, from its first incarnation to its books.
 
 ghost use Rattle.std.specs.Prelude.{◌≡◌, ◌+◌, ◌≤◌, None, true, is_some, suc, vec_len, IfOk, IfSome};
 ghost use Rattle.std.specs.Vec.{vec_capacity};
@@ -8,13 +8,14 @@ ghost use Rattle.udp_node.specs.Starts.{are_starts};
 
 use crate::node::run_threads;
 use crate::node_end::NodeEnd;
+use crate::site_context::SiteContext;
 use crate::start::Start;
 use brancher::Tables;
 use cover_problem::Problem;
 use node_core::{Core, NodeCore};
 use root_registry::Registry;
 use run_book::{Book, CellName, CellParts, Run, SiteCell, cores_step_as_their_sites, sites_begin};
-use site_links::{Cause, Ending, Gate, Link, Open, Plan, SiteEnd};
+use site_network::{Cause, Ending, Gate, Link, Open, Plan, SiteEnd};
 use spawn_frame::Site;
 use std::alloc::{AllocError, Global};
 use std::marker::{Brand, PhantomData};
@@ -25,9 +26,9 @@ use std::time::Clock;
 /// How many children a node may name.
 const NAMES: u32 = 1_000_000;
 
-/// What all sites of a run are given.
+/// What the sites of a run share.
 #[derive(Drop)]
-pub struct Whole<'a, J: Run, G: Gate> {
+pub struct RunContext<'a, J: Run, G: Gate> {
     /// What is searched.
     pub problem: &'a Problem,
     /// What the searches of it share.
@@ -48,8 +49,8 @@ pub struct Whole<'a, J: Run, G: Gate> {
     pub ghost nodes: { plan.nodes ≡ J.run.nodes },
 }
 
-impl<J: Run, G: Gate> Whole<'_, J, G> {
-    /// The run ends with the site of this node, which ended so.
+impl<J: Run, G: Gate> RunContext<'_, J, G> {
+    /// Ends the run with the site of this node, which ended so.
     fn end(&self, node: u8, end: &SiteEnd) {
         self.gate.ended(node, end);
         self.ending.raise();
@@ -63,9 +64,9 @@ pub struct SiteRun<J: Run, L: Link> {
     pub link: Option<L>,
     /// How often it restarts.
     pub restarts: u8,
-    /// How many starts there were.
+    /// How many incarnations there were.
     pub starts: u32,
-    /// The books of these starts, in their order, with room for one of each.
+    /// The books of these, in their order, with room for one of each.
     pub books: Vec<Book<J>>,
     pub end: SiteEnd,
     pub ghost there: { node ≤ J.run.nodes },
@@ -93,36 +94,38 @@ impl<J: Run, L: Link> SiteRun<J, L> {
         })
     }
 
-    /// Runs all starts of the site to their ends, once, one after the other; a node's once the registry's threads have begun, so that
-    /// it gets its own where few can be started. The run ends where the others can't go on without the site then, or no node is left.
+    /// Runs all incarnations of the site to their ends, once, one after the other. A node waits until the registry's threads have begun,
+    /// so that the registry gets its own where few can be started. The run ends if the others can't go on without the site afterwards, or
+    /// no node is left.
     pub fn run<G: Gate + Sync, R: Threads + Wait + Clock + Sync>(
         &mut self,
         rt: &R,
-        whole: &Whole<'_, J, G>,
+        context: &RunContext<'_, J, G>,
     )
     where
         J: Send + Sync,
         L: Send,
         ensures { self.new.node ≡ self.old.node }
     {
-        if self.node != 0 && !whole.ending.await_registry(rt) {
-            whole.end(self.node, &self.end);
+        if self.node != 0 && !context.ending.await_registry(rt) {
+            context.end(self.node, &self.end);
             return;
         }
         if let Some(link) = self.link.take() {
-            self.run_starts(rt, whole, link);
+            self.run_starts(rt, context, link);
         }
-        let is_last = self.node != 0 && whole.ending.leave();
+        let is_last = self.node != 0 && context.ending.leave();
         if is_last || self.end.ends_run(self.node) {
-            whole.end(self.node, &self.end);
+            context.end(self.node, &self.end);
         }
     }
 
-    /// Runs all starts of the site to their ends. Its link stays open over all of them: the last has it, the others a twin of it.
+    /// Runs all incarnations of the site to their ends. Its link stays open over all of them: the last has
+    /// it, the others a twin of it.
     fn run_starts<G: Gate + Sync, R: Threads + Wait + Clock + Sync>(
         &mut self,
         rt: &R,
-        whole: &Whole<'_, J, G>,
+        context: &RunContext<'_, J, G>,
         link: L,
     )
     where
@@ -134,16 +137,16 @@ impl<J: Run, L: Link> SiteRun<J, L> {
     {
         for _start in 0..self.restarts {
             let twin = link.twin();
-            self.start(rt, whole, twin);
+            self.start(rt, context, twin);
         }
-        self.start(rt, whole, Ok(link));
+        self.start(rt, context, Ok(link));
     }
 
-    /// Runs one start more to its end, over this link, unless there is no memory for it.
+    /// Runs the next incarnation to its end, over this link, unless there is no memory for it.
     fn start<G: Gate + Sync, R: Threads + Wait + Clock + Sync>(
         &mut self,
         rt: &R,
-        whole: &Whole<'_, J, G>,
+        context: &RunContext<'_, J, G>,
         link: Result<L, AllocError>,
     )
     where
@@ -158,20 +161,20 @@ impl<J: Run, L: Link> SiteRun<J, L> {
     {
         let is_over = self.end.cause == Cause::Over;
         let is_last = self.starts >= u32::from(self.restarts);
-        let start = Start::of(whole.plan, self.restarts, is_over, is_last);
+        let start = Start::of(context.plan, self.restarts, is_over, is_last);
         self.starts += 1;
         let site = Site {
             node: self.node,
             incarnation: self.starts,
         };
-        let (book, end) = run_site(rt, whole, site, start, link);
+        let (book, end) = run_site(rt, context, site, start, link);
         if let Some(book) = book {
             self.books.push_reserved(book);
         }
         self.end = self.end.with(end);
     }
 
-    /// The books of its starts, in their order, and how it ended.
+    /// Returns the books of its incarnations, in their order, and how it ended.
     pub fn into_end(self) -> (Vec<Book<J>>, SiteEnd)
         ensures { are_starts self.node 1 (suc self.starts) result.0.items ≡ true }
     {
@@ -187,24 +190,24 @@ impl<J: Run, L: Link> SiteRun<J, L> {
     }
 }
 
-/// Runs a start of a site to its end. There is no book where there was no memory for it.
+/// Runs an incarnation of a site to its end. There is no book if there was no memory for it.
 fn run_site<J: Run + Send + Sync, L: Link + Send, G: Gate + Sync, R: Threads + Wait + Clock + Sync>(
     rt: &R,
-    whole: &Whole<'_, J, G>,
+    context: &RunContext<'_, J, G>,
     site: Site,
     start: Start,
     link: Result<L, AllocError>,
 ) -> (Option<Book<J>>, SiteEnd)
-    requires there { site.node ≤ whole.now.plan.nodes }
+    requires there { site.node ≤ context.now.plan.nodes }
     requires some { 1 ≤ site.incarnation }
     requires registry { site.node ≡ 0 → site.incarnation ≡ 1 }
-    requires plan { start.plan.nodes ≡ whole.now.plan.nodes }
+    requires plan { start.plan.nodes ≡ context.now.plan.nodes }
     ensures { IfSome result.0 (λ book. book.site ≡ site) }
 {
     let ran = if site.node == 0 {
-        start_registry(rt, whole, start, link)
+        start_registry(rt, context, start, link)
     } else {
-        start_node(rt, whole, site, start, link)
+        start_node(rt, context, site, start, link)
     };
     match ran {
         Ok(ended) => ended,
@@ -215,7 +218,7 @@ fn run_site<J: Run + Send + Sync, L: Link + Send, G: Gate + Sync, R: Threads + W
 /// Starts the registry, and runs it to its end. The only error is out of memory at the start.
 fn start_registry<J: Run + Send + Sync, L: Link + Send, G: Gate, R: Threads + Wait + Clock + Sync>(
     rt: &R,
-    whole: &Whole<'_, J, G>,
+    context: &RunContext<'_, J, G>,
     start: Start,
     link: Result<L, AllocError>,
 ) -> Result<(Option<Book<J>>, SiteEnd), AllocError>
@@ -223,9 +226,9 @@ fn start_registry<J: Run + Send + Sync, L: Link + Send, G: Gate, R: Threads + Wa
 {
     sites_begin();
     let link = link?;
-    let cell_parts = CellParts::new(whole.alloc)?;
-    let core = Registry::start(whole.alloc, whole.problem, whole.plan.nodes)?;
-    Ok(run_registry::<J, Brand, L, G, R>(rt, whole, start, cell_parts, core, link))
+    let cell_parts = CellParts::new(context.alloc)?;
+    let core = Registry::start(context.alloc, context.problem, context.plan.nodes)?;
+    Ok(run_registry::<J, Brand, L, G, R>(rt, context, start, cell_parts, core, link))
 }
 
 /// Starts the site of a node, and runs it to its end. The only error is out of memory at the start.
@@ -236,21 +239,27 @@ fn start_node<
     R: Threads + Wait + Clock + Sync,
 >(
     rt: &R,
-    whole: &Whole<'_, J, G>,
+    context: &RunContext<'_, J, G>,
     site: Site,
     start: Start,
     link: Result<L, AllocError>,
 ) -> Result<(Option<Book<J>>, SiteEnd), AllocError>
     requires some { 1 ≤ site.node }
-    requires most { site.node ≤ whole.now.plan.nodes }
+    requires most { site.node ≤ context.now.plan.nodes }
     requires incarnation { 1 ≤ site.incarnation }
     ensures { IfOk result (λ ended. IfSome ended.0 (λ book. book.site ≡ site)) }
 {
     sites_begin();
     let link = link?;
-    let cell_parts = CellParts::new(whole.alloc)?;
-    let core = NodeCore::start(whole.alloc, whole.problem, site, whole.plan.nodes, NAMES)?;
-    Ok(run_worker_node::<J, Brand, L, G, R>(rt, whole, start, cell_parts, core, link))
+    let cell_parts = CellParts::new(context.alloc)?;
+    let core = NodeCore::start(
+        context.alloc,
+        context.problem,
+        site,
+        context.plan.nodes,
+        NAMES,
+    )?;
+    Ok(run_worker_node::<J, Brand, L, G, R>(rt, context, start, cell_parts, core, link))
 }
 
 /// Runs the registry, which begins, to its end.
@@ -262,7 +271,7 @@ fn run_registry<
     R: Threads + Wait + Clock + Sync,
 >(
     rt: &R,
-    whole: &Whole<'_, J, G>,
+    context: &RunContext<'_, J, G>,
     start: Start,
     cell_parts: CellParts,
     core: Registry,
@@ -279,22 +288,19 @@ fn run_registry<
     ensures { IfSome result.0 (λ book. book.site ≡ N.site) }
 {
     cores_step_as_their_sites();
-    let cell: SiteCell<J, Registry, N> = SiteCell::new(cell_parts, core, whole.plan.entries);
+    let cell: SiteCell<J, Registry, N> = SiteCell::new(cell_parts, core, context.plan.entries);
     let plan = Plan {
         workers: 0,
         ..start.plan
     };
-    let end = run_threads(
-        rt,
-        whole.alloc,
-        &cell,
-        whole.tables,
-        link,
-        Start { plan, ..start },
-        &Open,
-        whole.ending,
-    );
-    closed(whole.alloc, cell, end)
+    let site_context = SiteContext {
+        tables: context.tables,
+        gate: &Open,
+        ending: context.ending,
+        alloc: context.alloc,
+    };
+    let end = run_threads(rt, &cell, link, Start { plan, ..start }, site_context);
+    closed(context.alloc, cell, end)
 }
 
 /// Runs a node, which begins, to its end.
@@ -306,7 +312,7 @@ fn run_worker_node<
     R: Threads + Wait + Clock + Sync,
 >(
     rt: &R,
-    whole: &Whole<'_, J, G>,
+    context: &RunContext<'_, J, G>,
     start: Start,
     cell_parts: CellParts,
     core: NodeCore,
@@ -323,18 +329,15 @@ fn run_worker_node<
     ensures { IfSome result.0 (λ book. book.site ≡ N.site) }
 {
     cores_step_as_their_sites();
-    let cell: SiteCell<J, NodeCore, N> = SiteCell::new(cell_parts, core, whole.plan.entries);
-    let end = run_threads(
-        rt,
-        whole.alloc,
-        &cell,
-        whole.tables,
-        link,
-        start,
-        whole.gate,
-        whole.ending,
-    );
-    closed(whole.alloc, cell, end)
+    let cell: SiteCell<J, NodeCore, N> = SiteCell::new(cell_parts, core, context.plan.entries);
+    let site_context = SiteContext {
+        tables: context.tables,
+        gate: context.gate,
+        ending: context.ending,
+        alloc: context.alloc,
+    };
+    let end = run_threads(rt, &cell, link, start, site_context);
+    closed(context.alloc, cell, end)
 }
 
 /// Closes the cell of a site whose threads ended. There is no book where there was no memory to hand in all that it asks

@@ -1,19 +1,19 @@
 ghost use Rattle.std.specs.Prelude.{◌≡◌};
 ghost use Rattle.udp_node.specs.Starts.{start_plan};
 
-use site_links::Plan;
+use site_network::Plan;
 
-/// One start of a site. A node that restarts has several, each with an empty table and the next incarnation.
+/// How an incarnation of a site starts. A node that restarts has several, each with an empty table.
 #[derive(Clone, Copy, Debug, PartialEq, Eq)]
 pub struct Start {
-    /// How the site works in it.
+    /// How the site works in this incarnation.
     pub plan: Plan,
-    /// No start follows. Else an empty receive is one of the turns, so that this start ends in time.
+    /// No incarnation follows. Else an empty receive is one of the turns, so that this one ends in time.
     pub is_last: bool,
 }
 
 impl Start {
-    /// The only start of a site.
+    /// Returns the start of a site's only incarnation.
     pub fn only(plan: Plan) -> Start
         ensures { result.plan ≡ plan }
     {
@@ -23,8 +23,8 @@ impl Start {
         }
     }
 
-    /// A start of a site that has this plan and restarts so many times: whether the search was over at an earlier start, and whether
-    /// it is the last one.
+    /// Returns the start of an incarnation of a site that has this plan and restarts so many times: whether the search was over in an
+    /// earlier one, and whether it is the last.
     pub fn of(plan: Plan, restarts: u8, is_over: bool, is_last: bool) -> Start
         ensures { result.plan ≡ start_plan plan restarts is_over }
     {

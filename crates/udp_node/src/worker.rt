@@ -5,16 +5,16 @@ ghost use Rattle.cover_problem.specs.Prefix.{is_prefix};
 ghost use Rattle.udp_node.specs.Hands.{IsPosted};
 
 use crate::actor::Actor;
-use crate::hand::{Hand, Searched, Wanted};
+use crate::hand::{Hand, SearchJob, Searched};
+use crate::seat_receipts::Refused;
 use crate::signals::Signals;
-use crate::stand::Refused;
 use brancher::{Finding, Outcome, ROOM, Searcher, Tables};
 use cover_problem::Numbers;
 use node_core::{ActFault, Core, Event, Reply};
 use rand_core::utils::NextWord;
 use rand_pcg::Pcg32;
 use run_book::{BookFault, CellName, Run, Step};
-use site_links::{Cause, Gate, Pace, Plan, SearchWatch, Turn};
+use site_network::{Cause, Gate, Pace, Plan, SearchWatch, Turn};
 use spawn_frame::Job;
 use std::alloc::{AllocError, Global};
 use std::marker::PhantomData;
@@ -31,6 +31,9 @@ const SOLE: u64 = 1_000;
 
 /// So many visits of a search that saves less show that they don't.
 const TELLING: u64 = 30_000;
+
+/// So few visits are made where all is known that lies below a prefix: they say nothing of how long other searches take.
+const KNOWN: u64 = 8;
 
 /// How long a worker waits that leaves all jobs to another, in microseconds.
 const SPARED: u64 = 200;
@@ -93,7 +96,7 @@ impl<'a, J: Run> Worker<'a, J> {
         match mem::replace(&mut self.hand, Hand::Nothing) {
             Hand::Nothing if actor.shared.signals.is_spared(self.number) => spared(rt),
             Hand::Nothing => self.take(rt, actor),
-            Hand::Search(wanted) => self.search(rt, actor, wanted),
+            Hand::Search(search_job) => self.search(rt, actor, search_job),
             Hand::Post(searched) => self.post(rt, actor, searched),
         }
     }
@@ -118,17 +121,7 @@ impl<'a, J: Run> Worker<'a, J> {
                 let fuel = self
                     .pace
                     .fuel(prefix.as_slice().len(), actor.shared.signals.is_hungry());
-                let run = PhantomData;
-                self.search(
-                    rt,
-                    actor,
-                    Wanted {
-                        job,
-                        prefix,
-                        fuel,
-                        run,
-                    },
-                )
+                self.search(rt, actor, SearchJob::new(job, prefix, fuel))
             }
             Reply::Ripe(unit) => {
                 self.idle = 0;
@@ -175,14 +168,14 @@ impl<'a, J: Run> Worker<'a, J> {
         &mut self,
         rt: &R,
         actor: &mut Actor<'_, J, C, N, G>,
-        wanted: Wanted<J>,
+        search_job: SearchJob<J>,
     ) -> Turn {
-        let Wanted {
+        let SearchJob {
             job,
             prefix,
             fuel,
             run,
-        } = wanted;
+        } = search_job;
         let limit = fuel.max(1);
         self.limit = limit;
         let keeps = self.searcher.keeps();
@@ -202,19 +195,16 @@ impl<'a, J: Run> Worker<'a, J> {
                 if keeps {
                     self.share(signals, &watch);
                 }
-                self.pace
-                    .note(finding.prefix().len(), finding.outcome(), visits);
+                if !keeps || visits > KNOWN {
+                    self.pace
+                        .note(finding.prefix().len(), finding.outcome(), visits);
+                }
                 self.post(rt, actor, Searched { job, finding, run })
             }
             Ok(_) => Turn::Ended(Cause::Turns),
             Err(prefix) => {
                 let prefix = Numbers::from_vec(prefix);
-                self.hand = Hand::Search(Wanted {
-                    job,
-                    prefix,
-                    fuel: limit,
-                    run,
-                });
+                self.hand = Hand::Search(SearchJob::new(job, prefix, limit));
                 Turn::Ended(Cause::Memory)
             }
         }
@@ -270,13 +260,7 @@ impl<'a, J: Run> Worker<'a, J> {
             Ok(prefix) => {
                 let fuel = self.limit.saturating_mul(16);
                 let prefix = Numbers::from_vec(prefix);
-                let run = PhantomData;
-                self.hand = Hand::Search(Wanted {
-                    job,
-                    prefix,
-                    fuel,
-                    run,
-                });
+                self.hand = Hand::Search(SearchJob::new(job, prefix, fuel));
                 Turn::Used
             }
             Err(_) => Turn::Ended(Cause::Memory),

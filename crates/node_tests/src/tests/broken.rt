@@ -1,7 +1,7 @@
 //! A link in memory with a defect.
 
 ghost use Rattle.std.specs.Prelude.{◌≡◌, ◌+◌, ◌≤◌, ℕ, length, vec_len, IfOk, IfSome};
-ghost use Rattle.site_links.specs.Links.{failed_once};
+ghost use Rattle.site_network.specs.Links.{failed_once};
 
 use super::ends::wires;
 use std::alloc::{AllocError, Global};

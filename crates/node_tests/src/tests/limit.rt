@@ -13,7 +13,7 @@ use std::sync::Wait;
 use std::test::Fail;
 use std::thread::{self, Threads};
 use std::time::{Clock, Duration, Instant};
-use udp_node::{Gate, Plan, run_sites_within};
+use udp_node::{Gate, Plan, RunPlan, run_sites};
 
 /// A gate that lets nobody pass: no result is posted.
 struct Shut;
@@ -55,10 +55,12 @@ fn run<J: Run + Send + Sync, R: Threads + Wait + Clock + Sync>(
     requires nodes { J.run.nodes ≡ 2 }
 {
     let links = wires(alloc, PLAN.nodes)?;
-    let limit = Some(Duration::from_millis(LIMIT));
-    let end = run_sites_within::<J, _, _, R>(
-        rt, alloc, problem, PLAN, restarts, limit, links, &Shut,
-    )?;
+    let run_plan = RunPlan {
+        plan: PLAN,
+        restarts,
+        limit: Some(Duration::from_millis(LIMIT)),
+    };
+    let end = run_sites::<J, _, _, R>(rt, alloc, problem, run_plan, links, &Shut)?;
     Ok((end.answer.is_none(), end.books.len()))
 }
 

@@ -3,7 +3,7 @@
 ghost use Rattle.std.specs.Prelude.{◌≡◌, ◌≤◌, ℕ, length, true, IfOk, IfSome};
 ghost use Rattle.packet_wire.specs.WellFormed.{is_well_formed};
 ghost use Rattle.run_book.specs.Sites.{opening_of, IsRun, MayBeginIn};
-ghost use Rattle.site_links.specs.Links.{failed_once};
+ghost use Rattle.site_network.specs.Links.{failed_once};
 
 use super::runs::COVERED;
 use brancher::Finding;

@@ -10,7 +10,7 @@ use std::marker::Brand;
 use std::sync::Wait;
 use std::thread::Threads;
 use std::time::Clock;
-use udp_node::{Gate, Link, Plan, SiteEnd, run_sites};
+use udp_node::{Gate, Link, Plan, RunPlan, SiteEnd, run_sites};
 
 /// A problem with its one cover, or none.
 pub type Row = (&'static str, Option<&'static [u16]>);
@@ -82,47 +82,65 @@ pub fn run_whole<L: Link + Send, G: Gate + Sync, R: Threads + Wait + Clock + Syn
     requires most { plan.nodes ≤ 16 }
     requires links { vec_len links ≡ plan.nodes + 1 }
 {
-    run_starts(rt, alloc, row, plan, 0, links, gate)
+    run_starts(rt, alloc, row, RunPlan::new(plan), links, gate)
 }
 
-/// The same where node 1 restarts so many times.
+/// A run of this plan in which node 1 restarts so many times.
+pub fn run_plan(plan: Plan, restarts: u8) -> RunPlan
+    ensures { result.plan ≡ plan }
+{
+    RunPlan {
+        restarts,
+        ..RunPlan::new(plan)
+    }
+}
+
+/// The same as `run_whole`, of a run that may have restarts.
 pub fn run_starts<L: Link + Send, G: Gate + Sync, R: Threads + Wait + Clock + Sync>(
     rt: &R,
     alloc: Global,
     row: &Row,
-    plan: Plan,
-    restarts: u8,
+    run_plan: RunPlan,
     links: Vec<L>,
     gate: &G,
 ) -> Option<Ran>
-    requires some { 1 ≤ plan.nodes }
-    requires most { plan.nodes ≤ 16 }
-    requires links { vec_len links ≡ plan.nodes + 1 }
+    requires some { 1 ≤ run_plan.plan.nodes }
+    requires most { run_plan.plan.nodes ≤ 16 }
+    requires links { vec_len links ≡ run_plan.plan.nodes + 1 }
 {
     let read = read_problem(alloc, row.0.as_bytes()).ok()?;
-    search::<Brand, L, G, R>(rt, alloc, &read.problem, row.1, plan, restarts, links, gate)
+    let case = Case {
+        problem: &read.problem,
+        cover: row.1,
+    };
+    search::<Brand, L, G, R>(rt, alloc, case, run_plan, links, gate)
+}
+
+/// A problem that was read, with its one cover, or none.
+#[derive(Clone, Copy)]
+struct Case<'a> {
+    problem: &'a Problem,
+    cover: Option<&'static [u16]>,
 }
 
 /// Runs a search of the problem, in a run with a name.
 fn search<J: Run + Send + Sync, L: Link + Send, G: Gate + Sync, R: Threads + Wait + Clock + Sync>(
     rt: &R,
     alloc: Global,
-    problem: &Problem,
-    cover: Option<&[u16]>,
-    plan: Plan,
-    restarts: u8,
+    case: Case<'_>,
+    run_plan: RunPlan,
     links: Vec<L>,
     gate: &G,
 ) -> Option<Ran>
-    requires problem { problem.now ≡ J.run.problem }
-    requires nodes { plan.nodes ≡ J.run.nodes }
-    requires some { 1 ≤ plan.nodes }
-    requires most { plan.nodes ≤ 16 }
-    requires links { vec_len links ≡ plan.nodes + 1 }
+    requires problem { case.problem.now ≡ J.run.problem }
+    requires nodes { run_plan.plan.nodes ≡ J.run.nodes }
+    requires some { 1 ≤ run_plan.plan.nodes }
+    requires most { run_plan.plan.nodes ≤ 16 }
+    requires links { vec_len links ≡ run_plan.plan.nodes + 1 }
 {
-    let end = run_sites::<J, L, G, R>(rt, alloc, problem, plan, restarts, links, gate).ok()?;
+    let end = run_sites::<J, L, G, R>(rt, alloc, case.problem, run_plan, links, gate).ok()?;
     let came = Came {
-        told: judged(end.answer.as_ref(), cover),
+        told: judged(end.answer.as_ref(), case.cover),
         books: end.books.len(),
     };
     Some(Ran {

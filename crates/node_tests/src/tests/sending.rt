@@ -17,7 +17,7 @@ use std::sync::{Arc, Wait};
 use std::test::Fail;
 use std::thread::{self, Threads};
 use std::time::Clock;
-use udp_node::{Link, LinkFault, MemoryLink, Open, Plan, Stand, Wires, run_node};
+use udp_node::{Link, LinkFault, MemoryLink, Open, Plan, SeatReceipts, Wires, run_node};
 
 /// How many turns a send waits at most.
 const TURNS: u64 = 1_000_000;
@@ -130,16 +130,16 @@ impl Link for SlowLink {
 fn act_when_asked<J: Run, C: Core + Drop, N: CellName, R: Wait>(
     rt: &R,
     cell: &SiteCell<J, C, N>,
-    stand: Stand<N>,
+    receipts: SeatReceipts<N>,
     meeting: &Meeting,
 ) {
-    let mut stand = stand;
+    let mut receipts = receipts;
     for _turn in 0..1_000 * TURNS {
         if meeting.is_over.load(Ordering::SeqCst) {
             break;
         }
         if meeting.is_asked() {
-            let _ = stand.act(rt, cell, Event::Greet);
+            let _ = receipts.act(rt, cell, Event::Greet);
             meeting.answered.fetch_add(1, Ordering::SeqCst);
         } else {
             thread::yield_now();
@@ -163,16 +163,16 @@ fn run_beside<
 ) -> Option<usize>
     requires { problem.now ≡ J.run.problem }
 {
-    let stand = Stand::new(rt, alloc, cell).ok()?;
+    let receipts = SeatReceipts::new(rt, alloc, cell).ok()?;
     let run = move || -> usize
         requires { problem.now ≡ J.run.problem }
     {
         let end = run_node(rt, alloc, cell, problem, link, PLAN, &Open);
         meeting.is_over.store(true, Ordering::SeqCst);
-        end.stands.len()
+        end.seats.len()
     };
-    let (stands, ()) = thread::join(rt, run, move || act_when_asked(rt, cell, stand, meeting));
-    Some(stands)
+    let (seats, ()) = thread::join(rt, run, move || act_when_asked(rt, cell, receipts, meeting));
+    Some(seats)
 }
 
 /// Opens the cell, and runs a node there; how many of its threads have come back.

@@ -6,7 +6,7 @@
 
 use super::broken::{Defect, links_with};
 use super::ends::wires;
-use super::runs::{COVERED, Came, Told, run_starts};
+use super::runs::{COVERED, Came, Told, run_plan, run_starts};
 use packet_wire::{Body, Packet};
 use run_probes::recorded;
 use spawn_frame::{Job, Site, Unit};
@@ -40,8 +40,14 @@ const PLAN: Plan = Plan {
 fn a_restart_frees_the_root(rt: HostRuntime) -> Result<(), Fail> {
     for (restarts, told, books) in [(0, Told::Nothing, 2), (1, Told::Right, 3)] {
         let links = wires(rt.alloc(), PLAN.nodes)?;
-        let Some(ran) = run_starts(&rt, rt.alloc(), &COVERED, PLAN, restarts, links, &HeldRoot)
-        else {
+        let Some(ran) = run_starts(
+            &rt,
+            rt.alloc(),
+            &COVERED,
+            run_plan(PLAN, restarts),
+            links,
+            &HeldRoot,
+        ) else {
             return Err(Fail::new("memory ran out"));
         };
         assert_eq!(rt; ran.came, Came { told, books }, "{restarts} restarts");
@@ -67,7 +73,14 @@ fn any_number_of_restarts(rt: HostRuntime) -> Result<(), Fail> {
             ..PLAN
         };
         let links = wires(rt.alloc(), plan.nodes)?;
-        let Some(ran) = run_starts(&rt, rt.alloc(), &COVERED, plan, restarts, links, &Open) else {
+        let Some(ran) = run_starts(
+            &rt,
+            rt.alloc(),
+            &COVERED,
+            run_plan(plan, restarts),
+            links,
+            &Open,
+        ) else {
             return Err(Fail::new("memory ran out"));
         };
         let Came { told, books } = ran.came;
@@ -102,7 +115,7 @@ fn a_start_that_hears_nothing_ends_after_its_turns(rt: HostRuntime) -> Result<()
     let sent = Arc::new(alloc, Mutex::new(Vec::new(alloc)))?;
     let mute = links_with(alloc, plan.nodes, 0, Defect::Mute)?;
     let links = recorded(alloc, mute, &sent)?;
-    let Some(ran) = run_starts(&rt, alloc, &COVERED, plan, 1, links, &Open) else {
+    let Some(ran) = run_starts(&rt, alloc, &COVERED, run_plan(plan, 1), links, &Open) else {
         return Err(Fail::new("memory ran out"));
     };
     assert_eq!(rt; ran.came.told, Told::Nothing);

@@ -1,7 +1,7 @@
 //! A stranger's packets, which are well formed and name sites of the run, are not heard.
 //!
-//! No contract says who sent a datagram. Of the bugs of `site_links` that are kept outside the gate, `a_strangers_result_is_not_taken`
-//! finds `hears_any_address`, as `link_tests` does.
+//! No contract says who sent a datagram. Of the bugs of `site_network` that are kept outside the gate, `a_strangers_result_is_not_taken`
+//! finds `hears_any_address`, as `network_tests` does.
 
 use super::ends::{bound_sockets, links_over};
 use super::runs::{COVERED, Came, Told, run};

@@ -1,7 +1,7 @@
 //! What is written of an answer and of what an audit found, which no run of sites that keep to the protocol comes to.
 
 use audit::{Clean, Unclean};
-use cover_engines::{EngineFault, Finding, write_audited};
+use cover_engines::{AuditFinding, EngineFault, write_audited};
 use cover_problem::Answer;
 use dlx_reader::{CountedWriter, read_problem};
 use spawn_frame::Site;
@@ -9,7 +9,7 @@ use std::alloc::Global;
 use std::test::Fail;
 
 /// What an audit found, whether it was published that there is no cover, what is written, and the status.
-type Row = (Finding, bool, &'static str, u8);
+type Row = (AuditFinding, bool, &'static str, u8);
 
 const REGISTRY: Site = Site {
     node: 0,

@@ -4,7 +4,7 @@
 //! `seconds_are_milliseconds`.
 
 ghost use Rattle.std.specs.Prelude.{◌≡◌, ◌+◌, ◌≤◌, ℕ, length, vec_len, IfOk, IfSome};
-ghost use Rattle.site_links.specs.Links.{failed_once};
+ghost use Rattle.site_network.specs.Links.{failed_once};
 
 use super::{NOTHING, ROWS, settings, solve_over};
 use cover_engines::{Loopback, Network, links};

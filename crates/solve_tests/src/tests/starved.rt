@@ -3,7 +3,7 @@
 //! Of the bugs of `cover_engines` that are kept outside the gate, `a_site_without_memory_is_a_fault` finds `want_of_memory_is_no_answer`.
 
 ghost use Rattle.std.specs.Prelude.{◌≡◌, ◌+◌, ℕ, length, vec_len, IfOk, IfSome};
-ghost use Rattle.site_links.specs.Links.{failed_once};
+ghost use Rattle.site_network.specs.Links.{failed_once};
 
 use super::{ROWS, settings};
 use cover_engines::{EngineFault, links, solve_engine};

@@ -1,5 +1,5 @@
 use Rattle.std.proofs.Common.{◌≡◌, sum_by, take}
 use Rattle.udp_node.proofs.node_end.receipts_of.Given as goal
 
-abbrev pub invariant-loop-stand : goal.invariant-loop-stand
-invariant-loop-stand g l = l.many ≡ sum_by (λ stand. stand.seat) (take l.stand-index l.stands)
+abbrev pub invariant-loop-receipts : goal.invariant-loop-receipts
+invariant-loop-receipts g l = l.many ≡ sum_by (λ receipts. receipts.seat) (take l.receipts-index l.seats)

@@ -51,7 +51,7 @@ pub struct Limits {
 }
 
 impl Limits {
-    /// So many turns, and so many times as many waits.
+    /// Allows so many turns, and so many waits for each of them.
     pub fn new(turns: u64, waits: u64) -> Limits {
         Limits {
             turns,
@@ -62,7 +62,7 @@ impl Limits {
         }
     }
 
-    /// So many turns and waits together.
+    /// Allows so many turns and waits together.
     pub fn in_all(turns: u64) -> Limits {
         Limits {
             counts_waits: true,
@@ -89,7 +89,7 @@ impl Limits {
         }
     }
 
-    /// Notes what a turn came to. Returns the cause where the thread ends by it.
+    /// Counts a turn by its result, and returns the cause if the thread ends by it.
     pub fn note(&mut self, turn: Turn) -> Option<Cause> {
         match turn {
             Turn::Used => self.use_turn(),

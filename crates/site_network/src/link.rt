@@ -1,5 +1,5 @@
 ghost use Rattle.std.specs.Prelude.{◌≡◌, ◌≤◌, ℕ, length, IfErr, IfOk, IfSome};
-ghost use Rattle.site_links.specs.Links.{failed_once};
+ghost use Rattle.site_network.specs.Links.{failed_once};
 
 use std::alloc::AllocError;
 use std::sync::Wait;
@@ -12,29 +12,33 @@ pub struct LinkFault;
 pub trait Link: Drop {
     ghost failed: { Self → ℕ };
 
-    /// How many calls of this value have failed; the greatest number stays once it is reached.
+    /// Returns how many calls of this value have failed. The count stops at the greatest number.
     fn failures(&self) -> u64
         ensures { result ≡ failed self.now };
 
-    /// Sends a datagram to the site of a node. Without a fault it may still be lost on its way.
+    /// Sends a datagram to the site of a node. Where no fault is returned it may still be lost on its way.
     fn send<R: Wait>(&mut self, rt: &R, to: u8, bytes: &[u8]) -> Result<(), LinkFault>
         ensures ok { IfOk result (λ _. failed self.new ≡ failed self.old) }
         ensures fault { IfErr result (λ _. failed self.new ≡ failed_once (failed self.old)) };
 
-    /// Receives a datagram, and answers how many bytes of it stand at the front of the buffer: all of them, or those that fit.
-    /// None where none came within some 10 milliseconds.
+    /// Receives a datagram, and returns how many bytes of it are at the front of the buffer: all of them, or those that fit. Returns
+    /// `None` where none came within some 10 milliseconds.
     fn receive<R: Wait>(&mut self, rt: &R, into: &mut [u8]) -> Result<Option<usize>, LinkFault>
         ensures fits { IfOk result (λ came. IfSome came (λ bytes. bytes ≤ length into.old)) }
         ensures whole { length into.new ≡ length into.old }
         ensures ok { IfOk result (λ _. failed self.new ≡ failed self.old) }
         ensures fault { IfErr result (λ _. failed self.new ≡ failed_once (failed self.old)) };
 
-    /// From now on an empty receive waits as short a time as it can. A link whose receives don't wait has nothing to change.
+    /// Makes each later empty receive wait as short a time as it can. A link whose receives don't wait has nothing to change.
     fn hasten(&mut self)
         ensures { failed self.new ≡ failed self.old }
     {}
 
-    /// A second value on the same end, which has not failed yet. The only error is out of memory.
+    /// Returns a second value on the same end, which has not failed yet.
+    ///
+    /// # Errors
+    ///
+    /// The only error is out of memory.
     fn twin(&self) -> Result<Self, AllocError>
     where
         Self: Sized,

@@ -1,5 +1,5 @@
-//! The links between the sites of a run, and what a site is given or ends with besides its core. It needs none of the cores, so that it
-//! is proved beside them.
+//! The network of a run: how its sites exchange datagrams, and what a site is given or ends with besides its core. It needs none of the
+//! cores, so that it is proved beside them.
 #![tactic(auto)]
 
 mod cause;

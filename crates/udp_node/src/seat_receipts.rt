@@ -7,14 +7,14 @@ use run_book::{BookFault, CellName, Run, Seat, SiteCell, Step, Stub};
 use std::alloc::{AllocError, Global};
 use std::sync::Wait;
 
-/// A seat with the stubs of its receipts: as many as it counts.
+/// A thread's seat at a cell, with the stubs of the receipts that it got there: as many as the seat counts.
 #[derive(Drop)]
-pub struct Stand<N: CellName> {
+pub struct SeatReceipts<N: CellName> {
     seat: Seat<N>,
     stubs: Vec<Stub<N>>,
     /// How many entries the cell's book had after its last event.
     entries: u64,
-    ghost whole: { seat ≡ vec_len stubs },
+    ghost counted: { seat ≡ vec_len stubs },
 }
 
 /// Why an event was not entered.
@@ -26,22 +26,26 @@ pub enum Refused {
     Cell(BookFault),
 }
 
-impl<N: CellName> Stand<N> {
+impl<N: CellName> SeatReceipts<N> {
     /// A new seat at the cell, without receipts. The only error is that no seats are left.
     pub fn new<J: Run, C: Core + Drop, R: Wait>(
         rt: &R,
         alloc: Global,
         cell: &SiteCell<J, C, N>,
-    ) -> Result<Stand<N>, AllocError> {
+    ) -> Result<SeatReceipts<N>, AllocError> {
         let seat = cell.seat(rt)?;
-        Ok(Stand {
+        Ok(SeatReceipts {
             seat,
             stubs: Vec::new(alloc),
             entries: 0,
         })
     }
 
-    /// Hands an event to the cell, and returns what was entered. Else the event comes back.
+    /// Hands an event to the cell, and returns what was entered. Room for the stub is reserved before, so that no receipt is lost.
+    ///
+    /// # Errors
+    ///
+    /// An event that is refused comes back with the reason.
     pub fn act<J: Run, C: Core + Drop, R: Wait>(
         &mut self,
         rt: &R,
@@ -84,7 +88,7 @@ impl<N: CellName> Stand<N> {
         ensures seat { result.0 ≡ self.seat }
         ensures stubs { result.0 ≡ vec_len result.1 }
     {
-        let Stand { seat, stubs, .. } = self;
+        let SeatReceipts { seat, stubs, .. } = self;
         (seat, stubs)
     }
 }

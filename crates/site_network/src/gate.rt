@@ -4,8 +4,8 @@ use brancher::{Finding, Watch};
 use spawn_frame::Job;
 use std::sync::atomic::{AtomicBool, Ordering};
 
-/// What may hold a site's workers back, and hears what the sites of a run do. The program's lets all pass; tests bring workers into
-/// an order by theirs.
+/// May hold a site's workers back, and follows what the sites of a run do. The program's gates let all pass; those of tests bring
+/// workers into an order.
 pub trait Gate {
     /// Whether the worker may post the result of the job now; it is asked again each turn until it may. The call may wait.
     fn pass(&self, worker: u8, job: &Job) -> bool;
@@ -16,8 +16,8 @@ pub trait Gate {
     /// A worker begins to search a prefix.
     fn begun(&self) {}
 
-    /// A worker that searches a prefix of this length has chosen these options, and made so many visits. It is told once in 1,024
-    /// visits at most.
+    /// A worker that searches a prefix of this length has chosen these options, and made so many visits. Called once in 1,024 visits at
+    /// most.
     fn seen(&self, _length: usize, _chosen: &[u16], _visits: u64) {}
 
     /// A worker has searched a prefix, with so many visits.

@@ -2,7 +2,7 @@
 
 ghost use Rattle.std.specs.Prelude.{◌≡◌, ◌≤◌, ◌↔◌, ℕ, length, IfOk, IsTrue};
 ghost use Rattle.std.specs.List.{Contains};
-ghost use Rattle.site_links.specs.Links.{failed_once};
+ghost use Rattle.site_network.specs.Links.{failed_once};
 
 use crate::link::{Link, LinkFault};
 use std::alloc::{AllocError, Global};

@@ -1,5 +1,5 @@
 use Rattle.std.proofs.Common.{◌≡◌, ◌+◌, vec_len}
-use Rattle.udp_node.proofs.node.places_for.Given as goal
+use Rattle.udp_node.proofs.node.threads_for.Given as goal
 
 abbrev pub invariant-loop-worker : goal.invariant-loop-worker
-invariant-loop-worker g l = vec_len l.places ≡ l.worker + 1
+invariant-loop-worker g l = vec_len l.threads ≡ l.worker + 1

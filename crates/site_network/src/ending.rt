@@ -22,7 +22,7 @@ pub struct Ending {
 }
 
 impl Ending {
-    /// Of a run without a limit, for one of its sites alone.
+    /// Returns the ending of a run without a limit, for one of its sites alone.
     pub fn unlimited() -> Ending {
         Ending {
             raised: AtomicBool::new(false),
@@ -32,8 +32,8 @@ impl Ending {
         }
     }
 
-    /// Of a run of so many nodes that begins now and lasts so long at most, if it is limited. A limited run whose clock can't be read
-    /// ends at once.
+    /// Returns the ending of a run of so many nodes that begins now and lasts so long at most, if it is limited. A limited run whose
+    /// clock can't be read ends at once.
     pub fn within<R: Clock>(rt: &R, limit: Option<Duration>, nodes: u8) -> Ending {
         let mut ending = Ending {
             raised: AtomicBool::new(false),
@@ -55,8 +55,10 @@ impl Ending {
         self.has_registry.store(true, Ordering::SeqCst);
     }
 
-    /// Waits until the registry's threads have begun, or the run is over, for some two seconds. Whether they have begun: what can't be
-    /// started on a thread of its own runs after the others, which would wait for it.
+    /// Waits until the registry's threads have begun, or the run is over, for some two seconds, and returns whether they have begun.
+    ///
+    /// The wait has a limit because work that can't be started on a thread of its own runs after the others: without one, they would
+    /// wait for it for ever.
     pub fn await_registry<R: Clock>(&self, rt: &R) -> bool {
         for _look in 0..LOOKS {
             if self.has_registry.load(Ordering::SeqCst) || self.is_over(rt) {
@@ -67,12 +69,12 @@ impl Ending {
         self.has_registry.load(Ordering::SeqCst)
     }
 
-    /// A node leaves the run for good. Whether it is the last one.
+    /// Counts a node that leaves the run for good, and returns whether it was the last one.
     pub fn leave(&self) -> bool {
         self.nodes.fetch_sub(1, Ordering::SeqCst) <= 1
     }
 
-    /// The run can't go on: it ends.
+    /// Ends the run, which can't go on.
     pub fn raise(&self) {
         self.raised.store(true, Ordering::SeqCst);
     }

@@ -32,7 +32,7 @@ pub struct Quota {
 /// How many visits a worker's next search gets. Where work is short jobs are small, so that they are split; in plenty they are
 /// large and grow with the work done, so that few visits are made twice. A search that ends for want of visits is lost,
 /// so a prefix that is thought to take far more is split at once: for each length of a prefix a worker keeps
-/// how many visits a search without a cover takes, as the last ones tell. It learns from long prefixes upwards: a length of which it
+/// how many visits a search without a cover takes, as the last ones show. It learns from long prefixes upwards: a length of which it
 /// knows nothing is thought to take eight times the next one, and where that isn't known either, too much.
 #[derive(Debug, Drop)]
 pub struct Pace {
@@ -44,7 +44,7 @@ pub struct Pace {
     visits: u64,
     /// A search of more than a small job's visits was spent, and none has ended without a cover since then.
     is_wary: bool,
-    /// By the prefix's length, how many visits a search is thought to take, once one has told.
+    /// By the prefix's length, how many visits a search is thought to take, once one has ended.
     expected: Vec<Option<u64>>,
 }
 
@@ -71,8 +71,7 @@ impl Pace {
     /// where the site is hungry, a fifth of it; and else eight times the greater of 30 times the base and a 1,024th of the visits made,
     /// unless it is thought to take more than that greater number, or nothing is known of its length and the next: then it gets a fifth
     /// of the base, and what was thought of its length is a tenth less the next time. After a search of more than that fifth was spent,
-    /// each gets a fifth of the base until one ends without a cover: what stands behind a spent prefix may take as long, at each length
-    /// anew.
+    /// each gets a fifth of the base until one ends without a cover: what is behind a spent prefix may take as long, at each length.
     pub fn fuel(&mut self, length: usize, is_hungry: bool) -> u64
         ensures { 1 ≤ result }
     {

@@ -1,10 +1,10 @@
 //! Two sites talk, over sockets and in memory.
 //!
-//! Of the bugs of `site_links` that are kept outside the gate, `what_came_before_all_were_bound` finds `sockets_are_not_emptied`,
+//! Of the bugs of `site_network` that are kept outside the gate, `what_came_before_all_were_bound` finds `sockets_are_not_emptied`,
 //! `hastened_receives_do_not_wait` finds `the_end_is_not_hastened`, and `each_of_sixteen_nodes_is_reached` finds
 //! `sends_reach_four_nodes`.
 
-use site_links::{Link, LinkFault, MemoryLink, Sockets, UdpLink, Wires, bound};
+use site_network::{Link, LinkFault, MemoryLink, Sockets, UdpLink, Wires, bound};
 use std::alloc::Global;
 use std::net::{Ipv4Addr, Net, SocketAddr, SocketAddrV4, UdpSocket};
 use std::sync::{Arc, Wait};

@@ -1,7 +1,7 @@
 //! A network in memory, for tests.
 
 ghost use Rattle.std.specs.Prelude.{◌≡◌, ℕ, IfOk};
-ghost use Rattle.site_links.specs.Links.{failed_once};
+ghost use Rattle.site_network.specs.Links.{failed_once};
 
 use crate::link::{Link, LinkFault};
 use std::alloc::{AllocError, Global};
@@ -17,7 +17,7 @@ pub struct Wires {
 }
 
 impl Wires {
-    /// Nothing is on its way to so many sites. The only error is out of memory.
+    /// Returns the wires of so many sites, with nothing on its way. The only error is out of memory.
     pub fn new(alloc: Global, sites: u8) -> Result<Wires, AllocError> {
         let mut queues = Vec::new(alloc);
         for _ in 0..sites {
@@ -26,7 +26,7 @@ impl Wires {
         Ok(Wires { queues, alloc })
     }
 
-    /// Puts a datagram on its way; whether there are that site and the memory.
+    /// Puts a datagram on its way, and returns whether there was such a site, and memory for it.
     fn is_put<R: Wait>(&self, rt: &R, to: u8, bytes: &[u8]) -> bool {
         let Some(queue) = self.queues.get(usize::from(to)) else {
             return false;
