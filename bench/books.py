@@ -90,7 +90,7 @@ def tell(name: str, visits: int, nodes: int, workers: int, ran: Ran) -> None:
 
 def main() -> None:
     words = parser_of(__doc__)
-    words.add_argument("--long", action="store_true", help="one run of some eleven minutes in place of the short ones")
+    words.add_argument("--long", action="store_true", help="one run of some fifteen minutes in place of the short ones")
     words.add_argument("names", nargs="*", metavar="NAME", help="instances, as those that are written by bench/instances.py")
     given = words.parse_args()
     want_program(RUN_TALLY, "run_tally")

@@ -4,10 +4,10 @@
     python3 bench/days.py [--seconds N] [--pairs N] [NODESxWORKERS ..]
 
 Langford pairs of so many numbers (default 17, which have no pairing, and take weeks) are searched for so many seconds (default 600) by each number of
-nodes and workers (default 4x2, 16x8 and 4x1), with books of a million entries. Of each run a row has, at its end: the datagrams a second that the
-machine received by UDP in the second half; how many entries the fullest book has, and how many it got in each hour of the second half; how much memory
-the run has, and how much more of it in each hour of that half; and, by these, how many hours it takes until the book is full. The entries come from
-the lines of progress, which have them in percents of the book: so their figures have steps of ten thousand, and half a run that got fewer has 0.
+nodes and workers (default 4x2, 16x8 and 4x1). Of each run a row has, at its end: the datagrams a second that the machine received by UDP in the
+second half; how many entries the fullest book has, and how many it got in each hour of the second half; how much memory the run has, and how much
+more of it in each hour of that half; and, by these, how many hours it takes until a book of the default, a million entries, is full. The entries come
+from the lines of progress, which have them in percents of the book. So the runs have books of 200,000 entries, and these figures steps of two thousand.
 
 Nothing else should use UDP meanwhile. It wants the program: (cd crates/solve_cli && rt run -- --version) builds it. The exit status is 0, or 2 for a
 mistake on the command line or where there is no program.
@@ -26,7 +26,8 @@ HERE = os.path.dirname(os.path.abspath(__file__))
 sys.path.insert(0, os.path.join(HERE, "..", "scripts"))
 from built import SOLVE_CLI, number_from_one, parser_of, stop, want_program  # noqa: E402
 
-ENTRIES = 1_000_000
+# the entries of a book of the default, and of the books of these runs
+DEFAULT, ENTRIES = 1_000_000, 200_000
 FULLEST = re.compile(r"fullest book (\d+) %")
 HEAD = ["Nodes x workers", "Datagrams, 1/s", "Entries", "Entries, 1/h", "Memory, MB", "Memory, MB/h", "Hours until the book is full"]
 
@@ -90,7 +91,7 @@ def row(sites: tuple[int, int], middle: Look, end: Look) -> str:
     """The row of a run."""
     seconds = end.seconds - middle.seconds
     entries, megabytes = ((after - before) * 3_600 / seconds for before, after in ((middle.entries, end.entries), (middle.memory, end.memory)))
-    hours = f"{(ENTRIES - end.entries) / entries:.0f}" if entries else "-"
+    hours = f"{(DEFAULT - end.entries) / entries:.0f}" if entries else "-"
     per_second = (end.datagrams - middle.datagrams) / seconds
     cells = [f"{sites[0]} x {sites[1]}", f"{per_second:.0f}", f"{end.entries:,}", f"{entries:,.0f}", f"{end.memory:.0f}", f"{megabytes:.0f}", hours]
     return f"| {' | '.join(cells)} |"

@@ -202,11 +202,11 @@ pub fn solve_problem<L: Link + Send, G: Gate + Sync, W: Sink, R: Threads + Wait 
 ) -> Result<u8, EngineFault>
     requires links { vec_len links ≡ task.settings.now.nodes + 1 }
     requires failed { W.failed sink.old < 2 ^ 64 - 1 }
-    ensures output { task.settings.now.audit ≡ false →
-        IsOutputOf (RunSays (run_of task.problem.now task.settings.now)) (W.contents sink.old)
+    ensures output { task.entry.settings.now.audit ≡ false →
+        IsOutputOf (RunSays (run_of task.entry.problem.now task.entry.settings.now)) (W.contents sink.old)
         (W.contents sink.new) result }
-    ensures audited { task.settings.now.audit ≡ true →
-        IsOutputOf (AuditSays (run_of task.problem.now task.settings.now)) (W.contents sink.old)
+    ensures audited { task.entry.settings.now.audit ≡ true →
+        IsOutputOf (AuditSays (run_of task.entry.problem.now task.entry.settings.now)) (W.contents sink.old)
         (W.contents sink.new) result }
     ensures failed { result ≡ Err EngineFault.Write → W.failed sink.old < W.failed sink.new }
 {
