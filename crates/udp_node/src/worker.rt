@@ -32,9 +32,6 @@ const SOLE: u64 = 1_000;
 /// So many visits of a search that saves less show that they don't.
 const TELLING: u64 = 30_000;
 
-/// So few visits are made where all is known that lies below a prefix: they say nothing of how long other searches take.
-const KNOWN: u64 = 8;
-
 /// How long a worker waits that leaves all jobs to another, in microseconds.
 const SPARED: u64 = 200;
 
@@ -195,10 +192,8 @@ impl<'a, J: Run> Worker<'a, J> {
                 if keeps {
                     self.share(signals, &watch);
                 }
-                if !keeps || visits > KNOWN {
-                    self.pace
-                        .note(finding.prefix().len(), finding.outcome(), visits);
-                }
+                self.pace
+                    .note(finding.prefix().len(), finding.outcome(), visits);
                 self.post(rt, actor, Searched { job, finding, run })
             }
             Ok(_) => Turn::Ended(Cause::Turns),
