@@ -10,9 +10,8 @@ ghost use Rattle.dancing_links.specs.Trail.{HasRoomAll, IsMiddle, KeysUncoveredA
 
 use crate::cover::{cover, piece_of, purify, restore};
 use crate::keys::turn_mark;
-use crate::layout::Layout;
+use crate::layout::{Layout, Rows};
 use crate::link::Link;
-use crate::place::Place;
 
 /// A node gives its item its colour: where none did before, the item is covered. Answers the new top of the trail.
 #[inline(never)]
@@ -24,10 +23,9 @@ fn give(
     trail: &mut [u32],
     top: usize,
     node: usize,
-    colour: u16,
 ) -> usize
     requires node { (layout.now.heads + layout.now.heads ≤ node + 1) × (node < layout.now.tails) }
-    requires colour { (0 < colour) × (colour ≡ colour_at layout.now node) }
+    requires colour { 0 < colour_at layout.now node }
     requires linked { IsLinked layout.now links.old }
     requires keys { length keys.old + 1 ≡ layout.now.heads }
     requires commits { IsCommits layout.now commits.old }
@@ -50,7 +48,7 @@ fn give(
     let is_first = commits[item] == 0;
     commits[item] = commits[item].wrapping_add(1);
     if is_first {
-        purify(layout, links, keys, trail, top, item, colour)
+        purify(layout, links, keys, trail, top, node)
     } else {
         top
     }
@@ -108,7 +106,7 @@ pub fn commit(
     if colour == 0 {
         cover(layout, links, keys, trail, top, layout.item_at(node))
     } else {
-        give(layout, links, keys, commits, trail, top, node, colour)
+        give(layout, links, keys, commits, trail, top, node)
     }
 }
 
@@ -228,12 +226,13 @@ pub fn cover_others(
         (take result trail.new) }
     ensures top { result ≤ length trail.new }
 {
-    let places: &[Place] = layout.places();
+    let places = layout.places();
+    let rows = Rows { layout, places };
     let mut top = top;
-    let mut other = layout.right_among(places, node);
+    let mut other = rows.right_of(node);
     while other != node {
         top = commit(layout, links, keys, commits, trail, top, other);
-        other = layout.right_among(places, other);
+        other = rows.right_of(other);
     }
     top
 }
@@ -251,11 +250,12 @@ fn uncommit_others(layout: &Layout, keys: &mut [u32], commits: &mut [u32], node:
     ensures commits { committed layout.now commits.new
         (others layout.now node) ≡ commits.old }
 {
-    let places: &[Place] = layout.places();
-    let mut other = layout.right_among(places, node);
+    let places = layout.places();
+    let rows = Rows { layout, places };
+    let mut other = rows.right_of(node);
     while other != node {
         uncommit(layout, keys, commits, other);
-        other = layout.right_among(places, other);
+        other = rows.right_of(other);
     }
 }
 

@@ -12,8 +12,8 @@ use Rattle.dancing_links.proofs.commit.cover_others.Goals as goal
 pub loop-other-init : goal.loop-other-init
 loop-other-init c =
     let cs = c.args.layout.now in
-    let t = c.right_among-other.ensures.table in
-    let start = round_start cs c.args.node c.right_among-other.result t (omega (arith, c.requires.node.0, t.some)) c.requires.node.1 c.right_among-other.ensures.right in
+    let t = c.right_of-other.ensures.table in
+    let start = round_start cs c.args.node c.right_of-other.result t (omega (arith, c.requires.node.0, t.some)) c.requires.node.1 c.right_of-other.ensures.right in
     let P : List ℕ → Type 0 = λ nodes. IsLeft cs c.args.links.now c.args.links.now (others cs c.args.node) nodes c.args.keys.now c.args.keys.now (take c.args.top c.args.trail.now) (take c.args.top c.args.trail.now) c.args.commits.now c.args.commits.now in
     let R : List ℕ → Type 0 = λ nodes. HasRoomAll cs c.args.links.now (covering cs c.args.commits.now nodes) (take c.args.top c.args.trail.now) (length c.args.trail.now) in
     record {
@@ -27,7 +27,7 @@ loop-other-init c =
 
 pub loop-other-smaller : goal.loop-other-smaller
 loop-other-smaller c =
-    let step = round_step c.args.layout.now c.args.node c.loop-other.other c.right_among-other-in-loop-other.result c.right_among-other.ensures.table c.loop-other.invariant.round c.loop-other-test.true c.right_among-other-in-loop-other.ensures.right in
+    let step = round_step c.args.layout.now c.args.node c.loop-other.other c.right_of-other-in-loop-other.result c.right_of-other.ensures.table c.loop-other.invariant.round c.loop-other-test.true c.right_of-other-in-loop-other.ensures.right in
     omega (arith, step.fewer)
 
 pub loop-other-preserved : goal.loop-other-preserved
@@ -35,9 +35,9 @@ loop-other-preserved c =
     let cs = c.args.layout.now in
     let all = others cs c.args.node in
     let other : ℕ = c.loop-other.other in
-    let next : ℕ = c.right_among-other-in-loop-other.result in
-    let t = c.right_among-other.ensures.table in
-    let on = round_step cs c.args.node other next t c.loop-other.invariant.round c.loop-other-test.true c.right_among-other-in-loop-other.ensures.right in
+    let next : ℕ = c.right_of-other-in-loop-other.result in
+    let t = c.right_of-other.ensures.table in
+    let on = round_step cs c.args.node other next t c.loop-other.invariant.round c.loop-other-test.true c.right_of-other-in-loop-other.ensures.right in
     let left : List ℕ = to_come cs c.args.node next in
     let P : List ℕ → Type 0 = λ nodes. IsLeft cs c.args.links.now c.loop-other.links all nodes c.args.keys.now c.loop-other.keys (take c.args.top c.args.trail.now) (take c.loop-other.top c.loop-other.trail) c.args.commits.now c.loop-other.commits in
     let step = left_step cs c.args.links.now c.loop-other.links c.commit-top.new.links all left c.args.keys.now c.loop-other.keys c.commit-top.new.keys (take c.args.top c.args.trail.now) (take c.loop-other.top c.loop-other.trail) (take c.commit-top.result c.commit-top.new.trail) c.args.commits.now c.loop-other.commits other t c.commit-top.ensures.links c.commit-top.ensures.keys c.commit-top.ensures.trail (subst P on.come c.loop-other.invariant.left) in
@@ -85,6 +85,6 @@ commit-top-requires-clause-room c =
     let cs = c.args.layout.now in
     let other : ℕ = c.loop-other.other in
     let next : ℕ = (place_at cs c.loop-other.other).right in
-    let on = round_step cs c.args.node other next c.right_among-other.ensures.table c.loop-other.invariant.round c.loop-other-test.true refl in
+    let on = round_step cs c.args.node other next c.right_of-other.ensures.table c.loop-other.invariant.round c.loop-other-test.true refl in
     let U : List ℕ → Type 0 = λ nodes. HasRoomAll cs c.loop-other.links (covering cs c.loop-other.commits nodes) (take c.loop-other.top c.loop-other.trail) (length c.loop-other.trail) in
     room_first cs c.loop-other.links c.loop-other.commits (to_come cs c.args.node next) (take c.loop-other.top c.loop-other.trail) other (length c.loop-other.trail) (subst U on.come c.loop-other.invariant.room)
