@@ -2,11 +2,12 @@
 
 ghost use Rattle.std.specs.Prelude.{◌≡◌, ◌<◌, ◌≤◌, ◌+◌, ◌∷◌, [], drop, length, take};
 ghost use Rattle.std.specs.List.{All};
+ghost use Rattle.dancing_links.specs.Board.{board, CoversNodes, HasRoomFor, IsLawful, UncoversNodes};
 ghost use Rattle.dancing_links.specs.Columns.{column_of, colour_at, IsLinked, IsOptionNode};
-ghost use Rattle.dancing_links.specs.Committing.{IsCommits, HasRoomNext, Recommits, commit, uncommit, committed, covering};
-ghost use Rattle.dancing_links.specs.Keys.{KeysCoveredAll, turned};
-ghost use Rattle.dancing_links.specs.Covering.{nodes_by, others, CoversAll};
-ghost use Rattle.dancing_links.specs.Trail.{HasRoomAll, IsMiddle, KeysUncoveredAll, TrailsAll, UncoversAll};
+ghost use Rattle.dancing_links.specs.Committing.{IsCommits, HasRoomNext, Recommits, uncommit, committed, covering};
+ghost use Rattle.dancing_links.specs.Keys.{turned};
+ghost use Rattle.dancing_links.specs.Covering.{nodes_by, others};
+ghost use Rattle.dancing_links.specs.Trail.{IsMiddle};
 
 use crate::cover::{cover, piece_of, purify, restore};
 use crate::keys::turn_mark;
@@ -26,22 +27,13 @@ fn give(
 ) -> usize
     requires node { (layout.now.heads + layout.now.heads ≤ node + 1) × (node < layout.now.tails) }
     requires colour { 0 < colour_at layout.now node }
-    requires linked { IsLinked layout.now links.old }
-    requires keys { length keys.old + 1 ≡ layout.now.heads }
-    requires commits { IsCommits layout.now commits.old }
-    requires top { top ≤ length trail.old }
-    requires room { HasRoomAll layout.now links.old
-        (covering layout.now commits.old (node ∷ [])) (take top trail.old)
-        (length trail.old) }
+    requires lawful { IsLawful layout.now
+        (board links.old keys.old commits.old (take top trail.old)) }
+    requires room { HasRoomFor layout.now (node ∷ []) links.old commits.old trail.old top }
     ensures linked { IsLinked layout.now links.new }
-    ensures links { CoversAll layout.now links.old
-        (covering layout.now commits.old (node ∷ [])) links.new }
-    ensures keys { KeysCoveredAll layout.now links.old
-        (covering layout.now commits.old (node ∷ [])) keys.old keys.new }
-    ensures commits { commits.new ≡ commit layout.now commits.old node }
-    ensures trail { TrailsAll layout.now links.old
-        (covering layout.now commits.old (node ∷ [])) (take top trail.old)
-        (take result trail.new) }
+    ensures covers { CoversNodes layout.now (node ∷ [])
+        (board links.old keys.old commits.old (take top trail.old))
+        (board links.new keys.new commits.new (take result trail.new)) }
     ensures top { result ≤ length trail.new }
 {
     let item = layout.item_at(node);
@@ -84,22 +76,13 @@ pub fn commit(
     node: usize,
 ) -> usize
     requires node { (layout.now.heads + layout.now.heads ≤ node + 1) × (node < layout.now.tails) }
-    requires linked { IsLinked layout.now links.old }
-    requires keys { length keys.old + 1 ≡ layout.now.heads }
-    requires commits { IsCommits layout.now commits.old }
-    requires top { top ≤ length trail.old }
-    requires room { HasRoomAll layout.now links.old
-        (covering layout.now commits.old (node ∷ [])) (take top trail.old)
-        (length trail.old) }
+    requires lawful { IsLawful layout.now
+        (board links.old keys.old commits.old (take top trail.old)) }
+    requires room { HasRoomFor layout.now (node ∷ []) links.old commits.old trail.old top }
     ensures linked { IsLinked layout.now links.new }
-    ensures links { CoversAll layout.now links.old
-        (covering layout.now commits.old (node ∷ [])) links.new }
-    ensures keys { KeysCoveredAll layout.now links.old
-        (covering layout.now commits.old (node ∷ [])) keys.old keys.new }
-    ensures commits { commits.new ≡ commit layout.now commits.old node }
-    ensures trail { TrailsAll layout.now links.old
-        (covering layout.now commits.old (node ∷ [])) (take top trail.old)
-        (take result trail.new) }
+    ensures covers { CoversNodes layout.now (node ∷ [])
+        (board links.old keys.old commits.old (take top trail.old))
+        (board links.new keys.new commits.new (take result trail.new)) }
     ensures top { result ≤ length trail.new }
 {
     let colour = layout.colour_at(node);
@@ -137,15 +120,13 @@ pub fn uncover_one(
     node: usize,
 )
     requires node { (layout.now.heads + layout.now.heads ≤ node + 1) × (node < layout.now.tails) }
-    requires linked { IsLinked layout.now links.old }
-    requires keys { length keys.old + 1 ≡ layout.now.heads }
-    requires commits { IsCommits layout.now commits.old }
+    requires lawful { IsLawful layout.now
+        (board links.old keys.old commits.old trail.now) }
     requires trail { All (IsOptionNode layout.now) trail.now }
     ensures linked { IsLinked layout.now links.new }
-    ensures links { UncoversAll layout.now links.old
-        (covering layout.now commits.new (node ∷ [])) trail.now links.new }
-    ensures keys { KeysUncoveredAll layout.now links.old
-        (covering layout.now commits.new (node ∷ [])) trail.now keys.old keys.new }
+    ensures uncovers { UncoversNodes layout.now (node ∷ [])
+        (board links.old keys.old commits.old trail.now)
+        (board links.new keys.new commits.new []) }
     ensures commits { commits.new ≡ uncommit layout.now commits.old node }
 {
     // (for what the getter says: that the table is lawful)
@@ -171,9 +152,8 @@ pub fn recommit(
     requires next { (layout.now.heads + layout.now.heads ≤ next + 1) × (next < layout.now.tails) }
     requires column { column_of layout.now next
         ≡ column_of layout.now last }
-    requires linked { IsLinked layout.now links.old }
-    requires keys { length keys.old + 1 ≡ layout.now.heads }
-    requires commits { IsCommits layout.now commits.old }
+    requires lawful { IsLawful layout.now
+        (board links.old keys.old commits.old (take top trail.old)) }
     requires start { (start ≤ top) × (top ≤ length trail.old) }
     requires trail { All (IsOptionNode layout.now) (drop start (take top trail.old)) }
     requires room { HasRoomNext layout.now links.old commits.old
@@ -205,25 +185,13 @@ pub fn cover_others(
     node: usize,
 ) -> usize
     requires node { (layout.now.heads + layout.now.heads ≤ node + 1) × (node < layout.now.tails) }
-    requires linked { IsLinked layout.now links.old }
-    requires keys { length keys.old + 1 ≡ layout.now.heads }
-    requires commits { IsCommits layout.now commits.old }
-    requires top { top ≤ length trail.old }
-    requires room { HasRoomAll layout.now links.old
-        (covering layout.now commits.old (others layout.now node)) (take top trail.old)
-        (length trail.old) }
+    requires lawful { IsLawful layout.now
+        (board links.old keys.old commits.old (take top trail.old)) }
+    requires room { HasRoomFor layout.now (others layout.now node) links.old commits.old trail.old top }
     ensures linked { IsLinked layout.now links.new }
-    ensures links { CoversAll layout.now links.old
-        (covering layout.now commits.old (others layout.now node))
-        links.new }
-    ensures keys { KeysCoveredAll layout.now links.old
-        (covering layout.now commits.old (others layout.now node))
-        keys.old keys.new }
-    ensures commits { commits.new
-        ≡ committed layout.now commits.old (others layout.now node) }
-    ensures trail { TrailsAll layout.now links.old
-        (covering layout.now commits.old (others layout.now node)) (take top trail.old)
-        (take result trail.new) }
+    ensures covers { CoversNodes layout.now (others layout.now node)
+        (board links.old keys.old commits.old (take top trail.old))
+        (board links.new keys.new commits.new (take result trail.new)) }
     ensures top { result ≤ length trail.new }
 {
     let places = layout.places();
@@ -270,17 +238,13 @@ pub fn uncover_others(
     node: usize,
 )
     requires node { (layout.now.heads + layout.now.heads ≤ node + 1) × (node < layout.now.tails) }
-    requires linked { IsLinked layout.now links.old }
-    requires keys { length keys.old + 1 ≡ layout.now.heads }
-    requires commits { IsCommits layout.now commits.old }
+    requires lawful { IsLawful layout.now
+        (board links.old keys.old commits.old trail.now) }
     requires trail { All (IsOptionNode layout.now) trail.now }
     ensures linked { IsLinked layout.now links.new }
-    ensures links { UncoversAll layout.now links.old
-        (covering layout.now commits.new (others layout.now node)) trail.now
-        links.new }
-    ensures keys { KeysUncoveredAll layout.now links.old
-        (covering layout.now commits.new (others layout.now node)) trail.now
-        keys.old keys.new }
+    ensures uncovers { UncoversNodes layout.now (others layout.now node)
+        (board links.old keys.old commits.old trail.now)
+        (board links.new keys.new commits.new []) }
     ensures kept { IsCommits layout.now commits.new }
     ensures commits { committed layout.now commits.new
         (others layout.now node) ≡ commits.old }
@@ -303,25 +267,13 @@ pub fn cover_from(
     node: usize,
 ) -> (usize, usize)
     requires node { (layout.now.heads + layout.now.heads ≤ node + 1) × (node < layout.now.tails) }
-    requires linked { IsLinked layout.now links.old }
-    requires keys { length keys.old + 1 ≡ layout.now.heads }
-    requires commits { IsCommits layout.now commits.old }
-    requires top { top ≤ length trail.old }
-    requires room { HasRoomAll layout.now links.old
-        (covering layout.now commits.old (nodes_by layout.now node)) (take top trail.old)
-        (length trail.old) }
+    requires lawful { IsLawful layout.now
+        (board links.old keys.old commits.old (take top trail.old)) }
+    requires room { HasRoomFor layout.now (nodes_by layout.now node) links.old commits.old trail.old top }
     ensures linked { IsLinked layout.now links.new }
-    ensures links { CoversAll layout.now links.old
-        (covering layout.now commits.old (nodes_by layout.now node))
-        links.new }
-    ensures keys { KeysCoveredAll layout.now links.old
-        (covering layout.now commits.old (nodes_by layout.now node))
-        keys.old keys.new }
-    ensures commits { commits.new
-        ≡ committed layout.now commits.old (nodes_by layout.now node) }
-    ensures trail { TrailsAll layout.now links.old
-        (covering layout.now commits.old (nodes_by layout.now node)) (take top trail.old)
-        (take result.1 trail.new) }
+    ensures covers { CoversNodes layout.now (nodes_by layout.now node)
+        (board links.old keys.old commits.old (take top trail.old))
+        (board links.new keys.new commits.new (take result.1 trail.new)) }
     ensures middle { IsMiddle layout.now links.old
         (covering layout.now commits.old (node ∷ [])) (take top trail.old) result.0 }
     ensures top { result.1 ≤ length trail.new }
@@ -344,17 +296,13 @@ pub fn uncover_from(
     node: usize,
 )
     requires node { (layout.now.heads + layout.now.heads ≤ node + 1) × (node < layout.now.tails) }
-    requires linked { IsLinked layout.now links.old }
-    requires keys { length keys.old + 1 ≡ layout.now.heads }
-    requires commits { IsCommits layout.now commits.old }
+    requires lawful { IsLawful layout.now
+        (board links.old keys.old commits.old trail.now) }
     requires trail { All (IsOptionNode layout.now) trail.now }
     ensures linked { IsLinked layout.now links.new }
-    ensures links { UncoversAll layout.now links.old
-        (covering layout.now commits.new (nodes_by layout.now node)) trail.now
-        links.new }
-    ensures keys { KeysUncoveredAll layout.now links.old
-        (covering layout.now commits.new (nodes_by layout.now node)) trail.now
-        keys.old keys.new }
+    ensures uncovers { UncoversNodes layout.now (nodes_by layout.now node)
+        (board links.old keys.old commits.old trail.now)
+        (board links.new keys.new commits.new []) }
     ensures kept { IsCommits layout.now commits.new }
     ensures commits { committed layout.now commits.new
         (nodes_by layout.now node) ≡ commits.old }
