@@ -20,7 +20,7 @@ is_before s t (inl l) = or_left (nat_lt s.node t.node) (s.node == t.node && nat_
 is_before s t (inr p) = or_right (nat_lt s.node t.node) (s.node == t.node && nat_lt s.incarnation t.incarnation)
     (and_from (s.node == t.node) (nat_lt s.incarnation t.incarnation) (eq-eqb s.node t.node p.0) (lt-ltb s.incarnation t.incarnation p.1))
 
--- an earlier run of a node is before a later one
+-- an earlier incarnation of a node is before a later one
 pub earlier_run : (s t : Site) → s.node ≡ t.node → s.incarnation < t.incarnation → site_before s t ≡ true
 earlier_run s t node run = is_before s t (inr (node, run))
 

@@ -17,7 +17,7 @@ use Rattle.run_book.specs.Sites.{RunName}
 abbrev pub entry_of : {problem : Problem} {old new : World} (node : ℕ) (event : Event) → SiteActs problem old node event new → SiteEntry
 entry_of node event step = record { site = step.before.site; entry = record { event = event; reply = step.reply; packets = step.out } }
 
--- The steps of sites in a run are these entries, in their order. A node restarts only directly before an entry of its new run.
+-- The steps of sites in a run are these entries, in their order. A node restarts only directly before an entry of its new incarnation.
 pub data Plays (problem : Problem) (start : World) : (end : World) → Run problem start end → List SiteEntry → Type 0 where
   nothing : Plays problem start start stay []
   acts : {old : World} (new : World) (run : Run problem start old) (merged : List SiteEntry) → Plays problem start old run merged

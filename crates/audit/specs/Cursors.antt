@@ -37,16 +37,16 @@ abbrev pub IsSent : List Book → List ℕ → Event → Type 0
 IsSent books cursors (Deliver packet) = PutOut books cursors packet
 IsSent books cursors _ = ⊤
 
--- the book is of an earlier run of the site's node, and has an entry left
+-- the book is of an earlier incarnation of the site's node, and has an entry left
 abbrev pub HoldsUp : Site → Book → ℕ → Type 0
 HoldsUp site book cursor = (book.site.node ≡ site.node) × (book.site.incarnation < site.incarnation) × (cursor < length book.entries)
 
--- no book of an earlier run of the site's node has an entry left
+-- no book of an earlier incarnation of the site's node has an entry left
 abbrev pub IsTurn : List Book → List ℕ → Site → Type 0
 IsTurn books cursors site =
     (k : ℕ) (book : Book) (cursor : ℕ) → slice_get books k ≡ Some book → slice_get cursors k ≡ Some cursor → HoldsUp site book cursor → ⊥
 
--- where an entry of a book is merged, no book of an earlier run of its node has an entry left
+-- where an entry of a book is merged, no book of an earlier incarnation of its node has an entry left
 abbrev pub HaveBegun : List Book → List ℕ → Type 0
 HaveBegun books cursors =
     (k : ℕ) (book : Book) (cursor : ℕ) → slice_get books k ≡ Some book → slice_get cursors k ≡ Some cursor → 0 < cursor

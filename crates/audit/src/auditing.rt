@@ -3,11 +3,12 @@ ghost use Rattle.audit.specs.Audits.{AllHaveBooks, IsCause};
 ghost use Rattle.run_book.specs.Books.{are_distinct};
 ghost use Rattle.audit.specs.Checked.{AreSafe};
 
-use crate::cursors::{least_left, merge};
 use crate::laws::merged_books_are_a_run;
+use crate::least_left::least_left;
+use crate::merge::merge;
 use crate::missing::{are_of_run, missing_book};
 use crate::packet_index::PacketIndex;
-use crate::path::Path;
+use crate::waiting_path::WaitingPath;
 use run_book::{Book, Run};
 use spawn_frame::Site;
 use std::alloc::Global;
@@ -28,7 +29,7 @@ pub enum Unclean {
 }
 
 /// Merges the books of one run, no two of one site, as far as possible: an entry that delivers a packet waits until an equal
-/// packet was put out, and a later run of a node waits until the books of its earlier runs are used up.
+/// packet was put out, and a later incarnation of a node waits until the books of its earlier ones are used up.
 ///
 /// `Clean`: a merge of all books is a run of the world, with restarts put in. So each cut of it is safe, and the registry's book
 /// answers what that run publishes, which is right. Otherwise the cause, the first that applies in the order of `Unclean`.
@@ -49,7 +50,7 @@ pub fn audit<J: Run>(alloc: Global, books: &[Book<J>]) -> Result<Clean, Unclean>
     let Ok(index) = PacketIndex::new(alloc, books) else {
         return Err(Unclean::Memory);
     };
-    let Ok(mut path) = Path::new(alloc, books.len()) else {
+    let Ok(mut path) = WaitingPath::new(alloc, books.len()) else {
         return Err(Unclean::Memory);
     };
     merge(books, &mut cursors, &index, &mut path);

@@ -2,11 +2,14 @@
 #![tactic(auto)]
 
 mod auditing;
-mod cursors;
 mod laws;
+mod least_left;
+mod merge;
 mod missing;
 mod packet_index;
-mod path;
+mod put_out;
+mod taking;
+mod waiting_path;
 
 pub use auditing::{Clean, Unclean, audit};
 pub use laws::merged_books_are_a_run;

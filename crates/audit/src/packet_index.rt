@@ -1,7 +1,7 @@
 ghost use Rattle.std.specs.Prelude.{◌≡◌, true};
 ghost use Rattle.audit.specs.Cursors.{PutOut};
 
-use crate::path::Stop;
+use crate::waiting_path::AwaitedBook;
 use packet_wire::{Body, Packet};
 use run_book::{Book, Entry, Run};
 use spawn_frame::{Cause, Sibling, Site};
@@ -36,9 +36,9 @@ impl Spot {
     }
 
     /// Its book, up to and with its entry.
-    pub fn stop(&self) -> Stop {
-        Stop {
-            book: self.book as usize,
+    pub fn awaited_book(&self) -> AwaitedBook {
+        AwaitedBook {
+            number: self.book as usize,
             until: self.place as usize + 1,
         }
     }

@@ -214,6 +214,13 @@ fn agains(entries: &[Entry]) -> usize {
         .count()
 }
 
+/// What a node runs in: what comes to it, and how far it may go.
+#[derive(Drop)]
+struct Surroundings {
+    link: ScriptLink,
+    room: Room,
+}
+
 /// Runs a node at a cell.
 fn play<J: Run + Send + Sync, N: CellName + Send + Sync, R: Threads + Wait + Clock + Sync>(
     rt: &R,
@@ -221,8 +228,7 @@ fn play<J: Run + Send + Sync, N: CellName + Send + Sync, R: Threads + Wait + Clo
     cell_parts: CellParts,
     core: NodeCore,
     problem: &Problem,
-    link: ScriptLink,
-    room: Room,
+    surroundings: Surroundings,
 ) -> Option<Ended>
     requires here { cell_parts ≡ record { table = N.table; name = N.name } }
     requires parts { N.parts ≡ 18446744073709551615 }
@@ -233,6 +239,7 @@ fn play<J: Run + Send + Sync, N: CellName + Send + Sync, R: Threads + Wait + Clo
     requires problem { problem.now ≡ J.run.problem }
 {
     cores_step_as_their_sites();
+    let Surroundings { link, room } = surroundings;
     let cell: SiteCell<J, NodeCore, N> = SiteCell::new(cell_parts, core, room.entries);
     let plan = Plan {
         turns: room.turns,
@@ -274,9 +281,10 @@ fn run_at<R: Threads + Wait + Clock + Sync>(
         script: Arc::new(alloc, script)?,
         failures: 0,
     };
+    let surroundings = Surroundings { link, room };
     let cell_parts = CellParts::new(alloc)?;
     let core = NodeCore::start(alloc, problem, HERE, 2, 1)?;
-    let ended = play::<Brand, Brand, _>(rt, alloc, cell_parts, core, problem, link, room);
+    let ended = play::<Brand, Brand, _>(rt, alloc, cell_parts, core, problem, surroundings);
     Ok(ended)
 }
 

@@ -183,7 +183,6 @@ fn play<J: Run + Send + Sync, N: CellName + Send + Sync, R: Threads + Wait + Clo
     core: NodeCore,
     problem: &Problem,
     link: SlowLink,
-    meeting: &Meeting,
 ) -> Option<usize>
     requires here { cell_parts ≡ record { table = N.table; name = N.name } }
     requires parts { N.parts ≡ 18446744073709551615 }
@@ -195,7 +194,8 @@ fn play<J: Run + Send + Sync, N: CellName + Send + Sync, R: Threads + Wait + Clo
 {
     cores_step_as_their_sites();
     let cell: SiteCell<J, NodeCore, N> = SiteCell::new(cell_parts, core, 10_000);
-    run_beside(rt, alloc, &cell, problem, link, meeting)
+    let meeting = Arc::try_clone(&link.meeting).ok()?;
+    run_beside(rt, alloc, &cell, problem, link, &meeting)
 }
 
 /// The node's link, which is slow.
@@ -224,7 +224,7 @@ fn run_slow<R: Threads + Wait + Clock + Sync>(
     let link = slow_link(alloc, meeting)?;
     let cell_parts = CellParts::new(alloc)?;
     let core = NodeCore::start(alloc, problem, HERE, 1, 1000)?;
-    let came = play::<Brand, Brand, _>(rt, alloc, cell_parts, core, problem, link, meeting);
+    let came = play::<Brand, Brand, _>(rt, alloc, cell_parts, core, problem, link);
     Ok(came)
 }
 

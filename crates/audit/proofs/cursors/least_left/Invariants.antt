@@ -1,5 +1,0 @@
-use Rattle.audit.specs.Cursors.{IsLeastBelow}
-use Rattle.audit.proofs.cursors.least_left.Given as goal
-
-abbrev pub invariant-loop-k : goal.invariant-loop-k
-invariant-loop-k g l = IsLeastBelow l.books l.cursors l.k l.least
