@@ -59,7 +59,7 @@ enum Act {
     Over,
 }
 
-/// What is done, how many numbers it is told, none where nothing is taken up, and how many packets it puts out.
+/// What is done, how long the prefix is that is taken up, none where nothing is, and how many packets are put out.
 type Row = (Act, Option<usize>, usize);
 
 static ROWS: [Row; 9] = [
@@ -138,7 +138,7 @@ fn does<J: Run, C: Core + Drop, N: CellName, R: Abort + Wait>(
     }
 }
 
-/// Whether the receipt is of this place in the book, and tells what the row says.
+/// Whether the receipt is of this place in the book, and has what the row says.
 fn is_told<N: CellName>(receipt: &Receipt<N>, place: u64, (_, taken, packets): &Row) -> bool {
     let told = match &receipt.reply {
         Reply::Taken(_, prefix) => Some(prefix.as_slice().len()),
