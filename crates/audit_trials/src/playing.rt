@@ -122,8 +122,7 @@ pub fn play<J: Run, R: Wait>(
 {
     sites_begin();
     let problem = player.problem();
-    // (for what the getter says: that the problem is lawful)
-    let _items = problem.items();
+    problem.recall_rules();
     let cell_parts = CellParts::new(alloc)?;
     if site.node == 0 {
         let core = Registry::start(alloc, problem, nodes)?;

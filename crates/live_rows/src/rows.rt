@@ -109,8 +109,7 @@ impl<'a> LiveRows<'a> {
     pub fn words(&self) -> usize
         ensures { result ≤ 1024 }
     {
-        // (for what the getter says: that there are at most 20,000 options)
-        let _options = self.sets.problem().options();
+        self.sets.problem().recall_rules();
         self.sets.words()
     }
 

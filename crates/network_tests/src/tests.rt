@@ -93,7 +93,7 @@ fn in_memory(rt: HostRuntime) -> Result<(), Fail> {
     Ok(())
 }
 
-/// What a site without an address, and a twin, tell of failures.
+/// Whether a send to a site without an address counts as a failure of its own link, and not of a twin.
 fn fails_once<L: Link, R: Wait>(rt: &R, mut link: L) -> Result<bool, Fail> {
     let sent = link.send(rt, 2, &[1]);
     let twin = link.twin()?;

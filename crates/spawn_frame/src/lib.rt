@@ -3,6 +3,7 @@
 
 mod building;
 mod cause;
+mod changes;
 mod child;
 mod child_result;
 mod children;
@@ -13,6 +14,7 @@ mod guest_view;
 mod guests;
 mod heard;
 mod inlet;
+mod jobs;
 mod kinds;
 mod next;
 mod out;
@@ -21,6 +23,7 @@ mod pages;
 mod path;
 mod prefix_part;
 mod prefixes;
+mod results;
 mod serials;
 mod siblings;
 mod site;
@@ -30,6 +33,7 @@ mod table;
 mod unit;
 mod unit_view;
 mod units;
+mod views;
 mod wanted;
 mod work;
 

@@ -42,24 +42,24 @@ enum Act {
     Greet,
     /// A node asks the registry for work.
     Ask,
-    /// The registry hears a Hello of node 1 in this run.
+    /// The registry hears a Hello of node 1 in this incarnation.
     Hello(u32),
-    /// The registry hears a Steal of node 1 in this run.
+    /// The registry hears a Steal of node 1 in this incarnation.
     Steal(u32),
-    /// Node 1 in its first run is given the root by the registry.
+    /// Node 1 in its first incarnation is given the root by the registry.
     Give,
-    /// Node 1 in its first run hears from the registry that there is no work, which that never says.
+    /// Node 1 in its first incarnation hears from the registry that there is no work, which the registry never says.
     NoWork,
 }
 
-/// A run: what happens at the sites that have a book, the runs of node 1 in their order, and what an audit finds.
+/// A run: what happens at the sites that have a book, the incarnations of node 1 in their order, and what an audit finds.
 struct Row {
     root: Option<&'static [Act]>,
     runs: &'static [(u32, &'static [Act])],
     found: Result<Clean, Unclean>,
 }
 
-/// Node 1 in its first run, and in its second.
+/// Node 1 in its first incarnation, and in its second.
 const FIRST: Site = Site {
     node: 1,
     incarnation: 1,
@@ -87,7 +87,7 @@ static ROWS: [Row; 13] = [
         runs: &[],
         found: Err(Unclean::MissingBook(FIRST)),
     },
-    // two runs of a node
+    // two incarnations of a node
     Row {
         root: Some(&[Act::Hello(2), Act::Hello(1)]),
         runs: &[(1, &[Act::Greet]), (2, &[Act::Greet])],
@@ -131,7 +131,7 @@ static ROWS: [Row; 13] = [
         runs: &[(1, &[Act::Greet, Act::Give])],
         found: Err(Unclean::NeverSent(REGISTRY, 1)),
     },
-    // a later run behind an earlier one that waits, and a lesser site that waits on the later one
+    // a later incarnation behind an earlier one that waits, and a lesser site that waits on the later one
     Row {
         root: Some(&[Act::Hello(1)]),
         runs: &[(1, &[Act::Greet, Act::NoWork]), (2, &[Act::Greet])],
@@ -144,7 +144,7 @@ static ROWS: [Row; 13] = [
     },
 ];
 
-/// Node 1 in this run.
+/// Node 1 in this incarnation.
 fn node(incarnation: u32) -> Site
     ensures node { result.node ≡ 1 }
     ensures run { result.incarnation ≡ incarnation }
@@ -267,14 +267,13 @@ fn registry<J: Run, R: Wait>(
     requires nodes { J.run.nodes ≡ 2 }
 {
     sites_begin();
-    // (for what the getter says: that the problem is lawful)
-    let _items = problem.items();
+    problem.recall_rules();
     let cell_parts = CellParts::new(alloc).ok()?;
     let core = Registry::start(alloc, problem, NODES).ok()?;
     root_book::<J, Brand, R>(rt, alloc, cell_parts, core, acts)
 }
 
-/// Node 1 begins in this run, and all this is done there.
+/// Node 1 starts with this incarnation, and all this is done there.
 fn node_in<J: Run, R: Wait>(
     rt: &R,
     alloc: Global,
@@ -289,8 +288,7 @@ fn node_in<J: Run, R: Wait>(
         return None;
     }
     sites_begin();
-    // (for what the getter says: that the problem is lawful)
-    let _items = problem.items();
+    problem.recall_rules();
     let cell_parts = CellParts::new(alloc).ok()?;
     let core = NodeCore::start(alloc, problem, node(incarnation), NODES, 1000).ok()?;
     node_book::<J, Brand, R>(rt, alloc, cell_parts, core, acts)

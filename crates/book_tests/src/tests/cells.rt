@@ -386,8 +386,7 @@ fn play_in<R: Threads + Wait + Sync>(
     script: Script,
     limit: u64,
 ) -> Result<Option<bool>, Fail> {
-    // (for what the getter says: that the problem is lawful)
-    let _items = problem.items();
+    problem.recall_rules();
     let cell_parts = CellParts::new(alloc)?;
     let core = NodeCore::start(alloc, problem, HERE, 1, 1000)?;
     let right = play::<Brand, Brand, _>(rt, alloc, cell_parts, core, limit, script);

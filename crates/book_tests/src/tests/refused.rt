@@ -59,7 +59,7 @@ enum Act {
     Over,
 }
 
-/// What is done, how many numbers it is told, none where nothing is taken up, and how many packets it puts out.
+/// What is done, how long the prefix is that is taken up, none where nothing is, and how many packets are put out.
 type Row = (Act, Option<usize>, usize);
 
 static ROWS: [Row; 9] = [
@@ -138,7 +138,7 @@ fn does<J: Run, C: Core + Drop, N: CellName, R: Abort + Wait>(
     }
 }
 
-/// Whether the receipt is of this place in the book, and tells what the row says.
+/// Whether the receipt is of this place in the book, and has what the row says.
 fn is_told<N: CellName>(receipt: &Receipt<N>, place: u64, (_, taken, packets): &Row) -> bool {
     let told = match &receipt.reply {
         Reply::Taken(_, prefix) => Some(prefix.as_slice().len()),
@@ -194,8 +194,7 @@ fn play_in<R: Abort + Wait>(
     alloc: Global,
     problem: &Problem,
 ) -> Result<Option<bool>, Fail> {
-    // (for what the getter says: that the problem is lawful)
-    let _items = problem.items();
+    problem.recall_rules();
     let cell_parts = CellParts::new(alloc)?;
     let core = NodeCore::start(alloc, problem, HERE, 2, 1000)?;
     let right = play::<Brand, Brand, _>(rt, alloc, cell_parts, core);

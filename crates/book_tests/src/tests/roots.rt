@@ -1,4 +1,4 @@
-//! A cell of the registry, and what its book tells.
+//! A cell of the registry, and the answer in its book.
 
 ghost use Rattle.std.specs.Prelude.{◌≡◌};
 ghost use Rattle.run_book.specs.Sites.{opening_of, IsRun, MayBeginIn};
@@ -81,7 +81,7 @@ fn hears_all<J: Run, C: Core + Drop, N: CellName, R: Wait>(
     hears(rt, cell, seat, receipts, found(alloc)?)
 }
 
-/// Whether the registry's book tells the cover.
+/// Whether the answer in the registry's book is the cover.
 fn tells<J: Run>(alloc: Global, book: &Book<J>, problem: &Problem) -> Option<bool>
     requires registry { book.now.site.node ≡ 0 }
     requires problem { problem.now ≡ J.run.problem }
@@ -91,7 +91,7 @@ fn tells<J: Run>(alloc: Global, book: &Book<J>, problem: &Problem) -> Option<boo
     Some(distinct_sites(slice::from_ref(book)) && answer == Some(published))
 }
 
-/// Plays a search of one node at a cell of the registry; whether its book tells the cover.
+/// Plays a search of one node at a cell of the registry; whether the answer in its book is the cover.
 fn play<J: Run, N: CellName, R: Wait>(
     rt: &R,
     alloc: Global,
@@ -117,8 +117,7 @@ fn play<J: Run, N: CellName, R: Wait>(
 
 /// Plays it at a cell of the registry in a run of this problem.
 fn play_in<R: Wait>(rt: &R, alloc: Global, problem: &Problem) -> Result<Option<bool>, Fail> {
-    // (for what the getter says: that the problem is lawful)
-    let _items = problem.items();
+    problem.recall_rules();
     let cell_parts = CellParts::new(alloc)?;
     let core = Registry::start(alloc, problem, 1)?;
     let right = play::<Brand, Brand, _>(rt, alloc, cell_parts, core, problem);

@@ -25,7 +25,7 @@ fn tells_apart<R: Abort, T: Clone + Debug + Drop + PartialEq>(rt: &R, value: &T,
     assert!(rt; copy != *other, "{copy:?} {other:?}");
 }
 
-/// A run of a node.
+/// An incarnation of a node.
 fn site(node: u8, incarnation: u32) -> Site {
     Site { node, incarnation }
 }
@@ -39,7 +39,7 @@ fn found<R: Abort>(rt: &R, alloc: Global, fuel: u64) -> Finding {
         .expect(rt, "memory")
 }
 
-/// The incarnations that the registry tells a node.
+/// The packet by which the registry sends a node the incarnations that it knows.
 fn members<R: Abort>(rt: &R, alloc: Global, node: u8) -> Packet {
     let known = Incarnations::from_vec(vec![in alloc; 1, 256].expect(rt, "memory"));
     Packet {
@@ -49,7 +49,7 @@ fn members<R: Abort>(rt: &R, alloc: Global, node: u8) -> Packet {
     }
 }
 
-/// Copies of the arrivals of what the registry tells nodes.
+/// Copies of the arrivals of such packets.
 fn deliveries<R: Abort>(rt: &R, alloc: Global) {
     let one = Event::Deliver(members(rt, alloc, 1));
     tells_apart(rt, &one, &Event::Deliver(members(rt, alloc, 2)));

@@ -342,7 +342,8 @@ pub static STOLEN: [Row; 18] = [
     (Again, Ignored, &[]),
 ];
 
-/// A thief restarts: its child is redone, and the result of its earlier run refused; a child that is done tells what it holds.
+/// A thief restarts: its child is redone, and the result of its earlier incarnation is refused. Where the child is done, the answer is
+/// the result that it has.
 pub static RUNS_ANEW: [Row; 15] = [
     ROOT_GIVEN,
     (Take, Taken(&[]), &[]),
@@ -414,7 +415,7 @@ pub static TOGETHER: [Row; 18] = [
         Ignored,
         &[],
     ),
-    // What is there isn't looked at.
+    // Where all are there already, nothing of them is looked at.
     (
         Hears(NODE_2, Said::GiveMany(&[0, 2], &[(3, 1, 1), (4, 1, 6)])),
         Ignored,
@@ -435,7 +436,7 @@ pub static TOGETHER: [Row; 18] = [
     (Take, Taken(&[0, 3]), &[]),
     (Take, Taken(&[1]), &[]),
     (Take, Idle, &[]),
-    // Those of an earlier run are ignored, whatever their prefixes.
+    // Those of an earlier incarnation are ignored, whatever their prefixes.
     (Hears(REGISTRY, Said::Members(&[1, 2])), Moved, &[]),
     (
         Hears(NODE_2, Said::GiveMany(&[0, 2], &[(7, 1, 4), (8, 1, 6)])),
@@ -509,7 +510,7 @@ pub static SHARED: [Row; 15] = [
     (Hears(NODE_2, Said::Steal), Moved, &[(NODE_2, Said::NoWork)]),
 ];
 
-/// A guest's owner wants it no more: all below is aborted, and the thief below told.
+/// A guest's owner no longer wants it: all below is aborted, and the thief of what is out below is told.
 pub static DROPPED: [Row; 9] = [
     ROOT_GIVEN,
     (Hears(REGISTRY, Said::Give(0, 1, &[])), Ignored, &[]),
@@ -549,7 +550,7 @@ pub static STALE: [Row; 7] = [
     ),
 ];
 
-/// Of two faults that an event meets the first is told, and what is ignored isn't looked at.
+/// Of two faults that an event meets the first is reported, and what is ignored isn't looked at.
 pub static FIRST_FAULTS: [Row; 13] = [
     ROOT_GIVEN,
     (Hears(REGISTRY, Said::Give(0, 1, &[0, 2])), Ignored, &[]),

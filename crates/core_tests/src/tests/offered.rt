@@ -15,7 +15,7 @@ use spawn_frame::{Cause, ChildName, Job, Site, Unit};
 use std::alloc::Global;
 use std::process::Abort;
 
-/// The registry, and nodes in runs of theirs, some of which never are.
+/// The registry, and nodes in incarnations of theirs, some of which never start.
 const REGISTRY: Site = Site {
     node: 0,
     incarnation: 1,
@@ -114,7 +114,7 @@ enum Move {
     Greet(u8),
     /// The packet of this number, of all that were put out, arrives at the site that it is for.
     Deliver(usize),
-    /// Node 2 is restarted in its second run.
+    /// Node 2 is restarted in its second incarnation.
     Restart,
 }
 
@@ -401,7 +401,7 @@ impl<'a> Stage<'a> {
         }
     }
 
-    /// A packet arrives at the site that it is for, or at another run of that node.
+    /// A packet arrives at the site that it is for, or at another incarnation of that node.
     fn deliver<R: Abort>(&mut self, rt: &R, number: usize) -> Result<Reply, ActFault> {
         let packet = self.packets.get(number).expect(rt, "a packet");
         let copy = packet.clone().expect(rt, "memory");
@@ -433,7 +433,7 @@ impl<'a> Stage<'a> {
     /// Lets all these happen.
     fn happen_all<R: Abort>(&mut self, rt: &R, moves: &[Move]) {
         for one in moves {
-            // (some are refused in their run)
+            // (in some of the runs an event is refused, so no answer is a fault here)
             let _answer = self.happen(rt, *one);
         }
     }

@@ -19,7 +19,7 @@ use spawn_frame::{Cause, Job, Site, Unit};
 use std::alloc::Global;
 use std::process::Abort;
 
-/// The registry, and nodes in runs of theirs.
+/// The registry, and nodes in incarnations of theirs.
 const REGISTRY: Site = Site {
     node: 0,
     incarnation: 1,

@@ -148,7 +148,7 @@ fn fault_place(fault: ReadFault) -> (usize, usize) {
         ReadFault::TooManyOptions(line) => (11, line),
         ReadFault::TooManyNodes(line) => (12, line),
         ReadFault::TooManyColours(line) => (13, line),
-        // (no text of these takes so much)
+        // (none of these texts takes that much memory)
         ReadFault::Memory => (21, 0),
     }
 }
@@ -221,7 +221,7 @@ impl Counter for Answers<'_> {
                 add(counts, 4, 1);
                 add(counts, 5, *line);
             }
-            // (no text of these takes so much)
+            // (none of these texts takes that much memory)
             Err(AnswerFault::Memory) => {}
         }
     }

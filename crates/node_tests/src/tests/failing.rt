@@ -108,7 +108,7 @@ fn a_send_that_fails_is_a_loss(rt: HostRuntime) -> Result<(), Fail> {
     let Some((cause, losses, dropped, failures)) = came else {
         return Err(Fail::new("memory ran out"));
     };
-    // (the registry may fall silent before)
+    // (the registry may fall silent before the turns are over)
     assert!(rt; matches!(cause, Cause::Silence | Cause::Turns) && dropped == 0);
     assert!(rt; losses > 0 && losses == failures, "{losses} and {failures}");
     Ok(())

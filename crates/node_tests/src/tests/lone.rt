@@ -275,8 +275,7 @@ fn run_at<R: Threads + Wait + Clock + Sync>(
     script: Script,
     room: Room,
 ) -> Result<Option<Ended>, Fail> {
-    // (for what the getter says: that the problem is lawful)
-    let _items = problem.items();
+    problem.recall_rules();
     let link = ScriptLink {
         script: Arc::new(alloc, script)?,
         failures: 0,

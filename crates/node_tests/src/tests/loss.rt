@@ -5,10 +5,10 @@ use super::runs::{BARE, COVERED, Came, Row, Told, run};
 use std::test::Fail;
 use udp_node::{Link, Open, Plan};
 
-/// How many runs of each row there are over links in memory; most are to tell an answer, and none a wrong one.
+/// How many runs of each row there are over links in memory; most have to publish an answer, and none a wrong one.
 static RUNS: u64 = 5;
 
-/// How many of ten runs are to tell an answer at least.
+/// How many of ten runs have to publish an answer at least.
 static MOST: u64 = 8;
 
 /// Three nodes with two workers each; a search makes one visit.

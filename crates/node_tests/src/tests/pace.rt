@@ -24,7 +24,7 @@ static AMONG_OTHERS: [Step; 30] = [
     Asks(3, true, 200),
     // nothing is known of its length, nor of the next
     Asks(3, false, 200),
-    // a small job that is spent tells nothing
+    // from a small job that is spent nothing is learnt
     Ends(4, Outcome::Spent, 200),
     Asks(4, false, 200),
     // one of length 4 is thought to take eight times as much: 30,000, which isn't too much; and of length 6 8 visits more

@@ -81,7 +81,7 @@ fn an_idle_worker_stays(rt: HostRuntime) -> Result<(), Fail> {
     Ok(())
 }
 
-/// The packets of the registry to this run of the node, and one to its next run.
+/// The packets of the registry to this incarnation of the node, and one to its next.
 fn packets(alloc: Global) -> Result<Script, AllocError> {
     let mut script = Script::new(alloc);
     let (serial, attempt, cause) = (0, 1, Refusal::Unknown);

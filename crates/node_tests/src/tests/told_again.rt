@@ -113,7 +113,7 @@ fn others(alloc: Global) -> Result<Script, AllocError> {
     Ok(script)
 }
 
-/// The registry tells the incarnations that it knows, three times the first and three times others.
+/// The registry sends the incarnations that it knows, three times the first and three times others.
 fn members(alloc: Global) -> Result<Script, AllocError> {
     let mut script = Script::new(alloc);
     for other in [1, 2, 2, 2, 1, 1] {

@@ -31,12 +31,12 @@ fn told(alloc: Global, links: &Links, item: u16) -> Result<String, AllocError> {
     format!(in alloc; "{} {options:?} {next:?}", links.count(item))
 }
 
-/// Whether an item is told so.
+/// Whether the links say this of an item.
 fn tells<R: Abort>(rt: &R, alloc: Global, links: &Links, item: u16, expected: &str) -> bool {
     told(alloc, links, item).expect(rt, "memory").as_str() == expected
 }
 
-/// Whether each item, from 0 on, is told so.
+/// Whether the links say this of each item, from 0 on.
 fn are_told<R: Abort>(rt: &R, alloc: Global, links: &Links, expected: &[&str]) -> bool {
     for (item, line) in (0..7u16).zip(expected) {
         if !tells(rt, alloc, links, item, line) {

@@ -16,7 +16,7 @@ const REGISTRY: Site = Site {
     incarnation: 1,
 };
 
-/// A late run of a node.
+/// A late incarnation of a node.
 const NODE: Site = Site {
     node: 16,
     incarnation: 4_294_967_295,

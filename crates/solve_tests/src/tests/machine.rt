@@ -40,7 +40,8 @@ struct Odd {
     has_received: bool,
 }
 
-/// What the registry tells this node where there is no work, though it was not asked. None for the registry, or where memory runs out.
+/// The packet by which the registry says to this node that there is no work, though it was not asked. None for the registry, or where
+/// memory runs out.
 fn forged(alloc: Global, node: u8) -> Option<Vec<u8>> {
     let packet = Packet {
         from: Site {
@@ -228,7 +229,7 @@ fn no_links_and_no_run(rt: HostRuntime) {
     );
 }
 
-/// Texts, with what is written, what is told beside it, and the status.
+/// Texts, with what is written to the output, what to the errors, and the status.
 static TEXTS: [(&str, &str, &str, u8); 2] = [
     ("a a\n", "", "refused: DuplicateItem line 1\n", 3),
     ("a | x\nx\na\n", "cover 1\na\n", "ignored 1\n", 0),

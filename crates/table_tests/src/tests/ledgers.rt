@@ -44,7 +44,7 @@ enum Step {
     Redo(u32, Result<(), RedoFault>),
     /// A site returns a serial, an attempt and a result: the result that is accepted, or why it is refused.
     Return(Site, (u32, u32, Came), Result<Came, Cause>),
-    /// A node says that it runs so.
+    /// A node says which incarnation it is.
     Hello(Site, Result<(), LearnFault>),
     /// Incarnations are learnt; whether anything changes.
     Learn(&'static [u32], bool),
@@ -83,7 +83,7 @@ const NODE_3: Site = Site {
     incarnation: 1,
 };
 
-/// Later runs of the nodes.
+/// Later incarnations of the nodes.
 const NODE_1_ANEW: Site = Site {
     node: 1,
     incarnation: 2,
@@ -137,12 +137,12 @@ fn told(alloc: Global, table: &Table, unit: Unit) -> Result<String, AllocError> 
     }
 }
 
-/// Whether a unit is told so.
+/// Whether the table says this of a unit.
 fn shows<R: Abort>(rt: &R, alloc: Global, table: &Table, unit: Unit, expected: &str) -> bool {
     told(alloc, table, unit).expect(rt, "memory").as_str() == expected
 }
 
-/// Whether the own children are told so, one after another.
+/// Whether the table says this of the own children, one after another.
 fn shows_children<R: Abort>(rt: &R, alloc: Global, table: &Table, expected: &str) -> bool {
     let mut text = String::new(alloc);
     for serial in 0..table.issued() {
@@ -266,13 +266,13 @@ fn finishes<R: Abort>(rt: &R, ledger: &mut Ledger, unit: Unit, outs: &mut Vec<Ou
     ledger.finish(unit, outs).is_ok()
 }
 
-/// What is answered where one of the nodes says that it runs so.
+/// What is answered where one of the nodes says which incarnation it is.
 fn greeted<R: Abort>(rt: &R, ledger: &mut Ledger, from: Site) -> Result<(), LearnFault> {
     assert!(rt; from.node <= ledger.nodes());
     ledger.learn_hello(from)
 }
 
-/// Whether a node's run is known so.
+/// Whether this is the known incarnation of a node.
 fn knows(ledger: &Ledger, node: u8, incarnation: u32) -> bool {
     node <= ledger.nodes() && ledger.known(node) == incarnation
 }
@@ -533,7 +533,7 @@ static TOGETHER: &[Step] = &[
     ReceiveBoth(NODE_2, [0, 1], false),
     Shows(Guest(OF_2, 1), "S1"),
     Shows(Guest(NEXT_OF_2, 1), "X1"),
-    // Both are new of another node, and of an earlier run neither comes.
+    // Both are new of another node, and of an earlier incarnation neither comes.
     ReceiveBoth(NODE_3, [4, 5], true),
     Receive(OF_3, false),
     Learn(&[1, 2, 1], true),
@@ -577,7 +577,7 @@ static MEMBERS: &[Step] = &[
     Known(1, 1),
     Known(2, 2),
     Known(3, 1),
-    // An earlier run gets and gives nothing, and a guest comes once.
+    // An earlier incarnation gets and gives nothing, and a guest comes once.
     Give(NODE_2, &[]),
     Give(NODE_2_ANEW, &[(3, 2, &[7, 5])]),
     Receive(LAST_OF_2, false),
@@ -734,7 +734,7 @@ fn the_root_is_redone_once_its_thief_began_anew(rt: HostRuntime) {
 
 static ROOT_GREETED: &[Step] = &[
     Give(NODE_1, &[(0, 1, &[])]),
-    // The thief's own run, and a later run of another node, redo nothing.
+    // The thief's own incarnation, and a later one of another node, redo nothing.
     Hello(NODE_1, Ok(())),
     Hello(NODE_2_ANEW, Ok(())),
     Children("O1"),
@@ -745,7 +745,7 @@ static ROOT_GREETED: &[Step] = &[
     Known(1, 2),
     Give(NODE_1, &[]),
     Give(NODE_1_ANEW, &[(0, 2, &[])]),
-    // An earlier run that is heard late is passed over.
+    // An earlier incarnation that is heard of late is passed over.
     Hello(NODE_1, Ok(())),
     Children("O2"),
     Known(1, 2),

@@ -88,7 +88,7 @@ fn told(alloc: Global, table: &Table, unit: Unit) -> Result<String, AllocError> 
     format!(in alloc; "{} {letter} {prefix:?}", view.attempt)
 }
 
-/// Whether a unit is told so.
+/// Whether the table says this of a unit.
 fn shows<R: Abort>(rt: &R, alloc: Global, table: &Table, unit: Unit, expected: &str) -> bool {
     told(alloc, table, unit).expect(rt, "memory").as_str() == expected
 }
@@ -134,7 +134,7 @@ fn opens(table: &Table, keys: &[(ChildName, Attempt)]) -> bool {
     table.open_count() == keys.len()
 }
 
-/// Whether the table tells what a step says of jobs, guests and thieves.
+/// Whether the table agrees with what a step says of jobs, guests and thieves.
 fn is_told(table: &Table, step: &Step) -> bool {
     match *step {
         Outs(count) => table.outs() == count,

@@ -60,7 +60,7 @@ pub fn is_result(child_result: &ChildResult, came: Came) -> bool {
     }
 }
 
-/// A run of a node.
+/// An incarnation of a node.
 pub fn site(node: u8, incarnation: u32) -> Site {
     Site { node, incarnation }
 }

@@ -131,7 +131,7 @@ fn body_of<R: Abort>(rt: &R, alloc: Global, place: usize) -> Body {
     }
 }
 
-/// A run of a node.
+/// An incarnation of a node.
 fn site(node: u8, incarnation: u32) -> Site {
     Site { node, incarnation }
 }
@@ -324,7 +324,7 @@ fn place_of<R: Abort>(rt: &R, alloc: Global, bytes: &[u8]) -> usize {
         Err(Kind) => 4,
         Err(Field) => 5,
         Err(Trailing) => 6,
-        // (no packet of these takes so much)
+        // (none of these packets takes that much memory)
         Err(WireFault::Memory) => 7,
     }
 }

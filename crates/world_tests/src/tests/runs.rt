@@ -28,7 +28,7 @@ pub const FOUR_WAYS: &str = "a\na\na\na\na\n";
 /// Seven items and six options, with one cover: options 3, 4 and 0.
 pub const LETTERS: &str = "a b c d e f g\nc e\na d g\nb c f\na d f\nb g\nd e g\n";
 
-/// The registry, and nodes in runs of theirs.
+/// The registry, and nodes in incarnations of theirs.
 const REGISTRY: Site = Site {
     node: 0,
     incarnation: 1,

@@ -111,7 +111,7 @@ fn says_of_child(body: &Body, said: Said) -> bool {
     }
 }
 
-/// The same of a body that tells a result.
+/// The same of a body that carries a result.
 fn says_result(body: &Body, said: Said) -> bool {
     match (body, said) {
         (
