@@ -2,7 +2,10 @@
 #![tactic(auto)]
 
 mod actor;
+mod barren_prefix;
 mod entered_gifts;
+mod exchange;
+mod few_visits;
 mod hand;
 mod node;
 mod node_end;

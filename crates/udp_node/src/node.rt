@@ -5,6 +5,7 @@ ghost use Rattle.std.specs.Vec.{vec_capacity};
 ghost use Rattle.site_network.specs.declared.cause.Cause.TheVariants.{Memory};
 
 use crate::actor::Actor;
+use crate::exchange::Exchange;
 use crate::node_end::NodeEnd;
 use crate::receiver::Receiver;
 use crate::seat_receipts::SeatReceipts;
@@ -275,6 +276,9 @@ pub(crate) fn run_threads<
     let (Ok((outbox, drain)), Ok(twin)) = (Outbox::new(alloc), link.twin()) else {
         return NodeEnd::starved(alloc);
     };
+    let Ok(exchange) = Exchange::new(alloc, plan.workers) else {
+        return NodeEnd::starved(alloc);
+    };
     let signals = Signals::new(u64::from(plan.workers) + 1, plan.workers > 0);
     let shared = Shared {
         cell,
@@ -282,6 +286,7 @@ pub(crate) fn run_threads<
         outbox: &outbox,
         gate,
         signals: &signals,
+        exchange: &exchange,
         ending,
         plan,
         is_last,
