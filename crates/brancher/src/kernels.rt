@@ -18,7 +18,7 @@ use crate::watch::Watch;
 use choices::Branching;
 use cover_problem::Problem;
 use dancing_links::Links;
-use live_rows::LiveRows;
+use live_sets::LiveSets;
 use std::alloc::{AllocError, Global};
 
 impl<'a> Kernel<'a> {
@@ -34,7 +34,7 @@ impl<'a> Kernel<'a> {
         ensures { IfOk result (λ kernel. (choices_in kernel).problem ≡ tables.now) }
     {
         match tables.sets() {
-            Some(sets) => Ok(Kernel::Rows(LiveRows::build(alloc, sets)?)),
+            Some(sets) => Ok(Kernel::Rows(LiveSets::build(alloc, sets)?)),
             None => Kernel::linked(alloc, tables.problem()),
         }
     }

@@ -14,8 +14,8 @@ ghost use Rattle.spawn_frame.specs.Units.{change_at, guest_in, insert_guest, las
 
 use crate::building::new_guest;
 use crate::child_result::ChildResult;
+use crate::ghost_prefix::GhostPrefix;
 use crate::gift::Gift;
-use crate::path::Path;
 use crate::site::{Attempt, ChildName, Site};
 use crate::spawn_fault::SpawnFault;
 use crate::status::Status;
@@ -149,7 +149,7 @@ impl Table {
     }
 
     /// The prefix of a unit that is there, for proofs alone.
-    fn path(&self, unit: Unit) -> Path
+    fn path(&self, unit: Unit) -> GhostPrefix
         requires { IsSome (unit_of self.now unit) }
         ensures { result.options ≡ prefix_in (unit_of self.now unit) }
     {

@@ -12,7 +12,7 @@ ghost use Rattle.steal_return.specs.Shares.{gifts_of};
 use crate::given::Given;
 use crate::guests::is_open;
 use crate::ledger::Ledger;
-use abort_tree::{Out, Reach};
+use abort_tree::{Descendants, Out};
 use spawn_frame::{Attempt, ChildName, ChildResult, Gift, Sibling, Site, Status, Unit};
 use std::alloc::AllocError;
 
@@ -121,7 +121,7 @@ impl Ledger {
         if !is_open(&self.table, name, attempt) {
             return Ok(false);
         }
-        let reach = Reach::below(self.alloc, &self.table, &[Unit::Guest(name, attempt)])?;
+        let reach = Descendants::below(self.alloc, &self.table, &[Unit::Guest(name, attempt)])?;
         list.reserve(reach.outs(&self.table))?;
         self.table.drop_guest(name, attempt);
         reach.abort(&mut self.table, list);

@@ -14,7 +14,7 @@ ghost use Rattle.steal_return.specs.Ledger.{ledger_gets, ledger_split, opening_l
 ghost use Rattle.steal_return.specs.Steals.{is_older};
 
 use crate::known::Known;
-use abort_tree::{Out, Reach, parents_decide};
+use abort_tree::{Descendants, Out, parents_decide};
 use spawn_frame::{ChildResult, Heard, Job, Site, SpawnFault, Status, Table, Unit};
 use std::alloc::{AllocError, Global};
 use std::marker::Model;
@@ -181,7 +181,7 @@ impl Ledger {
         ensures list { OnErr result (list.new.items ≡ list.old.items) }
     {
         let came = self.frame_result(unit)?;
-        let reach = Reach::below(self.alloc, &self.table, &[unit])?;
+        let reach = Descendants::below(self.alloc, &self.table, &[unit])?;
         list.reserve(reach.outs(&self.table))?;
         self.table.set_result(unit, came);
         parents_decide();

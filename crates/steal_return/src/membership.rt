@@ -13,7 +13,7 @@ use crate::known::Known;
 use crate::learn_fault::LearnFault;
 use crate::ledger::Ledger;
 use crate::told::Told;
-use abort_tree::{Out, Reach, parents_decide};
+use abort_tree::{Descendants, Out, parents_decide};
 use spawn_frame::{Site, Unit};
 
 impl Ledger {
@@ -63,7 +63,7 @@ impl Ledger {
         if !self.differs(&known, &lost) {
             return Ok(false);
         }
-        let reach = Reach::below(self.alloc, &self.table, &lost)?;
+        let reach = Descendants::below(self.alloc, &self.table, &lost)?;
         list.reserve(reach.outs(&self.table))?;
         redo_lost(&mut self.table, &known);
         drop_guests(&mut self.table, &lost);

@@ -27,6 +27,6 @@ pub use run::{RunEnd, run_sites};
 pub use run_plan::RunPlan;
 pub use seat_receipts::SeatReceipts;
 pub use site_network::{
-    Cause, Gate, Link, LinkFault, MemoryLink, Open, Pace, Plan, Quota, SiteEnd, Sockets, Taken,
+    EndCause, Gate, Link, LinkFault, MemoryLink, Open, Pace, Plan, Quota, SiteEnd, Sockets, Taken,
     UdpLink, Wires, bound,
 };

@@ -16,7 +16,7 @@ use node_core::{ActFault, Core, Event, Reply};
 use rand_core::utils::NextWord;
 use rand_pcg::Pcg32;
 use run_book::{BookFault, CellName, Run, Step};
-use site_network::{Cause, Gate, Pace, Plan, SearchWatch, Turn};
+use site_network::{EndCause, Gate, Pace, Plan, SearchWatch, Turn};
 use spawn_frame::Job;
 use std::alloc::{AllocError, Global};
 use std::marker::PhantomData;
@@ -96,7 +96,7 @@ impl<'a, J: Run> Worker<'a, J> {
         actor: &mut Actor<'_, J, C, N, G>,
     ) -> Turn {
         if actor.shared.signals.is_over() {
-            return Turn::Ended(Cause::Turns);
+            return Turn::Ended(EndCause::Turns);
         }
         match mem::replace(&mut self.hand, Hand::Nothing) {
             Hand::Nothing if actor.shared.signals.is_spared(self.number) => spared(rt),
@@ -208,11 +208,11 @@ impl<'a, J: Run> Worker<'a, J> {
                     .note(finding.prefix().len(), finding.outcome(), visits);
                 self.post(rt, actor, Searched { job, finding, run })
             }
-            Ok(_) => Turn::Ended(Cause::Turns),
+            Ok(_) => Turn::Ended(EndCause::Turns),
             Err(prefix) => {
                 let prefix = Numbers::from_vec(prefix);
                 self.hand = Hand::Search(SearchJob::new(job, prefix, limit));
-                Turn::Ended(Cause::Memory)
+                Turn::Ended(EndCause::Memory)
             }
         }
     }
@@ -295,7 +295,7 @@ impl<'a, J: Run> Worker<'a, J> {
                 self.hand = Hand::Search(SearchJob::new(job, prefix, fuel));
                 Turn::Used
             }
-            Err(_) => Turn::Ended(Cause::Memory),
+            Err(_) => Turn::Ended(EndCause::Memory),
         }
     }
 
@@ -356,9 +356,9 @@ fn nap(idle: u32, workers: u64) -> u64 {
 /// Whether a thread ends whose event was refused, and why.
 pub fn after_refusal(refused: Refused) -> Turn {
     match refused {
-        Refused::NoRoom => Turn::Ended(Cause::Memory),
-        Refused::Cell(BookFault::BookFull(_)) => Turn::Ended(Cause::BookFull),
-        Refused::Cell(BookFault::Core(ActFault::Over)) => Turn::Ended(Cause::Over),
+        Refused::NoRoom => Turn::Ended(EndCause::Memory),
+        Refused::Cell(BookFault::BookFull(_)) => Turn::Ended(EndCause::BookFull),
+        Refused::Cell(BookFault::Core(ActFault::Over)) => Turn::Ended(EndCause::Over),
         Refused::Cell(BookFault::Memory) => Turn::Starved,
         Refused::Cell(_) => Turn::Used,
     }
