@@ -5,7 +5,7 @@ ghost use Rattle.spawn_frame.specs.Aborts.{AbortsBelow, reached};
 ghost use Rattle.spawn_frame.specs.Names.{same_unit};
 ghost use Rattle.spawn_frame.specs.Units.{table_own};
 
-use crate::reach::Reach;
+use crate::descendants::Descendants;
 use spawn_frame::{Out, Table, Unit};
 use std::alloc::{AllocError, Global};
 
@@ -27,8 +27,8 @@ pub fn abort_below(
     ensures table { OnErr result (table.new ≡ table.old) }
     ensures unchanged { OnErr result (list.new.items ≡ list.old.items) }
 {
-    let reach = Reach::below(alloc, table, &[unit])?;
-    list.reserve(reach.outs(table))?;
-    reach.abort(table, list);
+    let descendants = Descendants::below(alloc, table, &[unit])?;
+    list.reserve(descendants.outs(table))?;
+    descendants.abort(table, list);
     Ok(())
 }

@@ -13,7 +13,7 @@ pub fn parents_decide()
         MarksBelow top new marks }
 {}
 
-/// Two tests that pass the same units reach the same.
+/// Two tests that pass the same units find the same descendants.
 pub fn same_tops_reach_the_same()
     ensures { (first second : WorkUnit → Bool) (old new : List Entry) →
         ((unit : WorkUnit) → first unit ≡ second unit) → AbortsBelow first old new →

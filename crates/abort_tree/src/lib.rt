@@ -2,10 +2,10 @@
 #![tactic(auto)]
 
 mod abort;
+mod descendants;
 mod laws;
-mod reach;
 
 pub use abort::abort_below;
+pub use descendants::Descendants;
 pub use laws::{parents_decide, same_tops_reach_the_same};
-pub use reach::Reach;
 pub use spawn_frame::Out;

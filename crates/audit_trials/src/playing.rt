@@ -9,8 +9,8 @@ use crate::player::Player;
 use node_core::{Core, Event, NodeCore};
 use root_registry::Registry;
 use run_book::{
-    Book, BookFault, CellName, CellParts, Run, Seat, SiteCell, Stub, cores_step_as_their_sites,
-    sites_begin,
+    Book, BookFault, CellName, CellParts, ReceiptToken, Run, Seat, SiteCell,
+    cores_step_as_their_sites, sites_begin,
 };
 use spawn_frame::Site;
 use std::alloc::Global;
@@ -23,21 +23,21 @@ const ENTRIES: u64 = 1_000_000;
 /// How many children a node names at most.
 const NAMES: u32 = 1_000_000;
 
-/// A player's event at a cell: the stub of its receipt; none where the core refuses it, or where it may not be handed to one.
+/// A player's event at a cell: the token of its receipt; none where the core refuses it, or where it may not be handed to one.
 fn happens<J: Run, C: Core + Drop, N: CellName, R: Wait>(
     rt: &R,
     player: &mut Player<'_, J>,
     cell: &SiteCell<J, C, N>,
     seat: &mut Seat<N>,
     event: Event,
-) -> Result<Option<Stub<N>>, TrialFault> {
+) -> Result<Option<ReceiptToken<N>>, TrialFault> {
     let Some(fit) = player.fit(event)? else {
         return Ok(None);
     };
     match cell.act_at(rt, seat, fit) {
         Ok(receipt) => {
-            let (stub, _entry) = receipt.into_parts();
-            Ok(Some(stub))
+            let (receipt_token, _entry) = receipt.into_parts();
+            Ok(Some(receipt_token))
         }
         Err((_event, BookFault::Memory)) => Err(TrialFault::Memory),
         Err((_event, _fault)) => Ok(None),
@@ -53,15 +53,15 @@ fn played<J: Run, C: Core + Drop, N: CellName, R: Wait>(
     events: Vec<Event>,
 ) -> Result<Book<J>, TrialFault> {
     let mut seats = Vec::with_capacity(alloc, 1)?;
-    let mut stubs = Vec::with_capacity(alloc, events.len())?;
+    let mut tokens = Vec::with_capacity(alloc, events.len())?;
     let mut seat = cell.seat(rt)?;
     for event in events {
-        if let Some(stub) = happens(rt, player, &cell, &mut seat, event)? {
-            stubs.push(stub)?;
+        if let Some(receipt_token) = happens(rt, player, &cell, &mut seat, event)? {
+            tokens.push(receipt_token)?;
         }
     }
     seats.push(seat)?;
-    cell.settle(seats, stubs).or(Err(TrialFault::Unexpected))
+    cell.settle(seats, tokens).or(Err(TrialFault::Unexpected))
 }
 
 /// The registry's book of these events, from its beginning.
@@ -122,8 +122,7 @@ pub fn play<J: Run, R: Wait>(
 {
     sites_begin();
     let problem = player.problem();
-    // (for what the getter says: that the problem is lawful)
-    let _items = problem.items();
+    problem.recall_rules();
     let cell_parts = CellParts::new(alloc)?;
     if site.node == 0 {
         let core = Registry::start(alloc, problem, nodes)?;

@@ -2,8 +2,8 @@
 use Rattle.std.specs.Prelude.{◌≡◌, ℕ, ◌<◌, List, Bool, true}
 use Rattle.cover_problem.specs.Search.{first, visits}
 use Rattle.choices.specs.Choices.{Choices}
-use Rattle.brancher.specs.declared.step.Step.{Step}
-use Rattle.brancher.specs.declared.step.Step.TheVariants.{On, End}
+use Rattle.brancher.specs.declared.search_step.SearchStep.{SearchStep}
+use Rattle.brancher.specs.declared.search_step.SearchStep.TheVariants.{On, End}
 use Rattle.brancher.specs.declared.visit.Visit.{Visit}
 use Rattle.brancher.specs.declared.visit.Visit.TheVariants.{Stopped}
 use Rattle.brancher.specs.Keeping.{IsEntered}
@@ -16,6 +16,6 @@ pub record IsEnding (may_stop : Bool) (root : Choices) (fuel : ℕ) (now : Choic
   pub stopped : (left : ℕ) → visit ≡ Stopped left → may_stop ≡ true
 
 -- from choices at which more was left it comes to these, with what is left, or it ends at them
-abbrev pub IsStep : Bool → Choices → ℕ → List ℕ → ℕ → Choices → Step → Type 0
+abbrev pub IsStep : Bool → Choices → ℕ → List ℕ → ℕ → Choices → SearchStep → Type 0
 IsStep may_stop root fuel entered before now (On left) = (left < before) × IsEntered root fuel entered now left
 IsStep may_stop root fuel entered before now (End visit) = IsEnding may_stop root fuel now visit

@@ -12,7 +12,7 @@ ghost use Rattle.brancher.specs.Visit.{IsVisit};
 
 use crate::branching::put_prefix;
 use crate::kept::Kept;
-use crate::step::Step;
+use crate::search_step::SearchStep;
 use crate::visit::{Visit, visit_prefix};
 use crate::watch::Watch;
 use choices::Branching;
@@ -59,8 +59,8 @@ fn visit_keeping<B: Branching, W: Watch>(
     let mut left = fuel;
     while left > 0 {
         match step(state, base, left, watch, kept) {
-            Step::On(rest) => left = rest,
-            Step::End(visit) => return visit,
+            SearchStep::On(rest) => left = rest,
+            SearchStep::End(visit) => return visit,
         }
     }
     Visit::Spent
@@ -74,7 +74,7 @@ fn step<B: Branching, W: Watch>(
     left: u64,
     watch: &mut W,
     kept: &mut Kept,
-) -> Step
+) -> SearchStep
     requires left { 0 < left }
     requires items { length (B.choices state.old).chosen
         ≤ base + length (B.choices state.old).branches }
@@ -88,21 +88,21 @@ fn step<B: Branching, W: Watch>(
 {
     state.problem();
     if is_due(watch, kept) && watch.look(state.chosen(), left) {
-        return Step::End(Visit::Stopped(left));
+        return SearchStep::End(Visit::Stopped(left));
     }
     if kept.is_beyond(state.chosen().len()) {
         return step_plainly(state, base, left, watch, kept);
     }
     let Some(item) = state.branch_item() else {
-        return Step::End(Visit::Found);
+        return SearchStep::End(Visit::Found);
     };
     kept.made(1);
     let Some((rest, chosen)) = pass(state, item, left, kept) else {
-        return Step::End(Visit::Spent);
+        return SearchStep::End(Visit::Spent);
     };
     watch.made(1, rest);
     if chosen {
-        Step::On(rest)
+        SearchStep::On(rest)
     } else {
         turn(state, base, rest, kept)
     }
@@ -130,7 +130,7 @@ fn step_plainly<B: Branching, W: Watch>(
     left: u64,
     watch: &mut W,
     kept: &mut Kept,
-) -> Step
+) -> SearchStep
     requires left { 0 < left }
     requires items { length (B.choices state.old).chosen
         ≤ base + length (B.choices state.old).branches }
@@ -155,11 +155,11 @@ fn step_plainly<B: Branching, W: Watch>(
             kept.made(left.saturating_sub(rest));
             watch.made(left.saturating_sub(rest), rest);
             kept.forget_from(depth);
-            Step::On(rest)
+            SearchStep::On(rest)
         }
-        Visit::Stopped(rest) => Step::End(Visit::Stopped(rest)),
-        Visit::Found => Step::End(Visit::Found),
-        Visit::Spent => Step::End(Visit::Spent),
+        Visit::Stopped(rest) => SearchStep::End(Visit::Stopped(rest)),
+        Visit::Found => SearchStep::End(Visit::Found),
+        Visit::Spent => SearchStep::End(Visit::Spent),
     }
 }
 
@@ -197,7 +197,7 @@ fn pass<B: Branching>(state: &mut B, item: u16, left: u64, kept: &mut Kept) -> O
 
 /// Goes on from choices that are barren with all below, or ends where these were all.
 #[inline(always)]
-fn turn<B: Branching>(state: &mut B, base: usize, left: u64, kept: &mut Kept) -> Step
+fn turn<B: Branching>(state: &mut B, base: usize, left: u64, kept: &mut Kept) -> SearchStep
     requires items { length (B.choices state.old).chosen
         ≤ base + length (B.choices state.old).branches }
     requires room { length (B.choices state.old).chosen < length kept.old.entered }
@@ -209,9 +209,9 @@ fn turn<B: Branching>(state: &mut B, base: usize, left: u64, kept: &mut Kept) ->
         × IsStep may_stop root fuel kept.new.entered before (B.choices state.new) result }
 {
     if turn_onward(state, base, left, kept) {
-        Step::On(left)
+        SearchStep::On(left)
     } else {
-        Step::End(Visit::Barren(left))
+        SearchStep::End(Visit::Barren(left))
     }
 }
 

@@ -51,8 +51,7 @@ impl Kept {
         ensures empty { IfOk result (λ kept. (key : List ℕ) (visits : ℕ) →
             Holds kept.states key visits → ⊥) }
     {
-        // (for what the getter says: that there are at most 1,000)
-        let _items = problem.items();
+        problem.recall_rules();
         let depths = problem.primary() + 1;
         let states = states_in(alloc, width, room)?;
         let entered = vec![in alloc; 0u64; depths]?;

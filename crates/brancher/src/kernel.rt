@@ -1,7 +1,7 @@
 //! What a searcher chooses its options in.
 
 use dancing_links::Links;
-use live_rows::LiveRows;
+use live_sets::LiveSets;
 
 /// What a searcher chooses its options in.
 #[derive(Drop)]
@@ -9,5 +9,5 @@ pub(crate) enum Kernel<'a> {
     /// Options as columns of linked nodes.
     Links(Links<'a>),
     /// Sets of live options, level by level.
-    Rows(LiveRows<'a>),
+    Rows(LiveSets<'a>),
 }

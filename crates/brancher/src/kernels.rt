@@ -1,6 +1,6 @@
 //! What a searcher asks of its kernel: each call goes on to whichever it is.
 
-ghost use Rattle.std.specs.Prelude.{◌≡◌, ◌≤◌, ℕ, true, IfOk};
+ghost use Rattle.std.specs.Prelude.{◌≡◌, ◌≤◌, ℕ, None, true, IfOk};
 ghost use Rattle.cover_problem.specs.Prefix.{is_prefix};
 ghost use Rattle.cover_problem.specs.Problem.{IsProblem};
 ghost use Rattle.cover_problem.specs.Search.{first, visits};
@@ -11,13 +11,14 @@ ghost use Rattle.brancher.specs.Visit.{IsVisit};
 use crate::keeping::visit_below_keeping;
 use crate::kept::Kept;
 use crate::kernel::Kernel;
+use crate::learning::learn_barren;
 use crate::tables::Tables;
 use crate::visit::{Visit, visit_below};
 use crate::watch::Watch;
 use choices::Branching;
 use cover_problem::Problem;
 use dancing_links::Links;
-use live_rows::LiveRows;
+use live_sets::LiveSets;
 use std::alloc::{AllocError, Global};
 
 impl<'a> Kernel<'a> {
@@ -33,7 +34,7 @@ impl<'a> Kernel<'a> {
         ensures { IfOk result (λ kernel. (choices_in kernel).problem ≡ tables.now) }
     {
         match tables.sets() {
-            Some(sets) => Ok(Kernel::Rows(LiveRows::build(alloc, sets)?)),
+            Some(sets) => Ok(Kernel::Rows(LiveSets::build(alloc, sets)?)),
             None => Kernel::linked(alloc, tables.problem()),
         }
     }
@@ -99,6 +100,22 @@ impl<'a> Kernel<'a> {
         match self {
             Kernel::Links(links) => visit_below_keeping(links, prefix, fuel, watch, kept),
             Kernel::Rows(rows) => visit_below_keeping(rows, prefix, fuel, watch, kept),
+        }
+    }
+
+    /// Puts a prefix in place of what is chosen, below which there is no cover, and keeps that, and how many visits it takes.
+    pub(crate) fn learn(&mut self, prefix: &[u16], count: u64, kept: &mut Kept)
+        requires prefix { is_prefix (choices_in self.old).problem prefix.now ≡ true }
+        requires barren { first (choices_in self.old).problem prefix.now ≡ None }
+        requires count { visits (choices_in self.old).problem prefix.now ≡ count }
+        requires kept { AreKept (kind_in self.old) (choices_in self.old).problem kept.old }
+        ensures problem { (choices_in self.new).problem ≡ (choices_in self.old).problem }
+        ensures kind { kind_in self.new ≡ kind_in self.old }
+        ensures kept { AreKept (kind_in self.old) (choices_in self.old).problem kept.new }
+    {
+        match self {
+            Kernel::Links(links) => learn_barren(links, prefix, count, kept),
+            Kernel::Rows(rows) => learn_barren(rows, prefix, count, kept),
         }
     }
 

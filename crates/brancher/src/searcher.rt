@@ -256,6 +256,33 @@ impl<'a> Searcher<'a> {
         Ok(Some((self.copied_into(room, prefix, fuel, outcome), made)))
     }
 
+    /// How many visits a search of a prefix takes below which there is no cover, where that is seen before the watch stops the search; none
+    /// where it isn't, or where there is one.
+    pub fn barren_visits<W: Watch>(&mut self, prefix: &[u16], watch: &mut W) -> Option<u64>
+        requires { is_prefix self.old.problem prefix.now ≡ true }
+        ensures problem { self.new.problem ≡ self.old.problem }
+        ensures barren { IfSome result (λ count. (first self.old.problem prefix.now ≡ None)
+            × (visits self.old.problem prefix.now ≡ count)) }
+    {
+        match self.visit(prefix, u64::MAX, watch) {
+            Visit::Barren(left) => Some(u64::MAX - left),
+            Visit::Found | Visit::Spent | Visit::Stopped(_) => None,
+        }
+    }
+
+    /// Keeps that there is no cover below a prefix, and how many visits a search of it takes, as if it had been searched. It does nothing where
+    /// no states are kept.
+    pub fn learn(&mut self, prefix: &[u16], count: u64)
+        requires prefix { is_prefix self.old.problem prefix.now ≡ true }
+        requires barren { first self.old.problem prefix.now ≡ None }
+        requires count { visits self.old.problem prefix.now ≡ count }
+        ensures { self.new.problem ≡ self.old.problem }
+    {
+        if let Some(kept) = &mut self.kept {
+            self.kernel.learn(prefix, count, kept);
+        }
+    }
+
     /// Whether it keeps states.
     pub fn keeps(&self) -> bool {
         self.kept.is_some()

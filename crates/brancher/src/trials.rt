@@ -11,13 +11,13 @@ ghost use Rattle.std.specs.Prelude.{◌<◌};
 use std::alloc::{AllocError, Global};
 
 /// How many looks a trial has.
-const TRIAL: u64 = 1_024;
+const TRIAL: u64 = 768;
 /// What a look costs, in visits.
 const COST: u64 = 3;
 /// Looks that cost so small a part of all visits are made in any case.
 const FREE_PART: u64 = 64;
 /// The first trials come after so many times as many visits as a trial has looks.
-const FIRST_PAUSE: u64 = 16;
+const FIRST_PAUSE: u64 = 20;
 /// The same where looks pay at almost all depths.
 const PAUSE_WHERE_ALL_PAY: u64 = 64;
 /// The most visits between two trials.

@@ -2,7 +2,7 @@
 
 use search_engines::Stopwatch;
 use std::time::{Clock, Duration};
-use udp_node::{Cause, SiteEnd};
+use udp_node::{EndCause, SiteEnd};
 
 /// Why a run has no answer, as far as the ends of its sites show it.
 #[derive(Clone, Copy)]
@@ -26,7 +26,7 @@ impl Reasons {
 
     /// Notes that a site has ended so. The first that didn't end with the search is kept, since the others end because of it.
     pub(crate) fn hear(&mut self, end: &SiteEnd) {
-        if end.cause != Cause::Over && self.first.is_none() {
+        if end.cause != EndCause::Over && self.first.is_none() {
             self.first = Some(reason_of(end));
         }
     }
@@ -52,14 +52,14 @@ impl Reasons {
 /// Why a site ended so, with what may help.
 fn reason_of(end: &SiteEnd) -> &'static str {
     match end.cause {
-        Cause::Over => "the search is over",
-        Cause::BookFull => "a book is full: try more --entries, or alone",
-        Cause::Faults => "a socket failed: try again, or alone",
-        Cause::Memory => "out of memory: try fewer --nodes or --workers",
-        Cause::Silence => "a site heard nothing for long: try again, or alone",
-        Cause::Turns if !end.is_manned => {
+        EndCause::Over => "the search is over",
+        EndCause::BookFull => "a book is full: try more --entries, or alone",
+        EndCause::Faults => "a socket failed: try again, or alone",
+        EndCause::Memory => "out of memory: try fewer --nodes or --workers",
+        EndCause::Silence => "a site heard nothing for long: try again, or alone",
+        EndCause::Turns if !end.is_manned => {
             "a thread could not be started: try fewer --nodes or --workers"
         }
-        Cause::Turns => "the turns of a site are over: try more --turns",
+        EndCause::Turns => "the turns of a site are over: try more --turns",
     }
 }

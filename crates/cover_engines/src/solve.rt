@@ -18,7 +18,7 @@ use std::marker::Brand;
 use std::sync::Wait;
 use std::thread::Threads;
 use std::time::{Clock, Duration};
-use udp_node::{Cause, Gate, Link, Plan, RunPlan, SiteEnd, run_sites};
+use udp_node::{EndCause, Gate, Link, Plan, RunPlan, SiteEnd, run_sites};
 
 /// After how many receives a site gives up that brought it no packet, or a node none of the registry.
 const QUIET: u64 = 6_000;
@@ -124,7 +124,9 @@ fn solve_within<
 
 /// Whether a site ended since it ran out of memory.
 fn has_starved(sites: &[SiteEnd]) -> bool {
-    sites.iter().any(|site| matches!(site.cause, Cause::Memory))
+    sites
+        .iter()
+        .any(|site| matches!(site.cause, EndCause::Memory))
 }
 
 /// Lets sites search the problem that the type names, writes what the registry published, and returns the status.

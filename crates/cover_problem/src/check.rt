@@ -57,7 +57,6 @@ pub fn check_cover(problem: &Problem, options: &[u16]) -> Verdict
     ensures exact { (result ≡ Verdict.Exact) ↔ ((is_distinct options.now ≡ true)
         × IsExactCover problem.now (is_in options.now)) }
 {
-    // (for what the getter says: that items are numbered below 1,000)
-    let _items = problem.items();
+    problem.recall_rules();
     verdict_on(problem, options)
 }

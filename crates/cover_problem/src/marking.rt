@@ -12,8 +12,7 @@ pub(crate) fn are_apart(problem: &Problem, options: &[u16]) -> bool
     requires { AreOptions problem.now options.now }
     ensures { result ≡ are_apart problem.now options.now }
 {
-    // (for what the getter says: that there are at most 1,000 items)
-    let _items = problem.items();
+    problem.recall_rules();
     let mut marks = [None; MOST_ITEMS];
     for option in options {
         if !fits(problem, &marks, *option) {

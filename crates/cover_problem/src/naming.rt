@@ -62,8 +62,7 @@ pub(crate) fn namings_of(problem: &Problem, options: &[u16]) -> [Naming; MOST_IT
     ensures each { (item : ℕ) → item < length result → slice_index_or result item Unnamed
         ≡ naming_after problem.now item Unnamed options.now }
 {
-    // (for what the getter says: that there are at most 1,000 items)
-    let _items = problem.items();
+    problem.recall_rules();
     let mut namings = [Naming::Unnamed; MOST_ITEMS];
     for option in options {
         add_option(problem, &mut namings, *option);

@@ -73,6 +73,16 @@ impl Problem {
         }
     }
 
+    /// Does nothing at run time. It tells the prover that the problem keeps the rules of its type, which a function that is given a
+    /// problem otherwise learns only from the contract of a getter.
+    #[inline(always)]
+    pub fn recall_rules(&self)
+        ensures { IsProblem self.now }
+    {
+        // (a look inside is what brings in the type's invariant)
+        let _primary = self.primary;
+    }
+
     /// How many items there are, primary and secondary.
     pub fn items(&self) -> usize
         ensures count { result ≡ length self.now.names }

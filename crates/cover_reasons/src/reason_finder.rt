@@ -24,8 +24,7 @@ pub fn find_reason(alloc: Global, problem: &Problem) -> Result<Option<Reason>, A
     ensures barren { IfOk result (λ found. IfSome found (λ reason. IsBarren problem.now [])) }
 {
     reasons_exclude_covers();
-    // (for what the getter says: that it is a problem)
-    let _options = problem.options();
+    problem.recall_rules();
     if let Some(room) = find_room(alloc, problem)? {
         return Ok(Some(Reason::TooLittleRoom(room)));
     }

@@ -115,7 +115,6 @@ pub fn is_too_little(problem: &Problem, room: &Room) -> bool
     ensures none { result ≡ true → first problem.now [] ≡ None }
 {
     lack_of_room_excludes_covers();
-    // (for what the getter says: that it is a problem)
-    let _options = problem.options();
+    problem.recall_rules();
     is_reason(problem, room)
 }

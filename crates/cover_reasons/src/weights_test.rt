@@ -74,7 +74,6 @@ pub fn excludes(problem: &Problem, weights: &Weights) -> bool
     ensures none { result ≡ true → first problem.now [] ≡ None }
 {
     weights_exclude_covers();
-    // (for what the getter says: that it is a problem)
-    let _options = problem.options();
+    problem.recall_rules();
     is_reason(problem, weights)
 }

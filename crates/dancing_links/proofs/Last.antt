@@ -5,7 +5,7 @@ use Rattle.std.proofs.lemmas.List.{length-take-le, take_all, take_more}
 use Rattle.cover_problem.specs.Prefix.{is_covered}
 use Rattle.cover_problem.specs.Problem.{Problem}
 use Rattle.dancing_links.specs.declared.link.Link.{Link}
-use Rattle.dancing_links.specs.declared.mark.Mark.{Mark}
+use Rattle.dancing_links.specs.declared.trail_mark.TrailMark.{TrailMark}
 use Rattle.choices.specs.Choices.{Choices, with_child}
 use Rattle.dancing_links.specs.Choices.{IsLinks, IsHistory, IsTrail, commits_of, covering_nodes, trail_of}
 use Rattle.dancing_links.specs.Columns.{Columns, column_of, IsLinked, IsOptionNode}
@@ -20,7 +20,7 @@ use Rattle.dancing_links.proofs.Trail.{take_take}
 use Rattle.dancing_links.proofs.Trailed.{IsCut, IsHalf, cut_of, cut_options, cut_others, cut_piece, half_of, half_options, marks_length, middle_inside, next_trail, room_others, trail_others}
 
 -- the option and the node of the last choice stand last, and the trail has two pieces of its
-pub record IsLastChoice (p : Problem) (c : Columns) (os es : List ℕ) (o k : ℕ) (links : List Link) (keys commits trail : List ℕ) (top room : ℕ) (mark : Mark) (front : List Mark) (whole : Choices) : Type 0 where
+pub record IsLastChoice (p : Problem) (c : Columns) (os es : List ℕ) (o k : ℕ) (links : List Link) (keys commits trail : List ℕ) (top room : ℕ) (mark : TrailMark) (front : List TrailMark) (whole : Choices) : Type 0 where
   pub was : IsLinks p c (os ++ o ∷ []) (es ++ k ∷ []) links keys room
   pub frame : IsFrame p c (os ++ o ∷ []) (es ++ k ∷ []) room
   pub node : IsOptionNode c k
@@ -42,7 +42,7 @@ popped xs front n a d x long some e f g =
     let same : a - 1 ≡ n - 1 = omega (arith, e) in
     sym (take_all (a - 1 + 1) xs whole) ∙ take_more xs (a - 1) d inside ∙ ap (λ l. l ++ get_or xs (a - 1) d ∷ []) (ap (λ (m : ℕ). take m xs) same ∙ sym f) ∙ ap (λ y. front ++ y ∷ []) (sym g)
 
-pub last_choice : (p : Problem) (c : Columns) (os es xs ks : List ℕ) (k nx nk nm a b : ℕ) (old links : List Link) (was keys held commits stack trail : List ℕ) (top room wide space : ℕ) (marks front : List Mark) (mark : Mark) (whole : Choices)
+pub last_choice : (p : Problem) (c : Columns) (os es xs ks : List ℕ) (k nx nk nm a b : ℕ) (old links : List Link) (was keys held commits stack trail : List ℕ) (top room wide space : ℕ) (marks front : List TrailMark) (mark : TrailMark) (whole : Choices)
     → choices_by p xs (map (column_of c) ks) ≡ whole → 0 < length whole.chosen → IsLinks p c xs ks old was room → held ≡ commits_of c ks → IsTrail c p.primary ks (take top stack) wide marks space → top ≤ length stack
     → length xs ≡ nx → length ks ≡ nk → length marks ≡ nm → a ≡ nk → b ≡ nm → os ≡ take (nx - 1) xs → es ≡ take (nk - 1) ks → front ≡ take (nm - 1) marks → k ≡ get_or ks (a - 1) k → mark ≡ get_or marks (b - 1) mark
     → links ≡ old → keys ≡ was → commits ≡ held → trail ≡ stack → IsLastChoice p c os es (get_or xs (nx - 1) 0) k links keys commits trail top room mark front whole
@@ -80,7 +80,7 @@ last_choice p c os es xs ks k nx nk nm a b old links was keys held commits stack
     }
 
 -- a piece of the trail has nodes of options alone
-pub piece_options : (p : Problem) (c : Columns) (os es : List ℕ) (o k : ℕ) (links : List Link) (keys commits trail piece : List ℕ) (top room n : ℕ) (mark : Mark) (front : List Mark) (whole : Choices) → IsLastChoice p c os es o k links keys commits trail top room mark front whole → piece ≡ drop n (take top trail) → All (IsOptionNode c) piece
+pub piece_options : (p : Problem) (c : Columns) (os es : List ℕ) (o k : ℕ) (links : List Link) (keys commits trail piece : List ℕ) (top room n : ℕ) (mark : TrailMark) (front : List TrailMark) (whole : Choices) → IsLastChoice p c os es o k links keys commits trail top room mark front whole → piece ≡ drop n (take top trail) → All (IsOptionNode c) piece
 piece_options p c os es o k links keys commits trail piece top room n mark front whole last is =
     let P : List ℕ → Type 0 = λ xs. All (IsOptionNode c) xs in
     subst P (sym is) (cut_options p c os es links keys room o k (take top trail) mark front n last.was last.cut)
@@ -93,7 +93,7 @@ pub record IsBack (p : Problem) (c : Columns) (os es : List ℕ) (links : List L
   pub held : commits ≡ commits_of c es
 
 -- all of its option at once
-pub all_back : (p : Problem) (c : Columns) (os es : List ℕ) (o k : ℕ) (links new : List Link) (keys now commits left trail piece : List ℕ) (top room : ℕ) (mark : Mark) (front : List Mark) (whole : Choices) → IsLastChoice p c os es o k links keys commits trail top room mark front whole → piece ≡ drop mark.start (take top trail) → IsLinked c new → UncoversAll c links (covering c left (nodes_by c k)) piece new → KeysUncoveredAll c links (covering c left (nodes_by c k)) piece keys now → IsCommits c left → committed c left (nodes_by c k) ≡ commits → IsBack p c os es new now left room
+pub all_back : (p : Problem) (c : Columns) (os es : List ℕ) (o k : ℕ) (links new : List Link) (keys now commits left trail piece : List ℕ) (top room : ℕ) (mark : TrailMark) (front : List TrailMark) (whole : Choices) → IsLastChoice p c os es o k links keys commits trail top room mark front whole → piece ≡ drop mark.start (take top trail) → IsLinked c new → UncoversAll c links (covering c left (nodes_by c k)) piece new → KeysUncoveredAll c links (covering c left (nodes_by c k)) piece keys now → IsCommits c left → committed c left (nodes_by c k) ≡ commits → IsBack p c os es new now left room
 all_back p c os es o k links new keys now commits left trail piece top room mark front whole last is linked uncovers uncounts kept sum =
     let popped = commits_popped p c os es room o k commits left last.frame last.held kept sum in
     record {
@@ -106,7 +106,7 @@ pub record IsHalfBack (c : Columns) (es : List ℕ) (k : ℕ) (links : List Link
   pub history : IsHistory c (covering_nodes c es ++ k ∷ []) links keys
   pub held : commits ≡ commit c (commits_of c es) k
 
-pub half_back : (p : Problem) (c : Columns) (os es : List ℕ) (o k : ℕ) (links new : List Link) (keys now commits left trail piece : List ℕ) (top room : ℕ) (mark : Mark) (front : List Mark) (whole : Choices) → IsLastChoice p c os es o k links keys commits trail top room mark front whole → piece ≡ drop mark.middle (take top trail) → UncoversAll c links (covering c left (others c k)) piece new → KeysUncoveredAll c links (covering c left (others c k)) piece keys now → IsCommits c left → committed c left (others c k) ≡ commits → IsHalfBack c es k new now left
+pub half_back : (p : Problem) (c : Columns) (os es : List ℕ) (o k : ℕ) (links new : List Link) (keys now commits left trail piece : List ℕ) (top room : ℕ) (mark : TrailMark) (front : List TrailMark) (whole : Choices) → IsLastChoice p c os es o k links keys commits trail top room mark front whole → piece ≡ drop mark.middle (take top trail) → UncoversAll c links (covering c left (others c k)) piece new → KeysUncoveredAll c links (covering c left (others c k)) piece keys now → IsCommits c left → committed c left (others c k) ≡ commits → IsHalfBack c es k new now left
 half_back p c os es o k links new keys now commits left trail piece top room mark front whole last is uncovers uncounts kept sum =
     let less = commits_half p c os es room o k commits left last.frame last.held kept sum in
     record {
@@ -115,13 +115,13 @@ half_back p c os es o k links new keys now commits left trail piece top room mar
     }
 
 -- the piece that is left of the trail has nodes of options alone, too
-pub half_piece : (p : Problem) (c : Columns) (os es : List ℕ) (o k : ℕ) (links mid : List Link) (keys half commits left trail piece : List ℕ) (top room : ℕ) (mark : Mark) (front : List Mark) (whole : Choices) → IsLastChoice p c os es o k links keys commits trail top room mark front whole → IsHalfBack c es k mid half left → piece ≡ drop mark.start (take mark.middle trail) → All (IsOptionNode c) piece
+pub half_piece : (p : Problem) (c : Columns) (os es : List ℕ) (o k : ℕ) (links mid : List Link) (keys half commits left trail piece : List ℕ) (top room : ℕ) (mark : TrailMark) (front : List TrailMark) (whole : Choices) → IsLastChoice p c os es o k links keys commits trail top room mark front whole → IsHalfBack c es k mid half left → piece ≡ drop mark.start (take mark.middle trail) → All (IsOptionNode c) piece
 half_piece p c os es o k links mid keys half commits left trail piece top room mark front whole last back is =
     let P : List ℕ → Type 0 = λ xs. All (IsOptionNode c) xs in
     subst P (sym is) (half_options p c os es room o k mid half (take mark.middle trail) mark.start last.frame back.history last.half)
 
 -- and then its own node
-pub own_back : (p : Problem) (c : Columns) (os es : List ℕ) (o k : ℕ) (links mid new : List Link) (keys half now commits left none trail piece : List ℕ) (top room : ℕ) (mark : Mark) (front : List Mark) (whole : Choices) → IsLastChoice p c os es o k links keys commits trail top room mark front whole → IsHalfBack c es k mid half left → piece ≡ drop mark.start (take mark.middle trail) → IsLinked c new → UncoversAll c mid (covering c none (k ∷ [])) piece new → KeysUncoveredAll c mid (covering c none (k ∷ [])) piece half now → none ≡ uncommit c left k → IsBack p c os es new now none room
+pub own_back : (p : Problem) (c : Columns) (os es : List ℕ) (o k : ℕ) (links mid new : List Link) (keys half now commits left none trail piece : List ℕ) (top room : ℕ) (mark : TrailMark) (front : List TrailMark) (whole : Choices) → IsLastChoice p c os es o k links keys commits trail top room mark front whole → IsHalfBack c es k mid half left → piece ≡ drop mark.start (take mark.middle trail) → IsLinked c new → UncoversAll c mid (covering c none (k ∷ [])) piece new → KeysUncoveredAll c mid (covering c none (k ∷ [])) piece half now → none ≡ uncommit c left k → IsBack p c os es new now none room
 own_back p c os es o k links mid new keys half now commits left none trail piece top room mark front whole last back is linked uncovers uncounts less =
     let held = commits_item p c os es room o k left none last.frame back.held less in
     record {
@@ -130,7 +130,7 @@ own_back p c os es o k links mid new keys half now commits left none trail piece
     }
 
 -- and the trail
-pub trail_back : (p : Problem) (c : Columns) (os es : List ℕ) (o k : ℕ) (links : List Link) (keys commits trail less : List ℕ) (top room wide narrow space spare : ℕ) (mark : Mark) (front : List Mark) (whole : Choices) → IsLastChoice p c os es o k links keys commits trail top room mark front whole → c.tails ≤ wide → p.primary ≤ space → less ≡ take mark.start trail → narrow ≡ wide → spare ≡ space → IsTrail c p.primary es less narrow front spare
+pub trail_back : (p : Problem) (c : Columns) (os es : List ℕ) (o k : ℕ) (links : List Link) (keys commits trail less : List ℕ) (top room wide narrow space spare : ℕ) (mark : TrailMark) (front : List TrailMark) (whole : Choices) → IsLastChoice p c os es o k links keys commits trail top room mark front whole → c.tails ≤ wide → p.primary ≤ space → less ≡ take mark.start trail → narrow ≡ wide → spare ≡ space → IsTrail c p.primary es less narrow front spare
 trail_back p c os es o k links keys commits trail less top room wide narrow space spare mark front whole last enough some e f g = record {
   trail_is = e ∙ last.front_is;
   enough = omega (arith, enough, f);
@@ -146,7 +146,7 @@ pub record IsRetaken (c : Columns) (es : List ℕ) (next : ℕ) (links : List Li
   pub held : commits ≡ commit c (commits_of c es) next
   pub trail_is : trail ≡ hidden_all c [] (covering_nodes c es ++ next ∷ [])
 
-pub retaken : (p : Problem) (c : Columns) (os es : List ℕ) (o k next : ℕ) (links mid new : List Link) (keys half now commits left sum trail longer : List ℕ) (top room : ℕ) (mark : Mark) (front : List Mark) (whole : Choices) → IsLastChoice p c os es o k links keys commits trail top room mark front whole → IsHalfBack c es k mid half left → Recommits c left mid half (take mark.middle trail) mark.start k next new now longer sum → IsRetaken c es next new now sum longer
+pub retaken : (p : Problem) (c : Columns) (os es : List ℕ) (o k next : ℕ) (links mid new : List Link) (keys half now commits left sum trail longer : List ℕ) (top room : ℕ) (mark : TrailMark) (front : List TrailMark) (whole : Choices) → IsLastChoice p c os es o k links keys commits trail top room mark front whole → IsHalfBack c es k mid half left → Recommits c left mid half (take mark.middle trail) mark.start k next new now longer sum → IsRetaken c es next new now sum longer
 retaken p c os es o k next links mid new keys half now commits left sum trail longer top room mark front whole last back again =
     let r = again (commits_of c es) (first_of p c os es room o k left last.frame back.held) in
     record {
@@ -156,13 +156,13 @@ retaken p c os es o k next links mid new keys half now commits left sum trail lo
     }
 
 -- the next option's frame
-pub next_frame : (p : Problem) (c : Columns) (os es : List ℕ) (o k option next start : ℕ) (links : List Link) (keys commits trail : List ℕ) (top room : ℕ) (mark : Mark) (front : List Mark) (whole : Choices) → IsLastChoice p c os es o k links keys commits trail top room mark front whole → IsChoice p c os (column_of c k) start next option → IsFrame p c (os ++ option ∷ []) (es ++ next ∷ []) room
+pub next_frame : (p : Problem) (c : Columns) (os es : List ℕ) (o k option next start : ℕ) (links : List Link) (keys commits trail : List ℕ) (top room : ℕ) (mark : TrailMark) (front : List TrailMark) (whole : Choices) → IsLastChoice p c os es o k links keys commits trail top room mark front whole → IsChoice p c os (column_of c k) start next option → IsFrame p c (os ++ option ∷ []) (es ++ next ∷ []) room
 next_frame p c os es o k option next start links keys commits trail top room mark front whole last choice =
     let free = ap (is_covered p os) choice.column ∙ last_free p c os es room o k last.frame in
     frame_push p c os es room option next (frame_front p c os es room o k last.frame).0 choice.child.inside choice.child.live free choice.node choice.option
 
 -- what is kept of the colours
-pub retaken_kept : (p : Problem) (c : Columns) (os es : List ℕ) (o k next : ℕ) (links new : List Link) (keys now commits sum trail longer : List ℕ) (top room : ℕ) (mark : Mark) (front : List Mark) (whole : Choices) → IsLastChoice p c os es o k links keys commits trail top room mark front whole → IsRetaken c es next new now sum longer → IsCommits c sum
+pub retaken_kept : (p : Problem) (c : Columns) (os es : List ℕ) (o k next : ℕ) (links new : List Link) (keys now commits sum trail longer : List ℕ) (top room : ℕ) (mark : TrailMark) (front : List TrailMark) (whole : Choices) → IsLastChoice p c os es o k links keys commits trail top room mark front whole → IsRetaken c es next new now sum longer → IsCommits c sum
 retaken_kept p c os es o k next links new keys now commits sum trail longer top room mark front whole last again =
     let P : List ℕ → Type 0 = λ commits. IsCommits c commits in
     subst P (sym again.held) (commit_kept c (commits_of c es) next (commits_kept p c os es room (frame_front p c os es room o k last.frame).0))

@@ -9,7 +9,7 @@ use Rattle.cover_problem.specs.Prefix.{is_covered, is_live}
 use Rattle.cover_problem.specs.Problem.{Problem}
 use Rattle.cover_problem.proofs.Among.{filter_fewer}
 use Rattle.dancing_links.specs.declared.link.Link.{Link}
-use Rattle.dancing_links.specs.declared.mark.Mark.{Mark}
+use Rattle.dancing_links.specs.declared.trail_mark.TrailMark.{TrailMark}
 use Rattle.dancing_links.specs.Choices.{IsLinks, IsHistory, IsTrail, covering_nodes, commits_of, out_of, trail_of, mark_at, marks_from}
 use Rattle.dancing_links.specs.Columns.{Columns, among, column_of, option_of, IsSpelled, IsTable, IsOptionNode}
 use Rattle.dancing_links.specs.Committing.{IsBefore, IsFirst, HasRoomNext, Recovers, is_repeated, commit, covering}
@@ -123,23 +123,23 @@ middle_pushed c es m held trail k middle r e f is =
 marks_push : (c : Columns) (done es : List ℕ) (k : ℕ) → marks_from c done (es ++ k ∷ []) ≡ marks_from c done es ++ mark_at c (done ++ es) k ∷ []
 marks_push c done [] k = ap (λ (xs : List ℕ). mark_at c xs k ∷ []) (sym (append-nil done))
 marks_push c done (e ∷ es) k =
-    ap (λ (marks : List Mark). mark_at c done e ∷ marks) (marks_push c (done ++ e ∷ []) es k ∙ ap (λ (xs : List ℕ). marks_from c (done ++ e ∷ []) es ++ mark_at c xs k ∷ []) (append_assoc done (e ∷ []) es))
+    ap (λ (marks : List TrailMark). mark_at c done e ∷ marks) (marks_push c (done ++ e ∷ []) es k ∙ ap (λ (xs : List ℕ). marks_from c (done ++ e ∷ []) es ++ mark_at c xs k ∷ []) (append_assoc done (e ∷ []) es))
 
 -- what the last mark is, and those before it
-pub mark_last : (c : Columns) (es : List ℕ) (k : ℕ) (marks front : List Mark) (mark : Mark) → marks ≡ marks_from c [] (es ++ k ∷ []) → marks ≡ front ++ mark ∷ [] → (front ≡ marks_from c [] es) × (mark ≡ mark_at c es k)
+pub mark_last : (c : Columns) (es : List ℕ) (k : ℕ) (marks front : List TrailMark) (mark : TrailMark) → marks ≡ marks_from c [] (es ++ k ∷ []) → marks ≡ front ++ mark ∷ [] → (front ≡ marks_from c [] es) × (mark ≡ mark_at c es k)
 mark_last c es k marks front mark e f = same_from_push front (marks_from c [] es) mark (mark_at c es k) (sym f ∙ e ∙ marks_push c [] es k)
 
 mark_is : (c : Columns) (es : List ℕ) (k start middle : ℕ) → start ≡ length (trail_of c es) → middle ≡ length (hidden_all c [] (covering_nodes c es ++ k ∷ [])) → record { start = start; middle = middle } ≡ mark_at c es k
 mark_is c es k start middle e f =
-    let S : ℕ → Mark = λ n. record { start = n; middle = middle } in
-    let M : ℕ → Mark = λ n. record { start = length (trail_of c es); middle = n } in
+    let S : ℕ → TrailMark = λ n. record { start = n; middle = middle } in
+    let M : ℕ → TrailMark = λ n. record { start = length (trail_of c es); middle = n } in
     ap S e ∙ ap M f
 
-pub trail_more : (c : Columns) (primary : ℕ) (es now longer : List ℕ) (k room wide start middle : ℕ) (marks more : List Mark) (space spare : ℕ) → c.tails ≤ room → wide ≡ room → marks ≡ marks_from c [] es → primary ≤ space → spare ≡ space → start ≡ length (trail_of c es) → middle ≡ length (hidden_all c [] (covering_nodes c es ++ k ∷ [])) → longer ≡ trail_of c (es ++ k ∷ []) → now ≡ es ++ k ∷ [] → more ≡ marks ++ record { start = start; middle = middle } ∷ [] → IsTrail c primary now longer wide more spare
+pub trail_more : (c : Columns) (primary : ℕ) (es now longer : List ℕ) (k room wide start middle : ℕ) (marks more : List TrailMark) (space spare : ℕ) → c.tails ≤ room → wide ≡ room → marks ≡ marks_from c [] es → primary ≤ space → spare ≡ space → start ≡ length (trail_of c es) → middle ≡ length (hidden_all c [] (covering_nodes c es ++ k ∷ [])) → longer ≡ trail_of c (es ++ k ∷ []) → now ≡ es ++ k ∷ [] → more ≡ marks ++ record { start = start; middle = middle } ∷ [] → IsTrail c primary now longer wide more spare
 trail_more c primary es now longer k room wide start middle marks more space spare enough same marks_are some kept s m trail entries pushed = record {
   trail_is = trail ∙ ap (trail_of c) (sym entries);
   enough = omega (arith, enough, same);
-  marks_are = pushed ∙ ap (λ (xs : List Mark). xs ++ record { start = start; middle = middle } ∷ []) marks_are ∙ ap (λ (mark : Mark). marks_from c [] es ++ mark ∷ []) (mark_is c es k start middle s m) ∙ sym (marks_push c [] es k) ∙ ap (marks_from c []) (sym entries);
+  marks_are = pushed ∙ ap (λ (xs : List TrailMark). xs ++ record { start = start; middle = middle } ∷ []) marks_are ∙ ap (λ (mark : TrailMark). marks_from c [] es ++ mark ∷ []) (mark_is c es k start middle s m) ∙ sym (marks_push c [] es k) ∙ ap (marks_from c []) (sym entries);
   some = omega (arith, some, kept);
 }
 
@@ -150,31 +150,31 @@ marks_length c done (e ∷ es) = ap suc (marks_length c (done ++ e ∷ []) es)
 -- ---- the last choice taken back
 
 -- what is known of the trail at the last choice: it has two pieces
-pub record IsCut (c : Columns) (es : List ℕ) (k : ℕ) (trail : List ℕ) (mark : Mark) (front : List Mark) : Type 0 where
+pub record IsCut (c : Columns) (es : List ℕ) (k : ℕ) (trail : List ℕ) (mark : TrailMark) (front : List TrailMark) : Type 0 where
   pub front_is : front ≡ marks_from c [] es
   pub start : mark.start ≡ length (trail_of c es)
   pub middle : mark.middle ≡ length (hidden_all c [] (covering_nodes c es ++ k ∷ []))
   pub trail_is : trail ≡ trail_of c (es ++ k ∷ [])
 
-pub cut_of : (c : Columns) (primary : ℕ) (es all : List ℕ) (k : ℕ) (trail : List ℕ) (room : ℕ) (marks front : List Mark) (mark : Mark) (space : ℕ) → IsTrail c primary all trail room marks space → all ≡ es ++ k ∷ [] → marks ≡ front ++ mark ∷ [] → IsCut c es k trail mark front
+pub cut_of : (c : Columns) (primary : ℕ) (es all : List ℕ) (k : ℕ) (trail : List ℕ) (room : ℕ) (marks front : List TrailMark) (mark : TrailMark) (space : ℕ) → IsTrail c primary all trail room marks space → all ≡ es ++ k ∷ [] → marks ≡ front ++ mark ∷ [] → IsCut c es k trail mark front
 cut_of c primary es all k trail room marks front mark space is e f =
     let last = mark_last c es k marks front mark (is.marks_are ∙ ap (marks_from c []) e) f in
-    let S : Mark → ℕ = λ m. m.start in
-    let M : Mark → ℕ = λ m. m.middle in
+    let S : TrailMark → ℕ = λ m. m.start in
+    let M : TrailMark → ℕ = λ m. m.middle in
     record { front_is = last.0; start = ap S last.1; middle = ap M last.1; trail_is = is.trail_is ∙ ap (trail_of c) e }
 
 -- the piece from the choice on
-pub cut_piece : (c : Columns) (es : List ℕ) (k : ℕ) (trail : List ℕ) (mark : Mark) (front : List Mark) → IsCut c es k trail mark front → drop mark.start trail ≡ hidden_all c (out_of c es) (covering c (commits_of c es) (nodes_by c k))
+pub cut_piece : (c : Columns) (es : List ℕ) (k : ℕ) (trail : List ℕ) (mark : TrailMark) (front : List TrailMark) → IsCut c es k trail mark front → drop mark.start trail ≡ hidden_all c (out_of c es) (covering c (commits_of c es) (nodes_by c k))
 cut_piece c es k trail mark front cut = rest_from trail (trail_of c es) (hidden_all c (out_of c es) (covering c (commits_of c es) (nodes_by c k))) mark.start (cut.trail_is ∙ trail_push c es k) cut.start
 
 -- all of it are nodes of options
-pub cut_options : (p : Problem) (c : Columns) (os es : List ℕ) (m : List Link) (keys : List ℕ) (room o k : ℕ) (trail : List ℕ) (mark : Mark) (front : List Mark) (n : ℕ) → IsLinks p c (os ++ o ∷ []) (es ++ k ∷ []) m keys room → IsCut c es k trail mark front → All (IsOptionNode c) (drop n trail)
+pub cut_options : (p : Problem) (c : Columns) (os es : List ℕ) (m : List Link) (keys : List ℕ) (room o k : ℕ) (trail : List ℕ) (mark : TrailMark) (front : List TrailMark) (n : ℕ) → IsLinks p c (os ++ o ∷ []) (es ++ k ∷ []) m keys room → IsCut c es k trail mark front → All (IsOptionNode c) (drop n trail)
 cut_options p c os es m keys room o k trail mark front n is cut =
     let f = frame_of p c (os ++ o ∷ []) (es ++ k ∷ []) m keys room is in
     piece_options c (covering_nodes c (es ++ k ∷ [])) m keys trail n (frame_table p c (os ++ o ∷ []) (es ++ k ∷ []) room f) (frame_open p c (os ++ o ∷ []) (es ++ k ∷ []) room f) is.history cut.trail_is
 
 -- nothing is on the trail where nothing is chosen
-pub trail_built : (c : Columns) (primary : ℕ) (es trail : List ℕ) (room : ℕ) (marks : List Mark) (space : ℕ) → es ≡ [] → trail ≡ [] → marks ≡ [] → c.tails ≤ room → primary ≤ space → IsTrail c primary es trail room marks space
+pub trail_built : (c : Columns) (primary : ℕ) (es trail : List ℕ) (room : ℕ) (marks : List TrailMark) (space : ℕ) → es ≡ [] → trail ≡ [] → marks ≡ [] → c.tails ≤ room → primary ≤ space → IsTrail c primary es trail room marks space
 trail_built c primary es trail room marks space e f g enough some = record {
   trail_is = f ∙ ap (trail_of c) (sym e);
   enough = enough;
@@ -185,16 +185,16 @@ trail_built c primary es trail room marks space e f g enough some = record {
 -- ---- the next option in the place of the last one
 
 -- the piece that the others of the last node's option hid
-pub cut_others : (p : Problem) (c : Columns) (os es : List ℕ) (room o k : ℕ) (trail : List ℕ) (mark : Mark) (front : List Mark) → IsFrame p c (os ++ o ∷ []) (es ++ k ∷ []) room → IsCut c es k trail mark front → drop mark.middle trail ≡ hidden_all c (outs_all c [] (covering_nodes c es ++ k ∷ [])) (covering c (commit c (commits_of c es) k) (others c k))
+pub cut_others : (p : Problem) (c : Columns) (os es : List ℕ) (room o k : ℕ) (trail : List ℕ) (mark : TrailMark) (front : List TrailMark) → IsFrame p c (os ++ o ∷ []) (es ++ k ∷ []) room → IsCut c es k trail mark front → drop mark.middle trail ≡ hidden_all c (outs_all c [] (covering_nodes c es ++ k ∷ [])) (covering c (commit c (commits_of c es) k) (others c k))
 cut_others p c os es room o k trail mark front f cut =
     rest_from trail (hidden_all c [] (covering_nodes c es ++ k ∷ [])) (hidden_all c (outs_all c [] (covering_nodes c es ++ k ∷ [])) (covering c (commit c (commits_of c es) k) (others c k))) mark.middle (cut.trail_is ∙ trail_split p c os es room o k f) cut.middle
 
 -- the trail without it
-pub cut_middle : (p : Problem) (c : Columns) (os es : List ℕ) (room o k : ℕ) (trail : List ℕ) (mark : Mark) (front : List Mark) → IsFrame p c (os ++ o ∷ []) (es ++ k ∷ []) room → IsCut c es k trail mark front → take mark.middle trail ≡ hidden_all c [] (covering_nodes c es ++ k ∷ [])
+pub cut_middle : (p : Problem) (c : Columns) (os es : List ℕ) (room o k : ℕ) (trail : List ℕ) (mark : TrailMark) (front : List TrailMark) → IsFrame p c (os ++ o ∷ []) (es ++ k ∷ []) room → IsCut c es k trail mark front → take mark.middle trail ≡ hidden_all c [] (covering_nodes c es ++ k ∷ [])
 cut_middle p c os es room o k trail mark front f cut =
     front_of trail (hidden_all c [] (covering_nodes c es ++ k ∷ [])) (hidden_all c (outs_all c [] (covering_nodes c es ++ k ∷ [])) (covering c (commit c (commits_of c es) k) (others c k))) mark.middle (cut.trail_is ∙ trail_split p c os es room o k f) cut.middle
 
-pub middle_inside : (p : Problem) (c : Columns) (os es : List ℕ) (room o k : ℕ) (trail : List ℕ) (mark : Mark) (front : List Mark) → IsFrame p c (os ++ o ∷ []) (es ++ k ∷ []) room → IsCut c es k trail mark front → mark.middle ≤ length trail
+pub middle_inside : (p : Problem) (c : Columns) (os es : List ℕ) (room o k : ℕ) (trail : List ℕ) (mark : TrailMark) (front : List TrailMark) → IsFrame p c (os ++ o ∷ []) (es ++ k ∷ []) room → IsCut c es k trail mark front → mark.middle ≤ length trail
 middle_inside p c os es room o k trail mark front f cut =
     omega (arith, cut.middle, ap length (cut.trail_is ∙ trail_split p c os es room o k f), length-append (hidden_all c [] (covering_nodes c es ++ k ∷ [])) (hidden_all c (outs_all c [] (covering_nodes c es ++ k ∷ [])) (covering c (commit c (commits_of c es) k) (others c k))))
 
@@ -205,7 +205,7 @@ pub record IsHalf (c : Columns) (es : List ℕ) (k : ℕ) (trail : List ℕ) (st
   pub piece : drop start trail ≡ hidden_all c (out_of c es) (k ∷ [])
   pub inside : start ≤ length trail
 
-pub half_of : (p : Problem) (c : Columns) (os es : List ℕ) (room o k : ℕ) (trail half : List ℕ) (mark : Mark) (front : List Mark) → IsFrame p c (os ++ o ∷ []) (es ++ k ∷ []) room → IsCut c es k trail mark front → half ≡ take mark.middle trail → IsHalf c es k half mark.start
+pub half_of : (p : Problem) (c : Columns) (os es : List ℕ) (room o k : ℕ) (trail half : List ℕ) (mark : TrailMark) (front : List TrailMark) → IsFrame p c (os ++ o ∷ []) (es ++ k ∷ []) room → IsCut c es k trail mark front → half ≡ take mark.middle trail → IsHalf c es k half mark.start
 half_of p c os es room o k trail half mark front f cut e =
     let whole = e ∙ cut_middle p c os es room o k trail mark front f cut in
     let more : List ℕ = hidden_all c (out_of c es) (k ∷ []) in

@@ -5,7 +5,7 @@ use Rattle.cover_problem.specs.Prefix.{is_covered, is_prefix}
 use Rattle.cover_problem.specs.Problem.{Problem, IsProblem, names_item}
 use Rattle.choices.specs.Choices.{first_primary}
 use Rattle.dancing_links.specs.declared.link.Link.{Link}
-use Rattle.dancing_links.specs.declared.mark.Mark.{Mark}
+use Rattle.dancing_links.specs.declared.trail_mark.TrailMark.{TrailMark}
 use Rattle.dancing_links.specs.Building.{IsBuilt}
 use Rattle.dancing_links.specs.Columns.{Columns, column_of, option_of, IsLinked, IsOptionNode}
 use Rattle.dancing_links.specs.Committing.{committed, covering}
@@ -54,16 +54,16 @@ abbrev pub trail_of : Columns → List ℕ → List ℕ
 trail_of c entries = hidden_all c [] (covering_nodes c entries)
 
 -- how long that was before a choice by a node, and once its item was covered
-abbrev pub mark_at : Columns → List ℕ → ℕ → Mark
+abbrev pub mark_at : Columns → List ℕ → ℕ → TrailMark
 mark_at c entries k = record { start = length (trail_of c entries); middle = length (hidden_all c [] (covering_nodes c entries ++ k ∷ [])) }
 
 -- the same for each choice after some
-abbrev pub marks_from : Columns → List ℕ → List ℕ → List Mark
+abbrev pub marks_from : Columns → List ℕ → List ℕ → List TrailMark
 marks_from c done [] = []
 marks_from c done (k ∷ entries) = mark_at c done k ∷ marks_from c (done ++ k ∷ []) entries
 
 -- the trail has what is hidden, and room for all nodes; what is kept of each choice tells how long it was
-pub record IsTrail (c : Columns) (primary : ℕ) (entries trail : List ℕ) (room : ℕ) (marks : List Mark) (space : ℕ) : Type 0 where
+pub record IsTrail (c : Columns) (primary : ℕ) (entries trail : List ℕ) (room : ℕ) (marks : List TrailMark) (space : ℕ) : Type 0 where
   pub trail_is : trail ≡ trail_of c entries
   pub enough : c.tails ≤ room
   pub marks_are : marks ≡ marks_from c [] entries

@@ -1,3 +1,4 @@
+pub mod Board
 pub mod Building
 pub mod Choices
 pub mod Columns

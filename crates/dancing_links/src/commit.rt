@@ -2,17 +2,17 @@
 
 ghost use Rattle.std.specs.Prelude.{◌≡◌, ◌<◌, ◌≤◌, ◌+◌, ◌∷◌, [], drop, length, take};
 ghost use Rattle.std.specs.List.{All};
+ghost use Rattle.dancing_links.specs.Board.{board, CoversNodes, HasRoomFor, IsLawful, UncoversNodes};
 ghost use Rattle.dancing_links.specs.Columns.{column_of, colour_at, IsLinked, IsOptionNode};
-ghost use Rattle.dancing_links.specs.Committing.{IsCommits, HasRoomNext, Recommits, commit, uncommit, committed, covering};
-ghost use Rattle.dancing_links.specs.Keys.{KeysCoveredAll, turned};
-ghost use Rattle.dancing_links.specs.Covering.{nodes_by, others, CoversAll};
-ghost use Rattle.dancing_links.specs.Trail.{HasRoomAll, IsMiddle, KeysUncoveredAll, TrailsAll, UncoversAll};
+ghost use Rattle.dancing_links.specs.Committing.{IsCommits, HasRoomNext, Recommits, uncommit, committed, covering};
+ghost use Rattle.dancing_links.specs.Keys.{turned};
+ghost use Rattle.dancing_links.specs.Covering.{nodes_by, others};
+ghost use Rattle.dancing_links.specs.Trail.{IsMiddle};
 
 use crate::cover::{cover, piece_of, purify, restore};
 use crate::keys::turn_mark;
-use crate::layout::Layout;
+use crate::layout::{Layout, Rows};
 use crate::link::Link;
-use crate::place::Place;
 
 /// A node gives its item its colour: where none did before, the item is covered. Answers the new top of the trail.
 #[inline(never)]
@@ -24,33 +24,23 @@ fn give(
     trail: &mut [u32],
     top: usize,
     node: usize,
-    colour: u16,
 ) -> usize
     requires node { (layout.now.heads + layout.now.heads ≤ node + 1) × (node < layout.now.tails) }
-    requires colour { (0 < colour) × (colour ≡ colour_at layout.now node) }
-    requires linked { IsLinked layout.now links.old }
-    requires keys { length keys.old + 1 ≡ layout.now.heads }
-    requires commits { IsCommits layout.now commits.old }
-    requires top { top ≤ length trail.old }
-    requires room { HasRoomAll layout.now links.old
-        (covering layout.now commits.old (node ∷ [])) (take top trail.old)
-        (length trail.old) }
+    requires colour { 0 < colour_at layout.now node }
+    requires lawful { IsLawful layout.now
+        (board links.old keys.old commits.old (take top trail.old)) }
+    requires room { HasRoomFor layout.now (node ∷ []) links.old commits.old trail.old top }
     ensures linked { IsLinked layout.now links.new }
-    ensures links { CoversAll layout.now links.old
-        (covering layout.now commits.old (node ∷ [])) links.new }
-    ensures keys { KeysCoveredAll layout.now links.old
-        (covering layout.now commits.old (node ∷ [])) keys.old keys.new }
-    ensures commits { commits.new ≡ commit layout.now commits.old node }
-    ensures trail { TrailsAll layout.now links.old
-        (covering layout.now commits.old (node ∷ [])) (take top trail.old)
-        (take result trail.new) }
+    ensures covers { CoversNodes layout.now (node ∷ [])
+        (board links.old keys.old commits.old (take top trail.old))
+        (board links.new keys.new commits.new (take result trail.new)) }
     ensures top { result ≤ length trail.new }
 {
     let item = layout.item_at(node);
     let is_first = commits[item] == 0;
     commits[item] = commits[item].wrapping_add(1);
     if is_first {
-        purify(layout, links, keys, trail, top, item, colour)
+        purify(layout, links, keys, trail, top, node)
     } else {
         top
     }
@@ -86,29 +76,20 @@ pub fn commit(
     node: usize,
 ) -> usize
     requires node { (layout.now.heads + layout.now.heads ≤ node + 1) × (node < layout.now.tails) }
-    requires linked { IsLinked layout.now links.old }
-    requires keys { length keys.old + 1 ≡ layout.now.heads }
-    requires commits { IsCommits layout.now commits.old }
-    requires top { top ≤ length trail.old }
-    requires room { HasRoomAll layout.now links.old
-        (covering layout.now commits.old (node ∷ [])) (take top trail.old)
-        (length trail.old) }
+    requires lawful { IsLawful layout.now
+        (board links.old keys.old commits.old (take top trail.old)) }
+    requires room { HasRoomFor layout.now (node ∷ []) links.old commits.old trail.old top }
     ensures linked { IsLinked layout.now links.new }
-    ensures links { CoversAll layout.now links.old
-        (covering layout.now commits.old (node ∷ [])) links.new }
-    ensures keys { KeysCoveredAll layout.now links.old
-        (covering layout.now commits.old (node ∷ [])) keys.old keys.new }
-    ensures commits { commits.new ≡ commit layout.now commits.old node }
-    ensures trail { TrailsAll layout.now links.old
-        (covering layout.now commits.old (node ∷ [])) (take top trail.old)
-        (take result trail.new) }
+    ensures covers { CoversNodes layout.now (node ∷ [])
+        (board links.old keys.old commits.old (take top trail.old))
+        (board links.new keys.new commits.new (take result trail.new)) }
     ensures top { result ≤ length trail.new }
 {
     let colour = layout.colour_at(node);
     if colour == 0 {
         cover(layout, links, keys, trail, top, layout.item_at(node))
     } else {
-        give(layout, links, keys, commits, trail, top, node, colour)
+        give(layout, links, keys, commits, trail, top, node)
     }
 }
 
@@ -139,15 +120,13 @@ pub fn uncover_one(
     node: usize,
 )
     requires node { (layout.now.heads + layout.now.heads ≤ node + 1) × (node < layout.now.tails) }
-    requires linked { IsLinked layout.now links.old }
-    requires keys { length keys.old + 1 ≡ layout.now.heads }
-    requires commits { IsCommits layout.now commits.old }
+    requires lawful { IsLawful layout.now
+        (board links.old keys.old commits.old trail.now) }
     requires trail { All (IsOptionNode layout.now) trail.now }
     ensures linked { IsLinked layout.now links.new }
-    ensures links { UncoversAll layout.now links.old
-        (covering layout.now commits.new (node ∷ [])) trail.now links.new }
-    ensures keys { KeysUncoveredAll layout.now links.old
-        (covering layout.now commits.new (node ∷ [])) trail.now keys.old keys.new }
+    ensures uncovers { UncoversNodes layout.now (node ∷ [])
+        (board links.old keys.old commits.old trail.now)
+        (board links.new keys.new commits.new []) }
     ensures commits { commits.new ≡ uncommit layout.now commits.old node }
 {
     // (for what the getter says: that the table is lawful)
@@ -173,9 +152,8 @@ pub fn recommit(
     requires next { (layout.now.heads + layout.now.heads ≤ next + 1) × (next < layout.now.tails) }
     requires column { column_of layout.now next
         ≡ column_of layout.now last }
-    requires linked { IsLinked layout.now links.old }
-    requires keys { length keys.old + 1 ≡ layout.now.heads }
-    requires commits { IsCommits layout.now commits.old }
+    requires lawful { IsLawful layout.now
+        (board links.old keys.old commits.old (take top trail.old)) }
     requires start { (start ≤ top) × (top ≤ length trail.old) }
     requires trail { All (IsOptionNode layout.now) (drop start (take top trail.old)) }
     requires room { HasRoomNext layout.now links.old commits.old
@@ -207,33 +185,22 @@ pub fn cover_others(
     node: usize,
 ) -> usize
     requires node { (layout.now.heads + layout.now.heads ≤ node + 1) × (node < layout.now.tails) }
-    requires linked { IsLinked layout.now links.old }
-    requires keys { length keys.old + 1 ≡ layout.now.heads }
-    requires commits { IsCommits layout.now commits.old }
-    requires top { top ≤ length trail.old }
-    requires room { HasRoomAll layout.now links.old
-        (covering layout.now commits.old (others layout.now node)) (take top trail.old)
-        (length trail.old) }
+    requires lawful { IsLawful layout.now
+        (board links.old keys.old commits.old (take top trail.old)) }
+    requires room { HasRoomFor layout.now (others layout.now node) links.old commits.old trail.old top }
     ensures linked { IsLinked layout.now links.new }
-    ensures links { CoversAll layout.now links.old
-        (covering layout.now commits.old (others layout.now node))
-        links.new }
-    ensures keys { KeysCoveredAll layout.now links.old
-        (covering layout.now commits.old (others layout.now node))
-        keys.old keys.new }
-    ensures commits { commits.new
-        ≡ committed layout.now commits.old (others layout.now node) }
-    ensures trail { TrailsAll layout.now links.old
-        (covering layout.now commits.old (others layout.now node)) (take top trail.old)
-        (take result trail.new) }
+    ensures covers { CoversNodes layout.now (others layout.now node)
+        (board links.old keys.old commits.old (take top trail.old))
+        (board links.new keys.new commits.new (take result trail.new)) }
     ensures top { result ≤ length trail.new }
 {
-    let places: &[Place] = layout.places();
+    let places = layout.places();
+    let rows = Rows { layout, places };
     let mut top = top;
-    let mut other = layout.right_among(places, node);
+    let mut other = rows.right_of(node);
     while other != node {
         top = commit(layout, links, keys, commits, trail, top, other);
-        other = layout.right_among(places, other);
+        other = rows.right_of(other);
     }
     top
 }
@@ -251,11 +218,12 @@ fn uncommit_others(layout: &Layout, keys: &mut [u32], commits: &mut [u32], node:
     ensures commits { committed layout.now commits.new
         (others layout.now node) ≡ commits.old }
 {
-    let places: &[Place] = layout.places();
-    let mut other = layout.right_among(places, node);
+    let places = layout.places();
+    let rows = Rows { layout, places };
+    let mut other = rows.right_of(node);
     while other != node {
         uncommit(layout, keys, commits, other);
-        other = layout.right_among(places, other);
+        other = rows.right_of(other);
     }
 }
 
@@ -270,17 +238,13 @@ pub fn uncover_others(
     node: usize,
 )
     requires node { (layout.now.heads + layout.now.heads ≤ node + 1) × (node < layout.now.tails) }
-    requires linked { IsLinked layout.now links.old }
-    requires keys { length keys.old + 1 ≡ layout.now.heads }
-    requires commits { IsCommits layout.now commits.old }
+    requires lawful { IsLawful layout.now
+        (board links.old keys.old commits.old trail.now) }
     requires trail { All (IsOptionNode layout.now) trail.now }
     ensures linked { IsLinked layout.now links.new }
-    ensures links { UncoversAll layout.now links.old
-        (covering layout.now commits.new (others layout.now node)) trail.now
-        links.new }
-    ensures keys { KeysUncoveredAll layout.now links.old
-        (covering layout.now commits.new (others layout.now node)) trail.now
-        keys.old keys.new }
+    ensures uncovers { UncoversNodes layout.now (others layout.now node)
+        (board links.old keys.old commits.old trail.now)
+        (board links.new keys.new commits.new []) }
     ensures kept { IsCommits layout.now commits.new }
     ensures commits { committed layout.now commits.new
         (others layout.now node) ≡ commits.old }
@@ -303,25 +267,13 @@ pub fn cover_from(
     node: usize,
 ) -> (usize, usize)
     requires node { (layout.now.heads + layout.now.heads ≤ node + 1) × (node < layout.now.tails) }
-    requires linked { IsLinked layout.now links.old }
-    requires keys { length keys.old + 1 ≡ layout.now.heads }
-    requires commits { IsCommits layout.now commits.old }
-    requires top { top ≤ length trail.old }
-    requires room { HasRoomAll layout.now links.old
-        (covering layout.now commits.old (nodes_by layout.now node)) (take top trail.old)
-        (length trail.old) }
+    requires lawful { IsLawful layout.now
+        (board links.old keys.old commits.old (take top trail.old)) }
+    requires room { HasRoomFor layout.now (nodes_by layout.now node) links.old commits.old trail.old top }
     ensures linked { IsLinked layout.now links.new }
-    ensures links { CoversAll layout.now links.old
-        (covering layout.now commits.old (nodes_by layout.now node))
-        links.new }
-    ensures keys { KeysCoveredAll layout.now links.old
-        (covering layout.now commits.old (nodes_by layout.now node))
-        keys.old keys.new }
-    ensures commits { commits.new
-        ≡ committed layout.now commits.old (nodes_by layout.now node) }
-    ensures trail { TrailsAll layout.now links.old
-        (covering layout.now commits.old (nodes_by layout.now node)) (take top trail.old)
-        (take result.1 trail.new) }
+    ensures covers { CoversNodes layout.now (nodes_by layout.now node)
+        (board links.old keys.old commits.old (take top trail.old))
+        (board links.new keys.new commits.new (take result.1 trail.new)) }
     ensures middle { IsMiddle layout.now links.old
         (covering layout.now commits.old (node ∷ [])) (take top trail.old) result.0 }
     ensures top { result.1 ≤ length trail.new }
@@ -344,17 +296,13 @@ pub fn uncover_from(
     node: usize,
 )
     requires node { (layout.now.heads + layout.now.heads ≤ node + 1) × (node < layout.now.tails) }
-    requires linked { IsLinked layout.now links.old }
-    requires keys { length keys.old + 1 ≡ layout.now.heads }
-    requires commits { IsCommits layout.now commits.old }
+    requires lawful { IsLawful layout.now
+        (board links.old keys.old commits.old trail.now) }
     requires trail { All (IsOptionNode layout.now) trail.now }
     ensures linked { IsLinked layout.now links.new }
-    ensures links { UncoversAll layout.now links.old
-        (covering layout.now commits.new (nodes_by layout.now node)) trail.now
-        links.new }
-    ensures keys { KeysUncoveredAll layout.now links.old
-        (covering layout.now commits.new (nodes_by layout.now node)) trail.now
-        keys.old keys.new }
+    ensures uncovers { UncoversNodes layout.now (nodes_by layout.now node)
+        (board links.old keys.old commits.old trail.now)
+        (board links.new keys.new commits.new []) }
     ensures kept { IsCommits layout.now commits.new }
     ensures commits { committed layout.now commits.new
         (nodes_by layout.now node) ≡ commits.old }

@@ -3,49 +3,47 @@
 
 ghost use Rattle.std.specs.Prelude.{◌≡◌, ◌<◌, ◌≤◌, ◌+◌, ◌++◌, drop, length, take};
 ghost use Rattle.std.specs.List.{All};
-ghost use Rattle.dancing_links.specs.Columns.{IsLinked, IsOptionNode};
+ghost use Rattle.dancing_links.specs.Columns.{column_of, colour_at, IsLinked, IsOptionNode};
 ghost use Rattle.dancing_links.specs.Keys.{fewer, more, KeysCovered};
-ghost use Rattle.dancing_links.specs.Covering.{others, hidden_at, Covers};
+ghost use Rattle.dancing_links.specs.Covering.{others, Covers};
 ghost use Rattle.dancing_links.specs.Linking.{unlinks, relinks};
 ghost use Rattle.dancing_links.specs.Trail.{HasRoom, Trails};
 
 use crate::keys::{count_less, count_more, turn_mark};
-use crate::layout::Layout;
+use crate::layout::{Layout, Rows};
 use crate::link::Link;
-use crate::place::Place;
 
 /// Takes the other nodes of a node's option out of their columns, the one to the right first, and puts them on top of the trail;
 /// answers its new top.
+#[inline(always)]
 #[tactic(auto, unfolding(crate::specs::Covering::others))]
 fn hide(
-    layout: &Layout,
-    places: &[Place],
+    rows: &Rows<'_>,
     links: &mut [Link],
     keys: &mut [u32],
     trail: &mut [u32],
     top: usize,
     node: usize,
 ) -> usize
-    requires places { places.now ≡ layout.now.places }
-    requires node { (layout.now.heads ≤ node) × (node < layout.now.tails) }
-    requires linked { IsLinked layout.now links.old }
-    requires keys { length keys.old + 1 ≡ layout.now.heads }
-    requires room { top + length (others layout.now node) ≤ length trail.old }
-    ensures linked { IsLinked layout.now links.new }
-    ensures links { links.new ≡ unlinks links.old (others layout.now node) }
+    requires node { (rows.now.heads ≤ node) × (node < rows.now.tails) }
+    requires linked { IsLinked rows.now links.old }
+    requires keys { length keys.old + 1 ≡ rows.now.heads }
+    requires room { top + length (others rows.now node) ≤ length trail.old }
+    ensures linked { IsLinked rows.now links.new }
+    ensures links { links.new ≡ unlinks links.old (others rows.now node) }
     ensures keys { keys.new
-        ≡ fewer layout.now keys.old (others layout.now node) }
-    ensures trail { take result trail.new ≡ take top trail.old ++ others layout.now node }
+        ≡ fewer rows.now keys.old (others rows.now node) }
+    ensures trail { take result trail.new ≡ take top trail.old ++ others rows.now node }
     ensures top { result ≤ length trail.new }
 {
     let mut top = top;
-    let mut other = layout.right_among(places, node);
+    let mut other = rows.right_of(node);
     while other != node {
-        layout.unlink(links, other);
-        count_less(layout, places, keys, other);
+        rows.unlink(links, other);
+        count_less(rows, keys, other);
         trail[top] = other as u32;
         top += 1;
-        other = layout.right_among(places, other);
+        other = rows.right_of(other);
     }
     top
 }
@@ -72,84 +70,58 @@ pub fn cover(
         (take result trail.new) }
     ensures top { result ≤ length trail.new }
 {
-    let places: &[Place] = layout.places();
+    let places = layout.places();
+    let rows = Rows { layout, places };
     let tails = layout.tails();
     turn_mark(keys, item);
     let mut top = top;
     let mut node = links[item].down as usize;
     while node < tails {
-        top = hide(layout, places, links, keys, trail, top, node);
+        top = hide(&rows, links, keys, trail, top, node);
         node = links[node].down as usize;
     }
     top
 }
 
-/// Takes the other nodes of a node's option out of their columns, unless the node has this colour; answers the new top of the
-/// trail.
-#[tactic(auto, unfolding(crate::specs::Covering::hidden_at))]
-fn hide_unless(
-    layout: &Layout,
-    places: &[Place],
-    links: &mut [Link],
-    keys: &mut [u32],
-    trail: &mut [u32],
-    top: usize,
-    node: usize,
-    colour: u16,
-) -> usize
-    requires places { places.now ≡ layout.now.places }
-    requires node { (layout.now.heads ≤ node) × (node < layout.now.tails) }
-    requires colour { 0 < colour }
-    requires linked { IsLinked layout.now links.old }
-    requires keys { length keys.old + 1 ≡ layout.now.heads }
-    requires room { top + length (hidden_at layout.now colour node) ≤ length trail.old }
-    ensures linked { IsLinked layout.now links.new }
-    ensures links { links.new ≡ unlinks links.old (hidden_at layout.now colour node) }
-    ensures keys { keys.new
-        ≡ fewer layout.now keys.old (hidden_at layout.now colour node) }
-    ensures trail { take result trail.new ≡ take top trail.old ++ hidden_at layout.now colour node }
-    ensures top { result ≤ length trail.new }
-{
-    if layout.has_colour(places, node, colour) {
-        top
-    } else {
-        hide(layout, places, links, keys, trail, top, node)
-    }
-}
-
-/// Covers an item that gets a colour: marks its key, and takes the options that name it without that colour out of the columns of
-/// their other items; answers the new top of the trail.
+/// Covers the item of a node with a colour, which the item gets: marks its key, and takes the options that name it without that
+/// colour out of the columns of their other items; answers the new top of the trail.
 pub fn purify(
     layout: &Layout,
     links: &mut [Link],
     keys: &mut [u32],
     trail: &mut [u32],
     top: usize,
-    item: usize,
-    colour: u16,
+    node: usize,
 ) -> usize
-    requires item { item + 1 < layout.now.heads }
-    requires colour { 0 < colour }
+    requires node { (layout.now.heads + layout.now.heads ≤ node + 1) × (node < layout.now.tails) }
+    requires colour { 0 < colour_at layout.now node }
     requires linked { IsLinked layout.now links.old }
     requires keys { length keys.old + 1 ≡ layout.now.heads }
     requires top { top ≤ length trail.old }
-    requires room { HasRoom layout.now links.old item (take top trail.old) (length trail.old) }
+    requires room { HasRoom layout.now links.old (column_of layout.now node) (take top trail.old)
+        (length trail.old) }
     ensures linked { IsLinked layout.now links.new }
-    ensures links { Covers layout.now links.old item colour links.new }
-    ensures keys { KeysCovered layout.now links.old item colour
-        keys.old keys.new }
-    ensures trail { Trails layout.now links.old item colour (take top trail.old)
-        (take result trail.new) }
+    ensures links { Covers layout.now links.old (column_of layout.now node)
+        (colour_at layout.now node) links.new }
+    ensures keys { KeysCovered layout.now links.old (column_of layout.now node)
+        (colour_at layout.now node) keys.old keys.new }
+    ensures trail { Trails layout.now links.old (column_of layout.now node)
+        (colour_at layout.now node) (take top trail.old) (take result trail.new) }
     ensures top { result ≤ length trail.new }
 {
-    let places: &[Place] = layout.places();
+    let places = layout.places();
+    let rows = Rows { layout, places };
     let tails = layout.tails();
+    let item = layout.item_at(node);
+    let colour = layout.colour_at(node);
     turn_mark(keys, item);
     let mut top = top;
-    let mut node = links[item].down as usize;
-    while node < tails {
-        top = hide_unless(layout, places, links, keys, trail, top, node, colour);
-        node = links[node].down as usize;
+    let mut other = links[item].down as usize;
+    while other < tails {
+        if !rows.has_colour(other, colour) {
+            top = hide(&rows, links, keys, trail, top, other);
+        }
+        other = links[other].down as usize;
     }
     top
 }
@@ -172,12 +144,13 @@ pub fn restore(layout: &Layout, links: &mut [Link], keys: &mut [u32], trail: &[u
     ensures links { links.new ≡ relinks links.old trail.now }
     ensures keys { keys.new ≡ more layout.now keys.old trail.now }
 {
-    let places: &[Place] = layout.places();
+    let places = layout.places();
+    let rows = Rows { layout, places };
     let mut left = trail.len();
     while left > 0 {
         left -= 1;
         let node = trail[left] as usize;
-        layout.relink(links, node);
-        count_more(layout, places, keys, node);
+        rows.relink(links, node);
+        count_more(&rows, keys, node);
     }
 }

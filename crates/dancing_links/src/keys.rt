@@ -6,8 +6,7 @@ ghost use Rattle.dancing_links.specs.Columns.{IsTable};
 ghost use Rattle.dancing_links.specs.Keys.{with_less, with_more, with_mark, least_from, IsFirstUnmarked, IsKeyed, IsCounting};
 
 use crate::build::numbers_below;
-use crate::layout::Layout;
-use crate::place::Place;
+use crate::layout::{Layout, Rows};
 use std::alloc::{AllocError, Global};
 
 /// One node in a column, in the key of its item; numbers of items are less.
@@ -44,25 +43,25 @@ fn count_node(layout: &Layout, keys: &mut [u32], node: usize)
 
 /// Counts a node of an option no more: its item has one live option less.
 #[tactic(auto, unfolding(crate::specs::Keys::with_less))]
-pub fn count_less(layout: &Layout, places: &[Place], keys: &mut [u32], node: usize)
-    requires places { places.now ≡ layout.now.places }
-    requires node { (layout.now.heads + layout.now.heads ≤ node + 1) × (node < layout.now.tails) }
-    requires keys { length keys.old + 1 ≡ layout.now.heads }
-    ensures { keys.new ≡ with_less layout.now keys.old node }
+#[inline(always)]
+pub fn count_less(rows: &Rows<'_>, keys: &mut [u32], node: usize)
+    requires node { (rows.now.heads + rows.now.heads ≤ node + 1) × (node < rows.now.tails) }
+    requires keys { length keys.old + 1 ≡ rows.now.heads }
+    ensures { keys.new ≡ with_less rows.now keys.old node }
 {
-    let item = layout.item_among(places, node);
+    let item = rows.item_at(node);
     keys[item] = keys[item].wrapping_sub(ONE_OPTION);
 }
 
 /// Counts a node of an option again.
 #[tactic(auto, unfolding(crate::specs::Keys::with_more))]
-pub fn count_more(layout: &Layout, places: &[Place], keys: &mut [u32], node: usize)
-    requires places { places.now ≡ layout.now.places }
-    requires node { (layout.now.heads + layout.now.heads ≤ node + 1) × (node < layout.now.tails) }
-    requires keys { length keys.old + 1 ≡ layout.now.heads }
-    ensures { keys.new ≡ with_more layout.now keys.old node }
+#[inline(always)]
+pub fn count_more(rows: &Rows<'_>, keys: &mut [u32], node: usize)
+    requires node { (rows.now.heads + rows.now.heads ≤ node + 1) × (node < rows.now.tails) }
+    requires keys { length keys.old + 1 ≡ rows.now.heads }
+    ensures { keys.new ≡ with_more rows.now keys.old node }
 {
-    let item = layout.item_among(places, node);
+    let item = rows.item_at(node);
     keys[item] = keys[item].wrapping_add(ONE_OPTION);
 }
 

@@ -229,15 +229,6 @@ impl Layout {
         self.heads
     }
 
-    /// The first tail.
-    #[inline(always)]
-    pub fn tails(&self) -> usize
-        ensures tails { result ≡ self.now.tails }
-        ensures table { IsTable self.now }
-    {
-        self.tails
-    }
-
     /// What stands at each node.
     #[inline(always)]
     pub fn places(&self) -> &[Place]
@@ -245,6 +236,15 @@ impl Layout {
         ensures table { IsTable self.now }
     {
         &self.places
+    }
+
+    /// The first tail.
+    #[inline(always)]
+    pub fn tails(&self) -> usize
+        ensures tails { result ≡ self.now.tails }
+        ensures table { IsTable self.now }
+    {
+        self.tails
     }
 
     /// The option of a node.
@@ -266,28 +266,6 @@ impl Layout {
         self.places[node].item as usize
     }
 
-    /// The item of a node of an option, from the layout's places.
-    pub fn item_among(&self, places: &[Place], node: usize) -> usize
-        requires places { places.now ≡ self.now.places }
-        requires node { (self.now.heads + self.now.heads ≤ node + 1) × (node < self.now.tails) }
-        ensures item { result ≡ column_of self.now node }
-        ensures table { IsTable self.now }
-    {
-        let _ = &self.places;
-        places[node].item as usize
-    }
-
-    /// The node to the right of a node in its row, from the layout's places.
-    pub fn right_among(&self, places: &[Place], node: usize) -> usize
-        requires places { places.now ≡ self.now.places }
-        requires node { (self.now.heads ≤ node) × (node < self.now.tails) }
-        ensures right { result ≡ (place_at self.now node).right }
-        ensures table { IsTable self.now }
-    {
-        let _ = &self.places;
-        places[node].right as usize
-    }
-
     /// The colour of a node of an option, 0 for none.
     pub fn colour_at(&self, node: usize) -> u16
         requires node { (self.now.heads + self.now.heads ≤ node + 1) × (node < self.now.tails) }
@@ -295,17 +273,6 @@ impl Layout {
         ensures table { IsTable self.now }
     {
         self.places[node].colour
-    }
-
-    /// Whether a node has this colour, from the layout's places; one without a colour has none.
-    pub fn has_colour(&self, places: &[Place], node: usize, colour: u16) -> bool
-        requires places { places.now ≡ self.now.places }
-        requires node { node < self.now.tails }
-        requires colour { 0 < colour }
-        ensures { result ≡ has_colour self.now colour node }
-    {
-        let _ = &self.places;
-        places[node].colour == colour
     }
 
     /// The nodes of an option: the first, and the one after the last.
@@ -332,36 +299,6 @@ impl Layout {
         end
     }
 
-    /// Takes a node out of its column.
-    #[tactic(auto, unfolding(crate::specs::Linking::unlinked, crate::specs::Linking::with_up, crate::specs::Linking::with_down))]
-    pub fn unlink(&self, links: &mut [Link], node: usize)
-        requires node { (self.now.heads ≤ node) × (node < self.now.tails) }
-        requires linked { IsLinked self.now links.old }
-        ensures linked { IsLinked self.now links.new }
-        ensures links { links.new ≡ unlinked links.old node }
-    {
-        let _ = &self.places;
-        let up = links[node].up;
-        let down = links[node].down;
-        links[up as usize].down = down;
-        links[down as usize].up = up;
-    }
-
-    /// Puts the node that was taken out last back into its column.
-    #[tactic(auto, unfolding(crate::specs::Linking::relinked, crate::specs::Linking::with_up, crate::specs::Linking::with_down))]
-    pub fn relink(&self, links: &mut [Link], node: usize)
-        requires node { (self.now.heads ≤ node) × (node < self.now.tails) }
-        requires linked { IsLinked self.now links.old }
-        ensures linked { IsLinked self.now links.new }
-        ensures links { links.new ≡ relinked links.old node }
-    {
-        let _ = &self.places;
-        let up = links[node].up;
-        let down = links[node].down;
-        links[up as usize].down = node as u32;
-        links[down as usize].up = node as u32;
-    }
-
     /// Whether the node above a node leads to it: so where it is in.
     pub fn is_known(&self, links: &[Link], node: usize) -> bool
         requires node { (self.now.heads ≤ node) × (node < self.now.tails) }
@@ -371,5 +308,98 @@ impl Layout {
         let _ = &self.places;
         let above = links[node].up as usize;
         links[above].down as usize == node
+    }
+}
+
+/// A layout and what stands at its nodes, taken out of it once: a loop that writes links need not read it again from memory.
+///
+/// Contracts see it as the layout.
+#[derive(Drop)]
+pub struct Rows<'a> {
+    pub layout: &'a Layout,
+    /// Those of the layout.
+    pub places: &'a [Place],
+}
+
+impl<'a> Model for Rows<'a> {
+    ghost use Rattle.std.specs.Prelude.{◌≡◌};
+    ghost use Rattle.dancing_links.specs.Columns.{Columns, IsTable};
+
+    ghost Value = { Columns };
+
+    ghost view = { λ r. r.layout.now };
+
+    ghost invariant = { λ r. (r.places.now ≡ r.layout.now.places) × IsTable r.layout.now };
+}
+
+impl<'a> Rows<'a> {
+    ghost use Rattle.std.specs.Prelude.{◌≡◌, ◌<◌, ◌≤◌, ◌+◌};
+    ghost use Rattle.dancing_links.specs.Columns.{column_of, place_at, IsLinked, IsTable};
+    ghost use Rattle.dancing_links.specs.Covering.{has_colour};
+    ghost use Rattle.dancing_links.specs.Linking.{unlinked, relinked};
+
+    /// The node to the right of a node in its row.
+    #[inline(always)]
+    pub fn right_of(&self, node: usize) -> usize
+        requires node { (self.now.heads ≤ node) × (node < self.now.tails) }
+        ensures right { result ≡ (place_at self.now node).right }
+        ensures table { IsTable self.now }
+    {
+        let places = self.places;
+        places[node].right as usize
+    }
+
+    /// The item of a node of an option.
+    #[inline(always)]
+    pub fn item_at(&self, node: usize) -> usize
+        requires node { (self.now.heads + self.now.heads ≤ node + 1) × (node < self.now.tails) }
+        ensures item { result ≡ column_of self.now node }
+        ensures table { IsTable self.now }
+    {
+        let places = self.places;
+        places[node].item as usize
+    }
+
+    /// Whether a node has this colour; one without a colour has none.
+    #[inline(always)]
+    pub fn has_colour(&self, node: usize, colour: u16) -> bool
+        requires node { node < self.now.tails }
+        requires colour { 0 < colour }
+        ensures { result ≡ has_colour self.now colour node }
+    {
+        let places = self.places;
+        places[node].colour == colour
+    }
+
+    /// Takes a node out of its column.
+    #[inline(always)]
+    #[tactic(auto, unfolding(crate::specs::Linking::unlinked, crate::specs::Linking::with_up, crate::specs::Linking::with_down))]
+    pub fn unlink(&self, links: &mut [Link], node: usize)
+        requires node { (self.now.heads ≤ node) × (node < self.now.tails) }
+        requires linked { IsLinked self.now links.old }
+        ensures linked { IsLinked self.now links.new }
+        ensures links { links.new ≡ unlinked links.old node }
+    {
+        let _places = self.places;
+        let up = links[node].up;
+        let down = links[node].down;
+        links[up as usize].down = down;
+        links[down as usize].up = up;
+    }
+
+    /// Puts the node that was taken out last back into its column.
+    #[inline(always)]
+    #[tactic(auto, unfolding(crate::specs::Linking::relinked, crate::specs::Linking::with_up, crate::specs::Linking::with_down))]
+    pub fn relink(&self, links: &mut [Link], node: usize)
+        requires node { (self.now.heads ≤ node) × (node < self.now.tails) }
+        requires linked { IsLinked self.now links.old }
+        ensures linked { IsLinked self.now links.new }
+        ensures links { links.new ≡ relinked links.old node }
+    {
+        let _places = self.places;
+        let up = links[node].up;
+        let down = links[node].down;
+        links[up as usize].down = node as u32;
+        links[down as usize].up = node as u32;
     }
 }

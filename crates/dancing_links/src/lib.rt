@@ -15,10 +15,10 @@ mod laws;
 mod layout;
 mod link;
 mod links;
-mod mark;
 mod options;
 mod place;
 mod searching;
+mod trail_mark;
 mod uncovered;
 
 pub use laws::{links_by_choices, links_by_options};

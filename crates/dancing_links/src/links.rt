@@ -19,8 +19,8 @@ use crate::cover::piece_of;
 use crate::keys::{build_keys, count_in, first_unmarked, is_marked, item_in, least_of};
 use crate::layout::{Layout, layout_of};
 use crate::link::Link;
-use crate::mark::Mark;
 use crate::options::OptionsOf;
+use crate::trail_mark::TrailMark;
 use cover_problem::Problem;
 use std::alloc::{AllocError, Global};
 use std::marker::Model;
@@ -42,7 +42,7 @@ pub struct Links<'a> {
     /// How many nodes are on the trail.
     out: usize,
     /// How long the trail was at each choice.
-    marks: Vec<Mark>,
+    marks: Vec<TrailMark>,
     /// The chosen options, in the order of the choices.
     chosen: Vec<u16>,
     /// The node by which each was chosen: the items of its option were covered from its own on.
@@ -138,7 +138,7 @@ impl<'a> Links<'a> {
             node,
         );
         self.out = out;
-        self.marks.push_reserved(Mark { start, middle });
+        self.marks.push_reserved(TrailMark { start, middle });
         self.entries.push_reserved(node as u32);
         self.chosen.push_reserved(option);
     }
@@ -169,7 +169,7 @@ impl<'a> Links<'a> {
             node,
         );
         self.out = out;
-        self.marks.push_reserved(Mark { start, middle });
+        self.marks.push_reserved(TrailMark { start, middle });
         self.entries.push_reserved(node as u32);
         self.chosen.push_reserved(option);
         Some(option)
@@ -213,7 +213,7 @@ impl<'a> Links<'a> {
         let (start, half) = (mark.start, mark.middle);
         let middle = recommit(layout, links, keys, commits, trail, start, half, node, next);
         self.out = cover_others(layout, links, keys, commits, trail, middle, next);
-        self.marks.push_reserved(Mark { start, middle });
+        self.marks.push_reserved(TrailMark { start, middle });
         self.entries.push_reserved(next as u32);
         self.chosen.push_reserved(option);
         Some(option)

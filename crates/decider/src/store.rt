@@ -6,7 +6,7 @@ ghost use Rattle.decider.specs.Stores.{choices_in};
 use brancher::Tables;
 use choices::Branching;
 use dancing_links::Links;
-use live_rows::LiveRows;
+use live_sets::LiveSets;
 use std::alloc::{AllocError, Global};
 
 /// What a search chooses its options in.
@@ -15,7 +15,7 @@ pub(crate) enum Store<'a> {
     /// Options as columns of linked nodes.
     Links(Links<'a>),
     /// Sets of live options, level by level.
-    Rows(LiveRows<'a>),
+    Rows(LiveSets<'a>),
 }
 
 impl<'a> Store<'a> {
@@ -25,7 +25,7 @@ impl<'a> Store<'a> {
         ensures chosen { IfOk result (λ store. (choices_in store).chosen ≡ []) }
     {
         match tables.sets() {
-            Some(sets) => Ok(Store::Rows(LiveRows::build(alloc, sets)?)),
+            Some(sets) => Ok(Store::Rows(LiveSets::build(alloc, sets)?)),
             None => Ok(Store::Links(Links::build(alloc, tables.problem())?)),
         }
     }

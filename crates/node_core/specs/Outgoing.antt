@@ -26,7 +26,7 @@ pub record Sends (old : Outgoing) (out : List Packet) (new : Outgoing) : Type 0 
   pub both : new.both ≡ old.both
 
 -- a packet for each of the lists
-pub record Load : Type 0 where
+pub record ReadyPacket : Type 0 where
   pub packet : Packet
   pub copy : Option Packet
 
@@ -36,16 +36,16 @@ copy_for false packet = None
 copy_for true packet = Some packet
 
 -- It is this packet, for each of the lists.
-pub record IsLoad (both : Bool) (packet : Packet) (load : Load) : Type 0 where
+pub record IsReadyPacket (both : Bool) (packet : Packet) (load : ReadyPacket) : Type 0 where
   pub packet_is : load.packet ≡ packet
   pub copy_is : load.copy ≡ copy_for both packet
 
 -- the packet that is ready, if there is one
-abbrev pub loaded : Option Load → List Packet
+abbrev pub loaded : Option ReadyPacket → List Packet
 loaded None = []
 loaded (Some load) = load.packet ∷ []
 
 -- what is ready is so for each of the lists
-abbrev pub IsReady : Bool → Option Load → Type 0
+abbrev pub IsReady : Bool → Option ReadyPacket → Type 0
 IsReady both None = ⊤
-IsReady both (Some load) = IsLoad both load.packet load
+IsReady both (Some load) = IsReadyPacket both load.packet load

@@ -4,7 +4,7 @@ use Rattle.brancher.specs.Finding.{Finding}
 use Rattle.cover_problem.specs.Branching.{children}
 use Rattle.cover_problem.specs.Problem.{Problem}
 use Rattle.cover_problem.specs.Search.{Barren, Covers, Outcome, Spent, outcome}
-use Rattle.node_core.specs.Outgoing.{IsReady, Load, loaded}
+use Rattle.node_core.specs.Outgoing.{IsReady, ReadyPacket, loaded}
 use Rattle.node_core.specs.SiteView.{View, abort_packets, unit_gets, unit_in, with_ledger, with_table}
 use Rattle.packet_wire.specs.declared.packet.Body.TheVariants.{Return}
 use Rattle.packet_wire.specs.declared.packet.Packet.{Packet}
@@ -70,6 +70,6 @@ pub record FinishStep (old : View) (unit : WorkUnit) (out : List Packet) (new : 
   pub sends : out ≡ abort_packets old.site outs ++ return_packets old.site unit result
 
 -- What is ready is what a frame that comes to this will return.
-pub record IsReturnLoad (from : Site) (unit : WorkUnit) (came : Option ChildResult) (both : Bool) (load : Option Load) : Type 0 where
+pub record IsReadyReturn (from : Site) (unit : WorkUnit) (came : Option ChildResult) (both : Bool) (load : Option ReadyPacket) : Type 0 where
   pub returns : (result : ChildResult) → came ≡ Some result → return_packets from unit result ≡ loaded load
   pub ready : IsReady both load

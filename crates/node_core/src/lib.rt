@@ -24,6 +24,6 @@ pub use event::Event;
 pub use formed::nodes_stay_formed;
 pub use laws::nodes_act_unless_they_refuse;
 pub use node::{NodeCore, is_misdirected};
-pub use outgoing::{Load, Outgoing};
+pub use outgoing::{Outgoing, ReadyPacket};
 pub use reply::Reply;
 pub use site_state::SiteState;

@@ -65,9 +65,9 @@ impl<'a> NodeCore<'a> {
     {
         let ledger = Ledger::start(alloc, site, nodes, names_limit)?;
         let links = Links::build(alloc, problem)?;
-        // (for what the getter says: that the problem is lawful; and for the range of a run)
-        let _items = problem.items();
-        let _run = site.incarnation;
+        problem.recall_rules();
+        // (read so that the prover knows its range)
+        let _incarnation = site.incarnation;
         nodes_stay_formed();
         Ok(NodeCore {
             state: SiteState::new(alloc, ledger),

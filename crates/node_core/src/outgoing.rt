@@ -1,7 +1,7 @@
 //! Where the packets of an event go.
 
 ghost use Rattle.std.specs.Prelude.{◌≡◌, ◌+◌, ◌∷◌, ◌≤◌, [], false, length, take, true, IfOk, OnErr, OnOk};
-ghost use Rattle.node_core.specs.Outgoing.{loaded, IsLoad, IsReady, Sends};
+ghost use Rattle.node_core.specs.Outgoing.{loaded, IsReadyPacket, IsReady, Sends};
 ghost use Rattle.node_core.specs.SiteView.{abort_packet, abort_packets};
 
 use packet_wire::{Body, Packet};
@@ -34,16 +34,16 @@ impl Model for Outgoing {
 
 /// A packet for each of the lists, ready to be put there.
 #[derive(Drop)]
-pub struct Load {
+pub struct ReadyPacket {
     packet: Packet,
     copy: Option<Packet>,
 }
 
-impl Model for Load {
+impl Model for ReadyPacket {
     ghost use Rattle.std.specs.Prelude.{Option};
-    ghost use Rattle.node_core.specs.Outgoing.{Load as LoadValue};
+    ghost use Rattle.node_core.specs.Outgoing.{ReadyPacket as ReadyPacketValue};
 
-    ghost Value = { LoadValue };
+    ghost Value = { ReadyPacketValue };
 
     ghost view = { λ l. record { packet = l.packet; copy = l.copy } };
 }
@@ -100,25 +100,25 @@ impl Outgoing {
     }
 
     /// A packet for each list; the only error is out of memory.
-    pub fn load(&self, packet: Packet) -> Result<Load, AllocError>
-        ensures { IfOk result (IsLoad self.now.both packet) }
+    pub fn load(&self, packet: Packet) -> Result<ReadyPacket, AllocError>
+        ensures { IfOk result (IsReadyPacket self.now.both packet) }
     {
         let copy = if self.both {
             Some(packet.copy()?)
         } else {
             None
         };
-        Ok(Load { packet, copy })
+        Ok(ReadyPacket { packet, copy })
     }
 
     /// Puts a packet into each list, which is asked to have room.
-    pub fn put(&mut self, load: Load)
+    pub fn put(&mut self, load: ReadyPacket)
         requires room { 1 ≤ self.old.room }
-        requires load { IsLoad self.old.both load.packet load }
+        requires load { IsReadyPacket self.old.both load.packet load }
         ensures sends { Sends self.old (load.packet ∷ []) self.new }
         ensures room { self.new.room + 1 ≡ self.old.room }
     {
-        let Load { packet, copy } = load;
+        let ReadyPacket { packet, copy } = load;
         self.packets.push_reserved(packet);
         if let Some(copy) = copy {
             self.copies.push_reserved(copy);
@@ -126,7 +126,7 @@ impl Outgoing {
     }
 
     /// Puts a packet into each list if one is ready; the lists are asked to have room for one.
-    pub fn put_ready(&mut self, load: Option<Load>)
+    pub fn put_ready(&mut self, load: Option<ReadyPacket>)
         requires room { 1 ≤ self.old.room }
         requires load { IsReady self.old.both load }
         ensures { Sends self.old (loaded load) self.new }

@@ -6,14 +6,14 @@ ghost use Rattle.cover_problem.specs.Prefix.{is_prefix};
 ghost use Rattle.node_core.specs.Acting.{refusal_told, Answered, MaySend};
 ghost use Rattle.node_core.specs.Outgoing.{Sends};
 ghost use Rattle.node_core.specs.Refusal.{finish_refusal, post_refusal, split_refusal};
-ghost use Rattle.node_core.specs.Results.{return_packets, split_up, IsRight, EndStep, FinishStep, IsReturnLoad, PostStep, SplitStep};
+ghost use Rattle.node_core.specs.Results.{return_packets, split_up, IsRight, EndStep, FinishStep, IsReadyReturn, PostStep, SplitStep};
 ghost use Rattle.node_core.specs.SiteView.{unit_in};
 ghost use Rattle.spawn_frame.specs.Frames.{frame, frame_result};
 ghost use Rattle.spawn_frame.specs.Picks.{is_split};
 ghost use Rattle.spawn_frame.specs.Tables.{has_status, is_here, longer_prefixes, may_end, prefix_in};
 
 use crate::act_fault::ActFault;
-use crate::outgoing::{Load, Outgoing};
+use crate::outgoing::{Outgoing, ReadyPacket};
 use crate::reply::Reply;
 use crate::site_state::SiteState;
 use brancher::{Branch, Finding, Outcome, branch, children, choose_prefix};
@@ -176,11 +176,11 @@ impl SiteState {
     }
 
     /// What a settled frame will return to its owner, if it is a guest.
-    fn return_load(&self, unit: Unit, out: &Outgoing) -> Result<Option<Load>, AllocError>
+    fn return_load(&self, unit: Unit, out: &Outgoing) -> Result<Option<ReadyPacket>, AllocError>
         requires split { has_status is_split (unit_in self.now unit) ≡ true }
         requires settled { IsSome (frame_result (frame unit self.now.own)) }
         ensures { IfOk result
-            (IsReturnLoad self.now.site unit
+            (IsReadyReturn self.now.site unit
             (frame_result (frame unit self.now.own)) out.now.both) }
     {
         let Unit::Guest(name, attempt) = unit else {

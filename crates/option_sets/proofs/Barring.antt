@@ -11,13 +11,13 @@ use Rattle.cover_problem.specs.Problem.{Problem, IsProblem, items_of, names_item
 use Rattle.cover_problem.specs.Numbers.{is_in}
 use Rattle.option_sets.specs.Rows.{IsPart}
 use Rattle.option_sets.specs.Sets.{IsRow, row_has, places, words_of}
-use Rattle.option_sets.specs.Tables.{AreTables, HasTint, IsTinted, IsTint, clash_at}
+use Rattle.option_sets.specs.ClashTables.{AreClashTables, HasTint, IsTinted, IsTint, clash_at}
 use Rattle.option_sets.specs.declared.word.Word.{Word}
 use Rattle.option_sets.proofs.Adding.{any_append, or-false}
 use Rattle.option_sets.proofs.Bits.{out}
 use Rattle.option_sets.proofs.Sparing.{none-there}
 
-pub row_is : (p q : Problem) (rows tints : List (List Word)) (lists : List (List ℕ)) (item : ℕ) (old row : List Word) → p ≡ q → AreTables p rows tints lists
+pub row_is : (p q : Problem) (rows tints : List (List Word)) (lists : List (List ℕ)) (item : ℕ) (old row : List Word) → p ≡ q → AreClashTables p rows tints lists
     → item < length q.names → old ≡ get_or rows item old → row ≡ old → IsRow q item row
 row_is p q rows tints lists item old row e by inside read same =
     let inside' : item < length p.names = rw e inside in
@@ -101,7 +101,7 @@ tinted_clash p o item x by some =
     on (names_item p x item) (nat_le p.primary item) (nat_le 1 (colour_of p o item)) (colour_of p o item == colour_of p x item) (colour_of p x item == colour_of p o item)
     (le-leb p.primary item high) (le-leb 1 (colour_of p o item) some) (turn (colour_of p o item) (colour_of p x item))
 
-module _ (p : Problem) (rows tints : List (List Word)) (lists : List (List ℕ)) (by : AreTables p rows tints lists) (o k item number : ℕ) (row : List Word)
+module _ (p : Problem) (rows tints : List (List Word)) (lists : List (List ℕ)) (by : AreClashTables p rows tints lists) (o k item number : ℕ) (row : List Word)
     (option : o < length p.options) (place : k < length (items_of p o)) (item-is : item ≡ get_or (items_of p o) k 0)
     (number-is : number ≡ get_or (get_or lists o []) k 0) (named : item < length p.names) (row-is : row ≡ get_or rows item []) where
   own : IsRow p item row

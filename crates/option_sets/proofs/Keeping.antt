@@ -11,7 +11,7 @@ use Rattle.std.proofs.lemmas.Slice.{take-put_mid_below, drop-put_mid, between-pu
 use Rattle.cover_problem.specs.Prefix.{clash}
 use Rattle.cover_problem.specs.Problem.{Problem, IsProblem}
 use Rattle.option_sets.specs.Sets.{has, words_of}
-use Rattle.option_sets.specs.Tables.{IsKept, AreAllKept, AreKept, set_at}
+use Rattle.option_sets.specs.ClashTables.{IsKept, AreAllKept, AreKept, set_at}
 
 -- ---- sets of one width, one behind the other
 

@@ -9,7 +9,7 @@ use Rattle.cover_problem.proofs.Basics.{same_truth}
 use Rattle.cover_problem.proofs.Colours.{get_in, colour_at, colours_long, colour_named}
 use Rattle.option_sets.specs.Rows.{IsRowBy, AreRowsOf, stands_below}
 use Rattle.option_sets.specs.Sets.{AreWords, IsRow, words_of}
-use Rattle.option_sets.specs.Tables.{AreTables, HasTint}
+use Rattle.option_sets.specs.ClashTables.{AreClashTables, HasTint}
 use Rattle.option_sets.specs.Tints.{key_of, key_at, IsNumberOf, AreTints}
 use Rattle.option_sets.specs.declared.word.Word.{Word}
 
@@ -153,7 +153,7 @@ module _ (p : Problem) (keys : List ℕ) (lists : List (List ℕ)) (rows : List 
           };
     }
 
-  pub tables_are : (items : List (List Word)) → AreRowsOf p.options (length p.names) items → AreTables p items rows lists
+  pub tables_are : (items : List (List Word)) → AreRowsOf p.options (length p.names) items → AreClashTables p items rows lists
   tables_are items named = record {
     lawful = lawful;
     items = named.long;

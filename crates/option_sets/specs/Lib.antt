@@ -1,4 +1,4 @@
 pub mod Rows
 pub mod Sets
 pub mod Tints
-pub mod Tables
+pub mod ClashTables

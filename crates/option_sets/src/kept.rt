@@ -3,9 +3,9 @@
 ghost use Rattle.std.specs.Prelude.{◌≡◌, ◌*◌, ◌-◌, ◌^◌, length, IfOk};
 ghost use Rattle.std.specs.List.{All};
 ghost use Rattle.option_sets.specs.Sets.{words_of};
-ghost use Rattle.option_sets.specs.Tables.{AreKept, AreAllKept};
+ghost use Rattle.option_sets.specs.ClashTables.{AreKept, AreAllKept};
 
-use crate::tables::Tables;
+use crate::clash_tables::ClashTables;
 use std::alloc::{AllocError, Global};
 
 /// Of a problem with more options than this no such sets are kept: they would take more than 8 MB.
@@ -13,7 +13,7 @@ const MOST_KEPT: usize = 8192;
 
 /// Of each option the set of those that it leaves, one behind the other, or of a large problem an empty list. The only error is
 /// out of memory.
-pub fn kept_sets(alloc: Global, tables: &Tables) -> Result<Vec<u64>, AllocError>
+pub fn kept_sets(alloc: Global, tables: &ClashTables) -> Result<Vec<u64>, AllocError>
     ensures { IfOk result (λ kept. AreKept tables.now kept.items) }
 {
     let options = tables.problem().options();
@@ -26,7 +26,7 @@ pub fn kept_sets(alloc: Global, tables: &Tables) -> Result<Vec<u64>, AllocError>
 }
 
 /// Makes the sets of all options, one behind the other and each full, what each option leaves.
-fn bar_each(tables: &Tables, sets: &mut [u64])
+fn bar_each(tables: &ClashTables, sets: &mut [u64])
     requires long { length sets.old ≡ length tables.now.options * words_of tables.now }
     requires full { All (λ word. word ≡ 2 ^ 64 - 1) sets.old }
     ensures { AreAllKept tables.now sets.new }

@@ -2,13 +2,13 @@
 //! leaves when it is chosen. They are built once for a problem and never changed.
 #![tactic(auto)]
 
+mod clash_tables;
 mod clear;
 mod kept;
 mod lists;
 mod row;
 mod rows;
 mod sets;
-mod tables;
 mod tints;
 mod word;
 

@@ -6,11 +6,11 @@ ghost use Rattle.std.specs.List.{range_with_len};
 ghost use Rattle.cover_problem.specs.Prefix.{clash};
 ghost use Rattle.cover_problem.specs.Problem.{IsProblem, items_of};
 ghost use Rattle.option_sets.specs.Sets.{words_of, has, IsRow};
-ghost use Rattle.option_sets.specs.Tables.{primary_of};
+ghost use Rattle.option_sets.specs.ClashTables.{primary_of};
 
+use crate::clash_tables::ClashTables;
 use crate::clear::meet;
 use crate::kept::kept_sets;
-use crate::tables::Tables;
 use crate::word::Word;
 use cover_problem::{Numbers, Problem};
 use std::alloc::{AllocError, Global};
@@ -19,7 +19,7 @@ use std::marker::Model;
 /// The sets of a problem's options. A contract sees them as the problem.
 #[derive(Drop)]
 pub struct OptionSets<'a> {
-    tables: Tables<'a>,
+    tables: ClashTables<'a>,
     /// How many words a set has.
     words: usize,
     /// The primary items of each option.
@@ -30,7 +30,7 @@ pub struct OptionSets<'a> {
 
 impl<'a> Model for OptionSets<'a> {
     ghost use Rattle.cover_problem.specs.Problem.{Problem as ProblemValue};
-    ghost use Rattle.option_sets.specs.Tables.{AreSets};
+    ghost use Rattle.option_sets.specs.ClashTables.{AreSets};
 
     ghost Value = { ProblemValue };
 
@@ -44,7 +44,7 @@ impl<'a> OptionSets<'a> {
     pub fn build(alloc: Global, problem: &'a Problem) -> Result<OptionSets<'a>, AllocError>
         ensures { IfOk result (λ sets. sets ≡ problem.now) }
     {
-        let tables = Tables::build(alloc, problem)?;
+        let tables = ClashTables::build(alloc, problem)?;
         let named = primary_items(alloc, problem)?;
         let kept = kept_sets(alloc, &tables)?;
         let words = tables.words();

@@ -54,8 +54,7 @@ impl<'a> Registry<'a> {
         ensures { IfOk result (λ registry. registry ≡ opening_registry_core problem.now nodes) }
     {
         let ledger = Ledger::with_root(alloc, nodes)?;
-        // (for what the getter says: that the problem is lawful)
-        let _items = problem.items();
+        problem.recall_rules();
         the_registry_stays_formed();
         Ok(Registry {
             state: SiteState::new(alloc, ledger),

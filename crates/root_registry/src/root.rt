@@ -103,8 +103,7 @@ pub(crate) fn receive_return(
         return state.receive_return(from, serial, attempt, child_result, out);
     }
     let problem = publication.problem();
-    // (for what the getter says: that the problem is lawful)
-    let _items = problem.items();
+    problem.recall_rules();
     if !is_acceptable(problem, &child_result) {
         return Err(ActFault::BadCover);
     }

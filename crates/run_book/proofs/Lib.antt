@@ -1,7 +1,7 @@
 mod Answering
 mod Counted
 mod Counting
-mod Desks
+mod RecordedCores
 mod Leading
 mod Order
 mod Sites

@@ -20,7 +20,7 @@ use Rattle.root_registry.proofs.Beginning.{registry_begins}
 use Rattle.root_registry.proofs.Walk.{registry_kept}
 use Rattle.root_registry.specs.RegistryStep.{RegistryStep, RootHears}
 use Rattle.run_book.specs.Books.{Enters}
-use Rattle.run_book.specs.Desks.{prefix_in, room_for}
+use Rattle.run_book.specs.RecordedCores.{prefix_in, room_for}
 use Rattle.run_book.specs.Entries.{Entry}
 use Rattle.run_book.specs.Sites.{FormedAt, IsRun, MayBeginAt, RunName, StepAt, StepsAt, opening_at}
 use Rattle.spawn_frame.specs.declared.site.Site.{Site}

@@ -2,7 +2,7 @@ pub mod Answers
 pub mod Beginnings
 pub mod Books
 pub mod Closing
-pub mod Desks
+pub mod RecordedCores
 pub mod Entries
 pub mod Merges
 pub mod Outbox

@@ -3,7 +3,6 @@
 
 mod book;
 mod cell_parts;
-mod desk;
 mod entry;
 mod fault;
 mod laws;
@@ -12,6 +11,7 @@ mod outbox;
 mod parcel;
 mod parcel_rule;
 mod prepared;
+mod recorded_core;
 mod register;
 mod repeated;
 mod run_books;
@@ -31,7 +31,7 @@ pub use laws::{
 pub use names::{CellName, Run};
 pub use outbox::{CAPACITY, Drain, Outbox, Pass};
 pub use parcel::Parcel;
-pub use register::{Receipt, Stub};
+pub use register::{Receipt, ReceiptToken};
 pub use run_books::{published, registry_book};
 pub use seats::Seat;
 pub use site_cell::{SiteCell, Unclosed};

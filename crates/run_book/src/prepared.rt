@@ -1,5 +1,5 @@
 ghost use Rattle.std.specs.Prelude.{◌≡◌, ◌≤◌, [], length, vec_capacity, IfErr, IfOk};
-ghost use Rattle.run_book.specs.Desks.{prefix_in, room_for};
+ghost use Rattle.run_book.specs.RecordedCores.{prefix_in, room_for};
 
 use crate::step::Step;
 use cover_problem::{MOST_ITEMS, Numbers};

@@ -43,12 +43,12 @@ impl<N: CellName> Model for Receipt<N> {
 
 /// What is left of a receipt once its packets were sent. Contracts see it as the receipt; it takes no memory.
 #[derive(Drop)]
-pub struct Stub<N: CellName> {
+pub struct ReceiptToken<N: CellName> {
     token: Token,
     room: PhantomData<N>,
 }
 
-impl<N: CellName> Model for Stub<N> {
+impl<N: CellName> Model for ReceiptToken<N> {
     ghost use Rattle.std.specs.Prelude.{◌≡◌, []};
     ghost use Rattle.crossbeam_queue.specs.Passes.{view as known};
     ghost use Rattle.run_book.specs.Entries.{Placed};
@@ -63,9 +63,9 @@ impl<N: CellName> Model for Stub<N> {
 }
 
 impl<N: CellName> Receipt<N> {
-    /// Its stub, and what was entered.
-    pub fn into_parts(self) -> (Stub<N>, Step)
-        ensures stub { result.0 ≡ self }
+    /// Its token, and what was entered.
+    pub fn into_parts(self) -> (ReceiptToken<N>, Step)
+        ensures receipt_token { result.0 ≡ self }
         ensures entry { result.1 ≡ self.entry }
     {
         let Receipt {
@@ -81,7 +81,7 @@ impl<N: CellName> Receipt<N> {
             reply,
             packets,
         };
-        (Stub { token, room }, step)
+        (ReceiptToken { token, room }, step)
     }
 }
 
@@ -156,8 +156,8 @@ impl<N: CellName> Register<N> {
             room: _,
         } = self;
         for receipt in receipts {
-            let (stub, _) = receipt.into_parts();
-            take_in(&carrier, &mut keeper, stub);
+            let (receipt_token, _) = receipt.into_parts();
+            take_in(&carrier, &mut keeper, receipt_token);
         }
         Register {
             carrier,
@@ -166,18 +166,18 @@ impl<N: CellName> Register<N> {
         }
     }
 
-    /// Takes receipts back by their stubs.
-    pub fn take_stubs(self, stubs: Vec<Stub<N>>) -> Register<N>
+    /// Takes receipts back by their tokens.
+    pub fn take_tokens(self, tokens: Vec<ReceiptToken<N>>) -> Register<N>
         ensures log { result.log ≡ self.log }
-        ensures back { result.back ≡ self.back ++ stubs.items }
+        ensures back { result.back ≡ self.back ++ tokens.items }
     {
         let Register {
             carrier,
             mut keeper,
             room: _,
         } = self;
-        for stub in stubs {
-            take_in(&carrier, &mut keeper, stub);
+        for receipt_token in tokens {
+            take_in(&carrier, &mut keeper, receipt_token);
         }
         Register {
             carrier,
@@ -209,13 +209,13 @@ fn ticket<E: Entered>(carrier: &Carrier, keeper: &mut Token, entry: &Entry) -> T
 }
 
 /// The keeper takes a receipt back.
-fn take_in<N: CellName>(carrier: &Carrier, keeper: &mut Token, stub: Stub<N>)
+fn take_in<N: CellName>(carrier: &Carrier, keeper: &mut Token, receipt_token: ReceiptToken<N>)
     requires here { keeper.old.table_id ≡ N.table }
     requires carrier { IsPassOf carrier.now keeper.old }
     requires keeper { IsKeeper (view keeper.old) }
     ensures same { IsSamePass keeper.old keeper.new }
-    ensures keeper { view keeper.new ≡ taken_back (view keeper.old) stub }
+    ensures keeper { view keeper.new ≡ taken_back (view keeper.old) receipt_token }
 {
-    let Stub { token, room: _ } = stub;
+    let ReceiptToken { token, room: _ } = receipt_token;
     carrier.absorb::<TakeBack>(keeper, token);
 }

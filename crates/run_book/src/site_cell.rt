@@ -1,18 +1,18 @@
 ghost use Rattle.std.specs.Prelude.{◌≡◌, ℕ, ◌+◌, length, sum, vec_len, IfErr, IfOk, IfSome, OnErr, OnOk};
 ghost use Rattle.node_core.specs.Refusal.{IsFit};
 ghost use Rattle.run_book.specs.Closing.{IsMissing};
-ghost use Rattle.run_book.specs.Desks.{fault_told, IsLawful, Refuses};
+ghost use Rattle.run_book.specs.RecordedCores.{fault_told, IsLawful, Refuses};
 ghost use Rattle.run_book.specs.Places.{AllStand, AreBelow, places};
 ghost use Rattle.run_book.specs.Sites.{opening_of, IsRun, MayBeginIn, StepsAt};
 
 use crate::book::Book;
 use crate::cell_parts::CellParts;
-use crate::desk;
-use crate::desk::Desk;
 use crate::fault::{BookFault, Missing};
 use crate::names::{CellName, Run};
 use crate::prepared::Prepared;
-use crate::register::{Receipt, Stub};
+use crate::recorded_core;
+use crate::recorded_core::RecordedCore;
+use crate::register::{Receipt, ReceiptToken};
 use crate::seats::Seat;
 use node_core::{Core, Event};
 use spawn_frame::Site;
@@ -27,7 +27,7 @@ use std::sync::{Mutex, Wait};
 pub struct SiteCell<J: Run, C: Core + Drop, N: CellName> {
     site: Site,
     alloc: Global,
-    lock: Mutex<Desk<J, C, N>>,
+    lock: Mutex<RecordedCore<J, C, N>>,
     ghost here: { site ≡ N.site },
 }
 
@@ -59,7 +59,7 @@ impl<J: Run, C: Core + Drop, N: CellName> SiteCell<J, C, N> {
         SiteCell {
             site: core.site(),
             alloc: core.allocator(),
-            lock: Mutex::new(Desk::new(cell_parts, core, limit)),
+            lock: Mutex::new(RecordedCore::new(cell_parts, core, limit)),
         }
     }
 
@@ -149,8 +149,8 @@ impl<J: Run, C: Core + Drop, N: CellName> SiteCell<J, C, N> {
         match lock.into_inner().close(site, seats, receipts) {
             Ok(book) => Ok(book),
             Err(unclosed) => {
-                let desk::Unclosed {
-                    desk,
+                let recorded_core::Unclosed {
+                    recorded_core,
                     seats,
                     receipts,
                     cause,
@@ -159,7 +159,7 @@ impl<J: Run, C: Core + Drop, N: CellName> SiteCell<J, C, N> {
                     cell: SiteCell {
                         site,
                         alloc,
-                        lock: Mutex::new(desk),
+                        lock: Mutex::new(recorded_core),
                     },
                     seats,
                     receipts,
@@ -169,21 +169,25 @@ impl<J: Run, C: Core + Drop, N: CellName> SiteCell<J, C, N> {
         }
     }
 
-    /// The book, once all seats are back, and the stubs of all receipts, as `close` gives it. Where something is missing, what is
+    /// The book, once all seats are back, and the tokens of all receipts, as `close` gives it. Where something is missing, what is
     /// handed in is let go.
-    pub fn settle(self, seats: Vec<Seat<N>>, stubs: Vec<Stub<N>>) -> Result<Book<J>, Missing>
+    pub fn settle(
+        self,
+        seats: Vec<Seat<N>>,
+        tokens: Vec<ReceiptToken<N>>,
+    ) -> Result<Book<J>, Missing>
         ensures site { IfOk result (λ book. book.site ≡ N.site) }
-        ensures stand { IfOk result (λ book. AllStand book.entries stubs.items) }
-        ensures each { IfOk result (λ book. AreBelow (length book.entries) (places stubs.items)) }
+        ensures stand { IfOk result (λ book. AllStand book.entries tokens.items) }
+        ensures each { IfOk result (λ book. AreBelow (length book.entries) (places tokens.items)) }
         ensures counted { IfOk result (λ book. sum seats.items ≡ length book.entries) }
         ensures cause { IfErr result (λ cause.
-            (given : ℕ) × IsMissing cause seats.items (vec_len stubs) given) }
+            (given : ℕ) × IsMissing cause seats.items (vec_len tokens) given) }
     {
         let SiteCell {
             site,
             alloc: _,
             lock,
         } = self;
-        lock.into_inner().settle(site, seats, stubs)
+        lock.into_inner().settle(site, seats, tokens)
     }
 }

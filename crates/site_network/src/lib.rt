@@ -2,7 +2,7 @@
 //! cores, so that it is proved beside them.
 #![tactic(auto)]
 
-mod cause;
+mod end_cause;
 mod ending;
 mod gate;
 mod link;
@@ -13,7 +13,7 @@ mod site_end;
 mod turn;
 mod udp_link;
 
-pub use cause::Cause;
+pub use end_cause::EndCause;
 pub use ending::Ending;
 pub use gate::{Gate, Open, SearchWatch};
 pub use link::{Link, LinkFault};

@@ -1,11 +1,11 @@
-use crate::cause::Cause;
+use crate::end_cause::EndCause;
 use crate::turn::Taken;
 
 /// How a site of a run ended, over all its starts. The greatest numbers stay.
 #[derive(Clone, Copy, Debug, PartialEq, Eq)]
 pub struct SiteEnd {
     /// Why its threads ended: the first of all causes in the order of that type.
-    pub cause: Cause,
+    pub cause: EndCause,
     /// How many parcels were lost: the outbox was full, or the link didn't send them.
     pub losses: u64,
     /// How many datagrams came that are no packets.
@@ -35,9 +35,9 @@ impl SiteEnd {
     /// the search is over, or whose memory ran out.
     pub fn ends_run(&self, node: u8) -> bool {
         match self.cause {
-            Cause::Over => node == 0,
-            Cause::Memory => true,
-            Cause::BookFull | Cause::Faults | Cause::Silence | Cause::Turns => {
+            EndCause::Over => node == 0,
+            EndCause::Memory => true,
+            EndCause::BookFull | EndCause::Faults | EndCause::Silence | EndCause::Turns => {
                 node == 0 || self.is_manned
             }
         }
@@ -45,7 +45,7 @@ impl SiteEnd {
 
     /// There was no start: with any other end it is that end.
     pub const NONE: SiteEnd = SiteEnd {
-        cause: Cause::Turns,
+        cause: EndCause::Turns,
         losses: 0,
         dropped: 0,
         failures: 0,
@@ -55,7 +55,7 @@ impl SiteEnd {
 
     /// There was no memory for the site to start, or to close.
     pub const STARVED: SiteEnd = SiteEnd {
-        cause: Cause::Memory,
+        cause: EndCause::Memory,
         ..SiteEnd::NONE
     };
 }

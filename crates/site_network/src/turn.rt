@@ -1,4 +1,4 @@
-use crate::cause::Cause;
+use crate::end_cause::EndCause;
 
 /// What came of a thread's turn.
 #[derive(Clone, Copy, Debug, PartialEq, Eq)]
@@ -10,7 +10,7 @@ pub enum Turn {
     /// Something was to be done, but memory ran out.
     Starved,
     /// The thread ends.
-    Ended(Cause),
+    Ended(EndCause),
 }
 
 /// How many turns a thread took.
@@ -90,7 +90,7 @@ impl Limits {
     }
 
     /// Counts a turn by its result, and returns the cause if the thread ends by it.
-    pub fn note(&mut self, turn: Turn) -> Option<Cause> {
+    pub fn note(&mut self, turn: Turn) -> Option<EndCause> {
         match turn {
             Turn::Used => self.use_turn(),
             Turn::Waited => self.wait(),
@@ -101,13 +101,13 @@ impl Limits {
     }
 
     /// Memory ran out in a turn. That counts as a wait, and ends the thread where it happens too often.
-    fn starve(&mut self) -> Option<Cause> {
+    fn starve(&mut self) -> Option<EndCause> {
         self.wait();
         self.shortages = self.shortages.saturating_add(1);
         if self.shortages < SHORTAGES {
             None
         } else {
-            Some(Cause::Memory)
+            Some(EndCause::Memory)
         }
     }
 

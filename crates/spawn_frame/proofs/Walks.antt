@@ -1,4 +1,4 @@
--- A struct without fields is made, as the walks of `src/path.rt` do it.
+-- A struct without fields is made, as the walks of `src/ghost_prefix.rt` do it.
 use Rattle.std.proofs.Common.{List, [], ◌∷◌, refl}
 use seplogic.Ra.Ura.{Ura}
 use mir.Val.{Val, vstruct, vnil}

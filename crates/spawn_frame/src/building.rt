@@ -4,8 +4,8 @@ ghost use Rattle.std.specs.Prelude.{◌≡◌, ◌++◌, ◌∷◌, []};
 ghost use Rattle.spawn_frame.specs.Works.{fresh_child, fresh_guest, root_child};
 
 use crate::child::Child;
+use crate::ghost_prefix::GhostPrefix;
 use crate::guest::Guest;
-use crate::path::Path;
 use crate::site::{Attempt, ChildName};
 use crate::unit::Unit;
 use crate::work::Work;
@@ -20,12 +20,12 @@ pub fn new_root(alloc: Global) -> Child
     Child {
         parent: None,
         option: 0,
-        work: Work::new(Path::of(&empty), 1),
+        work: Work::new(GhostPrefix::of(&empty), 1),
     }
 }
 
 /// A child of a unit, with this prefix and the option.
-pub fn new_child(unit: Unit, path: &Path, option: u16) -> Child
+pub fn new_child(unit: Unit, path: &GhostPrefix, option: u16) -> Child
     ensures { result ≡ fresh_child unit (path.now.options ++ option ∷ []) }
 {
     Child {
@@ -39,7 +39,7 @@ pub fn new_child(unit: Unit, path: &Path, option: u16) -> Child
 pub fn new_guest(name: ChildName, attempt: Attempt, prefix: Numbers) -> Guest
     ensures { result ≡ fresh_guest name attempt prefix }
 {
-    let path = Path::of(&prefix);
+    let path = GhostPrefix::of(&prefix);
     Guest {
         name,
         prefix,

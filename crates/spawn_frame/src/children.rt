@@ -9,11 +9,11 @@ ghost use Rattle.spawn_frame.specs.Works.{change_child, child_work, fresh_child,
 use crate::building::new_root;
 use crate::child::Child;
 use crate::child_result::ChildResult;
+use crate::ghost_prefix::GhostPrefix;
 use crate::heard::Heard;
 use crate::next::next_in_pages;
 use crate::page::{PAGE, Page};
 use crate::pages::{add_pages, count_in_pages, last_in_pages, push_children};
-use crate::path::Path;
 use crate::status::Status;
 use crate::unit::Unit;
 use crate::wanted::Wanted;
@@ -95,7 +95,12 @@ impl Children {
     /// Puts the children of a unit behind those that are there: for each option one with this prefix and the option. The
     /// only error is out of memory, which changes no child. It takes memory for whole pages, before any change, and none
     /// where the last page has room.
-    pub fn append(&mut self, unit: Unit, path: &Path, options: &[u16]) -> Result<(), AllocError>
+    pub fn append(
+        &mut self,
+        unit: Unit,
+        path: &GhostPrefix,
+        options: &[u16],
+    ) -> Result<(), AllocError>
         requires { length self.old + length options.now < 2 ^ 32 }
         ensures ok { OnOk result (self.new
             ≡ self.old ++ map (fresh_child unit) (longer_prefixes path.now.options options.now)) }

@@ -3,24 +3,27 @@
 
 mod building;
 mod cause;
+mod changes;
 mod child;
 mod child_result;
 mod children;
 mod first_found;
+mod ghost_prefix;
 mod gift;
 mod guest;
 mod guest_view;
 mod guests;
 mod heard;
 mod inlet;
+mod jobs;
 mod kinds;
 mod next;
 mod out;
 mod page;
 mod pages;
-mod path;
 mod prefix_part;
 mod prefixes;
+mod results;
 mod serials;
 mod siblings;
 mod site;
@@ -30,6 +33,7 @@ mod table;
 mod unit;
 mod unit_view;
 mod units;
+mod views;
 mod wanted;
 mod work;
 

@@ -8,8 +8,8 @@ ghost use Rattle.spawn_frame.specs.Works.{fresh_child, is_wanted, last_wanted};
 
 use crate::building::new_child;
 use crate::child::Child;
+use crate::ghost_prefix::GhostPrefix;
 use crate::page::{PAGE, Page};
-use crate::path::Path;
 use crate::unit::Unit;
 use crate::wanted::Wanted;
 use std::alloc::{AllocError, Global};
@@ -31,7 +31,13 @@ pub fn add_pages(alloc: Global, pages: &mut Vec<Page>, end: usize) -> Result<(),
 
 /// Puts the children of a unit behind those that are there: for each option one with this prefix and the option. There are
 /// pages for them.
-pub fn push_children(pages: &mut [Page], first: usize, unit: Unit, path: &Path, options: &[u16])
+pub fn push_children(
+    pages: &mut [Page],
+    first: usize,
+    unit: Unit,
+    path: &GhostPrefix,
+    options: &[u16],
+)
     requires filled { AreFilled pages.old }
     requires first { first ≡ length (in_pages pages.old) }
     requires room { first + length options.now ≤ length pages.old * 256 }

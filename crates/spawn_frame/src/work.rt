@@ -3,9 +3,9 @@ ghost use Rattle.spawn_frame.specs.Tables.{is_here};
 
 use crate::child_result::ChildResult;
 use crate::first_found::FirstFound;
+use crate::ghost_prefix::GhostPrefix;
 use crate::heard::Heard;
 use crate::inlet::Inlet;
-use crate::path::Path;
 use crate::serials::Serials;
 use crate::site::Attempt;
 use crate::status::Status;
@@ -15,7 +15,7 @@ use crate::wanted::Wanted;
 #[derive(Drop)]
 pub struct Work {
     /// The options that are chosen, for proofs alone.
-    pub path: Path,
+    pub path: GhostPrefix,
     /// How often it was given out, from 1.
     pub attempt: Attempt,
     /// How far it is.
@@ -31,7 +31,7 @@ impl Work {
     ghost use Rattle.spawn_frame.specs.Works.{frame_says, heard_work, is_wanted, new_work, redone_work, split_work, with_heard, HearsChildren};
 
     /// Work that nobody has taken up.
-    pub fn new(path: Path, attempt: Attempt) -> Work
+    pub fn new(path: GhostPrefix, attempt: Attempt) -> Work
         ensures { result ≡ new_work path.options attempt }
     {
         Work {

@@ -1,6 +1,7 @@
 //! The children that a site gives away, and the results that come back.
 #![tactic(auto)]
 
+mod arrivals;
 mod children;
 mod given;
 mod guests;
@@ -9,9 +10,13 @@ mod known;
 mod laws;
 mod learn_fault;
 mod ledger;
+mod membership;
 mod redo_fault;
+mod redos;
 mod return_reply;
+mod returns;
 mod sharing;
+mod steals;
 mod told;
 
 pub use given::Given;

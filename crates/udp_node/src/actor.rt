@@ -2,7 +2,7 @@ ghost use Rattle.std.specs.Prelude.{◌≡◌, true, IfErr, IfOk};
 ghost use Rattle.node_core.specs.Formed.{AllFormed};
 ghost use Rattle.node_core.specs.Refusal.{IsFit};
 ghost use Rattle.packet_wire.specs.WellFormed.{is_well_formed};
-ghost use Rattle.run_book.specs.Desks.{IsLawful};
+ghost use Rattle.run_book.specs.RecordedCores.{IsLawful};
 
 use crate::seat_receipts::{Refused, SeatReceipts};
 use crate::shared::Shared;

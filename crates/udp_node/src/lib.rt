@@ -2,7 +2,10 @@
 #![tactic(auto)]
 
 mod actor;
+mod barren_prefix;
 mod entered_gifts;
+mod exchange;
+mod few_visits;
 mod hand;
 mod node;
 mod node_end;
@@ -24,6 +27,6 @@ pub use run::{RunEnd, run_sites};
 pub use run_plan::RunPlan;
 pub use seat_receipts::SeatReceipts;
 pub use site_network::{
-    Cause, Gate, Link, LinkFault, MemoryLink, Open, Pace, Plan, Quota, SiteEnd, Sockets, Taken,
+    EndCause, Gate, Link, LinkFault, MemoryLink, Open, Pace, Plan, Quota, SiteEnd, Sockets, Taken,
     UdpLink, Wires, bound,
 };

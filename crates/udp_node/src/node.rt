@@ -2,9 +2,10 @@
 
 ghost use Rattle.std.specs.Prelude.{◌≡◌, ◌+◌, ◌<◌, ◌≤◌, ◌⊎◌, IfOk, OnOk, vec_len};
 ghost use Rattle.std.specs.Vec.{vec_capacity};
-ghost use Rattle.site_network.specs.declared.cause.Cause.TheVariants.{Memory};
+ghost use Rattle.site_network.specs.declared.end_cause.EndCause.TheVariants.{Memory};
 
 use crate::actor::Actor;
+use crate::exchange::Exchange;
 use crate::node_end::NodeEnd;
 use crate::receiver::Receiver;
 use crate::seat_receipts::SeatReceipts;
@@ -18,7 +19,7 @@ use brancher::Tables;
 use cover_problem::Problem;
 use node_core::Core;
 use run_book::{CellName, Outbox, Run, SiteCell};
-use site_network::{Cause, Ending, Gate, Limits, Link, Open, Plan, Taken, Turn};
+use site_network::{EndCause, Ending, Gate, Limits, Link, Open, Plan, Taken, Turn};
 use std::alloc::{AllocError, Global};
 use std::sync::Wait;
 use std::thread::{self, Threads};
@@ -55,9 +56,9 @@ impl<L: Link> Task<L> {
 
     /// Whether the site ends where the thread ended by this cause. Without the one that receives, nothing gets there any more; a
     /// worker whose turns are over leaves the rest to the others.
-    fn ends_site(&self, cause: Cause) -> bool {
+    fn ends_site(&self, cause: EndCause) -> bool {
         match self {
-            Task::Work(_) => !matches!(cause, Cause::Over | Cause::Turns),
+            Task::Work(_) => !matches!(cause, EndCause::Over | EndCause::Turns),
             Task::Receive(_) => true,
         }
     }
@@ -69,7 +70,7 @@ struct ActingThread<'a, J: Run, C: Core + Drop, N: CellName, L: Link, G: Gate> {
     task: Task<L>,
     actor: Actor<'a, J, C, N, G>,
     taken: Taken,
-    cause: Cause,
+    cause: EndCause,
 }
 
 impl<'a, J: Run, C: Core + Drop, N: CellName, L: Link, G: Gate> ActingThread<'a, J, C, N, L, G> {
@@ -79,7 +80,7 @@ impl<'a, J: Run, C: Core + Drop, N: CellName, L: Link, G: Gate> ActingThread<'a,
             task,
             actor,
             taken: Taken::NONE,
-            cause: Cause::Turns,
+            cause: EndCause::Turns,
         }
     }
 
@@ -100,7 +101,7 @@ impl<'a, J: Run, C: Core + Drop, N: CellName, L: Link, G: Gate> ActingThread<'a,
 }
 
 /// Counts a turn, and waits a little if memory ran out, so that others may give some back. Returns the cause if the thread ends by it.
-fn noted<R: Wait + Clock>(rt: &R, left: &mut Limits, turn: Turn) -> Option<Cause> {
+fn noted<R: Wait + Clock>(rt: &R, left: &mut Limits, turn: Turn) -> Option<EndCause> {
     if turn == Turn::Starved {
         thread::sleep(rt, Duration::from_millis(SHORTAGE));
     }
@@ -113,10 +114,10 @@ fn work<J: Run, C: Core + Drop, N: CellName, G: Gate, R: Wait + Clock>(
     actor: &mut Actor<'_, J, C, N, G>,
     number: u8,
     left: &mut Limits,
-) -> Cause {
+) -> EndCause {
     let shared = actor.shared;
     if shared.is_over(rt) {
-        return Cause::Turns;
+        return EndCause::Turns;
     }
     shared.signals.begin_working();
     shared.muster(rt);
@@ -127,7 +128,7 @@ fn work<J: Run, C: Core + Drop, N: CellName, G: Gate, R: Wait + Clock>(
             shared.signals.work_together(number);
             cause
         }
-        Err(_) => Cause::Memory,
+        Err(_) => EndCause::Memory,
     }
 }
 
@@ -137,7 +138,7 @@ fn take_turns<'a, J: Run, C: Core + Drop, N: CellName, G: Gate, R: Wait + Clock>
     actor: &mut Actor<'_, J, C, N, G>,
     worker: &mut Worker<'a, J>,
     left: &mut Limits,
-) -> Cause {
+) -> EndCause {
     for _turn in 0..u64::MAX {
         if left.is_spent() {
             break;
@@ -147,7 +148,7 @@ fn take_turns<'a, J: Run, C: Core + Drop, N: CellName, G: Gate, R: Wait + Clock>
             return cause;
         }
     }
-    Cause::Turns
+    EndCause::Turns
 }
 
 /// Runs the thread that receives to its end. It begins its turns once a thread of each kind has begun.
@@ -156,10 +157,10 @@ fn receive<J: Run, C: Core + Drop, N: CellName, L: Link, G: Gate, R: Wait + Cloc
     actor: &mut Actor<'_, J, C, N, G>,
     receiver: &mut Receiver<L>,
     left: &mut Limits,
-) -> Cause {
+) -> EndCause {
     let shared = actor.shared;
     if shared.is_over(rt) {
-        return Cause::Turns;
+        return EndCause::Turns;
     }
     shared.signals.begin_receiving();
     shared.muster(rt);
@@ -172,7 +173,7 @@ fn receive<J: Run, C: Core + Drop, N: CellName, L: Link, G: Gate, R: Wait + Cloc
             return cause;
         }
     }
-    Cause::Turns
+    EndCause::Turns
 }
 
 /// Runs the threads of a node to their ends: its workers, one that receives and one that sends. All seats come back, unless memory
@@ -275,6 +276,9 @@ pub(crate) fn run_threads<
     let (Ok((outbox, drain)), Ok(twin)) = (Outbox::new(alloc), link.twin()) else {
         return NodeEnd::starved(alloc);
     };
+    let Ok(exchange) = Exchange::new(alloc, plan.workers) else {
+        return NodeEnd::starved(alloc);
+    };
     let signals = Signals::new(u64::from(plan.workers) + 1, plan.workers > 0);
     let shared = Shared {
         cell,
@@ -282,6 +286,7 @@ pub(crate) fn run_threads<
         outbox: &outbox,
         gate,
         signals: &signals,
+        exchange: &exchange,
         ending,
         plan,
         is_last,
@@ -436,7 +441,7 @@ fn end_of<J: Run, C: Core + Drop, N: CellName, L: Link, G: Gate>(
         failures: sent.failures,
         taken: sent.taken,
         is_manned,
-        cause: Cause::Turns,
+        cause: EndCause::Turns,
     };
     for acting_thread in threads {
         end = with_thread(end, acting_thread);

@@ -1,16 +1,16 @@
 ghost use Rattle.std.specs.Prelude.{◌≡◌, ◌+◌, ◌≤◌, sum, sum_by, vec_len, IfErr, IfOk, IfSome};
 ghost use Rattle.std.specs.Vec.{vec_capacity};
-ghost use Rattle.site_network.specs.declared.cause.Cause.TheVariants.{Memory};
+ghost use Rattle.site_network.specs.declared.end_cause.EndCause.TheVariants.{Memory};
 
 use crate::seat_receipts::SeatReceipts;
-use run_book::{CellName, Seat, Stub};
-use site_network::{Cause, Taken};
+use run_book::{CellName, ReceiptToken, Seat};
+use site_network::{EndCause, Taken};
 use std::alloc::Global;
 
 /// How the threads of a site ended. Counts stop at the greatest number.
 #[derive(Drop)]
 pub struct NodeEnd<N: CellName> {
-    /// The seats of all of them, each with the stubs of as many receipts as it counts.
+    /// The seats of all of them, each with the tokens of as many receipts as it counts.
     pub seats: Vec<SeatReceipts<N>>,
     /// How many parcels were lost: the outbox was full, or the link didn't send them.
     pub losses: u64,
@@ -24,7 +24,7 @@ pub struct NodeEnd<N: CellName> {
     /// A thread of each kind has begun while the site was to go on. Else the site took part in no search.
     pub is_manned: bool,
     /// Why they ended: the first of all causes in the order of that type.
-    pub cause: Cause,
+    pub cause: EndCause,
 }
 
 impl<N: CellName> NodeEnd<N> {
@@ -41,16 +41,19 @@ impl<N: CellName> NodeEnd<N> {
             failures: 0,
             taken: Taken::NONE,
             is_manned: false,
-            cause: Cause::Memory,
+            cause: EndCause::Memory,
         }
     }
 
-    /// Returns all seats, and the stubs of all receipts.
+    /// Returns all seats, and the tokens of all receipts.
     ///
     /// # Errors
     ///
     /// The end comes back as it was if memory runs out, or no list has room for so many.
-    pub fn into_lists(self, alloc: Global) -> Result<(Vec<Seat<N>>, Vec<Stub<N>>), NodeEnd<N>>
+    pub fn into_lists(
+        self,
+        alloc: Global,
+    ) -> Result<(Vec<Seat<N>>, Vec<ReceiptToken<N>>), NodeEnd<N>>
         ensures seats { IfOk result (λ lists. vec_len lists.0 ≡ vec_len self.seats) }
         ensures counted { IfOk result (λ lists. sum lists.0.items ≡ vec_len lists.1) }
         ensures back { IfErr result (λ back. back.seats.items ≡ self.seats.items) }
@@ -58,13 +61,13 @@ impl<N: CellName> NodeEnd<N> {
         let Some(many) = receipts_of(&self.seats) else {
             return Err(self);
         };
-        let (Ok(seats), Ok(stubs)) = (
+        let (Ok(seats), Ok(tokens)) = (
             Vec::with_capacity(alloc, self.seats.len()),
             Vec::with_capacity(alloc, many),
         ) else {
             return Err(self);
         };
-        Ok(parted(self.seats, seats, stubs))
+        Ok(parted(self.seats, seats, tokens))
     }
 }
 
@@ -79,34 +82,37 @@ fn receipts_of<N: CellName>(seats: &[SeatReceipts<N>]) -> Option<usize>
     Some(many)
 }
 
-/// Puts all seats and the stubs of their receipts into these lists, which have room for them.
+/// Puts all seats and the tokens of their receipts into these lists, which have room for them.
 fn parted<N: CellName>(
     all: Vec<SeatReceipts<N>>,
     mut seats: Vec<Seat<N>>,
-    mut stubs: Vec<Stub<N>>,
-) -> (Vec<Seat<N>>, Vec<Stub<N>>)
-    requires empty { (vec_len seats ≡ 0) × (vec_len stubs ≡ 0) }
+    mut tokens: Vec<ReceiptToken<N>>,
+) -> (Vec<Seat<N>>, Vec<ReceiptToken<N>>)
+    requires empty { (vec_len seats ≡ 0) × (vec_len tokens ≡ 0) }
     requires seats { vec_len all ≤ vec_capacity seats }
-    requires stubs { sum_by (λ receipts. receipts.seat) all.items ≤ vec_capacity stubs }
+    requires tokens { sum_by (λ receipts. receipts.seat) all.items ≤ vec_capacity tokens }
     ensures seats { vec_len result.0 ≡ vec_len all }
     ensures counted { sum result.0.items ≡ vec_len result.1 }
 {
     for receipts in all {
         let (seat, own) = receipts.into_parts();
         seats.push_reserved(seat);
-        stubs = with_all(stubs, own);
+        tokens = with_all(tokens, own);
     }
-    (seats, stubs)
+    (seats, tokens)
 }
 
-/// The stubs with these after them, for which there is room.
-fn with_all<N: CellName>(mut stubs: Vec<Stub<N>>, own: Vec<Stub<N>>) -> Vec<Stub<N>>
-    requires { vec_len stubs + vec_len own ≤ vec_capacity stubs }
-    ensures many { vec_len result ≡ vec_len stubs + vec_len own }
-    ensures capacity { vec_capacity result ≡ vec_capacity stubs }
+/// The tokens with these after them, for which there is room.
+fn with_all<N: CellName>(
+    mut tokens: Vec<ReceiptToken<N>>,
+    own: Vec<ReceiptToken<N>>,
+) -> Vec<ReceiptToken<N>>
+    requires { vec_len tokens + vec_len own ≤ vec_capacity tokens }
+    ensures many { vec_len result ≡ vec_len tokens + vec_len own }
+    ensures capacity { vec_capacity result ≡ vec_capacity tokens }
 {
-    for stub in own {
-        stubs.push_reserved(stub);
+    for receipt_token in own {
+        tokens.push_reserved(receipt_token);
     }
-    stubs
+    tokens
 }

@@ -7,7 +7,7 @@ use crate::worker::{after, after_refusal};
 use node_core::{Core, Event};
 use packet_wire::{Body, Packet, WireFault, read_packet};
 use run_book::{CellName, Run};
-use site_network::{Cause, Gate, Link, Turn};
+use site_network::{EndCause, Gate, Link, Turn};
 use std::alloc::Global;
 use std::sync::Wait;
 use std::thread;
@@ -132,7 +132,7 @@ impl<L: Link> Receiver<L> {
             Err(_) => {
                 self.faults = self.faults.saturating_add(1);
                 if self.faults >= FAULTS {
-                    return Turn::Ended(Cause::Faults);
+                    return Turn::Ended(EndCause::Faults);
                 }
                 Turn::Used
             }
@@ -170,7 +170,7 @@ impl<L: Link> Receiver<L> {
             self.entered.note(packet);
         }
         if is_end {
-            return Turn::Ended(Cause::Over);
+            return Turn::Ended(EndCause::Over);
         }
         if !self.over && here == 0 && tells_end(step.packets()) {
             self.over = true;
@@ -275,12 +275,12 @@ impl<L: Link> Receiver<L> {
         &self,
         shared: &Shared<'_, J, C, N, G>,
         is_over: bool,
-    ) -> Option<Cause> {
+    ) -> Option<EndCause> {
         let is_deserted = shared.cell.site().node != 0 && shared.signals.is_deserted();
         if is_over || is_deserted {
-            Some(Cause::Turns)
+            Some(EndCause::Turns)
         } else if self.silent >= shared.plan.quiet {
-            Some(Cause::Silence)
+            Some(EndCause::Silence)
         } else {
             None
         }
@@ -288,12 +288,12 @@ impl<L: Link> Receiver<L> {
 
     /// The thread ends, as its turns or the site's other threads do.
     fn end(&self) -> Turn {
-        self.end_by(Cause::Turns)
+        self.end_by(EndCause::Turns)
     }
 
     /// The thread ends by this cause, or the registry's with the search where that is over.
-    fn end_by(&self, cause: Cause) -> Turn {
-        Turn::Ended(if self.over { Cause::Over } else { cause })
+    fn end_by(&self, cause: EndCause) -> Turn {
+        Turn::Ended(if self.over { EndCause::Over } else { cause })
     }
 }
 

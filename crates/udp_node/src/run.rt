@@ -75,8 +75,7 @@ pub fn run_sites<
         limit,
     } = run_plan;
     let ending = Ending::within(rt, limit, plan.nodes);
-    // (its contract says that the problem is lawful, as `RunContext` asks)
-    let _items = problem.items();
+    problem.recall_rules();
     let tables = Tables::build(alloc, problem)?;
     let context = RunContext {
         problem,

@@ -1,20 +1,20 @@
 ghost use Rattle.std.specs.Prelude.{◌≡◌, ◌+◌, vec_len, IfErr, IfOk};
 ghost use Rattle.node_core.specs.Refusal.{IsFit};
-ghost use Rattle.run_book.specs.Desks.{IsLawful};
+ghost use Rattle.run_book.specs.RecordedCores.{IsLawful};
 
 use node_core::{Core, Event};
-use run_book::{BookFault, CellName, Run, Seat, SiteCell, Step, Stub};
+use run_book::{BookFault, CellName, ReceiptToken, Run, Seat, SiteCell, Step};
 use std::alloc::{AllocError, Global};
 use std::sync::Wait;
 
-/// A thread's seat at a cell, with the stubs of the receipts that it got there: as many as the seat counts.
+/// A thread's seat at a cell, with the tokens of the receipts that it got there: as many as the seat counts.
 #[derive(Drop)]
 pub struct SeatReceipts<N: CellName> {
     seat: Seat<N>,
-    stubs: Vec<Stub<N>>,
+    tokens: Vec<ReceiptToken<N>>,
     /// How many entries the cell's book had after its last event.
     entries: u64,
-    ghost counted: { seat ≡ vec_len stubs },
+    ghost counted: { seat ≡ vec_len tokens },
 }
 
 /// Why an event was not entered.
@@ -36,12 +36,12 @@ impl<N: CellName> SeatReceipts<N> {
         let seat = cell.seat(rt)?;
         Ok(SeatReceipts {
             seat,
-            stubs: Vec::new(alloc),
+            tokens: Vec::new(alloc),
             entries: 0,
         })
     }
 
-    /// Hands an event to the cell, and returns what was entered. Room for the stub is reserved before, so that no receipt is lost.
+    /// Hands an event to the cell, and returns what was entered. Room for the token is reserved before, so that no receipt is lost.
     ///
     /// # Errors
     ///
@@ -57,14 +57,14 @@ impl<N: CellName> SeatReceipts<N> {
         ensures lawful { IfOk result (λ entry. IsLawful J.run.problem entry) }
         ensures back { IfErr result (λ back. back.0 ≡ event) }
     {
-        if self.stubs.reserve(1).is_err() {
+        if self.tokens.reserve(1).is_err() {
             return Err((event, Refused::NoRoom));
         }
         match cell.act_at(rt, &mut self.seat, event) {
             Ok(receipt) => {
                 self.entries = receipt.place.saturating_add(1);
-                let (stub, step) = receipt.into_parts();
-                self.stubs.push_reserved(stub);
+                let (receipt_token, step) = receipt.into_parts();
+                self.tokens.push_reserved(receipt_token);
                 Ok(step)
             }
             Err((event, fault)) => Err((event, Refused::Cell(fault))),
@@ -80,15 +80,15 @@ impl<N: CellName> SeatReceipts<N> {
     pub fn count(&self) -> usize
         ensures { result ≡ self.now.seat }
     {
-        self.stubs.len()
+        self.tokens.len()
     }
 
-    /// Its seat, and the stubs of its receipts.
-    pub fn into_parts(self) -> (Seat<N>, Vec<Stub<N>>)
+    /// Its seat, and the tokens of its receipts.
+    pub fn into_parts(self) -> (Seat<N>, Vec<ReceiptToken<N>>)
         ensures seat { result.0 ≡ self.seat }
-        ensures stubs { result.0 ≡ vec_len result.1 }
+        ensures tokens { result.0 ≡ vec_len result.1 }
     {
-        let SeatReceipts { seat, stubs, .. } = self;
-        (seat, stubs)
+        let SeatReceipts { seat, tokens, .. } = self;
+        (seat, tokens)
     }
 }

@@ -1,5 +1,6 @@
 ghost use Rattle.std.specs.Prelude.{◌≡◌};
 
+use crate::exchange::Exchange;
 use crate::signals::Signals;
 use brancher::Tables;
 use node_core::Core;
@@ -21,6 +22,8 @@ pub struct Shared<'a, J: Run, C: Core + Drop, N: CellName, G: Gate> {
     pub gate: &'a G,
     /// What they signal to one another without the lock of the core.
     pub signals: &'a Signals,
+    /// Where its workers tell each other what has no cover.
+    pub exchange: &'a Exchange<J>,
     /// What ends the run: then the site ends, too.
     pub ending: &'a Ending,
     /// How the site works.

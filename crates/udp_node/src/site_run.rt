@@ -15,7 +15,7 @@ use cover_problem::Problem;
 use node_core::{Core, NodeCore};
 use root_registry::Registry;
 use run_book::{Book, CellName, CellParts, Run, SiteCell, cores_step_as_their_sites, sites_begin};
-use site_network::{Cause, Ending, Gate, Link, Open, Plan, SiteEnd};
+use site_network::{EndCause, Ending, Gate, Link, Open, Plan, SiteEnd};
 use spawn_frame::Site;
 use std::alloc::{AllocError, Global};
 use std::marker::{Brand, PhantomData};
@@ -159,7 +159,7 @@ impl<J: Run, L: Link> SiteRun<J, L> {
         ensures restarts { self.new.restarts ≡ self.old.restarts }
         ensures starts { self.new.starts ≡ self.old.starts + 1 }
     {
-        let is_over = self.end.cause == Cause::Over;
+        let is_over = self.end.cause == EndCause::Over;
         let is_last = self.starts >= u32::from(self.restarts);
         let start = Start::of(context.plan, self.restarts, is_over, is_last);
         self.starts += 1;
@@ -357,11 +357,11 @@ fn closed<J: Run, C: Core + Drop, N: CellName>(
         taken: end.taken,
         is_manned: end.is_manned,
     };
-    let Ok((seats, stubs)) = end.into_lists(alloc) else {
-        told.cause = Cause::Memory;
+    let Ok((seats, tokens)) = end.into_lists(alloc) else {
+        told.cause = EndCause::Memory;
         return (None, told);
     };
-    match cell.settle(seats, stubs) {
+    match cell.settle(seats, tokens) {
         Ok(book) => (Some(book), told),
         Err(_missing) => (None, told),
     }

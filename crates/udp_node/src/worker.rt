@@ -5,6 +5,8 @@ ghost use Rattle.cover_problem.specs.Prefix.{is_prefix};
 ghost use Rattle.udp_node.specs.Hands.{IsPosted};
 
 use crate::actor::Actor;
+use crate::exchange::{Exchange, INBOX};
+use crate::few_visits::FewVisits;
 use crate::hand::{Hand, SearchJob, Searched};
 use crate::seat_receipts::Refused;
 use crate::signals::Signals;
@@ -14,7 +16,7 @@ use node_core::{ActFault, Core, Event, Reply};
 use rand_core::utils::NextWord;
 use rand_pcg::Pcg32;
 use run_book::{BookFault, CellName, Run, Step};
-use site_network::{Cause, Gate, Pace, Plan, SearchWatch, Turn};
+use site_network::{EndCause, Gate, Pace, Plan, SearchWatch, Turn};
 use spawn_frame::Job;
 use std::alloc::{AllocError, Global};
 use std::marker::PhantomData;
@@ -31,6 +33,12 @@ const SOLE: u64 = 1_000;
 
 /// So many visits of a search that saves less show that they don't.
 const TELLING: u64 = 30_000;
+
+/// A prefix without a cover is worth telling of if a search of it takes so many visits.
+const TOLD: u64 = 4_096;
+
+/// So many visits show whether there is no cover below a prefix of which all children are known.
+const CLIMB: u64 = 256;
 
 /// How long a worker waits that leaves all jobs to another, in microseconds.
 const SPARED: u64 = 200;
@@ -88,7 +96,7 @@ impl<'a, J: Run> Worker<'a, J> {
         actor: &mut Actor<'_, J, C, N, G>,
     ) -> Turn {
         if actor.shared.signals.is_over() {
-            return Turn::Ended(Cause::Turns);
+            return Turn::Ended(EndCause::Turns);
         }
         match mem::replace(&mut self.hand, Hand::Nothing) {
             Hand::Nothing if actor.shared.signals.is_spared(self.number) => spared(rt),
@@ -178,6 +186,7 @@ impl<'a, J: Run> Worker<'a, J> {
         let keeps = self.searcher.keeps();
         let fuel = if keeps { u64::MAX } else { limit };
         let (gate, signals) = (actor.shared.gate, actor.shared.signals);
+        self.learn(rt, actor.shared.exchange);
         gate.begun();
         let length = prefix.as_slice().len();
         let quota = self.pace.quota(length, limit);
@@ -186,22 +195,50 @@ impl<'a, J: Run> Worker<'a, J> {
             .searcher
             .find_so_far(prefix.into_vec(), fuel, &mut watch)
         {
-            Ok(Some((finding, visits))) if !watch.is_over() => {
-                let visits = if keeps { watch.visits() } else { visits };
+            Ok(Some((finding, count))) if !watch.is_over() => {
+                let visits = if keeps { watch.visits() } else { count };
                 gate.searched(&finding, visits);
                 if keeps {
                     self.share(signals, &watch);
+                    if finding.outcome() == Outcome::Barren && count >= TOLD {
+                        self.tell(rt, actor.shared.exchange, finding.prefix());
+                    }
                 }
                 self.pace
                     .note(finding.prefix().len(), finding.outcome(), visits);
                 self.post(rt, actor, Searched { job, finding, run })
             }
-            Ok(_) => Turn::Ended(Cause::Turns),
+            Ok(_) => Turn::Ended(EndCause::Turns),
             Err(prefix) => {
                 let prefix = Numbers::from_vec(prefix);
                 self.hand = Hand::Search(SearchJob::new(job, prefix, limit));
-                Turn::Ended(Cause::Memory)
+                Turn::Ended(EndCause::Memory)
             }
+        }
+    }
+
+    /// Keeps what the node's other workers found to have no cover.
+    fn learn<R: Wait>(&mut self, rt: &R, exchange: &Exchange<J>) {
+        for _ in 0..INBOX {
+            let Some(told) = exchange.hear(rt, self.number) else {
+                return;
+            };
+            self.searcher.learn(told.prefix.as_slice(), told.count);
+        }
+    }
+
+    /// Tells the node's other workers that there is no cover below a prefix, and the same of those before it, as far as what is kept
+    /// shows it: a frame of which all children are done is no job of anybody's, so nobody else finds it out.
+    fn tell<R: Wait>(&mut self, rt: &R, exchange: &Exchange<J>, prefix: &[u16])
+        requires { is_prefix J.run.problem prefix.now ≡ true }
+    {
+        for length in (0..prefix.len() + 1).rev() {
+            let front = &prefix[..length];
+            let mut few = FewVisits::new(CLIMB);
+            let Some(count) = self.searcher.barren_visits(front, &mut few) else {
+                return;
+            };
+            exchange.tell(rt, self.alloc, self.number, front, count);
         }
     }
 
@@ -258,7 +295,7 @@ impl<'a, J: Run> Worker<'a, J> {
                 self.hand = Hand::Search(SearchJob::new(job, prefix, fuel));
                 Turn::Used
             }
-            Err(_) => Turn::Ended(Cause::Memory),
+            Err(_) => Turn::Ended(EndCause::Memory),
         }
     }
 
@@ -319,9 +356,9 @@ fn nap(idle: u32, workers: u64) -> u64 {
 /// Whether a thread ends whose event was refused, and why.
 pub fn after_refusal(refused: Refused) -> Turn {
     match refused {
-        Refused::NoRoom => Turn::Ended(Cause::Memory),
-        Refused::Cell(BookFault::BookFull(_)) => Turn::Ended(Cause::BookFull),
-        Refused::Cell(BookFault::Core(ActFault::Over)) => Turn::Ended(Cause::Over),
+        Refused::NoRoom => Turn::Ended(EndCause::Memory),
+        Refused::Cell(BookFault::BookFull(_)) => Turn::Ended(EndCause::BookFull),
+        Refused::Cell(BookFault::Core(ActFault::Over)) => Turn::Ended(EndCause::Over),
         Refused::Cell(BookFault::Memory) => Turn::Starved,
         Refused::Cell(_) => Turn::Used,
     }

@@ -40,8 +40,7 @@ pub fn greet_cell<R: Threads + Wait + Sync>(
     threads: u8,
     times: u64,
 ) -> Result<(), BenchFault> {
-    // (for what the getter says: that the problem is lawful)
-    let _items = problem.items();
+    problem.recall_rules();
     let core = NodeCore::start(alloc, problem, NODE, 1, 1)?;
     let cell_parts = CellParts::new(alloc)?;
     greet_at_once::<Brand, Brand, R>(rt, alloc, cell_parts, core, threads, times)

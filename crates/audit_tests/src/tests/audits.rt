@@ -267,8 +267,7 @@ fn registry<J: Run, R: Wait>(
     requires nodes { J.run.nodes ≡ 2 }
 {
     sites_begin();
-    // (for what the getter says: that the problem is lawful)
-    let _items = problem.items();
+    problem.recall_rules();
     let cell_parts = CellParts::new(alloc).ok()?;
     let core = Registry::start(alloc, problem, NODES).ok()?;
     root_book::<J, Brand, R>(rt, alloc, cell_parts, core, acts)
@@ -289,8 +288,7 @@ fn node_in<J: Run, R: Wait>(
         return None;
     }
     sites_begin();
-    // (for what the getter says: that the problem is lawful)
-    let _items = problem.items();
+    problem.recall_rules();
     let cell_parts = CellParts::new(alloc).ok()?;
     let core = NodeCore::start(alloc, problem, node(incarnation), NODES, 1000).ok()?;
     node_book::<J, Brand, R>(rt, alloc, cell_parts, core, acts)

@@ -9,8 +9,8 @@ use dlx_reader::read_problem;
 use node_core::{ActFault, Core, Event, NodeCore, Reply};
 use packet_wire::Body;
 use run_book::{
-    Book, BookFault, CellName, CellParts, Entry, Missing, Receipt, Run, Seat, SiteCell, Step, Stub,
-    cores_step_as_their_sites,
+    Book, BookFault, CellName, CellParts, Entry, Missing, Receipt, ReceiptToken, Run, Seat,
+    SiteCell, Step, cores_step_as_their_sites,
 };
 use spawn_frame::Site;
 use std::alloc::{AllocError, Global};
@@ -36,8 +36,8 @@ enum Script {
     Two,
     /// One seat, and a Greet more than fits.
     Full,
-    /// One seat, and a Greet: the stub of its receipt closes the cell.
-    Stub,
+    /// One seat, and a Greet: the token of its receipt closes the cell.
+    ReceiptToken,
     /// So many seats, each on a thread of its own, with 100 Greets each.
     Threads(u8),
 }
@@ -250,18 +250,18 @@ fn full<J: Run, C: Core + Drop, N: CellName, R: Wait>(
     Some(book.entries().len() == 1)
 }
 
-/// The book of a cell at which one seat has acted once, by the stub of its receipt.
+/// The book of a cell at which one seat has acted once, by the token of its receipt.
 fn settled<J: Run, C: Core + Drop, N: CellName>(
     alloc: Global,
     cell: SiteCell<J, C, N>,
     seat: Seat<N>,
-    stub: Stub<N>,
+    receipt_token: ReceiptToken<N>,
 ) -> Option<Book<J>> {
     let mut seats = Vec::new(alloc);
     seats.push(seat).ok()?;
-    let mut stubs = Vec::new(alloc);
-    stubs.push(stub).ok()?;
-    cell.settle(seats, stubs).ok()
+    let mut tokens = Vec::new(alloc);
+    tokens.push(receipt_token).ok()?;
+    cell.settle(seats, tokens).ok()
 }
 
 /// Whether the one entry is a Greet of the node.
@@ -272,15 +272,15 @@ fn is_one_greet(entries: &[Entry]) -> bool {
     }
 }
 
-/// The script of a Greet of which the stub is kept.
-fn stub<J: Run, C: Core + Drop, N: CellName, R: Wait>(
+/// The script of a Greet of which the token is kept.
+fn receipt_token<J: Run, C: Core + Drop, N: CellName, R: Wait>(
     rt: &R,
     alloc: Global,
     cell: SiteCell<J, C, N>,
 ) -> Option<bool> {
     let (seat, receipt) = cell.act(rt, cell.seat(rt).ok()?, Event::Greet).ok()?;
-    let (stub, step) = receipt.into_parts();
-    let book = settled(alloc, cell, seat, stub)?;
+    let (receipt_token, step) = receipt.into_parts();
+    let book = settled(alloc, cell, seat, receipt_token)?;
     Some(is_one_greet(book.entries()) && is_greet(&step) && step.into_reply() == Reply::Moved)
 }
 
@@ -364,7 +364,7 @@ fn play<J: Run + Send + Sync, N: CellName + Send + Sync, R: Threads + Wait + Syn
     match script {
         Script::Two => two(rt, alloc, cell),
         Script::Full => full(rt, alloc, cell),
-        Script::Stub => stub(rt, alloc, cell),
+        Script::ReceiptToken => receipt_token(rt, alloc, cell),
         Script::Threads(count) => threads(rt, alloc, cell, count),
     }
 }
@@ -373,7 +373,7 @@ fn play<J: Run + Send + Sync, N: CellName + Send + Sync, R: Threads + Wait + Syn
 static SCRIPTS: [(Script, u64); 5] = [
     (Script::Two, 3),
     (Script::Full, 1),
-    (Script::Stub, 1),
+    (Script::ReceiptToken, 1),
     (Script::Threads(2), 200),
     (Script::Threads(8), 1000),
 ];
@@ -386,8 +386,7 @@ fn play_in<R: Threads + Wait + Sync>(
     script: Script,
     limit: u64,
 ) -> Result<Option<bool>, Fail> {
-    // (for what the getter says: that the problem is lawful)
-    let _items = problem.items();
+    problem.recall_rules();
     let cell_parts = CellParts::new(alloc)?;
     let core = NodeCore::start(alloc, problem, HERE, 1, 1000)?;
     let right = play::<Brand, Brand, _>(rt, alloc, cell_parts, core, limit, script);

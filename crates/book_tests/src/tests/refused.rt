@@ -194,8 +194,7 @@ fn play_in<R: Abort + Wait>(
     alloc: Global,
     problem: &Problem,
 ) -> Result<Option<bool>, Fail> {
-    // (for what the getter says: that the problem is lawful)
-    let _items = problem.items();
+    problem.recall_rules();
     let cell_parts = CellParts::new(alloc)?;
     let core = NodeCore::start(alloc, problem, HERE, 2, 1000)?;
     let right = play::<Brand, Brand, _>(rt, alloc, cell_parts, core);

@@ -117,8 +117,7 @@ fn play<J: Run, N: CellName, R: Wait>(
 
 /// Plays it at a cell of the registry in a run of this problem.
 fn play_in<R: Wait>(rt: &R, alloc: Global, problem: &Problem) -> Result<Option<bool>, Fail> {
-    // (for what the getter says: that the problem is lawful)
-    let _items = problem.items();
+    problem.recall_rules();
     let cell_parts = CellParts::new(alloc)?;
     let core = Registry::start(alloc, problem, 1)?;
     let right = play::<Brand, Brand, _>(rt, alloc, cell_parts, core, problem);

@@ -14,7 +14,7 @@ use std::sync::{Arc, Wait};
 use std::test::Fail;
 use std::thread::Threads;
 use std::time::Clock;
-use udp_node::{Cause, Open, Plan};
+use udp_node::{EndCause, Open, Plan};
 
 /// Three nodes of two workers each, which never end since they hear nothing.
 const PLAN: Plan = Plan {
@@ -64,16 +64,16 @@ const SMALL: Plan = Plan {
 };
 
 /// Why a site ends, and its losses, its datagrams that are no packets and its link's failures.
-type Numbers = (Cause, u64, u64, u64);
+type Numbers = (EndCause, u64, u64, u64);
 
 /// Sites whose link has a defect, with their numbers.
 static NUMBERS: [(usize, Defect, Numbers); 6] = [
-    (0, Defect::Deaf, (Cause::Faults, 0, 0, 100)),
-    (1, Defect::Deaf, (Cause::Faults, 0, 0, 100)),
-    (0, Defect::DeafFor(99), (Cause::Over, 0, 0, 99)),
-    (1, Defect::DeafFor(99), (Cause::Over, 0, 0, 99)),
-    (1, Defect::DeafFor(100), (Cause::Faults, 0, 0, 100)),
-    (0, Defect::Noisy(7), (Cause::Over, 0, 7, 0)),
+    (0, Defect::Deaf, (EndCause::Faults, 0, 0, 100)),
+    (1, Defect::Deaf, (EndCause::Faults, 0, 0, 100)),
+    (0, Defect::DeafFor(99), (EndCause::Over, 0, 0, 99)),
+    (1, Defect::DeafFor(99), (EndCause::Over, 0, 0, 99)),
+    (1, Defect::DeafFor(100), (EndCause::Faults, 0, 0, 100)),
+    (0, Defect::Noisy(7), (EndCause::Over, 0, 7, 0)),
 ];
 
 /// The numbers of this site at the end of a run where its link has this defect; none where memory ran out. Sites give up after so
@@ -109,7 +109,7 @@ fn a_send_that_fails_is_a_loss(rt: HostRuntime) -> Result<(), Fail> {
         return Err(Fail::new("memory ran out"));
     };
     // (the registry may fall silent before the turns are over)
-    assert!(rt; matches!(cause, Cause::Silence | Cause::Turns) && dropped == 0);
+    assert!(rt; matches!(cause, EndCause::Silence | EndCause::Turns) && dropped == 0);
     assert!(rt; losses > 0 && losses == failures, "{losses} and {failures}");
     Ok(())
 }
@@ -140,7 +140,7 @@ fn goes_on<R: Threads + Wait + Clock + Sync>(
     };
     let counted = failed.load(Ordering::SeqCst);
     let is_counted = counted > 0 && end.failures == counted && end.losses >= lost;
-    Ok(ran.came.told == Told::Right && end.cause == Cause::Over && is_counted)
+    Ok(ran.came.told == Told::Right && end.cause == EndCause::Over && is_counted)
 }
 
 #[test]

@@ -12,7 +12,7 @@ use std::sync::atomic::{AtomicBool, Ordering};
 use std::sync::{Arc, Wait};
 use std::test::Fail;
 use std::thread;
-use udp_node::{Cause, Gate, Link, LinkFault, MemoryLink, Plan, SiteEnd};
+use udp_node::{EndCause, Gate, Link, LinkFault, MemoryLink, Plan, SiteEnd};
 
 /// One node of one worker, whose first job is the whole search.
 const PLAN: Plan = Plan {
@@ -161,7 +161,7 @@ fn the_end_is_heard_late(rt: HostRuntime) -> Result<(), Fail> {
         return Err(Fail::new("memory ran out"));
     };
     assert_eq!(rt; ran.came.told, Told::Right);
-    assert_eq!(rt; ran.sites.get(1).map(|end| end.cause), Some(Cause::Over));
+    assert_eq!(rt; ran.sites.get(1).map(|end| end.cause), Some(EndCause::Over));
     // (else the receive that was to be late was never made)
     assert!(rt; stages.is_awaited.load(Ordering::SeqCst));
     Ok(())

@@ -20,7 +20,7 @@ use std::sync::{Arc, Wait};
 use std::test::Fail;
 use std::thread::{self, Threads};
 use std::time::Clock;
-use udp_node::{Cause, Gate, Link, LinkFault, Plan, run_node};
+use udp_node::{EndCause, Gate, Link, LinkFault, Plan, run_node};
 
 /// How many turns a send waits at most.
 const TURNS: u64 = 100_000_000;
@@ -158,7 +158,7 @@ pub struct Room {
 #[derive(Clone, Copy, Debug, PartialEq, Eq)]
 pub struct Ended {
     /// Why its threads ended.
-    pub cause: Cause,
+    pub cause: EndCause,
     /// How many came back.
     pub threads: usize,
     /// How many parcels were lost.
@@ -251,9 +251,9 @@ fn play<J: Run + Send + Sync, N: CellName + Send + Sync, R: Threads + Wait + Clo
     };
     let end = run_node(rt, alloc, &cell, problem, link, plan, &gate);
     let (cause, losses) = (end.cause, end.losses);
-    let (seats, stubs) = end.into_lists(alloc).ok()?;
+    let (seats, tokens) = end.into_lists(alloc).ok()?;
     let threads = seats.len();
-    let book = cell.settle(seats, stubs).ok()?;
+    let book = cell.settle(seats, tokens).ok()?;
     let entries = book.entries();
     Some(Ended {
         cause,
@@ -275,8 +275,7 @@ fn run_at<R: Threads + Wait + Clock + Sync>(
     script: Script,
     room: Room,
 ) -> Result<Option<Ended>, Fail> {
-    // (for what the getter says: that the problem is lawful)
-    let _items = problem.items();
+    problem.recall_rules();
     let link = ScriptLink {
         script: Arc::new(alloc, script)?,
         failures: 0,

@@ -219,8 +219,7 @@ fn run_slow<R: Threads + Wait + Clock + Sync>(
     problem: &Problem,
     meeting: &Arc<Meeting, Global>,
 ) -> Result<Option<usize>, Fail> {
-    // (for what the getter says: that the problem is lawful)
-    let _items = problem.items();
+    problem.recall_rules();
     let link = slow_link(alloc, meeting)?;
     let cell_parts = CellParts::new(alloc)?;
     let core = NodeCore::start(alloc, problem, HERE, 1, 1000)?;

@@ -12,7 +12,7 @@ use packet_wire::{Body, Packet};
 use spawn_frame::{Cause as Refusal, Site};
 use std::alloc::{AllocError, Global};
 use std::test::Fail;
-use udp_node::Cause;
+use udp_node::EndCause;
 
 /// More turns and entries than a short run takes.
 const ROOM: Room = Room {
@@ -50,7 +50,7 @@ fn a_node_of_few_names(rt: HostRuntime) -> Result<(), Fail> {
     let ended = run_alone(&rt, rt.alloc(), script, ROOM)?;
     assert_eq!(rt;
         (ended.cause, ended.threads, ended.searches, ended.visits),
-        (Cause::Silence, 2, 2, 5)
+        (EndCause::Silence, 2, 2, 5)
     );
     assert!(rt; ended.agains > 0);
     Ok(())
@@ -63,7 +63,7 @@ fn a_node_of_a_small_book(rt: HostRuntime) -> Result<(), Fail> {
     let ended = run_alone(&rt, rt.alloc(), script, room)?;
     assert_eq!(rt;
         (ended.cause, ended.threads, ended.entries),
-        (Cause::BookFull, 2, 3)
+        (EndCause::BookFull, 2, 3)
     );
     Ok(())
 }

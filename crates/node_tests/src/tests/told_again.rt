@@ -10,7 +10,7 @@ use packet_wire::{Body, Incarnations, Packet};
 use spawn_frame::{Cause as Refusal, ChildResult, Sibling, Siblings};
 use std::alloc::{AllocError, Global};
 use std::test::Fail;
-use udp_node::Cause;
+use udp_node::EndCause;
 
 /// More turns and entries than a short run takes.
 const ROOM: Room = Room {
@@ -161,6 +161,6 @@ fn repeats_are_no_silence(rt: HostRuntime) -> Result<(), Fail> {
         ..ROOM
     };
     let ended = run_alone(&rt, alloc, script, room)?;
-    assert_eq!(rt; (ended.cause, ended.delivered), (Cause::Over, 2));
+    assert_eq!(rt; (ended.cause, ended.delivered), (EndCause::Over, 2));
     Ok(())
 }

@@ -1,13 +1,14 @@
 //! Searches that keep barren states, with room for many of them, for few and for none; those that are stopped are asked what they came to.
 //!
 //! Of the bugs of `brancher` that are kept outside the gate, `a_board_of_twelve_by_twelve_is_searched_whole` finds
-//! `nothing_kept_is_found`, and `a_stopped_search_tells_what_it_came_to` finds `visits_are_not_told_of` and `a_watch_waits_for_1024_visits`.
+//! `nothing_kept_is_found`, and `a_stopped_search_tells_what_it_came_to` finds `visits_are_not_told_of` and `a_watch_waits_for_1024_visits`,
+//! and `what_is_learned_is_not_visited` finds `what_is_learned_is_lost` and `nothing_is_seen_to_be_barren`.
 
 ghost use Rattle.std.specs.Prelude.{◌≤◌, true};
 
 use super::search::{SEARCHES, takes};
-use super::texts::problem_of;
-use brancher::{Outcome, ROOM, Searcher, Tables, Watch};
+use super::texts::{LETTERS, problem_of};
+use brancher::{Outcome, ROOM, Searcher, Tables, Unwatched, Watch};
 use std::alloc::Global;
 use std::process::Abort;
 
@@ -167,4 +168,46 @@ fn a_stopped_search_tells_what_it_came_to(rt: HostRuntime) {
         let told = came_to(rt.alloc(), &tables, *room, *visits).expect(&rt, "memory");
         assert_eq!(rt; told, *came, "search {number}");
     }
+}
+
+/// What a searcher says of the empty prefix once it has learned of it from another one: how many visits a search of it takes, as both say,
+/// and how many it made to see that; none where memory ran out, or one of them sees nothing.
+fn learned(alloc: Global, tables: &Tables<'_>) -> Option<(u64, u64, u64)> {
+    let mut one = Searcher::keeping(alloc, tables, ROOM).ok()?;
+    let mut other = Searcher::keeping(alloc, tables, ROOM).ok()?;
+    let count = one.barren_visits(&[], &mut Unwatched)?;
+    other.learn(&[], count);
+    let mut watch = Stopping {
+        visits: 10,
+        made: 0,
+    };
+    let again = other.barren_visits(&[], &mut watch)?;
+    Some((count, again, watch.made))
+}
+
+#[test]
+fn what_is_learned_is_not_visited(rt: HostRuntime) {
+    for (text, visits, _) in &BARREN {
+        let problem = problem_of(&rt, rt.alloc(), text);
+        let sets = Tables::of_sets(rt.alloc(), &problem).expect(&rt, "memory");
+        let told = learned(rt.alloc(), &sets);
+        assert_eq!(rt; told, Some((*visits, *visits, 1)), "{visits} visits");
+    }
+}
+
+#[test]
+fn what_is_not_seen_is_not_said(rt: HostRuntime) {
+    let alloc = rt.alloc();
+    let problem = problem_of(&rt, alloc, LETTERS);
+    let sets = Tables::of_sets(alloc, &problem).expect(&rt, "memory");
+    let mut searcher = Searcher::keeping(alloc, &sets, ROOM).expect(&rt, "memory");
+    assert_eq!(rt; searcher.barren_visits(&[], &mut Unwatched), None);
+    let problem = problem_of(&rt, alloc, BOARD_OF_6);
+    let sets = Tables::of_sets(alloc, &problem).expect(&rt, "memory");
+    let mut searcher = Searcher::keeping(alloc, &sets, ROOM).expect(&rt, "memory");
+    let mut watch = Stopping {
+        visits: 20,
+        made: 0,
+    };
+    assert_eq!(rt; searcher.barren_visits(&[], &mut watch), None);
 }

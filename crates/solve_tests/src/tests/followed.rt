@@ -12,10 +12,10 @@ use std::sync::Wait;
 use std::test::Fail;
 use std::thread;
 use std::time::{Clock, Duration};
-use udp_node::{Cause, Gate, SiteEnd};
+use udp_node::{EndCause, Gate, SiteEnd};
 
 /// The end of a site by this cause, whose threads all began or not.
-fn ended(cause: Cause, is_manned: bool) -> SiteEnd {
+fn ended(cause: EndCause, is_manned: bool) -> SiteEnd {
     SiteEnd {
         cause,
         is_manned,
@@ -24,41 +24,41 @@ fn ended(cause: Cause, is_manned: bool) -> SiteEnd {
 }
 
 /// The node of a site, why it ended, and whether its threads all began.
-type Ended = (u8, Cause, bool);
+type Ended = (u8, EndCause, bool);
 
 /// Sites in the order in which they ended, and the line.
 static REASONS: [(&[Ended], &str); 9] = [
     (&[], "ended: nothing was published: try again, or alone\n"),
     (
-        &[(0, Cause::Over, true)],
+        &[(0, EndCause::Over, true)],
         "ended: nothing was published: try again, or alone\n",
     ),
     (
-        &[(1, Cause::BookFull, true)],
+        &[(1, EndCause::BookFull, true)],
         "ended: a book is full: try more --entries, or alone\n",
     ),
     (
-        &[(2, Cause::Faults, true)],
+        &[(2, EndCause::Faults, true)],
         "ended: a socket failed: try again, or alone\n",
     ),
     (
-        &[(0, Cause::Memory, false)],
+        &[(0, EndCause::Memory, false)],
         "ended: out of memory: try fewer --nodes or --workers\n",
     ),
     (
-        &[(4, Cause::Turns, false)],
+        &[(4, EndCause::Turns, false)],
         "ended: a thread could not be started: try fewer --nodes or --workers\n",
     ),
     (
-        &[(2, Cause::Turns, true)],
+        &[(2, EndCause::Turns, true)],
         "ended: the turns of a site are over: try more --turns\n",
     ),
     (
-        &[(1, Cause::Silence, true)],
+        &[(1, EndCause::Silence, true)],
         "ended: a site heard nothing for long: try again, or alone\n",
     ),
     (
-        &[(3, Cause::Faults, true), (0, Cause::BookFull, true)],
+        &[(3, EndCause::Faults, true), (0, EndCause::BookFull, true)],
         "ended: a socket failed: try again, or alone\n",
     ),
 ];
@@ -117,7 +117,7 @@ fn a_run_without_an_answer_tells_the_first_reason(rt: HostRuntime) -> Result<(),
 
 #[test]
 fn the_limit_comes_before_all_others(rt: HostRuntime) -> Result<(), Fail> {
-    let sites = [(1, Cause::Silence, true)];
+    let sites = [(1, EndCause::Silence, true)];
     let late = told(&rt, rt.alloc(), &sites, false, Some(Duration::from_secs(0)))?;
     assert!(rt; late.as_slice() == b"ended: the time is over: try more --seconds\n".as_slice());
     let early = told(
@@ -136,7 +136,7 @@ fn the_limit_comes_before_all_others(rt: HostRuntime) -> Result<(), Fail> {
 
 #[test]
 fn a_run_with_an_answer_tells_none(rt: HostRuntime) -> Result<(), Fail> {
-    let told = told(&rt, rt.alloc(), &[(1, Cause::Faults, true)], true, None)?;
+    let told = told(&rt, rt.alloc(), &[(1, EndCause::Faults, true)], true, None)?;
     assert!(rt; told.is_empty());
     Ok(())
 }

@@ -1,7 +1,7 @@
 //! Aborts in small tables; what is expected is worked out by hand from the rules.
 
 use super::units::{HERE, ROOT, THIEF, is_here, is_ready, is_split, list};
-use abort_tree::{Reach, abort_below};
+use abort_tree::{Descendants, abort_below};
 use spawn_frame::Status::{Aborted, Ready, Split};
 use spawn_frame::Unit::{Guest, Own};
 use spawn_frame::{Out, Serials, Status, Table, Unit};
@@ -151,8 +151,8 @@ fn a_table_tells_whose_children_stand_where(rt: HostRuntime) {
 fn what_is_below_two_units_is_reached_once(rt: HostRuntime) {
     let table = split_backwards(&rt, rt.alloc());
     let both = [Own(1), Guest(ROOT, 1), Own(1)];
-    let reach = Reach::below(rt.alloc(), &table, &both).expect(&rt, "memory");
+    let reach = Descendants::below(rt.alloc(), &table, &both).expect(&rt, "memory");
     assert!(rt; reach.outs(&table) == 2);
-    let reach = Reach::below(rt.alloc(), &table, &[Own(0)]).expect(&rt, "memory");
+    let reach = Descendants::below(rt.alloc(), &table, &[Own(0)]).expect(&rt, "memory");
     assert!(rt; reach.outs(&table) == 1);
 }

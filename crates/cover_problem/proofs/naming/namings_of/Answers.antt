@@ -3,7 +3,7 @@ use Rattle.cover_problem.proofs.Namings.{named_none, named_more}
 use Rattle.cover_problem.proofs.naming.namings_of.Goals as goal
 
 pub loop-option-init : goal.loop-option-init
-loop-option-init c = named_none _ _ 1000 c.items-items.ensures.problem.names refl
+loop-option-init c = named_none _ _ 1000 c.recall_rules.ensures.names refl
 
 pub loop-option-preserved : goal.loop-option-preserved
 loop-option-preserved c =

@@ -7,11 +7,10 @@ use Rattle.dancing_links.proofs.Commits.{covering_one, commit_uncommit, uncommit
 use Rattle.dancing_links.proofs.Trail.{uncovers_by, unkeys_by}
 use Rattle.dancing_links.proofs.commit.uncover_from.Goals as goal
 
-pub returns-clause-links : goal.returns-clause-links
-returns-clause-links c = uncovers_by c.args.layout.now c.args.links.now c.restore.new.links (covering c.args.layout.now c.uncommit.new.commits (nodes_by c.args.layout.now c.args.node)) c.args.trail.now c.heads-heads.ensures.table c.restore.ensures.links
-
-pub returns-clause-keys : goal.returns-clause-keys
-returns-clause-keys c =
+pub returns-clause-uncovers : goal.returns-clause-uncovers
+returns-clause-uncovers c =
+    let links_are = (uncovers_by c.args.layout.now c.args.links.now c.restore.new.links (covering c.args.layout.now c.uncommit.new.commits (nodes_by c.args.layout.now c.args.node)) c.args.trail.now c.heads-heads.ensures.table c.restore.ensures.links) in
+    let keys_are = (
     let cs = c.args.layout.now in
     let node = c.args.node in
     let mid = c.uncommit_others.new.commits in
@@ -22,7 +21,8 @@ returns-clause-keys c =
     let first : List ℕ = covering cs new (node ∷ []) in
     let rest : List ℕ = covering cs mid (others cs node) in
     unkeys_by cs c.args.links.now c.args.keys.now c.uncommit.new.keys (covering cs new (nodes_by cs node)) c.args.trail.now c.heads-heads.ensures.table
-    (c.uncommit.ensures.keys ∙ ap (λ (keys : List ℕ). turned cs keys first) (c.uncommit_others.ensures.keys ∙ ap (λ (keys : List ℕ). turned cs keys rest) c.restore.ensures.keys) ∙ sym (turned-append cs _ first rest) ∙ ap (turned cs _) (sym one))
+    (c.uncommit.ensures.keys ∙ ap (λ (keys : List ℕ). turned cs keys first) (c.uncommit_others.ensures.keys ∙ ap (λ (keys : List ℕ). turned cs keys rest) c.restore.ensures.keys) ∙ sym (turned-append cs _ first rest) ∙ ap (turned cs _) (sym one))) in
+    record { links = links_are; keys = keys_are }
 
 pub returns-clause-kept : goal.returns-clause-kept
 returns-clause-kept c =

@@ -9,8 +9,8 @@ use Rattle.dancing_links.proofs.cover.hide.Goals as goal
 
 pub loop-other-init : goal.loop-other-init
 loop-other-init c =
-    let cs = c.args.layout.now in
-    let start = round_start cs c.args.node c.right_among-other.result c.right_among-other.ensures.table c.requires.node.0 c.requires.node.1 c.right_among-other.ensures.right in
+    let cs = c.args.rows.now in
+    let start = round_start cs c.args.node c.right_of-other.result c.right_of-other.ensures.table c.requires.node.0 c.requires.node.1 c.right_of-other.ensures.right in
     record {
       linked = c.requires.linked;
       round = start.0;
@@ -22,14 +22,14 @@ loop-other-init c =
 
 pub loop-other-smaller : goal.loop-other-smaller
 loop-other-smaller c =
-    let step = round_step c.args.layout.now c.args.node c.loop-other.other c.right_among-other-in-loop-other.result c.right_among-other.ensures.table c.loop-other.invariant.round c.loop-other-test.true c.right_among-other-in-loop-other.ensures.right in
+    let step = round_step c.args.rows.now c.args.node c.loop-other.other c.right_of-other-in-loop-other.result c.right_of-other.ensures.table c.loop-other.invariant.round c.loop-other-test.true c.right_of-other-in-loop-other.ensures.right in
     omega (arith, step.fewer)
 
 pub loop-other-preserved : goal.loop-other-preserved
 loop-other-preserved c =
-    let cs = c.args.layout.now in
-    let next : ℕ = c.right_among-other-in-loop-other.result in
-    let step = round_step c.args.layout.now c.args.node c.loop-other.other c.right_among-other-in-loop-other.result c.right_among-other.ensures.table c.loop-other.invariant.round c.loop-other-test.true c.right_among-other-in-loop-other.ensures.right in
+    let cs = c.args.rows.now in
+    let next : ℕ = c.right_of-other-in-loop-other.result in
+    let step = round_step c.args.rows.now c.args.node c.loop-other.other c.right_of-other-in-loop-other.result c.right_of-other.ensures.table c.loop-other.invariant.round c.loop-other-test.true c.right_of-other-in-loop-other.ensures.right in
     let inside : c.loop-other.top < length c.loop-other.trail = omega (arith, ap length step.come, c.loop-other.invariant.top, c.requires.room, c.loop-other.auto.trail) in
     let pushed = take_more_set c.loop-other.trail c.loop-other.top c.loop-other.other inside in
     record {
@@ -43,26 +43,26 @@ loop-other-preserved c =
 
 pub returns-clause-links : goal.returns-clause-links
 returns-clause-links c =
-    let none = round_end c.args.layout.now c.args.node c.loop-other.other c.loop-other-test.false in
+    let none = round_end c.args.rows.now c.args.node c.loop-other.other c.loop-other-test.false in
     sym (ap (unlinks c.loop-other.links) none) ∙ c.loop-other.invariant.links
 
 pub returns-clause-keys : goal.returns-clause-keys
 returns-clause-keys c =
-    let none = round_end c.args.layout.now c.args.node c.loop-other.other c.loop-other-test.false in
-    sym (ap (fewer c.args.layout.now c.loop-other.keys) none) ∙ c.loop-other.invariant.keys
+    let none = round_end c.args.rows.now c.args.node c.loop-other.other c.loop-other-test.false in
+    sym (ap (fewer c.args.rows.now c.loop-other.keys) none) ∙ c.loop-other.invariant.keys
 
 pub bounds-trail-top : goal.bounds-trail-top
 bounds-trail-top c =
-    let cs = c.args.layout.now in
-    let step = round_step cs c.args.node c.loop-other.other (place_at cs c.loop-other.other).right c.right_among-other.ensures.table c.loop-other.invariant.round c.loop-other-test.true refl in
+    let cs = c.args.rows.now in
+    let step = round_step cs c.args.node c.loop-other.other (place_at cs c.loop-other.other).right c.right_of-other.ensures.table c.loop-other.invariant.round c.loop-other-test.true refl in
     omega (arith, ap length step.come, c.loop-other.invariant.top, c.requires.room)
 
 pub returns-clause-trail : goal.returns-clause-trail
 returns-clause-trail c =
-    let none = round_end c.args.layout.now c.args.node c.loop-other.other c.loop-other-test.false in
+    let none = round_end c.args.rows.now c.args.node c.loop-other.other c.loop-other-test.false in
     sym (append-nil (take c.loop-other.top c.loop-other.trail)) ∙ sym (ap (λ (xs : List ℕ). take c.loop-other.top c.loop-other.trail ++ xs) none) ∙ c.loop-other.invariant.trail
 
 pub returns-clause-top : goal.returns-clause-top
 returns-clause-top c =
-    let none = round_end c.args.layout.now c.args.node c.loop-other.other c.loop-other-test.false in
+    let none = round_end c.args.rows.now c.args.node c.loop-other.other c.loop-other-test.false in
     omega (arith, ap length none, c.loop-other.invariant.top, c.requires.room)

@@ -8,13 +8,13 @@ use Rattle.dancing_links.proofs.cover.hide.Given as goal
 
 abbrev pub invariant-loop-other : goal.invariant-loop-other
 invariant-loop-other l = record {
-  linked : IsLinked l.layout l.links;
-  round : IsRound l.layout l.node l.other;
-  links : unlinks l.links (to_come l.layout l.node l.other) ≡ unlinks l.fn.links (others l.layout l.node);
-  trail : take l.top l.trail ++ to_come l.layout l.node l.other ≡ take l.fn.top l.fn.trail ++ others l.layout l.node;
-  top : l.top + length (to_come l.layout l.node l.other) ≡ l.fn.top + length (others l.layout l.node);
-  keys : fewer l.layout l.keys (to_come l.layout l.node l.other) ≡ fewer l.layout l.fn.keys (others l.layout l.node);
+  linked : IsLinked l.rows l.links;
+  round : IsRound l.rows l.node l.other;
+  links : unlinks l.links (to_come l.rows l.node l.other) ≡ unlinks l.fn.links (others l.rows l.node);
+  trail : take l.top l.trail ++ to_come l.rows l.node l.other ≡ take l.fn.top l.fn.trail ++ others l.rows l.node;
+  top : l.top + length (to_come l.rows l.node l.other) ≡ l.fn.top + length (others l.rows l.node);
+  keys : fewer l.rows l.keys (to_come l.rows l.node l.other) ≡ fewer l.rows l.fn.keys (others l.rows l.node);
 }
 
 abbrev pub decreases-loop-other : goal.decreases-loop-other
-decreases-loop-other l = ahead (begin_of l.layout l.node) (end_of l.layout l.node) l.node l.other
+decreases-loop-other l = ahead (begin_of l.rows l.node) (end_of l.rows l.node) l.node l.other

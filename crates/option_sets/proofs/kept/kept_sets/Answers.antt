@@ -1,7 +1,7 @@
 use Rattle.std.proofs.Common.{ℕ, ◌≡◌, ◌-◌, ◌*◌, ◌^◌, ◌<◌, List, length, replicate, get_or, arith, rules, sym, subst, ap, ◌∙◌}
 use Rattle.std.proofs.lemmas.List.{length-replicate, get_or-replicate}
 use Rattle.cover_problem.specs.Problem.{Problem}
-use Rattle.option_sets.specs.Tables.{AreAllKept}
+use Rattle.option_sets.specs.ClashTables.{AreAllKept}
 use Rattle.option_sets.proofs.Members.{written}
 use Rattle.option_sets.proofs.kept.kept_sets.Goals as goal
 

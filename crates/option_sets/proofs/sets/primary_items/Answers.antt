@@ -1,5 +1,5 @@
 use Rattle.std.proofs.Common.{◌∙◌}
-use Rattle.option_sets.specs.Tables.{primary_of}
+use Rattle.option_sets.specs.ClashTables.{primary_of}
 use Rattle.option_sets.proofs.Barring.{named_more}
 use Rattle.option_sets.proofs.sets.primary_items.Goals as goal
 

@@ -1,6 +1,6 @@
 use Rattle.std.proofs.Common.{◌≡◌, map}
 use Rattle.std.specs.List.{range_with_len}
-use Rattle.option_sets.specs.Tables.{primary_of}
+use Rattle.option_sets.specs.ClashTables.{primary_of}
 use Rattle.option_sets.proofs.sets.primary_items.Given as goal
 
 abbrev pub invariant-loop-option : goal.invariant-loop-option

@@ -25,8 +25,8 @@ last_of c =
 pub piece_of-all-requires : goal.piece_of-all-requires
 piece_of-all-requires c = let last = last_of (goal.at.piece_of-all-requires c).After-deref_mut-trail in (omega (arith, last.first, last.second), last.inside)
 
-pub uncover_from-requires-clause-commits : goal.uncover_from-requires-clause-commits
-uncover_from-requires-clause-commits c = (last_of (goal.at.uncover_from-requires-clause-commits c).After-deref_mut-trail).kept
+pub uncover_from-requires-clause-lawful : goal.uncover_from-requires-clause-lawful
+uncover_from-requires-clause-lawful c = let last = last_of (goal.at.uncover_from-requires-clause-lawful c).After-deref_mut-trail in record { linked = last.was.linked; keys = last.was.history.keyed.columns; commits = last.kept }
 
 pub uncover_from-requires-clause-trail : goal.uncover_from-requires-clause-trail
 uncover_from-requires-clause-trail c = piece_options _ _ _ _ _ _ _ _ _ _ _ _ _ c.index-mark.result.now.start _ _ _ (last_of (goal.at.uncover_from-requires-clause-trail c).After-deref_mut-trail) c.piece_of-all.ensures
@@ -37,7 +37,7 @@ invariant_of-self c =
     let i = c.self.invariant in
     let last = last_of (goal.at.invariant_of-self c).After-deref_mut-trail in
     let u = c.uncover_from in
-    let back = all_back _ _ _ _ _ _ _ u.new.links _ u.new.keys _ u.new.commits _ _ _ _ _ _ _ last c.piece_of-all.ensures u.ensures.linked u.ensures.links u.ensures.keys u.ensures.kept u.ensures.commits in
+    let back = all_back _ _ _ _ _ _ _ u.new.links _ u.new.keys _ u.new.commits _ _ _ _ _ _ _ last c.piece_of-all.ensures u.ensures.linked u.ensures.uncovers.links u.ensures.uncovers.keys u.ensures.kept u.ensures.commits in
     let links = put_back c.uncover_from.new.links (drop (length c.uncover_from.new.links) c.self.inside.links.items) c.self.inside.links.len (omega (arith, c.uncover_from.ensures.linked.0, c.self.invariant.0.linked.0, c.self.inside.links.ok.0)) in
     let keys = put_back c.uncover_from.new.keys (drop (length c.uncover_from.new.keys) c.self.inside.keys.items) c.self.inside.keys.len (omega (arith, c.uncover_from.auto.keys, c.deref_mut-keys.ensures.len, c.self.inside.keys.ok.0)) in
     let commits = put_back c.uncover_from.new.commits (drop (length c.uncover_from.new.commits) c.self.inside.commits.items) c.self.inside.commits.len (omega (arith, c.uncover_from.auto.commits, c.deref_mut-commits.ensures.len, c.self.inside.commits.ok.0)) in
@@ -64,8 +64,8 @@ returns-then-is_last c =
 pub piece_of-others-requires : goal.piece_of-others-requires
 piece_of-others-requires c = let last = last_of (goal.at.piece_of-others-requires c).After-deref_mut-trail in (last.second, last.inside)
 
-pub uncover_others-requires-clause-commits : goal.uncover_others-requires-clause-commits
-uncover_others-requires-clause-commits c = (last_of (goal.at.uncover_others-requires-clause-commits c).After-deref_mut-trail).kept
+pub uncover_others-requires-clause-lawful : goal.uncover_others-requires-clause-lawful
+uncover_others-requires-clause-lawful c = let last = last_of (goal.at.uncover_others-requires-clause-lawful c).After-deref_mut-trail in record { linked = last.was.linked; keys = last.was.history.keyed.columns; commits = last.kept }
 
 pub uncover_others-requires-clause-trail : goal.uncover_others-requires-clause-trail
 uncover_others-requires-clause-trail c = piece_options _ _ _ _ _ _ _ _ _ _ _ _ _ c.index-mark.result.now.middle _ _ _ (last_of (goal.at.uncover_others-requires-clause-trail c).After-deref_mut-trail) c.piece_of-others.ensures
@@ -75,11 +75,16 @@ uncover_others-requires-clause-trail c = piece_options _ _ _ _ _ _ _ _ _ _ _ _ _
 pub piece_of-own-requires : goal.piece_of-own-requires
 piece_of-own-requires c = let last = last_of (goal.at.piece_of-own-requires c).After-deref_mut-trail in (last.first, omega (arith, last.second, last.inside))
 
+pub uncover_one-requires-clause-lawful : goal.uncover_one-requires-clause-lawful
+uncover_one-requires-clause-lawful c =
+    let last = last_of (goal.at.uncover_one-requires-clause-lawful c).After-deref_mut-trail in
+    record { linked = c.uncover_others.ensures.linked; keys = omega (arith, c.uncover_others.auto.keys, last.was.history.keyed.columns); commits = c.uncover_others.ensures.kept }
+
 pub uncover_one-requires-clause-trail : goal.uncover_one-requires-clause-trail
 uncover_one-requires-clause-trail c =
     let u = c.uncover_others in
     let last = last_of (goal.at.uncover_one-requires-clause-trail c).After-deref_mut-trail in
-    let half = half_back _ _ _ _ _ _ _ _ _ _ _ _ _ _ _ _ _ _ _ last c.piece_of-others.ensures u.ensures.links u.ensures.keys u.ensures.kept u.ensures.commits in
+    let half = half_back _ _ _ _ _ _ _ _ _ _ _ _ _ _ _ _ _ _ _ last c.piece_of-others.ensures u.ensures.uncovers.links u.ensures.uncovers.keys u.ensures.kept u.ensures.commits in
     half_piece _ _ _ _ _ _ _ _ _ _ _ _ _ _ _ _ _ _ _ last half c.piece_of-own.ensures
 
 pub invariant_of-self-then-next-tails : goal.invariant_of-self-then-next-tails
@@ -88,8 +93,8 @@ invariant_of-self-then-next-tails c =
     let u = c.uncover_others in
     let v = c.uncover_one in
     let last = last_of (goal.at.invariant_of-self-then-next-tails c).After-deref_mut-trail in
-    let half = half_back _ _ _ _ _ _ _ _ _ _ _ _ _ _ _ _ _ _ _ last c.piece_of-others.ensures u.ensures.links u.ensures.keys u.ensures.kept u.ensures.commits in
-    let back = own_back _ _ _ _ _ _ _ _ v.new.links _ _ v.new.keys _ _ v.new.commits _ _ _ _ _ _ _ last half c.piece_of-own.ensures v.ensures.linked v.ensures.links v.ensures.keys v.ensures.commits in
+    let half = half_back _ _ _ _ _ _ _ _ _ _ _ _ _ _ _ _ _ _ _ last c.piece_of-others.ensures u.ensures.uncovers.links u.ensures.uncovers.keys u.ensures.kept u.ensures.commits in
+    let back = own_back _ _ _ _ _ _ _ _ v.new.links _ _ v.new.keys _ _ v.new.commits _ _ _ _ _ _ _ last half c.piece_of-own.ensures v.ensures.linked v.ensures.uncovers.links v.ensures.uncovers.keys v.ensures.commits in
     let links = put_back c.uncover_one.new.links (drop (length c.uncover_one.new.links) c.self.inside.links.items) c.self.inside.links.len (omega (arith, c.uncover_one.ensures.linked.0, c.self.invariant.0.linked.0, c.self.inside.links.ok.0)) in
     let keys = put_back c.uncover_one.new.keys (drop (length c.uncover_one.new.keys) c.self.inside.keys.items) c.self.inside.keys.len (omega (arith, c.uncover_one.auto.keys, c.uncover_others.auto.keys, c.deref_mut-keys.ensures.len, c.self.inside.keys.ok.0)) in
     let commits = put_back c.uncover_one.new.commits (drop (length c.uncover_one.new.commits) c.self.inside.commits.items) c.self.inside.commits.len (omega (arith, c.uncover_one.auto.commits, c.uncover_others.auto.commits, c.deref_mut-commits.ensures.len, c.self.inside.commits.ok.0)) in
@@ -107,7 +112,7 @@ returns-then-next-tails c =
     let k : ℕ = c.index.result.now in
     let u = c.uncover_others in
     let last = last_of (goal.at.returns-then-next-tails c).After-deref_mut-trail in
-    let half = half_back _ _ _ _ _ _ _ _ _ _ _ _ _ _ _ _ _ _ _ last c.piece_of-others.ensures u.ensures.links u.ensures.keys u.ensures.kept u.ensures.commits in
+    let half = half_back _ _ _ _ _ _ _ _ _ _ _ _ _ _ _ _ _ _ _ last c.piece_of-others.ensures u.ensures.uncovers.links u.ensures.uncovers.keys u.ensures.kept u.ensures.commits in
     let below = below_last _ _ _ _ _ _ _ _ _ last.frame half.history in
     let after = choices_by c.self.inside.problem.now c.pop-3.new.self.items (map (column_of cs) c.pop-2.new.self.items) in
     λ before item option old. next_choice after before (column_of cs k) item _ option None after (sym last.view_is ∙ old) (record { next_is = sym (below.none (omega (arith, c.if-next-tails.true, c.tails.ensures.tails))); child = tt; chosen = refl })
@@ -118,44 +123,51 @@ pub recommit-middle-requires-clause-column : goal.recommit-middle-requires-claus
 recommit-middle-requires-clause-column c =
     let u = c.uncover_others in
     let last = last_of (goal.at.recommit-middle-requires-clause-column c).After-deref_mut-trail in
-    let half = half_back _ _ _ _ _ _ _ _ _ _ _ _ _ _ _ _ _ _ _ last c.piece_of-others.ensures u.ensures.links u.ensures.keys u.ensures.kept u.ensures.commits in
+    let half = half_back _ _ _ _ _ _ _ _ _ _ _ _ _ _ _ _ _ _ _ last c.piece_of-others.ensures u.ensures.uncovers.links u.ensures.uncovers.keys u.ensures.kept u.ensures.commits in
     let below = below_last _ _ _ _ _ _ _ _ _ last.frame half.history in
     (below.some (omega (arith, c.if-next-tails.false, c.tails.ensures.tails))).1
 
 pub recommit-middle-requires-clause-start : goal.recommit-middle-requires-clause-start
 recommit-middle-requires-clause-start c = let last = last_of (goal.at.recommit-middle-requires-clause-start c).After-deref_mut-trail in (last.first, omega (arith, last.second, last.inside))
 
+pub recommit-middle-requires-clause-lawful : goal.recommit-middle-requires-clause-lawful
+recommit-middle-requires-clause-lawful c =
+    let last = last_of (goal.at.recommit-middle-requires-clause-lawful c).After-deref_mut-trail in
+    record { linked = c.uncover_others.ensures.linked; keys = omega (arith, c.uncover_others.auto.keys, last.was.history.keyed.columns); commits = c.uncover_others.ensures.kept }
+
 pub recommit-middle-requires-clause-trail : goal.recommit-middle-requires-clause-trail
 recommit-middle-requires-clause-trail c =
     let u = c.uncover_others in
     let last = last_of (goal.at.recommit-middle-requires-clause-trail c).After-deref_mut-trail in
-    let half = half_back _ _ _ _ _ _ _ _ _ _ _ _ _ _ _ _ _ _ _ last c.piece_of-others.ensures u.ensures.links u.ensures.keys u.ensures.kept u.ensures.commits in
+    let half = half_back _ _ _ _ _ _ _ _ _ _ _ _ _ _ _ _ _ _ _ last c.piece_of-others.ensures u.ensures.uncovers.links u.ensures.uncovers.keys u.ensures.kept u.ensures.commits in
     half_piece _ _ _ _ _ _ _ _ _ _ _ _ _ _ _ _ _ _ _ last half refl
 
 pub recommit-middle-requires-clause-room : goal.recommit-middle-requires-clause-room
 recommit-middle-requires-clause-room c =
     let u = c.uncover_others in
     let last = last_of (goal.at.recommit-middle-requires-clause-room c).After-deref_mut-trail in
-    let half = half_back _ _ _ _ _ _ _ _ _ _ _ _ _ _ _ _ _ _ _ last c.piece_of-others.ensures u.ensures.links u.ensures.keys u.ensures.kept u.ensures.commits in
+    let half = half_back _ _ _ _ _ _ _ _ _ _ _ _ _ _ _ _ _ _ _ last c.piece_of-others.ensures u.ensures.uncovers.links u.ensures.uncovers.keys u.ensures.kept u.ensures.commits in
     room_next _ _ _ _ _ _ _ _ _ _ _ _ _ last.frame half.history last.half (first_of _ _ _ _ _ _ _ _ last.frame half.held) (omega (arith, c.self.invariant.3.enough, ap length c.deref_mut-trail.ensures.value))
 
-pub cover_others-self-inside-requires-clause-commits : goal.cover_others-self-inside-requires-clause-commits
-cover_others-self-inside-requires-clause-commits c =
+pub cover_others-self-inside-requires-clause-lawful : goal.cover_others-self-inside-requires-clause-lawful
+cover_others-self-inside-requires-clause-lawful c =
     let u = c.uncover_others in
-    let last = last_of (goal.at.cover_others-self-inside-requires-clause-commits c).After-deref_mut-trail in
-    let half = half_back _ _ _ _ _ _ _ _ _ _ _ _ _ _ _ _ _ _ _ last c.piece_of-others.ensures u.ensures.links u.ensures.keys u.ensures.kept u.ensures.commits in
+    let last = last_of (goal.at.cover_others-self-inside-requires-clause-lawful c).After-deref_mut-trail in
+    let half = half_back _ _ _ _ _ _ _ _ _ _ _ _ _ _ _ _ _ _ _ last c.piece_of-others.ensures u.ensures.uncovers.links u.ensures.uncovers.keys u.ensures.kept u.ensures.commits in
     let again = retaken _ _ _ _ _ _ _ _ _ _ _ _ _ _ _ _ _ _ _ _ _ _ _ last half c.recommit-middle.ensures.recovers in
-    retaken_kept _ _ _ _ _ _ _ _ _ _ _ _ _ _ _ _ _ _ _ _ last again
+    let kept = retaken_kept _ _ _ _ _ _ _ _ _ _ _ _ _ _ _ _ _ _ _ _ last again in
+    record { linked = c.recommit-middle.ensures.linked; keys = omega (arith, c.recommit-middle.auto.keys, c.uncover_others.auto.keys, last.was.history.keyed.columns); commits = kept }
 
 pub cover_others-self-inside-requires-clause-room : goal.cover_others-self-inside-requires-clause-room
 cover_others-self-inside-requires-clause-room c =
     let u = c.uncover_others in
     let last = last_of (goal.at.cover_others-self-inside-requires-clause-room c).After-deref_mut-trail in
-    let half = half_back _ _ _ _ _ _ _ _ _ _ _ _ _ _ _ _ _ _ _ last c.piece_of-others.ensures u.ensures.links u.ensures.keys u.ensures.kept u.ensures.commits in
+    let half = half_back _ _ _ _ _ _ _ _ _ _ _ _ _ _ _ _ _ _ _ last c.piece_of-others.ensures u.ensures.uncovers.links u.ensures.uncovers.keys u.ensures.kept u.ensures.commits in
     let choice = choice_of _ _ _ _ _ _ _ c.tails.ensures.table (below_last _ _ _ _ _ _ _ _ _ last.frame half.history) (omega (arith, c.if-next-tails.false, c.tails.ensures.tails)) c.option_at-option.ensures.option in
     let again = retaken _ _ _ _ _ _ _ _ _ _ _ _ _ _ _ _ _ _ _ _ _ _ _ last half c.recommit-middle.ensures.recovers in
     let frame = next_frame _ _ _ _ _ _ _ _ _ _ _ _ _ _ _ _ _ _ last choice in
-    retaken_room _ _ _ _ _ _ _ _ _ _ _ _ frame again (omega (arith, c.self.invariant.3.enough, c.recommit-middle.auto.trail, ap length c.deref_mut-trail.ensures.value))
+    let room = retaken_room _ _ _ _ _ _ _ _ _ _ _ _ frame again (omega (arith, c.self.invariant.3.enough, c.recommit-middle.auto.trail, ap length c.deref_mut-trail.ensures.value)) in
+    record { inside = c.recommit-middle.ensures.top; room = room }
 
 pub invariant_of-self-2 : goal.invariant_of-self-2
 invariant_of-self-2 c =
@@ -164,11 +176,11 @@ invariant_of-self-2 c =
     let u = c.uncover_others in
     let v = c.cover_others-self-inside in
     let last = last_of (goal.at.invariant_of-self-2 c).After-deref_mut-trail in
-    let half = half_back _ _ _ _ _ _ _ _ _ _ _ _ _ _ _ _ _ _ _ last c.piece_of-others.ensures u.ensures.links u.ensures.keys u.ensures.kept u.ensures.commits in
+    let half = half_back _ _ _ _ _ _ _ _ _ _ _ _ _ _ _ _ _ _ _ last c.piece_of-others.ensures u.ensures.uncovers.links u.ensures.uncovers.keys u.ensures.kept u.ensures.commits in
     let choice = choice_of _ _ _ _ _ _ _ c.tails.ensures.table (below_last _ _ _ _ _ _ _ _ _ last.frame half.history) (omega (arith, c.if-next-tails.false, c.tails.ensures.tails)) c.option_at-option.ensures.option in
     let again = retaken _ _ _ _ _ _ _ _ _ _ _ _ _ _ _ _ _ _ _ _ _ _ _ last half c.recommit-middle.ensures.recovers in
     let frame = next_frame _ _ _ _ _ _ _ _ _ _ _ _ _ _ _ _ _ _ last choice in
-    let now = next_chosen _ _ _ _ _ _ _ _ _ _ _ _ _ _ _ frame again v.ensures.linked v.ensures.links v.ensures.keys v.ensures.commits v.ensures.trail in
+    let now = next_chosen _ _ _ _ _ _ _ _ _ _ _ _ _ _ _ frame again v.ensures.linked v.ensures.covers.links v.ensures.covers.keys v.ensures.covers.commits v.ensures.covers.trail in
     let links = put_back c.cover_others-self-inside.new.links (drop (length c.cover_others-self-inside.new.links) c.self.inside.links.items) c.self.inside.links.len (omega (arith, c.cover_others-self-inside.ensures.linked.0, c.self.invariant.0.linked.0, c.self.inside.links.ok.0)) in
     let keys = put_back c.cover_others-self-inside.new.keys (drop (length c.cover_others-self-inside.new.keys) c.self.inside.keys.items) c.self.inside.keys.len (omega (arith, c.cover_others-self-inside.auto.keys, c.recommit-middle.auto.keys, c.uncover_others.auto.keys, c.deref_mut-keys.ensures.len, c.self.inside.keys.ok.0)) in
     let commits = put_back c.cover_others-self-inside.new.commits (drop (length c.cover_others-self-inside.new.commits) c.self.inside.commits.items) c.self.inside.commits.len (omega (arith, c.cover_others-self-inside.auto.commits, c.recommit-middle.auto.commits, c.uncover_others.auto.commits, c.deref_mut-commits.ensures.len, c.self.inside.commits.ok.0)) in
@@ -189,7 +201,7 @@ returns c =
     let k : ℕ = c.index.result.now in
     let u = c.uncover_others in
     let last = last_of (goal.at.returns c).After-deref_mut-trail in
-    let half = half_back _ _ _ _ _ _ _ _ _ _ _ _ _ _ _ _ _ _ _ last c.piece_of-others.ensures u.ensures.links u.ensures.keys u.ensures.kept u.ensures.commits in
+    let half = half_back _ _ _ _ _ _ _ _ _ _ _ _ _ _ _ _ _ _ _ last c.piece_of-others.ensures u.ensures.uncovers.links u.ensures.uncovers.keys u.ensures.kept u.ensures.commits in
     let choice = choice_of _ _ _ _ _ _ _ c.tails.ensures.table (below_last _ _ _ _ _ _ _ _ _ last.frame half.history) (omega (arith, c.if-next-tails.false, c.tails.ensures.tails)) c.option_at-option.ensures.option in
     let front = choices_by c.self.inside.problem.now c.pop-3.new.self.items (map (column_of cs) c.pop-2.new.self.items) in
     let after = choices_by c.self.inside.problem.now c.push_reserved-3.new.self.items (map (column_of cs) c.push_reserved-2.new.self.items) in

@@ -19,8 +19,8 @@ last_of c =
 pub piece_of-all-requires : goal.piece_of-all-requires
 piece_of-all-requires c = let last = last_of (goal.at.piece_of-all-requires c).After-deref in (omega (arith, last.first, last.second), last.inside)
 
-pub uncover_from-requires-clause-commits : goal.uncover_from-requires-clause-commits
-uncover_from-requires-clause-commits c = (last_of (goal.at.uncover_from-requires-clause-commits c).After-deref).kept
+pub uncover_from-requires-clause-lawful : goal.uncover_from-requires-clause-lawful
+uncover_from-requires-clause-lawful c = let last = last_of (goal.at.uncover_from-requires-clause-lawful c).After-deref in record { linked = last.was.linked; keys = last.was.history.keyed.columns; commits = last.kept }
 
 pub uncover_from-requires-clause-node : goal.uncover_from-requires-clause-node
 uncover_from-requires-clause-node c = (last_of (goal.at.uncover_from-requires-clause-node c).After-deref).node
@@ -33,7 +33,7 @@ invariant_of-self c =
     let i = c.self.invariant in
     let u = c.uncover_from in
     let last = last_of (goal.at.invariant_of-self c).After-deref in
-    let back = all_back _ _ _ _ _ _ _ u.new.links _ u.new.keys _ u.new.commits _ _ _ _ _ _ _ last c.piece_of-all.ensures u.ensures.linked u.ensures.links u.ensures.keys u.ensures.kept u.ensures.commits in
+    let back = all_back _ _ _ _ _ _ _ u.new.links _ u.new.keys _ u.new.commits _ _ _ _ _ _ _ last c.piece_of-all.ensures u.ensures.linked u.ensures.uncovers.links u.ensures.uncovers.keys u.ensures.kept u.ensures.commits in
     let links = put_back c.uncover_from.new.links (drop (length c.uncover_from.new.links) c.self.inside.links.items) c.self.inside.links.len (omega (arith, c.uncover_from.ensures.linked.0, c.self.invariant.0.linked.0, c.self.inside.links.ok.0)) in
     let keys = put_back c.uncover_from.new.keys (drop (length c.uncover_from.new.keys) c.self.inside.keys.items) c.self.inside.keys.len (omega (arith, c.uncover_from.auto.keys, c.deref_mut-keys.ensures.len, c.self.inside.keys.ok.0)) in
     let commits = put_back c.uncover_from.new.commits (drop (length c.uncover_from.new.commits) c.self.inside.commits.items) c.self.inside.commits.len (omega (arith, c.uncover_from.auto.commits, c.deref_mut-commits.ensures.len, c.self.inside.commits.ok.0)) in

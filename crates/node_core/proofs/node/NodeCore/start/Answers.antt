@@ -6,7 +6,7 @@ use Rattle.node_core.specs.SiteView.{View, opening_view}
 
 pub invariant_of-result : goal.invariant_of-result
 invariant_of-result c =
-    let begins = c.nodes_stay_formed.ensures.begins c.args.problem.now c.args.site c.args.nodes c.args.names_limit c.items-items.ensures.problem (record {
+    let begins = c.nodes_stay_formed.ensures.begins c.args.problem.now c.args.site c.args.nodes c.args.names_limit c.recall_rules.ensures (record {
       most = c.requires.most;
       first = c.requires.first;
       last = c.requires.last;

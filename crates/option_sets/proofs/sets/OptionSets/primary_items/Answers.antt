@@ -1,6 +1,6 @@
 use Rattle.std.proofs.Common.{◌≡◌, ◌<◌, ◌∙◌, length, ap, arith, rules}
 use Rattle.cover_problem.specs.Problem.{Problem}
-use Rattle.option_sets.specs.Tables.{primary_of}
+use Rattle.option_sets.specs.ClashTables.{primary_of}
 use Rattle.option_sets.proofs.Barring.{named_long, named_at}
 use Rattle.option_sets.proofs.sets.OptionSets.primary_items.Goals as goal
 

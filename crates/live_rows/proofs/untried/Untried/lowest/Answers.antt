@@ -1,6 +1,0 @@
-use Rattle.std.proofs.Common.{refl}
-use Rattle.live_rows.proofs.Lowest.{lowest_next}
-use Rattle.live_rows.proofs.untried.Untried.lowest.Goals as goal
-
-pub returns : goal.returns
-returns c = lowest_next _ _ _ _ _ c.requires.trying c.requires.some refl refl refl refl refl

@@ -1,0 +1,6 @@
+pub mod Counting
+pub mod Levels
+pub mod Planes
+pub mod Rows
+pub mod ChoiceStep
+pub mod Trying

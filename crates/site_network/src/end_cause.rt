@@ -1,0 +1,16 @@
+/// Why a thread of a site ended. Of several the first of this list is the site's.
+#[derive(Clone, Copy, Debug, PartialEq, Eq, PartialOrd, Ord)]
+pub enum EndCause {
+    /// The search is over.
+    Over,
+    /// The site's book has as many entries as it may have.
+    BookFull,
+    /// A hundred receives in a row failed.
+    Faults,
+    /// Memory ran out.
+    Memory,
+    /// Nothing came for long that shows the run going on.
+    Silence,
+    /// Its turns or its waits are over, or the site's other threads have ended.
+    Turns,
+}

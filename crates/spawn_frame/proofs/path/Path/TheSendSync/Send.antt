@@ -1,6 +1,0 @@
--- A path owns nothing, so it may go to another thread.
-use denote.Param.Send.{IsSend, owning_send}
-use Rattle.spawn_frame.specs.contracts.path.Path.{the_row, the_type}
-
-pub send : IsSend the_row
-send = owning_send the_type tt (λ d. tt) (λ k x w. tt)
