@@ -29,7 +29,3 @@ answer_by problem None = NoCover
 -- without a limit it says what the first cover is, or that there is none
 unfoldable pub decided_said : Problem → Said
 decided_said problem = outcome_said problem (found_outcome (first problem []))
-
--- and nothing else
-abbrev pub DecidedSays : Problem → Said → Type 0
-DecidedSays problem what = what ≡ decided_said problem

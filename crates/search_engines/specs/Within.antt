@@ -10,6 +10,7 @@ use Rattle.dlx_reader.specs.Answers.{IsAnswerOf}
 use Rattle.search_engines.specs.Alone.{outcome_said}
 use Rattle.search_engines.specs.Check.{none_said, right, verdict_said}
 use Rattle.search_engines.specs.Output.{Said, no_answer, said}
+use Rattle.search_engines.specs.declared.search_limits.TimeLimit.{TimeLimit}
 
 -- what the whole search of the empty prefix comes to, with so many visits at most, or without a limit of visits
 abbrev pub whole_outcome : Problem → Option ℕ → Outcome
@@ -30,6 +31,11 @@ IsGiven problem fuel (Some answer) = answer_from problem (whole_outcome problem 
 -- it says what the whole search comes to, or that there is no answer
 abbrev pub AloneSaysWithin : Option ℕ → Problem → Said → Type 0
 AloneSaysWithin fuel problem what = (what ≡ outcome_said problem (whole_outcome problem fuel)) ⊎ (what ≡ no_answer)
+
+-- It says what the whole search comes to; where there is a limit of time, it may say that there is no answer.
+abbrev pub LimitedSays : Option ℕ → Option TimeLimit → Problem → Said → Type 0
+LimitedSays fuel None problem what = what ≡ outcome_said problem (whole_outcome problem fuel)
+LimitedSays fuel (Some time) problem what = AloneSaysWithin fuel problem what
 
 -- what a search that gave this says of the answer that there is no cover
 abbrev pub none_by : Option Answer → Said

@@ -4,7 +4,7 @@ ghost use Rattle.std.specs.Prelude.{◌≡◌, ◌≢◌, ◌-◌, ◌<◌, ◌�
 ghost use Rattle.std.specs.Io.KnownBytes.{IsAtEnd};
 ghost use Rattle.brancher.specs.Visit.{outcome_told};
 ghost use Rattle.cover_problem.specs.Search.{Covers};
-ghost use Rattle.search_engines.specs.Alone.{AloneSays, DecidedSays, alone_said, decided_said, outcome_said};
+ghost use Rattle.search_engines.specs.Alone.{AloneSays, alone_said, decided_said, outcome_said};
 ghost use Rattle.search_engines.specs.Engines.{IsEnded, refuses_none};
 ghost use Rattle.search_engines.specs.Output.{IsOutput};
 
@@ -13,8 +13,7 @@ use crate::engine::EngineEnd;
 use crate::fault::EngineFault;
 use crate::input::read_whole;
 use crate::lines::{write_line, write_solution};
-use crate::progress_log::ProgressLog;
-use crate::progress_watch::{EndWatch, ProgressWatch};
+use crate::progress_watch::EndWatch;
 use brancher::{Outcome, ROOM, Searcher, Tables, Unwatched};
 use cover_problem::{Answer, Problem, in_order};
 use dlx_reader::{Sink, Source};
@@ -64,7 +63,7 @@ fn write_outcome<W: Sink>(
 
 /// Searches the empty prefix under a watch, with so many visits at most, writes the outcome, and returns the status.
 #[tactic(auto, unfolding(crate::specs::Alone::alone_said))]
-fn write_alone<V: EndWatch, W: Sink>(
+pub(crate) fn write_alone<V: EndWatch, W: Sink>(
     alloc: Global,
     problem: &Problem,
     fuel: u64,
@@ -90,7 +89,7 @@ fn write_alone<V: EndWatch, W: Sink>(
 }
 
 /// Finds the first cover under a watch without a limit, writes it, or that there is none, and returns the status.
-fn write_decided<V: EndWatch, W: Sink, C: Clock>(
+pub(crate) fn write_decided<V: EndWatch, W: Sink, C: Clock>(
     clock: &C,
     alloc: Global,
     problem: &Problem,
@@ -140,88 +139,4 @@ pub fn alone_engine<R: Source, W: Sink>(
         status,
         ignored: read.ignored,
     })
-}
-
-/// Does what `alone_engine` does, and meanwhile writes to the log how far the search has come. The log changes no answer: a fault of its
-/// sink is passed over. `Memory` also comes where there is none for the estimate that the log shows.
-pub fn alone_with_progress<R: Source, W: Sink, E: Sink, C: Clock>(
-    clock: &C,
-    alloc: Global,
-    fuel: u64,
-    source: &mut R,
-    sink: &mut W,
-    log: ProgressLog<'_, E>,
-) -> Result<AloneEnd, EngineFault>
-    requires fuel { 1 ≤ fuel }
-    requires source { R.failed source.old < 2 ^ 64 - 1 }
-    requires sink { W.failed sink.old < 2 ^ 64 - 1 }
-    ensures ended { IfSome (R.remaining source.old) (λ text.
-        IsEnded (AloneSays fuel) refuses_none text (W.contents sink.old)
-        (W.contents sink.new) result) }
-    ensures read { result ≢ Err EngineFault.Read → result ≢ Err EngineFault.Memory →
-        IsAtEnd (R.remaining source.new) }
-    ensures read_fault { result ≡ Err EngineFault.Read → R.failed source.old < R.failed source.new }
-    ensures write_fault { result ≡ Err EngineFault.Write → W.failed sink.old < W.failed sink.new }
-{
-    let read = read_whole(alloc, source)?;
-    let Ok(mut watch) = ProgressWatch::new(clock, alloc, &read.problem, fuel, log) else {
-        return Err(EngineFault::Memory);
-    };
-    let status = write_alone(alloc, &read.problem, fuel, &mut watch, sink)?;
-    let ignored = read.ignored;
-    Ok(EngineEnd { status, ignored })
-}
-
-/// Does what `alone_engine` does without a limit: it writes the first cover, or `none`, whatever number of visits it takes to see it. After a
-/// tenth of a second it looks for a reason that there is none, before it searches on.
-pub fn alone_unlimited<R: Source, W: Sink, C: Clock>(
-    clock: &C,
-    alloc: Global,
-    source: &mut R,
-    sink: &mut W,
-) -> Result<AloneEnd, EngineFault>
-    requires source { R.failed source.old < 2 ^ 64 - 1 }
-    requires sink { W.failed sink.old < 2 ^ 64 - 1 }
-    ensures ended { IfSome (R.remaining source.old) (λ text.
-        IsEnded DecidedSays refuses_none text (W.contents sink.old)
-        (W.contents sink.new) result) }
-    ensures read { result ≢ Err EngineFault.Read → result ≢ Err EngineFault.Memory →
-        IsAtEnd (R.remaining source.new) }
-    ensures read_fault { result ≡ Err EngineFault.Read → R.failed source.old < R.failed source.new }
-    ensures write_fault { result ≡ Err EngineFault.Write → W.failed sink.old < W.failed sink.new }
-{
-    let read = read_whole(alloc, source)?;
-    let status = write_decided(clock, alloc, &read.problem, &mut Unwatched, sink)?;
-    Ok(EngineEnd {
-        status,
-        ignored: read.ignored,
-    })
-}
-
-/// Does what `alone_unlimited` does, and meanwhile writes to the log as `alone_with_progress` does. It counts
-/// the visits that the search made itself: what lies below a state that it knows is skipped.
-pub fn alone_unlimited_with_progress<R: Source, W: Sink, E: Sink, C: Clock>(
-    clock: &C,
-    alloc: Global,
-    source: &mut R,
-    sink: &mut W,
-    log: ProgressLog<'_, E>,
-) -> Result<AloneEnd, EngineFault>
-    requires source { R.failed source.old < 2 ^ 64 - 1 }
-    requires sink { W.failed sink.old < 2 ^ 64 - 1 }
-    ensures ended { IfSome (R.remaining source.old) (λ text.
-        IsEnded DecidedSays refuses_none text (W.contents sink.old)
-        (W.contents sink.new) result) }
-    ensures read { result ≢ Err EngineFault.Read → result ≢ Err EngineFault.Memory →
-        IsAtEnd (R.remaining source.new) }
-    ensures read_fault { result ≡ Err EngineFault.Read → R.failed source.old < R.failed source.new }
-    ensures write_fault { result ≡ Err EngineFault.Write → W.failed sink.old < W.failed sink.new }
-{
-    let read = read_whole(alloc, source)?;
-    let Ok(mut watch) = ProgressWatch::new(clock, alloc, &read.problem, u64::MAX, log) else {
-        return Err(EngineFault::Memory);
-    };
-    let status = write_decided(clock, alloc, &read.problem, &mut watch, sink)?;
-    let ignored = read.ignored;
-    Ok(EngineEnd { status, ignored })
 }

@@ -23,9 +23,7 @@ mod tree_estimate;
 mod unanswered;
 mod within;
 
-pub use alone::{
-    AloneEnd, alone_engine, alone_unlimited, alone_unlimited_with_progress, alone_with_progress,
-};
+pub use alone::{AloneEnd, alone_engine};
 pub use check::{CheckEnd, check_engine, check_unlimited};
 pub use engine::EngineEnd;
 pub use fault::EngineFault;
@@ -36,11 +34,11 @@ pub use lines::{write_line, write_published};
 pub use progress::Progress;
 pub use progress_log::{LineStyle, ProgressLog};
 pub use remembered::Remembered;
-pub use search_limits::SearchLimits;
+pub use search_limits::{SearchLimits, TimeLimit};
 pub use stopwatch::Stopwatch;
 pub use telling::{
     tell, tell_end, tell_end_of, tell_fault, tell_fault_of, tell_unbound, tell_unopened,
 };
 pub use tree_estimate::TreeEstimate;
 pub use unanswered::{Unanswered, tell_unanswered};
-pub use within::{alone_within, alone_within_with_progress, check_within};
+pub use within::{alone_within, check_within};

@@ -36,6 +36,10 @@ impl LineTimer {
 
     /// Returns how many whole seconds have passed, if a line of this style is due; the next one is then due a pause later.
     pub fn due<C: Clock>(&mut self, clock: &C, style: LineStyle) -> Option<u64> {
+        // (the clock is a call of the system, which a search that nobody follows does without)
+        if style == LineStyle::Silent {
+            return None;
+        }
         let elapsed = self.stopwatch.elapsed(clock)?;
         if elapsed < self.due {
             return None;
@@ -53,6 +57,6 @@ fn pause_after(seconds: u64, style: LineStyle) -> u64 {
     match style {
         LineStyle::Listed if seconds >= LONGEST => LONGEST_PAUSE,
         LineStyle::Listed if seconds >= LONG => LONG_PAUSE,
-        LineStyle::Listed | LineStyle::Overwritten => PAUSE,
+        LineStyle::Listed | LineStyle::Overwritten | LineStyle::Silent => PAUSE,
     }
 }

@@ -10,6 +10,8 @@ pub enum LineStyle {
     Listed,
     /// Each over the one before, as a terminal can show them.
     Overwritten,
+    /// There are none: nobody asked how far the search has come.
+    Silent,
 }
 
 /// Where the progress of a search is written. A fault of the sink is passed over: the answer, not the log, is what the search is for.
@@ -42,6 +44,7 @@ impl<'a, E: Sink> ProgressLog<'a, E> {
             LineStyle::Listed => writeln!(self.sink, "{progress}"),
             // (what is left of a longer line before is cleared)
             LineStyle::Overwritten => write!(self.sink, "\r{progress} \x1b[K"),
+            LineStyle::Silent => return,
         };
         self.is_begun = true;
     }

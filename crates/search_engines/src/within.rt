@@ -1,15 +1,16 @@
-//! `alone` and `check` within a limit of time.
+//! `alone` and `check` within limits of visits and of time.
 
-ghost use Rattle.std.specs.Prelude.{◌≡◌, ◌≢◌, ◌-◌, ◌<◌, ◌≤◌, ◌^◌, ◌⊎◌, Some, option_map, IfOk, IfSome};
+ghost use Rattle.std.specs.Prelude.{◌≡◌, ◌≢◌, ◌-◌, ◌<◌, ◌≤◌, ◌^◌, ◌⊎◌, Some, false, option_map, IfOk, IfSome};
 ghost use Rattle.std.specs.Io.KnownBytes.{IsAtEnd};
 ghost use Rattle.std.specs.Option.{ForSome};
 ghost use Rattle.dlx_reader.specs.Writing.{IsWritable};
+ghost use Rattle.search_engines.specs.Alone.{outcome_said};
 ghost use Rattle.search_engines.specs.Check.{CheckRefuses, IsListedAnswer};
 ghost use Rattle.search_engines.specs.Engines.{IsEnded, refuses_none};
 ghost use Rattle.search_engines.specs.Output.{IsOutput, IsOutputOf};
-ghost use Rattle.search_engines.specs.Within.{AloneSaysWithin, CheckSaysWithin, IsGiven, MayCheck, answer_from, none_by};
+ghost use Rattle.search_engines.specs.Within.{AloneSaysWithin, CheckSaysWithin, IsGiven, LimitedSays, MayCheck, answer_from, none_by, whole_outcome};
 
-use crate::alone::AloneEnd;
+use crate::alone::{AloneEnd, write_alone, write_decided};
 use crate::check::{CheckEnd, write_verdict};
 use crate::deciding::answer_until;
 use crate::engine::EngineEnd;
@@ -107,33 +108,58 @@ fn write_given<V: EndWatch, W: Sink, C: Clock>(
     write_published(problem, answer.as_ref(), sink)
 }
 
-/// Does what `alone_engine` does within limits: it writes the first cover, or `none`, or `no answer` once a limit is met, of time or, if
-/// there is one, of visits.
-pub fn alone_within<R: Source, W: Sink, C: Clock>(
+/// Searches under a watch with so many visits at most, or any number, writes the outcome, and returns the status.
+#[tactic(auto, unfolding(crate::specs::Alone::alone_said, crate::specs::Alone::decided_said))]
+fn write_whole<V: EndWatch, W: Sink, C: Clock>(
     clock: &C,
     alloc: Global,
-    limits: &SearchLimits,
-    source: &mut R,
+    problem: &Problem,
+    fuel: Option<u64>,
+    watch: &mut V,
     sink: &mut W,
-) -> Result<AloneEnd, EngineFault>
-    requires source { R.failed source.old < 2 ^ 64 - 1 }
-    requires sink { W.failed sink.old < 2 ^ 64 - 1 }
-    ensures ended { IfSome (R.remaining source.old) (λ text.
-        IsEnded (AloneSaysWithin limits.now.fuel) refuses_none text (W.contents sink.old)
-        (W.contents sink.new) result) }
-    ensures read { result ≢ Err EngineFault.Read → result ≢ Err EngineFault.Memory →
-        IsAtEnd (R.remaining source.new) }
-    ensures read_fault { result ≡ Err EngineFault.Read → R.failed source.old < R.failed source.new }
-    ensures write_fault { result ≡ Err EngineFault.Write → W.failed sink.old < W.failed sink.new }
+) -> Result<u8, EngineFault>
+    requires fuel { ForSome fuel (λ fuel. 1 ≤ fuel) }
+    requires watch { V.may_stop ≡ false }
+    requires failed { W.failed sink.old < 2 ^ 64 - 1 }
+    ensures output { IsOutput (outcome_said problem.now (whole_outcome problem.now fuel))
+        (W.contents sink.old) (W.contents sink.new) result }
+    ensures failed { result ≡ Err EngineFault.Write → W.failed sink.old < W.failed sink.new }
 {
-    let read = read_whole(alloc, source)?;
-    let status = write_given(clock, alloc, &read.problem, limits, &mut Unwatched, sink)?;
-    let ignored = read.ignored;
-    Ok(EngineEnd { status, ignored })
+    match fuel {
+        Some(fuel) => write_alone(alloc, problem, fuel, watch, sink),
+        None => write_decided(clock, alloc, problem, watch, sink),
+    }
 }
 
-/// Does what `alone_within` does, and meanwhile writes to the log as `alone_with_progress` does.
-pub fn alone_within_with_progress<R: Source, W: Sink, E: Sink, C: Clock>(
+/// Searches under a watch until a limit is met, writes the answer, or that there is none yet, and returns the status.
+fn write_limited<V: EndWatch, W: Sink, C: Clock>(
+    clock: &C,
+    alloc: Global,
+    problem: &Problem,
+    limits: &SearchLimits,
+    watch: &mut V,
+    sink: &mut W,
+) -> Result<u8, EngineFault>
+    requires watch { V.may_stop ≡ false }
+    requires failed { W.failed sink.old < 2 ^ 64 - 1 }
+    ensures output { IsOutputOf (LimitedSays limits.now.fuel limits.now.time problem.now)
+        (W.contents sink.old) (W.contents sink.new) result }
+    ensures failed { result ≡ Err EngineFault.Write → W.failed sink.old < W.failed sink.new }
+{
+    match &limits.time {
+        Some(_) => write_given(clock, alloc, problem, limits, watch, sink),
+        None => write_whole(clock, alloc, problem, limits.fuel, watch, sink),
+    }
+}
+
+/// Does what `alone_engine` does within limits: it writes the first cover, or `none`, or `no answer` once a limit is met, of visits or of
+/// time. Without a limit it decides; where visits have none, it looks for a reason that there is no cover after a tenth of a second,
+/// before it searches on.
+///
+/// Meanwhile it writes to the log how far the search has come, by the visits that it made itself: what lies below a state that it
+/// knows is skipped. The log changes no answer: a fault of its sink is passed over. `Memory` also comes where there is none for the
+/// estimate that the log shows.
+pub fn alone_within<R: Source, W: Sink, E: Sink, C: Clock>(
     clock: &C,
     alloc: Global,
     limits: &SearchLimits,
@@ -144,8 +170,8 @@ pub fn alone_within_with_progress<R: Source, W: Sink, E: Sink, C: Clock>(
     requires source { R.failed source.old < 2 ^ 64 - 1 }
     requires sink { W.failed sink.old < 2 ^ 64 - 1 }
     ensures ended { IfSome (R.remaining source.old) (λ text.
-        IsEnded (AloneSaysWithin limits.now.fuel) refuses_none text (W.contents sink.old)
-        (W.contents sink.new) result) }
+        IsEnded (LimitedSays limits.now.fuel limits.now.time) refuses_none text
+        (W.contents sink.old) (W.contents sink.new) result) }
     ensures read { result ≢ Err EngineFault.Read → result ≢ Err EngineFault.Memory →
         IsAtEnd (R.remaining source.new) }
     ensures read_fault { result ≡ Err EngineFault.Read → R.failed source.old < R.failed source.new }
@@ -156,7 +182,7 @@ pub fn alone_within_with_progress<R: Source, W: Sink, E: Sink, C: Clock>(
     let Ok(mut watch) = ProgressWatch::new(clock, alloc, &read.problem, fuel, log) else {
         return Err(EngineFault::Memory);
     };
-    let status = write_given(clock, alloc, &read.problem, limits, &mut watch, sink)?;
+    let status = write_limited(clock, alloc, &read.problem, limits, &mut watch, sink)?;
     let ignored = read.ignored;
     Ok(EngineEnd { status, ignored })
 }

@@ -10,10 +10,8 @@ pub use cover_engines::{
     simulate_engine, solve_engine, tell, tell_fault,
 };
 use cover_engines::{
-    LineStyle, Loopback, Machine, ProgressLog, Remembered, SearchLimits, Unanswered,
-    alone_unlimited, alone_unlimited_with_progress, alone_with_progress, alone_within,
-    alone_within_with_progress, check_unlimited, check_within, tell_end_of, tell_unanswered,
-    tell_unopened,
+    LineStyle, Loopback, Machine, ProgressLog, Remembered, SearchLimits, TimeLimit, Unanswered,
+    alone_within, check_unlimited, check_within, tell_end_of, tell_unanswered, tell_unopened,
 };
 use dlx_reader::{CountedReader, CountedWriter, Sink, Source};
 use either::Either;
@@ -53,32 +51,36 @@ fn open_file(rt: &HostRuntime, name: &str) -> io::Result<File> {
     Ok(file)
 }
 
-/// Returns the limits of what is asked for, from now on, if it is limited in time.
-fn limits_of(rt: &HostRuntime, request: &Request<'_>) -> Option<SearchLimits> {
-    let seconds = request.seconds?;
-    let time = Duration::from_secs(u64::from(seconds));
+/// Returns the limits of what is asked for, from now on.
+fn limits_of(rt: &HostRuntime, request: &Request<'_>) -> SearchLimits {
+    let time = match request.seconds {
+        Some(seconds) => {
+            let time = Duration::from_secs(u64::from(seconds));
+            Some(TimeLimit::from_now(rt, time))
+        }
+        None => None,
+    };
     if request.unlimited {
-        return Some(SearchLimits::from_now(rt, None, time));
+        SearchLimits::new(None, time)
+    } else {
+        SearchLimits::new(Some(request.settings.fuel), time)
     }
-    Some(SearchLimits::from_now(rt, Some(request.settings.fuel), time))
 }
 
 /// Returns why a search by one thread ends without an answer, if it does now. Where both limits are met, the time comes first.
-fn unanswered(rt: &HostRuntime, request: &Request<'_>, limits: Option<SearchLimits>) -> Unanswered {
-    let is_late = match limits {
-        Some(limits) => limits.is_late(rt),
-        None => false,
-    };
-    if is_late {
+fn unanswered(rt: &HostRuntime, request: &Request<'_>, limits: &SearchLimits) -> Unanswered {
+    if limits.is_late(rt) {
         Unanswered::Time
     } else {
         Unanswered::by_fuel(request.settings.fuel)
     }
 }
 
-/// Returns how lines of progress follow one another on standard error.
-fn line_style(rt: &HostRuntime) -> LineStyle {
-    if rt.stderr().is_terminal() {
+/// Returns how lines of progress follow one another on standard error, if it is followed.
+fn line_style(rt: &HostRuntime, is_followed: bool) -> LineStyle {
+    if !is_followed {
+        LineStyle::Silent
+    } else if rt.stderr().is_terminal() {
         LineStyle::Overwritten
     } else {
         LineStyle::Listed
@@ -93,38 +95,15 @@ fn run_alone(rt: &HostRuntime, request: &Request<'_>) -> u8 {
         Ok(source) => source,
         Err(error) => return tell_unopened(request.settings.file, error.kind(), &mut errors),
     };
-    let ended = match limits {
-        Some(limits) => search_within(rt, request, &limits, &mut source, &mut errors),
-        None => search_alone(rt, request, &mut source, &mut errors),
-    };
+    let ended = search_alone(rt, request, &limits, &mut source, &mut errors);
     let status = tell_end_of(&ended, request.settings.file, &mut errors);
     source.tell_unknown(status, &mut errors);
-    tell_unanswered(&ended, unanswered(rt, request, limits), &mut errors);
+    tell_unanswered(&ended, unanswered(rt, request, &limits), &mut errors);
     status
 }
 
 /// Searches the problem in a source, and writes the answer; progress, if it is asked for, goes to the other sink.
 fn search_alone<W: Sink>(
-    rt: &HostRuntime,
-    request: &Request<'_>,
-    source: &mut Input,
-    errors: &mut W,
-) -> Result<AloneEnd, EngineFault>
-    requires { source.old.inner.failures ≡ 0 }
-{
-    let mut sink = CountedWriter::new(rt.stdout());
-    let (alloc, fuel) = (rt.alloc(), request.settings.fuel);
-    let log = ProgressLog::new(errors, line_style(rt));
-    match (request.unlimited, request.progress) {
-        (false, false) => alone_engine(alloc, fuel, source, &mut sink),
-        (true, false) => alone_unlimited(rt, alloc, source, &mut sink),
-        (false, true) => alone_with_progress(rt, alloc, fuel, source, &mut sink, log),
-        (true, true) => alone_unlimited_with_progress(rt, alloc, source, &mut sink, log),
-    }
-}
-
-/// Does what `search_alone` does, within limits.
-fn search_within<W: Sink>(
     rt: &HostRuntime,
     request: &Request<'_>,
     limits: &SearchLimits,
@@ -134,11 +113,8 @@ fn search_within<W: Sink>(
     requires { source.old.inner.failures ≡ 0 }
 {
     let mut sink = CountedWriter::new(rt.stdout());
-    if !request.progress {
-        return alone_within(rt, rt.alloc(), limits, source, &mut sink);
-    }
-    let log = ProgressLog::new(errors, line_style(rt));
-    alone_within_with_progress(rt, rt.alloc(), limits, source, &mut sink, log)
+    let log = ProgressLog::new(errors, line_style(rt, request.progress));
+    alone_within(rt, rt.alloc(), limits, source, &mut sink, log)
 }
 
 /// Runs `check` on a file and an answer's file, and returns the exit status.
@@ -159,7 +135,7 @@ fn run_check(rt: &HostRuntime, request: &Request<'_>) -> u8
         Ok(answer) => answer,
         Err(error) => return tell_unopened(answer_name, error.kind(), &mut errors),
     };
-    let ended = check_inputs(rt, request, limits, &mut file, &mut answer);
+    let ended = check_inputs(rt, request, &limits, &mut file, &mut answer);
     // (the problem is read first, so a fault is the answer's only where the problem had none)
     let unread = if file.failures() > 0 {
         settings.file
@@ -168,7 +144,7 @@ fn run_check(rt: &HostRuntime, request: &Request<'_>) -> u8
     };
     let status = tell_end_of(&ended, unread, &mut errors);
     file.tell_unknown(status, &mut errors);
-    tell_unanswered(&ended, unanswered(rt, request, limits), &mut errors);
+    tell_unanswered(&ended, unanswered(rt, request, &limits), &mut errors);
     status
 }
 
@@ -176,7 +152,7 @@ fn run_check(rt: &HostRuntime, request: &Request<'_>) -> u8
 fn check_inputs(
     rt: &HostRuntime,
     request: &Request<'_>,
-    limits: Option<SearchLimits>,
+    limits: &SearchLimits,
     file: &mut Input,
     answer: &mut Input,
 ) -> Result<CheckEnd, EngineFault>
@@ -185,10 +161,12 @@ fn check_inputs(
 {
     let mut sink = CountedWriter::new(rt.stdout());
     let (alloc, fuel) = (rt.alloc(), request.settings.fuel);
-    match limits {
-        Some(limits) => check_within(rt, alloc, &limits, file, answer, &mut sink),
-        None if request.unlimited => check_unlimited(rt, alloc, file, answer, &mut sink),
-        None => check_engine(alloc, fuel, file, answer, &mut sink),
+    if limits.time.is_some() {
+        check_within(rt, alloc, limits, file, answer, &mut sink)
+    } else if request.unlimited {
+        check_unlimited(rt, alloc, file, answer, &mut sink)
+    } else {
+        check_engine(alloc, fuel, file, answer, &mut sink)
     }
 }
 
@@ -238,7 +216,7 @@ fn run_solve<R: Threads + Wait + Clock + Net + Sync>(
         rt: threads,
         alloc: rt.alloc(),
         network: Loopback { rt: threads },
-        lines: line_style(rt),
+        lines: line_style(rt, request.progress),
     };
     let status = machine.solve(request, &mut source, &mut sink, &mut errors);
     source.tell_unknown(status, &mut errors);

@@ -6,8 +6,8 @@
 
 use dlx_reader::{CountedReader, CountedWriter, read_problem};
 use search_engines::{
-    Forecast, LineStyle, LineTimer, Progress, ProgressLog, TreeEstimate, alone_engine,
-    alone_with_progress,
+    Forecast, LineStyle, LineTimer, Progress, ProgressLog, SearchLimits, TreeEstimate,
+    alone_engine, alone_within,
 };
 use std::alloc::Global;
 use std::io;
@@ -170,14 +170,9 @@ fn followed(
         seconds: AtomicU64::new(0),
     };
     let log = ProgressLog::new(&mut errors, style);
-    let end = alone_with_progress(
-        &clock,
-        alloc,
-        fuel.max(1),
-        &mut source,
-        &mut CountedWriter::new(&mut out),
-        log,
-    )?;
+    let limits = SearchLimits::new(Some(fuel.max(1)), None);
+    let mut sink = CountedWriter::new(&mut out);
+    let end = alone_within(&clock, alloc, &limits, &mut source, &mut sink, log)?;
     Ok((out, end.status, log_text))
 }
 
@@ -201,6 +196,8 @@ fn progress_changes_no_answer(rt: HostRuntime) -> Result<(), Fail> {
         )?;
         assert!(rt; followed_out.as_slice() == out.as_slice() && followed_status == status);
         assert!(rt; log_text.as_slice() == lines.as_bytes(), "{text}");
+        let (_out, _status, silent_text) = followed(rt.alloc(), text, *fuel, LineStyle::Silent)?;
+        assert!(rt; silent_text.is_empty(), "{text}");
     }
     Ok(())
 }

@@ -7,8 +7,7 @@ use super::run_output::RunOutput;
 use super::texts::{LETTERS, NO_COVER};
 use dlx_reader::{CountedReader, CountedWriter};
 use search_engines::{
-    LineStyle, ProgressLog, alone_unlimited, alone_unlimited_with_progress, check_unlimited,
-    tell_end,
+    LineStyle, ProgressLog, SearchLimits, alone_within, check_unlimited, tell_end,
 };
 use std::alloc::Global;
 use std::process::Abort;
@@ -19,8 +18,12 @@ fn alone<C: Clock>(clock: &C, alloc: Global, text: &str) -> RunOutput {
     let mut out = Vec::new(alloc);
     let mut errors = Vec::new(alloc);
     let mut source = CountedReader::new(text.as_bytes());
-    let ended = alone_unlimited(clock, alloc, &mut source, &mut CountedWriter::new(&mut out));
-    let status = tell_end(&ended, &mut CountedWriter::new(&mut errors));
+    let mut sink = CountedWriter::new(&mut out);
+    let mut error_sink = CountedWriter::new(&mut errors);
+    let limits = SearchLimits::new(None, None);
+    let log = ProgressLog::new(&mut error_sink, LineStyle::Silent);
+    let ended = alone_within(clock, alloc, &limits, &mut source, &mut sink, log);
+    let status = tell_end(&ended, &mut error_sink);
     RunOutput {
         out,
         errors,
@@ -124,7 +127,8 @@ fn progress_changes_no_answer_without_a_limit(rt: HostRuntime) {
         let mut sink = CountedWriter::new(&mut written);
         let mut errors = CountedWriter::new(&mut lines);
         let log = ProgressLog::new(&mut errors, LineStyle::Listed);
-        let ended = alone_unlimited_with_progress(&rt, rt.alloc(), &mut source, &mut sink, log);
+        let limits = SearchLimits::new(None, None);
+        let ended = alone_within(&rt, rt.alloc(), &limits, &mut source, &mut sink, log);
         let ended_with = match &ended {
             Ok(end) => end.status,
             Err(_) => 3,

@@ -5,8 +5,8 @@ use super::run_output::RunOutput;
 use super::texts::{LETTERS, NO_COVER};
 use dlx_reader::{CountedReader, CountedWriter};
 use search_engines::{
-    EngineEnd, EngineFault, LineStyle, ProgressLog, SearchLimits, Unanswered, alone_within,
-    alone_within_with_progress, check_within, tell_end_of, tell_unanswered, tell_unopened,
+    EngineEnd, EngineFault, LineStyle, ProgressLog, SearchLimits, TimeLimit, Unanswered,
+    alone_within, check_within, tell_end_of, tell_unanswered, tell_unopened,
 };
 use std::alloc::Global;
 use std::io::ErrorKind;
@@ -18,11 +18,11 @@ const LONG: u64 = 1_000_000;
 
 /// The limits of a search that begins now: so many visits, or any number for 0, and so many seconds.
 fn limits<C: Clock>(clock: &C, fuel: u64, seconds: u64) -> SearchLimits {
-    let time = Duration::from_secs(seconds);
+    let time = TimeLimit::from_now(clock, Duration::from_secs(seconds));
     if fuel == 0 {
-        SearchLimits::from_now(clock, None, time)
+        SearchLimits::new(None, Some(time))
     } else {
-        SearchLimits::from_now(clock, Some(fuel), time)
+        SearchLimits::new(Some(fuel), Some(time))
     }
 }
 
@@ -32,8 +32,10 @@ fn alone<C: Clock>(clock: &C, alloc: Global, text: &str, limits: &SearchLimits) 
     let mut errors = Vec::new(alloc);
     let mut source = CountedReader::new(text.as_bytes());
     let mut sink = CountedWriter::new(&mut out);
-    let ended = alone_within(clock, alloc, limits, &mut source, &mut sink);
-    let status = tell_end_of(&ended, "p.dlx", &mut CountedWriter::new(&mut errors));
+    let mut error_sink = CountedWriter::new(&mut errors);
+    let log = ProgressLog::new(&mut error_sink, LineStyle::Silent);
+    let ended = alone_within(clock, alloc, limits, &mut source, &mut sink, log);
+    let status = tell_end_of(&ended, "p.dlx", &mut error_sink);
     RunOutput {
         out,
         errors,
@@ -159,14 +161,7 @@ fn progress_goes_on_until_the_time_is_over(rt: HostRuntime) {
     let mut errors = CountedWriter::new(&mut lines);
     let log = ProgressLog::new(&mut errors, LineStyle::Listed);
     let limits = limits(&clock, u64::MAX, 3);
-    let ended = alone_within_with_progress(
-        &clock,
-        rt.alloc(),
-        &limits,
-        &mut source,
-        &mut sink,
-        log,
-    );
+    let ended = alone_within(&clock, rt.alloc(), &limits, &mut source, &mut sink, log);
     assert!(rt; matches!(ended, Ok(end) if end.status == 4));
     assert!(rt; out.as_slice() == b"no answer\n".as_slice());
     assert!(rt; lines.as_slice() == b"1 s: 1024 visits,  43.6607 % of the tree\n".as_slice());
