@@ -1,7 +1,6 @@
 -- The node below the one of the last choice, once the other items of its option are uncovered.
-use Rattle.std.proofs.Common.{◌≡◌, ℕ, ◌+◌, ◌-◌, ◌<◌, ◌≤◌, List, [], ◌∷◌, ◌++◌, length, true, false, ◌||◌, Bool, get_or, map, refl, arith, sym, ap, ◌∙◌, subst, append_assoc, slice_get, Some, None}
+use Rattle.std.proofs.Common.{◌≡◌, ℕ, ◌+◌, ◌-◌, ◌<◌, ◌≤◌, List, [], ◌∷◌, ◌++◌, length, true, false, ◌||◌, Bool, map, refl, arith, sym, ap, ◌∙◌, subst, append_assoc, slice_get, Some, None}
 use Rattle.std.proofs.lemmas.Bool.{ne_eqb, false_from_ne_true}
-use Rattle.std.proofs.lemmas.List.{get_or_default}
 use Rattle.cover_problem.specs.Onward.{live_options_from}
 use Rattle.cover_problem.specs.Prefix.{is_covered, is_live}
 use Rattle.cover_problem.specs.Problem.{Problem}
@@ -56,8 +55,8 @@ below_by p c os out i start d t item low own here rest = record {
 }
 
 -- below the head of an uncovered item
-pub below_head : (p : Problem) (c : Columns) (os es : List ℕ) (m : List Link) (keys : List ℕ) (room i : ℕ) (head : Link) → IsLinks p c os es m keys room → i < length p.names → is_covered p os i ≡ false → head ≡ get_or m i head → IsBelow p c os i 0 head.down
-below_head p c os es m keys room i head is h free e =
+pub below_head : (p : Problem) (c : Columns) (os es : List ℕ) (m : List Link) (keys : List ℕ) (room i : ℕ) (read : List Link) → IsLinks p c os es m keys room → i < length p.names → is_covered p os i ≡ false → read ≡ m → IsBelow p c os i 0 (down_of read i)
+below_head p c os es m keys room i read is h free e =
     let s = state_of p c os es m keys room is in
     let heads : c.heads ≡ heads_of p = ap (λ (t : Columns). t.heads) is.layout in
     let lt : i < c.heads = omega (arith, heads, h) in
@@ -67,11 +66,8 @@ below_head p c os es m keys room i head is h free e =
     let d : ℕ = down_of m i in
     let skip = column_skip_to c (out_of c es) i (d - c.heads) c.heads d (omega (arith, next.low)) (λ y above below same. next.nearest y (omega (arith, above, lt)) below (same ∙ sym own)) in
     let rest : live_options_from p os i 0 ≡ map (option_of c) (column_from c (out_of c es) i (down_of m i)) = live_options_start p os i ∙ sym (column_is p c os es m keys room i is h free) ∙ ap (map (option_of c)) skip in
-    let D : Link → ℕ = λ l. l.down in
-    let inside : i < length m = omega (arith, s.spelled.count, s.table_is.ends, heads, h) in
-    let read : down_of m i ≡ head.down = sym (ap D (e ∙ get_or_default m i head (record { up = 0; down = 0 }) inside)) in
-    let P : ℕ → Type 0 = λ n. IsBelow p c os i 0 n in
-    subst P read (below_by p c os (out_of c es) i 0 d s.table_is item next.low (next.column ∙ own) next.in_down rest)
+    let P : List Link → Type 0 = λ links. IsBelow p c os i 0 (down_of links i) in
+    subst P (sym e) (below_by p c os (out_of c es) i 0 d s.table_is item next.low (next.column ∙ own) next.in_down rest)
 
 -- the option that is chosen by such a node
 pub record IsChoice (p : Problem) (c : Columns) (os : List ℕ) (i start k o : ℕ) : Type 0 where

@@ -1,7 +1,7 @@
 -- What the views of the links answer.
 use Rattle.std.proofs.Common.{◌≡◌, ℕ, zero, suc, ◌+◌, ◌-◌, ◌*◌, Bool, ◌<◌, ◌≤◌, List, [], ◌∷◌, length, nat_lt, not, ◌==◌, true, false, get_or, map, refl, arith, sym, ap, ◌∙◌, inl, inr, subst, slice_get, Some, None, Option, IfSome}
 use Rattle.std.proofs.lemmas.Bool.{cases_lt, lt-ltb, le-ltb, not-true, both_ways, and_parts, cases_Bool, false_from_ne_true}
-use Rattle.std.proofs.lemmas.List.{length-map, get_or_default}
+use Rattle.std.proofs.lemmas.List.{length-map}
 use Rattle.cover_problem.specs.Branching.{live_options, is_choice, IsOpen}
 use Rattle.cover_problem.specs.Onward.{open_items_from, live_options_from}
 use Rattle.cover_problem.specs.Prefix.{is_covered, is_live}
@@ -81,12 +81,12 @@ unmarked_free p c os es m keys room i is h small = elim (cases_Bool (is_covered 
 ]
 
 -- so the mark tells it
-pub covered_test : (p : Problem) (c : Columns) (os es : List ℕ) (m : List Link) (keys : List ℕ) (room i key : ℕ) → IsLinks p c os es m keys room → i < length p.names → key ≡ get_or keys i key → not (nat_lt key 2147483648) ≡ is_covered p os i
-covered_test p c os es m keys room i key is h e =
-    let same : key ≡ get_or keys i 0 = e ∙ get_or_default keys i key 0 (item_keyed_in p c os es m keys room i is h) in
-    elim (cases_lt key 2147483648) [
-      | inl small ↦ rw (lt-ltb key 2147483648 small) (sym (unmarked_free p c os es m keys room i is h (omega (arith, same, small))))
-      | inr marked ↦ rw (le-ltb key 2147483648 marked) (sym (marked_covered p c os es m keys room i is h (omega (arith, same, marked))))
+pub covered_test : (p : Problem) (c : Columns) (os es : List ℕ) (m : List Link) (keys : List ℕ) (room i : ℕ) → IsLinks p c os es m keys room → i < length p.names → not (nat_lt (get_or keys i 0) 2147483648) ≡ is_covered p os i
+covered_test p c os es m keys room i is h =
+    let key : ℕ = get_or keys i 0 in
+    elim (cases_lt (get_or keys i 0) 2147483648) [
+      | inl small ↦ rw (lt-ltb key 2147483648 small) (sym (unmarked_free p c os es m keys room i is h small))
+      | inr marked ↦ rw (le-ltb key 2147483648 marked) (sym (marked_covered p c os es m keys room i is h marked))
     ]
 
 -- what the first key without a mark tells, from an item on
@@ -176,16 +176,6 @@ left_all p c os es m keys room i is h free =
 pub left_step : (c : Columns) (m : List Link) (node option : ℕ) (left : List ℕ) → IsTable c → IsLinked c m → node < c.tails → option ≡ option_of c node → options_left c m node ≡ left → left ≡ option ∷ options_left c m (down_of m node)
 left_step c m node option left t l high e f =
     sym f ∙ left_take c m node t l high ∙ ap (λ o. o ∷ options_left c m (down_of m node)) (sym e)
-
--- the same, as the code reads the head
-pub left_read : (p : Problem) (c : Columns) (os es : List ℕ) (m : List Link) (keys : List ℕ) (room i : ℕ) (head : Link) → IsLinks p c os es m keys room → i < length p.names → is_covered p os i ≡ false → head ≡ get_or m i head → options_left c m head.down ≡ live_options p os i
-left_read p c os es m keys room i head is h free e =
-    let heads : c.heads ≡ heads_of p = ap (λ (t : Columns). t.heads) is.layout in
-    let s = state_of p c os es m keys room is in
-    let inside : i < length m = omega (arith, s.spelled.count, s.table_is.ends, heads, h) in
-    let D : Link → ℕ = λ l. l.down in
-    let down : head.down ≡ down_of m i = ap D (e ∙ get_or_default m i head (record { up = 0; down = 0 }) inside) in
-    ap (options_left c m) down ∙ left_all p c os es m keys room i is h free
 
 -- ---- the next option of an item
 

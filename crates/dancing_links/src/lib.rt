@@ -7,6 +7,7 @@
 //! link by link, in the reverse order, without a walk, and all links are as before.
 #![tactic(auto)]
 
+mod board;
 mod build;
 mod commit;
 mod cover;
@@ -19,6 +20,7 @@ mod options;
 mod place;
 mod searching;
 mod trail_mark;
+mod uncommit;
 mod uncovered;
 
 pub use laws::{links_by_choices, links_by_options};

@@ -11,11 +11,11 @@ ghost use Rattle.dancing_links.specs.Linking.{down_of};
 ghost use Rattle.dancing_links.specs.Table.{table};
 ghost use Rattle.cover_problem.specs.Prefix.{is_covered, is_live, is_prefix};
 
+use crate::board::Board;
 use crate::build::build_links;
 use crate::commit::{
     cover_from, cover_others, recommit, uncover_from, uncover_one, uncover_others,
 };
-use crate::cover::piece_of;
 use crate::keys::{build_keys, count_in, first_unmarked, is_marked, item_in, least_of};
 use crate::layout::{Layout, layout_of};
 use crate::link::Link;
@@ -32,15 +32,7 @@ use std::marker::Model;
 pub struct Links<'a> {
     problem: &'a Problem,
     layout: Layout,
-    links: Vec<Link>,
-    /// The key of each item, by which the branch item is found.
-    keys: Vec<u32>,
-    /// How many chosen options give each item a colour.
-    commits: Vec<u32>,
-    /// The nodes that left their columns, in the order in which they did, and room for all others.
-    trail: Vec<u32>,
-    /// How many nodes are on the trail.
-    out: usize,
+    board: Board,
     /// How long the trail was at each choice.
     marks: Vec<TrailMark>,
     /// The chosen options, in the order of the choices.
@@ -50,7 +42,7 @@ pub struct Links<'a> {
 }
 
 impl<'a> Model for Links<'a> {
-    ghost use Rattle.std.specs.Prelude.{vec_capacity, length, map, take, ◌≡◌, ◌≤◌};
+    ghost use Rattle.std.specs.Prelude.{vec_capacity, map, ◌≡◌, ◌≤◌};
     ghost use Rattle.dancing_links.specs.Columns.{column_of};
     ghost use Rattle.choices.specs.Choices.{Choices};
     ghost use Rattle.dancing_links.specs.Choices.{IsLinks, IsTrail, commits_of};
@@ -65,13 +57,13 @@ impl<'a> Model for Links<'a> {
     } };
 
     ghost invariant = { λ s. IsLinks s.problem.now
-        s.layout s.chosen.items s.entries.items s.links.items s.keys.items
+        s.layout s.chosen.items s.entries.items s.board.links s.board.keys
         (vec_capacity s.chosen)
-        × (s.problem.now.primary ≤ vec_capacity s.entries) × (s.commits.items
+        × (s.problem.now.primary ≤ vec_capacity s.entries) × (s.board.commits
         ≡ commits_of s.layout s.entries.items)
         × IsTrail s.layout s.problem.now.primary s.entries.items
-        (take s.out s.trail.items) (length s.trail.items) s.marks.items
-        (vec_capacity s.marks) × (s.out ≤ length s.trail.items) };
+        s.board.trail s.board.room s.marks.items
+        (vec_capacity s.marks) };
 }
 
 impl<'a> Links<'a> {
@@ -93,11 +85,7 @@ impl<'a> Links<'a> {
         Ok(Links {
             problem,
             layout,
-            links,
-            keys,
-            commits,
-            trail,
-            out: 0,
+            board: Board::new(links, keys, commits, trail),
             marks,
             chosen,
             entries,
@@ -127,17 +115,8 @@ impl<'a> Links<'a> {
         ensures { self.new ≡ with_choice self.old option }
     {
         let node = primary_node(&self.layout, self.problem, option);
-        let start = self.out;
-        let (middle, out) = cover_from(
-            &self.layout,
-            &mut self.links,
-            &mut self.keys,
-            &mut self.commits,
-            &mut self.trail,
-            start,
-            node,
-        );
-        self.out = out;
+        let start = self.board.out();
+        let middle = cover_from(&self.layout, &mut self.board, node);
         self.marks.push_reserved(TrailMark { start, middle });
         self.entries.push_reserved(node as u32);
         self.chosen.push_reserved(option);
@@ -153,22 +132,13 @@ impl<'a> Links<'a> {
         ensures child { IfSome result (IsChild self.old.problem self.old.chosen item) }
         ensures chosen { self.new ≡ with_child_if self.old item result }
     {
-        let node = self.links[item as usize].down as usize;
+        let node = self.board.links()[item as usize].down as usize;
         if node >= self.layout.tails() {
             return None;
         }
         let option = self.layout.option_at(node);
-        let start = self.out;
-        let (middle, out) = cover_from(
-            &self.layout,
-            &mut self.links,
-            &mut self.keys,
-            &mut self.commits,
-            &mut self.trail,
-            start,
-            node,
-        );
-        self.out = out;
+        let start = self.board.out();
+        let middle = cover_from(&self.layout, &mut self.board, node);
         self.marks.push_reserved(TrailMark { start, middle });
         self.entries.push_reserved(node as u32);
         self.chosen.push_reserved(option);
@@ -189,30 +159,22 @@ impl<'a> Links<'a> {
         self.entries.pop();
         self.chosen.pop();
         let layout = &self.layout;
-        let links: &mut [Link] = &mut self.links;
-        let keys: &mut [u32] = &mut self.keys;
-        let commits: &mut [u32] = &mut self.commits;
-        let trail: &mut [u32] = &mut self.trail;
-        if is_last(layout, links, node) {
+        if is_last(layout, self.board.links(), node) {
             // What the item hid and what the others hid comes back in one pass, in place of two.
-            let all = piece_of(trail, mark.start, self.out);
-            uncover_from(layout, links, keys, commits, all, node);
-            self.out = mark.start;
+            uncover_from(layout, &mut self.board, mark.start, node);
             return None;
         }
-        let others = piece_of(trail, mark.middle, self.out);
-        uncover_others(layout, links, keys, commits, others, node);
-        let next = links[node].down as usize;
+        uncover_others(layout, &mut self.board, mark.middle, node);
+        let next = self.board.links()[node].down as usize;
         if next >= layout.tails() {
-            let own = piece_of(trail, mark.start, mark.middle);
-            uncover_one(layout, links, keys, commits, own, node);
-            self.out = mark.start;
+            uncover_one(layout, &mut self.board, mark.start, node);
             return None;
         }
         let option = layout.option_at(next);
-        let (start, half) = (mark.start, mark.middle);
-        let middle = recommit(layout, links, keys, commits, trail, start, half, node, next);
-        self.out = cover_others(layout, links, keys, commits, trail, middle, next);
+        let start = mark.start;
+        recommit(layout, &mut self.board, start, node, next);
+        let middle = self.board.out();
+        cover_others(layout, &mut self.board, next);
         self.marks.push_reserved(TrailMark { start, middle });
         self.entries.push_reserved(next as u32);
         self.chosen.push_reserved(option);
@@ -230,12 +192,7 @@ impl<'a> Links<'a> {
         self.marks.pop();
         self.entries.pop();
         self.chosen.pop();
-        let links: &mut [Link] = &mut self.links;
-        let keys: &mut [u32] = &mut self.keys;
-        let commits: &mut [u32] = &mut self.commits;
-        let all = piece_of(&self.trail, mark.start, self.out);
-        uncover_from(&self.layout, links, keys, commits, all, node);
-        self.out = mark.start;
+        uncover_from(&self.layout, &mut self.board, mark.start, node);
         option
     }
 
@@ -244,7 +201,7 @@ impl<'a> Links<'a> {
         requires { item < length self.now.problem.names }
         ensures { result ≡ is_covered self.now.problem self.now.chosen item }
     {
-        is_marked(self.keys[item as usize])
+        is_marked(self.board.keys()[item as usize])
     }
 
     /// Whether an option clashes with no chosen one: its first primary item is uncovered, and its node there is in.
@@ -254,7 +211,7 @@ impl<'a> Links<'a> {
     {
         let node = primary_node(&self.layout, self.problem, option);
         let item = self.layout.item_at(node) as u16;
-        !self.is_covered(item) && self.layout.is_known(&self.links, node)
+        !self.is_covered(item) && self.layout.is_known(self.board.links(), node)
     }
 
     /// How many live options name an uncovered item.
@@ -263,7 +220,7 @@ impl<'a> Links<'a> {
         requires uncovered { is_covered self.now.problem self.now.chosen item ≡ false }
         ensures { result ≡ length (live_options self.now.problem self.now.chosen item) }
     {
-        count_in(self.keys[item as usize])
+        count_in(self.board.keys()[item as usize])
     }
 
     /// The uncovered primary item with fewest live options, the first of those; none where all are covered.
@@ -273,7 +230,7 @@ impl<'a> Links<'a> {
         ensures named { IfSome result (λ item. item < length self.now.problem.names) }
     {
         let primary = self.problem.primary();
-        let least = least_of(&self.keys[..primary]);
+        let least = least_of(&self.board.keys()[..primary]);
         item_in(least)
     }
 
@@ -283,7 +240,7 @@ impl<'a> Links<'a> {
         ensures uncovered { IfSome result (IsOpen self.now.problem self.now.chosen) }
         ensures item { IfSome result (λ item. item < length self.now.problem.names) }
     {
-        first_unmarked(&self.keys, 0, self.problem.primary())
+        first_unmarked(self.board.keys(), 0, self.problem.primary())
     }
 
     /// The next uncovered primary item after an uncovered item; none where no more follows.
@@ -296,7 +253,7 @@ impl<'a> Links<'a> {
         ensures item { IfSome result (λ next. next < length self.now.problem.names) }
         ensures later { IfSome result (λ next. item < next) }
     {
-        first_unmarked(&self.keys, item as usize + 1, self.problem.primary())
+        first_unmarked(self.board.keys(), item as usize + 1, self.problem.primary())
     }
 
     /// The live options that name an uncovered item, in file order.
@@ -305,8 +262,8 @@ impl<'a> Links<'a> {
         requires uncovered { is_covered self.now.problem self.now.chosen item ≡ false }
         ensures { result ≡ live_options self.now.problem self.now.chosen item }
     {
-        let node = self.links[item as usize].down as usize;
-        OptionsOf::from_node(&self.layout, &self.links, node)
+        let node = self.board.links()[item as usize].down as usize;
+        OptionsOf::from_node(&self.layout, self.board.links(), node)
     }
 }
 

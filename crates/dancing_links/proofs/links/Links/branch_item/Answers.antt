@@ -11,18 +11,18 @@ pub returns-clause-item : goal.returns-clause-item
 returns-clause-item c =
     let p = c.self.inside.problem.now in
     let os = c.self.inside.chosen.items in
-    let keys = c.self.inside.keys.items in
-    let least : c.least_of-least.result ≡ least_from 4294967295 (take p.primary keys) = c.least_of-least.ensures ∙ ap (λ (n : ℕ). least_from 4294967295 (take n c.deref.result.now)) c.primary-primary.ensures.count ∙ ap (λ (ks : List ℕ). least_from 4294967295 (take p.primary ks)) c.deref.ensures.value in
-    let told = least_told p c.self.inside.layout os c.self.inside.entries.items c.self.inside.links.items keys (vec_capacity c.self.inside.chosen) c.least_of-least.result c.self.invariant.0 least in
+    let keys = c.self.inside.board.keys in
+    let least : c.least_of-least.result ≡ least_from 4294967295 (take p.primary keys) = c.least_of-least.ensures ∙ ap (λ (n : ℕ). least_from 4294967295 (take n c.keys.result.now)) c.primary-primary.ensures.count ∙ ap (λ (ks : List ℕ). least_from 4294967295 (take p.primary ks)) c.keys.ensures in
+    let told = least_told p c.self.inside.layout os c.self.inside.entries.items c.self.inside.board.links keys (vec_capacity c.self.inside.chosen) c.least_of-least.result c.self.invariant.0 least in
     told_item p os keys c.least_of-least.result c.item_in.result told c.item_in.ensures ∙ ap (λ (v : Choices). branch_item v.problem v.chosen) c.self.view_is
 
 pub returns-clause-uncovered : goal.returns-clause-uncovered
 returns-clause-uncovered c =
     let p = c.self.inside.problem.now in
     let os = c.self.inside.chosen.items in
-    let keys = c.self.inside.keys.items in
-    let least : c.least_of-least.result ≡ least_from 4294967295 (take p.primary keys) = c.least_of-least.ensures ∙ ap (λ (n : ℕ). least_from 4294967295 (take n c.deref.result.now)) c.primary-primary.ensures.count ∙ ap (λ (ks : List ℕ). least_from 4294967295 (take p.primary ks)) c.deref.ensures.value in
-    let told = least_told p c.self.inside.layout os c.self.inside.entries.items c.self.inside.links.items keys (vec_capacity c.self.inside.chosen) c.least_of-least.result c.self.invariant.0 least in
+    let keys = c.self.inside.board.keys in
+    let least : c.least_of-least.result ≡ least_from 4294967295 (take p.primary keys) = c.least_of-least.ensures ∙ ap (λ (n : ℕ). least_from 4294967295 (take n c.keys.result.now)) c.primary-primary.ensures.count ∙ ap (λ (ks : List ℕ). least_from 4294967295 (take p.primary ks)) c.keys.ensures in
+    let told = least_told p c.self.inside.layout os c.self.inside.entries.items c.self.inside.board.links keys (vec_capacity c.self.inside.chosen) c.least_of-least.result c.self.invariant.0 least in
     let Q : Choices → Type 0 = λ v. IfSome c.item_in.result (IsOpen v.problem v.chosen) in
     subst Q c.self.view_is (told_open p os keys c.least_of-least.result c.item_in.result told c.item_in.ensures)
 

@@ -9,12 +9,12 @@ use Rattle.dancing_links.proofs.links.Links.first_item.Goals as goal
 
 pub returns-clause-first : goal.returns-clause-first
 returns-clause-first c =
-    let found = first_open c.self.inside.problem.now c.self.inside.layout c.self.inside.chosen.items c.self.inside.entries.items c.self.inside.links.items c.self.inside.keys.items c.deref.result.now (vec_capacity c.self.inside.chosen) 0 c.primary.result c.first_unmarked.result c.self.invariant.0 c.deref.ensures.value c.primary.ensures.count c.first_unmarked.ensures in
+    let found = first_open c.self.inside.problem.now c.self.inside.layout c.self.inside.chosen.items c.self.inside.entries.items c.self.inside.board.links c.self.inside.board.keys c.keys.result.now (vec_capacity c.self.inside.chosen) 0 c.primary.result c.first_unmarked.result c.self.invariant.0 c.keys.ensures c.primary.ensures.count c.first_unmarked.ensures in
     found.first ∙ ap (λ (v : Choices). slice_get (open_items_from v.problem v.chosen 0) 0) c.self.view_is
 
 pub returns-clause-uncovered : goal.returns-clause-uncovered
 returns-clause-uncovered c =
-    let found = first_open c.self.inside.problem.now c.self.inside.layout c.self.inside.chosen.items c.self.inside.entries.items c.self.inside.links.items c.self.inside.keys.items c.deref.result.now (vec_capacity c.self.inside.chosen) 0 c.primary.result c.first_unmarked.result c.self.invariant.0 c.deref.ensures.value c.primary.ensures.count c.first_unmarked.ensures in
+    let found = first_open c.self.inside.problem.now c.self.inside.layout c.self.inside.chosen.items c.self.inside.entries.items c.self.inside.board.links c.self.inside.board.keys c.keys.result.now (vec_capacity c.self.inside.chosen) 0 c.primary.result c.first_unmarked.result c.self.invariant.0 c.keys.ensures c.primary.ensures.count c.first_unmarked.ensures in
     let Q : Choices → Type 0 = λ v. IfSome c.first_unmarked.result (IsOpen v.problem v.chosen) in
     subst Q c.self.view_is found.uncovered
 

@@ -30,15 +30,15 @@ is_known-requires-clause-node c =
     (omega (arith, c.primary_node-node.ensures.in_option.0, t.some), c.primary_node-node.ensures.in_option.1)
 
 pub is_known-requires-clause-linked : goal.is_known-requires-clause-linked
-is_known-requires-clause-linked c = same_linked c.self.inside.layout c.self.inside.links.items c.deref.result.now c.deref.ensures.value c.self.invariant.0.linked
+is_known-requires-clause-linked c = same_linked c.self.inside.layout c.self.inside.board.links c.links.result.now c.links.ensures c.self.invariant.0.linked
 
 pub returns-then-not-is_covered : goal.returns-then-not-is_covered
 returns-then-not-is_covered c =
     let k = c.primary_node-node.result in
     let free : is_covered c.self.inside.problem.now c.self.inside.chosen.items (column_of c.self.inside.layout c.primary_node-node.result) ≡ false =
     ap (is_covered c.self.inside.problem.now c.self.inside.chosen.items) (sym c.item_at-item.ensures.item) ∙ ap (λ (v : Choices). is_covered v.problem v.chosen c.item_at-item.result) c.self.view_is ∙ sym c.is_covered.ensures ∙ c.if-not-is_covered.true in
-    c.is_known.ensures ∙ ap (λ (m : List Link). down_of m (up_of m k) == k) c.deref.ensures.value
-    ∙ live_known c.self.inside.problem.now c.self.inside.layout c.self.inside.chosen.items c.self.inside.entries.items c.self.inside.links.items c.self.inside.keys.items (vec_capacity c.self.inside.chosen) c.args.option k c.self.invariant.0 c.primary_node-node.ensures free
+    c.is_known.ensures ∙ ap (λ (m : List Link). down_of m (up_of m k) == k) c.links.ensures
+    ∙ live_known c.self.inside.problem.now c.self.inside.layout c.self.inside.chosen.items c.self.inside.entries.items c.self.inside.board.links c.self.inside.board.keys (vec_capacity c.self.inside.chosen) c.args.option k c.self.invariant.0 c.primary_node-node.ensures free
     ∙ ap (λ (v : Choices). is_live v.problem v.chosen c.args.option) c.self.view_is
 
 pub returns-else-not-is_covered : goal.returns-else-not-is_covered

@@ -1,6 +1,6 @@
 use Rattle.std.proofs.Common.{◌+◌, ◌%◌, get_or, set, arith, ap, sym, ◌∙◌}
 use Rattle.dancing_links.proofs.Commits.{uncommit_coloured}
-use Rattle.dancing_links.proofs.commit.take.Goals as goal
+use Rattle.dancing_links.proofs.uncommit.take.Goals as goal
 
 pub returns-then-commits-item-eq0-clause-commits : goal.returns-then-commits-item-eq0-clause-commits
 returns-then-commits-item-eq0-clause-commits c =

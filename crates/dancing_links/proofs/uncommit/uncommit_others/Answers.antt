@@ -3,7 +3,7 @@ use Rattle.dancing_links.specs.Keys.{turned}
 use Rattle.dancing_links.specs.Committing.{covering}
 use Rattle.dancing_links.proofs.Others.{round_start, round_step}
 use Rattle.dancing_links.proofs.Around.{IsTakenBack, taken_start, taken_step, taken_end}
-use Rattle.dancing_links.proofs.commit.uncommit_others.Goals as goal
+use Rattle.dancing_links.proofs.uncommit.uncommit_others.Goals as goal
 
 pub loop-other-init : goal.loop-other-init
 loop-other-init c =

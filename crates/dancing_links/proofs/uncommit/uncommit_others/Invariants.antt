@@ -1,7 +1,7 @@
 use Rattle.dancing_links.specs.Columns.{begin_of, end_of}
 use Rattle.dancing_links.proofs.Others.{ahead, IsRound}
 use Rattle.dancing_links.proofs.Around.{IsTakenBack}
-use Rattle.dancing_links.proofs.commit.uncommit_others.Given as goal
+use Rattle.dancing_links.proofs.uncommit.uncommit_others.Given as goal
 
 abbrev pub invariant-loop-other : goal.invariant-loop-other
 invariant-loop-other l = record {
