@@ -264,6 +264,7 @@ fn reasoning_command<'a>(alloc: Global) -> Result<Command<'a>, AllocError>
     one_thread_command(alloc)?.subcommand(why)
 }
 
+/// All subcommands of the program. The only error is out of memory.
 pub fn solver_command<'a>(alloc: Global) -> Result<Command<'a>, AllocError>
     ensures { IfOk result (λ command. app_of command ≡ solver_app) }
 {

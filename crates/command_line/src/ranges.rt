@@ -4,64 +4,83 @@
 /// `--fuel`, any number from 1. One thread has the greatest by default.
 pub const GREATEST_FUEL: &str = "18446744073709551615";
 
+/// What help says of `--fuel` where one thread searches.
 pub const FUEL_HELP: &str = "How many prefixes the whole search may visit, from 1";
 
+/// What help says of `--fuel` where workers search jobs.
 pub const JOB_FUEL_HELP: &str =
     "How many prefixes one job may visit, from 1; a job that needs more is split, so it limits no search";
 
+/// What is written of a `--fuel` outside.
 pub const FUEL_REFUSED: &str = "--fuel takes 1 to 18446744073709551615";
 
 /// `--nodes`, from 1.
 pub const MOST_NODES: u64 = 16;
 
+/// What help says of `--nodes`.
 pub const NODES_HELP: &str = "How many nodes there are, 1 to 16";
 
+/// What is written of a `--nodes` outside.
 pub const NODES_REFUSED: &str = "--nodes takes 1 to 16";
 
 /// `--workers` of each node, from 1.
 pub const MOST_WORKERS: u64 = 8;
 
+/// What help says of `--workers`.
 pub const WORKERS_HELP: &str = "How many workers a node has, 1 to 8";
 
+/// What is written of a `--workers` outside.
 pub const WORKERS_REFUSED: &str = "--workers takes 1 to 8";
 
 /// `--turns` of a simulation, or of each thread, from 0.
 pub const MOST_TURNS: u64 = 10_000_000;
 
+/// What help says of `--turns` of a simulation.
 pub const TURNS_HELP: &str = "How many turns are taken, up to 10000000";
 
+/// What help says of `--turns` of each thread.
 pub const THREAD_TURNS_HELP: &str = "How many turns a thread takes, up to 10000000";
 
+/// What is written of a `--turns` outside.
 pub const TURNS_REFUSED: &str = "--turns takes 0 to 10000000";
 
 /// `--entries` of each site's book, from 1.
 pub const MOST_ENTRIES: u64 = 1_000_000_000;
 
+/// What help says of `--entries`.
 pub const ENTRIES_HELP: &str = "How many entries the book of a site may have, 1 to 1000000000";
 
+/// What is written of a `--entries` outside.
 pub const ENTRIES_REFUSED: &str = "--entries takes 1 to 1000000000";
 
 /// `--restarts`, from 0.
 pub const MOST_RESTARTS: u64 = 100;
 
+/// What help says of `--restarts` of a simulation.
 pub const RESTARTS_HELP: &str = "How many restarts are drawn, up to 100";
 
+/// What help says of `--restarts` of a real run.
 pub const NODE_RESTARTS_HELP: &str = "How often node 1 is restarted, up to 100";
 
+/// What is written of a `--restarts` outside.
 pub const RESTARTS_REFUSED: &str = "--restarts takes 0 to 100";
 
 /// `--seconds`, from 1; no limit where none are given.
 pub const MOST_SECONDS: u64 = 1_000_000;
 
+/// What help says of `--seconds` where one thread searches.
 pub const SECONDS_HELP: &str =
     "After how many seconds the search ends without an answer, 1 to 1000000; no limit if not given";
 
+/// What help says of `--seconds` of a real run.
 pub const RUN_SECONDS_HELP: &str =
     "After how many seconds the run ends without an answer, 1 to 1000000; no limit if not given";
 
+/// What is written of a `--seconds` outside.
 pub const SECONDS_REFUSED: &str = "--seconds takes 1 to 1000000";
 
 /// `--seed`: any number.
 pub const SEED_HELP: &str = "The seed of what is drawn";
 
+/// What is written of a `--seed` outside.
 pub const SEED_REFUSED: &str = "--seed takes 0 to 18446744073709551615";

@@ -16,6 +16,7 @@ pub record Problem : Type 0 where
   pub colours : List (List ℕ)
   pub colour_names : List (List ℕ)
 
+-- the problem with these fields
 abbrev pub problem_by : List (List ℕ) → ℕ → List (List ℕ) → List (List ℕ) → List (List ℕ) → Problem
 problem_by names primary options colours colour_names = record { names = names; primary = primary; options = options; colours = colours; colour_names = colour_names }
 

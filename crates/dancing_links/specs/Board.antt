@@ -16,6 +16,7 @@ pub record Board : Type 0 where
   pub trail : List ℕ
   pub room : ℕ
 
+-- the board of these
 abbrev pub board : List Link → List ℕ → List ℕ → List ℕ → ℕ → Board
 board links keys commits trail room = record { links = links; keys = keys; commits = commits; trail = trail; room = room }
 

@@ -28,6 +28,7 @@ pub record IsFirstWordAt (row : List Word) (live : List ℕ) (untried : Untried)
   pub trying : IsTrying (length live) untried
   pub left : (x : ℕ) → is_left untried live x ≡ (row_has row x && has live x)
 
+-- the same, or none where no word has one
 abbrev pub IsFirstWord : List Word → List ℕ → Option Untried → Type 0
 IsFirstWord row live result = MatchOption result ((x : ℕ) → (row_has row x && has live x) ≡ false) (λ u. IsFirstWordAt row live u)
 
@@ -38,6 +39,7 @@ pub record IsNextAt (untried : Untried) (live : List ℕ) (option : ℕ) (rest :
   pub trying : IsTrying (length live) rest
   pub left : (x : ℕ) → is_left rest live x ≡ (nat_lt option x && is_left untried live x)
 
+-- the same, or none where no option is left
 abbrev pub IsNext : Untried → List ℕ → Option (ℕ × Untried) → Type 0
 IsNext untried live result = MatchOption result ((x : ℕ) → is_left untried live x ≡ false) (λ next. IsNextAt untried live next.0 next.1)
 

@@ -14,7 +14,7 @@ use crate::formed::the_registry_stays_formed;
 use crate::greeting::receive_hello;
 use crate::laws::the_root_has_what_enters;
 use crate::publication::Publication;
-use crate::root::{receive_return, receive_steal};
+use crate::root::{Returned, receive_return, receive_steal};
 use cover_problem::{Answer, Problem};
 use node_core::{ActFault, Core, Event, Outgoing, Reply, SiteState, is_misdirected};
 use packet_wire::{Body, Packet};
@@ -188,7 +188,14 @@ fn hear(
             serial,
             attempt,
             result,
-        } => receive_return(state, publication, from, serial, attempt, result, out),
+        } => {
+            let returned = Returned {
+                serial,
+                attempt,
+                result,
+            };
+            receive_return(state, publication, from, returned, out)
+        }
         _ => unreachable!(),
     }
 }

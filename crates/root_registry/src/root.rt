@@ -74,31 +74,42 @@ pub(crate) fn receive_steal(
     Ok(Reply::Moved)
 }
 
+/// What a thief returns: the result of a child at an attempt.
+#[derive(Drop)]
+pub(crate) struct Returned {
+    pub(crate) serial: u32,
+    pub(crate) attempt: Attempt,
+    pub(crate) result: ChildResult,
+}
+
 /// A thief returns a result: where it enters, a cover has to count right, every node is told that the search is over, and
 /// the result is published.
 pub(crate) fn receive_return(
     state: &mut SiteState,
     publication: &mut Publication,
     from: Site,
-    serial: u32,
-    attempt: Attempt,
-    child_result: ChildResult,
+    returned: Returned,
     out: &mut Outgoing,
 ) -> Result<Reply, ActFault>
     requires { state.old.nodes ≤ LAST_NODE }
     ensures step { Answered result out.old out.new
         (AnswersBody publication.old.problem state.old from
-        (Body.Return serial attempt child_result) state.new) }
+        (Body.Return returned.serial returned.attempt returned.result) state.new) }
     ensures refusal { refusal_told result
         ≡ root_hear_refusal publication.old.problem state.old from
-        (Body.Return serial attempt child_result) }
+        (Body.Return returned.serial returned.attempt returned.result) }
     ensures err { OnErr result (state.new ≡ state.old) }
     ensures list { OnErr result (MaySend out.old out.new) }
     ensures published { OnOk result (publication.new
         ≡ publishing publication.old (entering_with state.old from
-        (Body.Return serial attempt child_result))) }
+        (Body.Return returned.serial returned.attempt returned.result))) }
     ensures unpublished { OnErr result (publication.new ≡ publication.old) }
 {
+    let Returned {
+        serial,
+        attempt,
+        result: child_result,
+    } = returned;
     if !is_awaited(state, from, serial, attempt) {
         return state.receive_return(from, serial, attempt, child_result, out);
     }

@@ -12,6 +12,7 @@ mod machine;
 mod order;
 mod sole;
 mod starved;
+mod told;
 
 ghost use Rattle.std.specs.Prelude.{◌≡◌, ◌≤◌};
 

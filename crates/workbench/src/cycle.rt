@@ -12,19 +12,22 @@ use root_registry::Registry;
 use spawn_frame::{Cause, ChildResult, Site};
 use std::alloc::{AllocError, Global};
 
+/// The registry.
 pub const REGISTRY: Site = Site {
     node: 0,
     incarnation: 1,
 };
 
+/// The first node in its first incarnation.
 pub const NODE: Site = Site {
     node: 1,
     incarnation: 1,
 };
 
-/// How many events and packets a cycle has.
+/// How many events a cycle has.
 pub const EVENTS: u64 = 8;
 
+/// How many packets its events send.
 pub const PACKETS: u64 = 4;
 
 /// The registry and its one node.

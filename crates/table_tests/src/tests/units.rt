@@ -96,6 +96,7 @@ pub fn letter(status: &Status) -> char {
     }
 }
 
+/// Whether a unit waits for a worker.
 pub fn is_ready(table: &Table, unit: Unit) -> bool
     ensures { result ≡ has_status is_ready (unit_of table.now unit) }
 {
@@ -105,6 +106,7 @@ pub fn is_ready(table: &Table, unit: Unit) -> bool
     }
 }
 
+/// Whether a worker of this site has a unit.
 pub fn is_here(table: &Table, unit: Unit) -> bool
     ensures { result ≡ has_status is_here (unit_of table.now unit) }
 {
@@ -114,6 +116,7 @@ pub fn is_here(table: &Table, unit: Unit) -> bool
     }
 }
 
+/// Whether a unit is a frame.
 pub fn is_split(table: &Table, unit: Unit) -> bool
     ensures { result ≡ has_status is_split (unit_of table.now unit) }
 {
@@ -123,6 +126,7 @@ pub fn is_split(table: &Table, unit: Unit) -> bool
     }
 }
 
+/// Whether a unit is not finished for good.
 pub fn is_open(table: &Table, unit: Unit) -> bool
     ensures { result ≡ has_status is_open (unit_of table.now unit) }
 {
@@ -132,6 +136,7 @@ pub fn is_open(table: &Table, unit: Unit) -> bool
     }
 }
 
+/// Whether a guest has a result that its owner hasn't judged.
 pub fn is_finished(table: &Table, unit: Unit) -> bool
     ensures { result ≡ has_status is_finished (unit_of table.now unit) }
 {
@@ -141,6 +146,7 @@ pub fn is_finished(table: &Table, unit: Unit) -> bool
     }
 }
 
+/// Whether a unit's result may come: it is here, a frame, or out.
 pub fn may_end(table: &Table, unit: Unit) -> bool
     ensures { result ≡ has_status may_end (unit_of table.now unit) }
 {

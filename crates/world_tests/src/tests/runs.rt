@@ -49,7 +49,7 @@ const NODE_2_ANEW: Site = Site {
     incarnation: 2,
 };
 
-/// The root as a guest, at its first and its second attempt.
+/// The root as a guest, at its first attempt.
 pub const ROOT: Unit = Unit::Guest(
     ChildName {
         site: REGISTRY,
@@ -58,6 +58,7 @@ pub const ROOT: Unit = Unit::Guest(
     1,
 );
 
+/// The root as a guest, at its second attempt.
 pub const ROOT_REDONE: Unit = Unit::Guest(
     ChildName {
         site: REGISTRY,
@@ -75,7 +76,7 @@ pub const STOLEN: Unit = Unit::Guest(
     1,
 );
 
-/// What is taken up of these, and of own children.
+/// The root, taken up.
 pub const ROOT_JOB: Job = Job {
     unit: ROOT,
     attempt: 1,
@@ -86,6 +87,7 @@ const REDONE_JOB: Job = Job {
     attempt: 2,
 };
 
+/// The stolen child, taken up.
 pub const STOLEN_JOB: Job = Job {
     unit: STOLEN,
     attempt: 1,
@@ -96,6 +98,7 @@ const FIRST_JOB: Job = Job {
     attempt: 1,
 };
 
+/// An own child, taken up.
 pub const SECOND_JOB: Job = Job {
     unit: Unit::Own(1),
     attempt: 1,

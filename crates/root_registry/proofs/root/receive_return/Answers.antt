@@ -9,9 +9,9 @@ use Rattle.root_registry.specs.Core.{AnswersBody}
 
 pub returns-clause-step : goal.returns-clause-step
 returns-clause-step c =
-    let body = Return c.args.serial c.args.attempt c.args.child_result in
+    let body = Return c.args.returned.serial c.args.returned.attempt c.args.returned.result in
     let Answers : Problem → Type 0 = λ problem. Sending c.args.out.now c.send_over.new.out (AnswersBody problem c.args.state.now c.args.from body c.enter.new.self Moved) in
     subst Answers c.problem-problem.ensures
-    (entered c.problem-problem.result.now c.args.state.now c.enter.new.self c.args.from c.site.result c.args.serial c.args.attempt c.args.child_result c.in_ok-result.result
+    (entered c.problem-problem.result.now c.args.state.now c.enter.new.self c.args.from c.site.result c.args.returned.serial c.args.returned.attempt c.args.returned.result c.in_ok-result.result
     c.args.out.now c.send.new.self c.send_over.new.out c.recall_rules.ensures (sym c.is_acceptable.ensures ∙ c.if-not-is_acceptable.false) c.in_ok-result.ensures c.site.ensures
     c.if-not-is_awaited.ensures.enters c.in_ok-send.ensures.ok c.in_ok-send_over.ensures.ok c.enter.ensures)
