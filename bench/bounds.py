@@ -10,9 +10,12 @@ named, or all, are measured:
 - `audit-books`: the seconds of an audit for each of some 10,000 entries of 17 books, to those of five: it follows the books that wait for
   one another;
 - `idle-entries`: the bytes that a book takes for an entry of a site without work: such entries share a step;
-- `only-worker`: how many searches the only worker of a run makes for a problem of 650,000 visits: it has no limit.
+- `only-worker`: how many searches the only worker of a run makes for a problem of 650,000 visits: it has no limit;
+- `equal-parts`: the processor seconds of four workers of a node to those of one, where four parts of the search are equal: what one worker
+  found the others know.
 
-The least of five audits counts. Their seconds are by the clock: on a busy machine they may be beyond a bound where nothing is wrong.
+The least of five audits counts, and of three runs. Seconds of audits are by the clock: on a busy machine they may be beyond a bound where
+nothing is wrong.
 
 It wants the programs: rt run in the folders crates/audit_trials, crates/workbench and crates/run_tally builds them. The exit status is 0, 1 where a
 figure is beyond its bound or an answer is wrong, 2 for a mistake on the command line or where a program is missing.
@@ -33,10 +36,13 @@ import audits  # noqa: E402
 import books  # noqa: E402
 from built import RUN_TALLY, WORKBENCH, parser_of, stop, want_program  # noqa: E402
 from instances import torus_queens  # noqa: E402
+from solve import behind  # noqa: E402
 from zarfepoch import generate  # noqa: E402
 
 # how often each audit is measured
 AUDITS = 5
+# how often several workers are measured, since they meet by chance
+RUNS = 3
 # how many entries a book gets
 FEW, MANY = 100_000, 1_000_000
 
@@ -88,6 +94,17 @@ def only_worker(folder: str) -> float:
     return sum(searches for _, searches, *_ in of_books)
 
 
+def equal_parts(folder: str) -> float:
+    behind(folder, "equal", [2, 2])
+    seconds = []
+    for workers in (1, 4):
+        ran = [books.run(os.path.join(folder, "equal.dlx"), 1, workers) for _ in range(RUNS)]
+        if not all(answered for _, _, answered, *_ in ran):
+            sys.exit(f"a run of {workers} workers gave no answer")
+        seconds.append(min(processors for _, processors, *_ in ran))
+    return seconds[1] / seconds[0]
+
+
 class Bound(NamedTuple):
     """What is measured, the greatest figure that is good, and the program and its crate."""
     measure: Callable[[str], float]
@@ -101,6 +118,7 @@ BOUNDS = {
     "audit-books": Bound(audit_books, 2, audits.PROGRAM, "audit_trials"),
     "idle-entries": Bound(idle_entries, 64, WORKBENCH, "workbench"),
     "only-worker": Bound(only_worker, 4, RUN_TALLY, "run_tally"),
+    "equal-parts": Bound(equal_parts, 2.5, RUN_TALLY, "run_tally"),
 }
 
 

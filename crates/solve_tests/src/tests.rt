@@ -12,7 +12,6 @@ mod machine;
 mod order;
 mod sole;
 mod starved;
-mod told;
 
 ghost use Rattle.std.specs.Prelude.{◌≡◌, ◌≤◌};
 
