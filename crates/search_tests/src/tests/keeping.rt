@@ -173,8 +173,12 @@ fn a_stopped_search_tells_what_it_came_to(rt: HostRuntime) {
 /// What a searcher says of the empty prefix once it has learned of it from another one: how many visits a search of it takes, as both say,
 /// and how many it made to see that; none where memory ran out, or one of them sees nothing.
 fn learned(alloc: Global, tables: &Tables<'_>) -> Option<(u64, u64, u64)> {
-    let mut one = Searcher::keeping(alloc, tables, ROOM).ok()?;
-    let mut other = Searcher::keeping(alloc, tables, ROOM).ok()?;
+    let Ok(mut one) = Searcher::keeping(alloc, tables, ROOM) else {
+        return None;
+    };
+    let Ok(mut other) = Searcher::keeping(alloc, tables, ROOM) else {
+        return None;
+    };
     let count = one.barren_visits(&[], &mut Unwatched)?;
     other.learn(&[], count);
     let mut watch = Stopping {
