@@ -5,6 +5,7 @@ ghost use Rattle.std.specs.Prelude.{◌≡◌, ◌+◌, ◌*◌, ◌≤◌, [], 
 /// A hash of a key.
 #[inline(always)]
 pub fn hash_of(key: &[u64]) -> u64 {
+    // (2^64 over the golden ratio, and below a factor of MurmurHash3: no clause depends on them, only how well keys spread)
     let mut hash = 0x9e37_79b9_7f4a_7c15;
     for word in key {
         hash = mixed(hash ^ *word);
@@ -16,6 +17,7 @@ pub fn hash_of(key: &[u64]) -> u64 {
 #[inline(always)]
 fn mixed(word: u64) -> u64 {
     let product = word.wrapping_mul(0xff51_afd7_ed55_8ccd);
+    // (a product mixes upwards, but slots are chosen by the low bits)
     product ^ (product >> 32)
 }
 

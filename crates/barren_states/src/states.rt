@@ -54,6 +54,8 @@ impl BarrenStates {
             (key : List ℕ) (visits : ℕ) → Holds states key visits → ⊥) }
     {
         let most = 1usize << bits;
+        // (at most 2^32 slots of 1,025 words, so the product can't overflow)
+        // (reserved and not filled: memory costs time only once it is touched)
         let words = Vec::with_capacity(alloc, most * (width + 1))?;
         let worths = Vec::with_capacity(alloc, most)?;
         Ok(BarrenStates {
@@ -72,9 +74,11 @@ impl BarrenStates {
         ensures unchanged { self.new ≡ self.old }
         ensures held { IfSome result (Holds self.old key.now) }
     {
+        // (before a first key is kept there are no slots, so the hash has no mask)
         if key.len() != self.width || self.slots == 0 {
             return None;
         }
+        // (a number with some of the bits of another is at most that one, so the slot is inside whatever the hash is)
         let first = hash_of(key) as usize & (self.slots - 1);
         if let Some(visits) = self.read(first, key) {
             self.worths[first] = worth_of(visits);
@@ -95,6 +99,7 @@ impl BarrenStates {
             return;
         }
         self.grow_if_due();
+        // (growing can't fail, since its room is reserved, but no clause says so)
         if self.slots == 0 {
             return;
         }
@@ -130,6 +135,7 @@ impl BarrenStates {
     {
         let start = slot * (self.width + 1);
         let visits = self.words[start + self.width];
+        // (the whole key is compared: by its hash alone a state with a cover could pass for a barren one)
         if visits != 0 && &self.words[start..start + self.width] == key {
             Some(visits)
         } else {
@@ -167,6 +173,7 @@ impl BarrenStates {
         ensures width { self.new.width ≡ self.old.width }
         ensures held { HoldsNoMore self.old self.new }
     {
+        // (also if the table is as large as it gets: then the next attempt comes only after as many keys again)
         self.kept = 0;
         let first = (FIRST_BYTES / 8 / (self.width + 1))
             .next_power_of_two()
@@ -179,6 +186,7 @@ impl BarrenStates {
         if slots > self.most || slots <= self.slots {
             return;
         }
+        // (worths first: there may be more of them than slots, but the words have to be those of the slots)
         // (the room is there, so neither takes memory)
         if self.worths.resize(slots, 0).is_err() {
             return;

@@ -4,6 +4,8 @@
 /// is at most 253.
 #[inline(always)]
 pub fn worth_of(visits: u64) -> u8 {
+    // (64 digits would make 257, more than a byte holds)
     let digits = (u64::BITS - visits.leading_zeros()).min(63);
+    // (4 for each doubling: a state of twice as many visits is given up after four more keys were kept beside it)
     (digits as u8) * 4 + 1
 }

@@ -26,6 +26,7 @@ impl Row {
 
     /// One more option of so many names.
     fn add(&mut self, names: u64) {
+        // (nothing is proved of the estimate, so sums saturate here and no contract has to bound them)
         self.options = self.options.saturating_add(1);
         self.names = self.names.saturating_add(names);
     }
@@ -66,6 +67,7 @@ pub fn suits_links(alloc: Global, problem: &Problem) -> Result<bool, AllocError>
     }
     add_colours(&mut rows, &coloured_names(alloc, problem)?);
     let (weight, taken_out) = weighed(problem, &rows);
+    // (a row has at most one word for each of its options, and never more than a set has)
     let most = problem.options() as u64 / 64 + 1;
     let words = rows
         .iter()
@@ -112,6 +114,7 @@ fn coloured_names(alloc: Global, problem: &Problem) -> Result<Vec<u64>, AllocErr
     for option in 0..problem.options() as u16 {
         push_colours(problem.option(option), problem.colours(option), &mut all)?;
     }
+    // (equal numbers look the same, so their order is free, and this sort takes no memory)
     all.sort_unstable();
     Ok(all)
 }
@@ -155,6 +158,7 @@ fn weighed(problem: &Problem, rows: &[Row]) -> (u64, u64) {
     for option in 0..problem.options() as u16 {
         let (barred, names) = taken_by(problem.option(option), rows);
         weight = weight.saturating_add(barred);
+        // (an option that is barred by several items is counted with each, but no more names than all can leave)
         taken_out = taken_out.saturating_add(barred.saturating_mul(names.min(all)));
     }
     (weight, taken_out)

@@ -86,6 +86,7 @@ fn step<B: Branching, W: Watch>(
         AreBarren B.kind root.problem kept.new.states
         × IsStep W.may_stop root fuel kept.new.entered left (B.choices state.new) result }
 {
+    // (for what the getter says: that the problem is lawful)
     state.problem();
     if is_due(watch, kept) && watch.look(state.chosen(), left) {
         return SearchStep::End(Visit::Stopped(left));
@@ -120,6 +121,7 @@ fn is_due<W: Watch>(watch: &W, kept: &mut Kept) -> bool
 fn stretch<W: Watch>(watch: &W, kept: &Kept) -> u64
     ensures { 0 < result }
 {
+    // (one visit at least, else the search would make no progress)
     kept.until_trial().min(watch.wait().max(1))
 }
 
@@ -151,9 +153,11 @@ fn step_plainly<B: Branching, W: Watch>(
             watch.made(left.saturating_sub(rest), rest);
             turn(state, base, rest, kept)
         }
+        // (this is the pause: a watch stops a visit only while more is left)
         Visit::Stopped(rest) if rest <= pause => {
             kept.made(left.saturating_sub(rest));
             watch.made(left.saturating_sub(rest), rest);
+            // (the plain loop notes nothing, so from here on the notes are of prefixes that the search has left)
             kept.forget_from(depth);
             SearchStep::On(rest)
         }
@@ -185,8 +189,10 @@ fn pass<B: Branching>(state: &mut B, item: u16, left: u64, kept: &mut Kept) -> O
         IsPassed root fuel kept.new.entered (B.choices state.new) left result }
 {
     state.problem();
+    // (before its own visit is taken off, which is one of those that are kept with it)
     kept.note(state.chosen().len(), left);
     if let Some(count) = kept.look(state) {
+        // (a search that makes these visits would be spent, too: kept states change no outcome)
         if count > left {
             return None;
         }
@@ -233,6 +239,7 @@ fn turn_onward<B: Branching>(state: &mut B, base: usize, left: u64, kept: &mut K
         if state.choose_next().is_some() {
             return true;
         }
+        // (the choice is taken back now, so this is the prefix above it, all of whose children are barren)
         keep_barren(state, left, kept);
     }
     false

@@ -174,9 +174,11 @@ fn states_in(alloc: Global, width: usize, room: u64) -> Result<BarrenStates, All
 {
     // (a slot has a key, its visits, and a byte for its worth)
     let slots = room / (width as u64 * 8 + 9);
+    // (the greatest power of two that fits, since a slot is found by a mask of the hash)
     let bits = (u64::BITS - 1)
         .saturating_sub(slots.leading_zeros())
         .min(32);
+    // (half as much each time: the table only saves time, so a small one is better than an error)
     for less in 0..bits + 1 {
         if let Ok(states) = BarrenStates::build(alloc, width, bits - less) {
             return Ok(states);

@@ -72,6 +72,7 @@ impl<'a> Kernel<'a> {
             (choices_in self.new).chosen result }
         ensures stopped { (left : ℕ) → result ≡ Visit.Stopped left → W.may_stop ≡ true }
     {
+        // (asked once for a search and not at each visit: each arm has a loop of its own)
         match self {
             Kernel::Links(links) => visit_below(links, prefix, fuel, watch),
             Kernel::Rows(rows) => visit_below(rows, prefix, fuel, watch),

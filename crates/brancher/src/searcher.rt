@@ -83,6 +83,7 @@ impl<'a> Searcher<'a> {
         let kernel = Kernel::over(alloc, tables)?;
         let words = kernel.key_words();
         let kept = if words > 0 {
+            // (no error if memory is refused: without states the search comes to the same, only later)
             Kept::build(alloc, tables.problem(), words, room).ok()
         } else {
             None
@@ -134,6 +135,7 @@ impl<'a> Searcher<'a> {
             Visit::Found => Outcome::Cover,
             Visit::Barren(_) => Outcome::Barren,
             Visit::Spent => Outcome::Spent,
+            // (it is proved that this is never reached: such a watch stops nothing)
             Visit::Stopped(_) => unreachable!(),
         }
     }
@@ -167,6 +169,7 @@ impl<'a> Searcher<'a> {
         ensures unchanged { OnErr result (self.new ≡ self.old) }
         ensures back { IfErr result (λ list. list.items ≡ prefix.items) }
     {
+        // (before the search, which may take hours: so no refusal can lose what it found)
         let Ok(room) = Vec::with_capacity(self.alloc, self.kernel.problem().primary()) else {
             return Err(prefix);
         };
@@ -294,6 +297,7 @@ impl<'a> Searcher<'a> {
         ensures short { length result.now ≤ MOST_ITEMS }
         ensures few { length result.now ≤ self.now.problem.primary }
     {
+        // (for what the getter says: in a lawful problem a prefix has at most 1,000 options)
         self.kernel.problem();
         self.kernel.chosen()
     }

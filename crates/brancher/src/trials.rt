@@ -16,6 +16,7 @@ const TRIAL: u64 = 768;
 const COST: u64 = 3;
 /// Looks that cost so small a part of all visits are made in any case.
 const FREE_PART: u64 = 64;
+// (so the second trial is within the first job of a run, which has 24,000 visits by default)
 /// The first trials come after so many times as many visits as a trial has looks.
 const FIRST_PAUSE: u64 = 20;
 /// The same where looks pay at almost all depths.
@@ -101,6 +102,7 @@ impl Trials {
     #[inline(always)]
     pub(crate) fn found(&mut self, depth: usize, visits: u64) {
         if let Some(saved) = self.saved.get_mut(depth) {
+            // (less one, since the visit of the state itself is made)
             *saved = saved.saturating_add(visits.saturating_sub(1).min(MOST_SAVED));
         }
     }
@@ -134,6 +136,7 @@ impl Trials {
         let worth = self.worth();
         self.deepest = match worth.depth() {
             Some(depth) if depth < worth.last => depth,
+            // (looks paid, or cost little, as deep as there were any: nothing speaks for a bound)
             Some(_) => usize::MAX,
             None => 0,
         };
@@ -183,6 +186,7 @@ impl Worth {
         }
         self.saved = self.saved.saturating_add(saved);
         self.cost = self.cost.saturating_add(looks.saturating_mul(COST));
+        // (sums in place of differences, which could be negative)
         if self.saved.saturating_add(self.best_cost) > self.best_saved.saturating_add(self.cost) {
             self.best_saved = self.saved;
             self.best_cost = self.cost;

@@ -43,6 +43,7 @@ pub fn visit_below<B: Branching, W: Watch>(
 {
     state.problem();
     put_prefix(state, prefix);
+    // (0 is no pause: where nothing is left, the fuel is spent)
     visit_prefix(state, fuel, 0, watch)
 }
 
@@ -68,6 +69,7 @@ pub(crate) fn visit_prefix<B: Branching, W: Watch>(
     let base = state.chosen().len();
     let mut left = fuel;
     while left > pause {
+        // (by what is left, which needs no counter; of a power of two the remainder is a mask)
         if left % LOOK == 0 && watch.look(state.chosen(), left) {
             return Visit::Stopped(left);
         }

@@ -44,6 +44,7 @@ impl Watch for &AtomicBool {
     ghost may_stop = { true };
 
     fn look(&mut self, _chosen: &[u16], _left: u64) -> bool {
+        // (relaxed: the search reads nothing else that whoever raised the flag wrote)
         self.load(Ordering::Relaxed)
     }
 }

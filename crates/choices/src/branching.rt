@@ -13,6 +13,7 @@ use cover_problem::Problem;
 /// The chosen options of a problem, over which a search branches on items: of an uncovered item each live option that names
 /// it is chosen in turn (TAOCP 7.2.2.1). No call takes memory.
 pub trait Branching: Drop {
+    // (items are part of a state since links depend on them: the item of a choice was covered before the others of its option)
     /// The problem, the chosen options, and the item by which each was chosen.
     ghost choices: { Self → Choices };
 
@@ -65,6 +66,7 @@ pub trait Branching: Drop {
             (IsChild (choices self.old).problem (choices self.old).chosen item) }
         ensures chosen { choices self.new ≡ with_child_if (choices self.old) item result };
 
+    // (one call, not an undo and a choice: so by links the item is covered once for all its options)
     /// Chooses, in place of the option that was chosen last, the next one that was live and names the item by which that one
     /// was chosen. Answers the option; where none follows, the choice is taken back.
     fn choose_next(&mut self) -> Option<u16>

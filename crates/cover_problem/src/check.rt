@@ -16,6 +16,7 @@ const NUMBERS: usize = 65536;
 fn is_distinct(numbers: &[u16]) -> bool
     ensures { result ≡ is_distinct numbers.now }
 {
+    // (a mark for each number of 16 bits, on the stack: it is never refused memory, and no number is out of its bounds)
     let mut seen = [false; NUMBERS];
     for number in numbers {
         let place = usize::from(*number);
@@ -35,6 +36,7 @@ fn verdict_on(problem: &Problem, options: &[u16]) -> Verdict
     if !are_options(problem, options) {
         return Verdict::NoSuchOption;
     }
+    // (before the items: an option that is there twice might else be reported as an item covered twice)
     if !is_distinct(options) {
         return Verdict::ChosenTwice;
     }

@@ -12,6 +12,7 @@ ghost use Rattle.cover_problem.specs.Branching.{branch_item, children, is_choice
 ghost use Rattle.cover_problem.specs.Search.{first_some, visits_until, first, visits, outcome, Covers, Barren, Spent};
 ghost use Rattle.cover_problem.specs.Examples.{small, coloured};
 
+// (the bodies are empty: the prover finds each proof by the name of its law, and a call of a law brings in its clauses at no cost)
 /// The branch item is the uncovered primary item with fewest live options, and the first of those. A prefix without one is complete.
 pub fn branch_item_is_first_fewest()
     ensures item { (problem : ProblemValue) (prefix : List ℕ) (item : ℕ) →

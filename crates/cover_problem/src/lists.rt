@@ -10,6 +10,7 @@ use std::marker::Model;
 /// The name of an item: its bytes, as they stand in the file.
 #[derive(Debug, Drop)]
 pub struct Name {
+    // (in a contract a bare list is seen with its pointer and its room, so no copy would equal it)
     bytes: Vec<u8>,
 }
 

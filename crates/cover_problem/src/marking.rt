@@ -12,6 +12,7 @@ pub(crate) fn are_apart(problem: &Problem, options: &[u16]) -> bool
     requires { AreOptions problem.now options.now }
     ensures { result ≡ are_apart problem.now options.now }
 {
+    // (for the rule that there are at most 1,000 items: each has a mark)
     problem.recall_rules();
     let mut marks = [None; MOST_ITEMS];
     for option in options {
@@ -44,6 +45,7 @@ fn admits(mark: Option<u16>, colour: u16) -> bool
     ensures { result ≡ admits mark colour }
 {
     match mark {
+        // (0 is no colour, so two options that both give none clash)
         Some(own) => colour >= 1 && own == colour,
         None => true,
     }
@@ -60,6 +62,7 @@ fn mark(problem: &Problem, marks: &mut [Option<u16>], option: u16)
     let items = problem.option(option);
     let colours = problem.colours(option);
     for (place, item) in items.iter().enumerate() {
+        // (what is overwritten is the same colour: the option was seen to fit)
         marks[*item as usize] = Some(colours[place]);
     }
 }

@@ -76,6 +76,7 @@ pub(crate) fn first_unnamed(problem: &Problem, namings: &[Naming]) -> Option<u16
     ensures { result ≡ find (λ item. is_unnamed (slice_index_or namings.now item Unnamed))
         (range_with_len 0 problem.now.primary) }
 {
+    // (the cast loses nothing: by what the getter says there are at most 1,000 items)
     (0..problem.primary() as u16).find(|item| matches!(namings[*item as usize], Naming::Unnamed))
 }
 

@@ -49,6 +49,7 @@ fn agree(problem: &Problem, first: u16, second: u16, item: u16) -> bool
     requires second { second < length problem.now.options }
     ensures { result ≡ agree problem.now first second item }
 {
+    // (that a primary item has no colour is a rule of problems; with this test the laws hold of records that keep no rules, too)
     // (without colours there is nothing to look for)
     if (item as usize) < problem.primary() || problem.colour_names() == 0 {
         return false;
@@ -102,6 +103,7 @@ pub fn are_options(problem: &Problem, numbers: &[u16]) -> bool
 pub fn is_prefix(problem: &Problem, options: &[u16]) -> bool
     ensures { result ≡ is_prefix problem.now options.now }
 {
+    // (numbers first: the second test reads the items of each)
     are_options(problem, options) && are_apart(problem, options)
 }
 

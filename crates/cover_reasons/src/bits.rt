@@ -79,6 +79,7 @@ impl Bits {
         for place in 0..count {
             let left = self.words[place] & !other.words[place];
             if left != 0 {
+                // (sets have at most 1,000 numbers, so nothing wraps, but no contract says so)
                 let number = place.wrapping_mul(64);
                 return Some(number.wrapping_add(left.trailing_zeros() as usize));
             }

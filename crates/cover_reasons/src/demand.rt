@@ -84,6 +84,7 @@ impl Demand {
                 least = least.min(count_in(items, kind).min(65535) as u16);
                 insert_from(items, kind, &mut self.choices[item]);
             }
+            // (an option that names none of the kind: the item needs none, whatever its other options name)
             if least == 0 {
                 break;
             }

@@ -66,6 +66,7 @@ fn pivot_of(modulus: u8, sums: &[u8]) -> Option<Pivot>
             continue;
         }
         let multiple = least_multiple(modulus, *sum);
+        // (modulo a power of a prime the least of these multiples divides all of them, so its vector can clear each other one)
         let better = match best {
             None => true,
             Some(pivot) => multiple.number < pivot.multiple.number,
@@ -85,6 +86,7 @@ fn factor_for(modulus: u8, pivot: Pivot, sum: u8) -> u8
     requires { 2 ≤ modulus }
 {
     let modulus = u32::from(modulus);
+    // (it is never 0, but no contract says so)
     let quotient = u32::from(sum) / u32::from(pivot.multiple.number.max(1));
     let times = quotient * u32::from(pivot.multiple.factor) % modulus;
     if times == 0 {
@@ -127,6 +129,7 @@ impl Kernel {
             return;
         };
         self.set_factors(modulus, pivot);
+        // (a copy, since the pivot's own weights change, too, while they are read)
         self.take_column(pivot.place);
         let whole = self.wholes.at(pivot.place);
         self.multiples.fill(0);

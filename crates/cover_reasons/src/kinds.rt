@@ -8,6 +8,7 @@ use crate::row::Row;
 use cover_problem::Problem;
 use std::alloc::{AllocError, Global};
 
+// (half of the greatest: more than half of the primary items beside either one are beside both)
 /// From which likeness on items are alike.
 const ALIKE: u16 = 32768;
 

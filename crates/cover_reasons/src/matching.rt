@@ -90,6 +90,7 @@ impl Matching {
             return false;
         };
         self.held.insert(free);
+        // (items are at most 1,000: the minimum is there so that cast and sum need no contract)
         self.holders.put(free, item.min(65534) as u16 + 1);
         true
     }
@@ -98,6 +99,7 @@ impl Matching {
     fn gives_by_path(&mut self, problem: &Problem, demand: &Demand, item: usize) -> bool {
         self.steps = self.steps.saturating_add(problem.items());
         self.start_at(item);
+        // (a queue that grows while it is read: each primary item enters it once at most, which bounds the loop)
         for place in 0..problem.primary() {
             if place >= self.count {
                 break;
@@ -141,6 +143,7 @@ impl Matching {
     /// Reaches the primary item that has an item.
     fn reach_holder(&mut self, holder: u16, item: usize) {
         if self.entries.at(holder as usize) == 0 {
+            // (the bound keeps an entry below the mark of the start)
             self.entries
                 .put(holder as usize, item.min(65533) as u16 + 1);
             self.reached.put(self.count, holder);
@@ -170,6 +173,7 @@ impl Matching {
         problem: &Problem,
         demand: &Demand,
     ) -> Result<Room, AllocError> {
+        // (no path found a free item: all that the reached ones may have is theirs already, and one of them still lacks some)
         let mut needs = Row::zeros(alloc, problem.primary())?;
         for place in 0..self.count {
             let item = self.reached.at(place) as usize;

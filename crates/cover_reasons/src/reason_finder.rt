@@ -23,8 +23,10 @@ pub fn find_reason(alloc: Global, problem: &Problem) -> Result<Option<Reason>, A
         IfSome found (λ reason. holds_of problem.now reason ≡ true)) }
     ensures barren { IfOk result (λ found. IfSome found (λ reason. IsBarren problem.now [])) }
 {
+    // (a law, which does nothing: by its clauses a reason that holds leaves no cover)
     reasons_exclude_covers();
     problem.recall_rules();
+    // (before weights: a reader understands what it says of his items sooner than sums modulo a number)
     if let Some(room) = find_room(alloc, problem)? {
         return Ok(Some(Reason::TooLittleRoom(room)));
     }

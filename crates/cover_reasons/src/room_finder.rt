@@ -28,6 +28,7 @@ pub fn find_room(alloc: Global, problem: &Problem) -> Result<Option<Room>, Alloc
 {
     let found = search_room(alloc, problem)?;
     match found {
+        // (tested once more, so nothing has to be proved of how it was found)
         Some(room) if is_too_little(problem, &room) => Ok(Some(room)),
         _ => Ok(None),
     }
@@ -203,6 +204,7 @@ impl Finder {
         problem: &Problem,
         neighbours: &Neighbours,
     ) -> Result<Option<Room>, AllocError> {
+        // (where the sides differ in size, that alone is a reason; else some of one side may have too few beside them)
         let whole = whole_sides(alloc, problem, &self.sides)?;
         if whole.is_some() {
             return Ok(whole);

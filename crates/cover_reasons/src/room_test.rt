@@ -62,6 +62,7 @@ fn is_plain(problem: &Problem, rooms: &[u16], option: u16) -> bool
     let items = problem.option(option);
     let colours = problem.colours(option);
     for (place, item) in items.iter().enumerate() {
+        // (an item with one colour may be in several options of a cover, each of which would use its room)
         if amount_of(rooms, *item) != 0 && colours[place] != 0 {
             return false;
         }
@@ -92,6 +93,7 @@ fn all_fit(problem: &Problem, room: &Room) -> bool
 fn is_reason(problem: &Problem, room: &Room) -> bool
     ensures { result ≡ is_too_little problem.now room.now }
 {
+    // (a cover may leave a secondary item out, so what it needs need not be met)
     if room.needs().len() > problem.primary() {
         return false;
     }

@@ -90,6 +90,7 @@ impl Sides {
 
     /// Puts items that have no side on the second one, or on the first.
     fn spread_from(&mut self, problem: &Problem, beside: &Bits, to_second: bool) {
+        // (no test that there are such sides: what comes of them is tested as a reason)
         for _ in 0..problem.primary() {
             let Some(item) = beside.first_outside(&self.seen) else {
                 break;

@@ -22,6 +22,7 @@ pub fn find_weights(
     ensures { IfOk result (λ found. IfSome found (λ weights. excludes problem.now weights ≡ true)) }
 {
     for modulus in moduli {
+        // (two numbers below 128 are added in one byte)
         if *modulus >= 2 && *modulus < 128 {
             let found = weights_modulo(alloc, problem, *modulus)?;
             if found.is_some() {

@@ -18,6 +18,7 @@ fn weight_of_items(weights: &Weights, items: &[u16]) -> u32
     let modulus = weights.modulus();
     let mut weight = 0;
     for item in items {
+        // (reduced at each step, so the sum stays below 131,072 however many items there are)
         weight = (weight + u32::from(weights.of(*item))) % modulus;
     }
     weight

@@ -148,6 +148,7 @@ impl Board {
         ensures counted { self.new ≡ counted self.old item }
     {
         let is_first = self.commits[item] == 0;
+        // (it counts chosen options, at most 1,000, so it never wraps, and no contract needs to bound it)
         self.commits[item] = self.commits[item].wrapping_add(1);
         is_first
     }

@@ -18,7 +18,9 @@ pub fn build_links(alloc: Global, layout: &Layout) -> Result<Vec<Link>, AllocErr
     let count = layout.places().len();
     let mut links = Vec::new(alloc);
     links.resize(count, Link { up: 0, down: 0 })?;
+    // (each column has only its head so far, whose number is that of the column)
     let mut lasts = numbers_below(alloc, heads)?;
+    // (ascending, so options go down a column in file order, and its tail comes last)
     for node in heads..count {
         append(layout, &mut links, &mut lasts, node);
     }

@@ -79,6 +79,7 @@ pub fn recommit(layout: &Layout, board: &mut Board, start: usize, last: usize, n
     ensures count { length board.new.keys ≡ length board.old.keys }
     ensures room { board.new.room ≡ board.old.room }
 {
+    // (without colours the item hides the same whichever of its options is chosen)
     if layout.colour_at(last) != 0 || layout.colour_at(next) != 0 {
         uncover_one(layout, board, start, last);
         commit(layout, board, next);
@@ -136,6 +137,7 @@ pub fn cover_from(layout: &Layout, board: &mut Board, node: usize) -> usize
     // (for what the getter says: that the table is lawful)
     let _heads = layout.heads();
     commit(layout, board, node);
+    // (above it on the trail is what the other items hide: without colours only that goes back for the item's next option)
     let middle = board.out();
     cover_others(layout, board, node);
     middle

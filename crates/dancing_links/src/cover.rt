@@ -37,6 +37,7 @@ fn hide(
     ensures top { result ≤ length trail.new }
 {
     let mut top = top;
+    // (round the ring from the next node on, as in TAOCP: no test depends on where in its option the node is)
     let mut other = rows.right_of(node);
     while other != node {
         rows.unlink(links, other);
@@ -76,8 +77,10 @@ pub fn cover(
     turn_mark(keys, item);
     let mut top = top;
     let mut node = links[item].down as usize;
+    // (columns are no rings: numbers rise down to the tail, which bounds the walk, and no proof needs a case for the wrap)
     while node < tails {
         top = hide(&rows, links, keys, trail, top, node);
+        // (the node is still in its column: hiding took out the other nodes of its option alone)
         node = links[node].down as usize;
     }
     top
@@ -118,6 +121,7 @@ pub fn purify(
     let mut top = top;
     let mut other = links[item].down as usize;
     while other < tails {
+        // (nodes that agree stay as they are; Knuth's program marks each of them, here the item counts how often it got its colour)
         if !rows.has_colour(other, colour) {
             top = hide(&rows, links, keys, trail, top, other);
         }
@@ -147,6 +151,7 @@ pub fn restore(layout: &Layout, links: &mut [Link], keys: &mut [u32], trail: &[u
     let places = layout.places();
     let rows = Rows { layout, places };
     let mut left = trail.len();
+    // (in the reverse order: a node can go back only once its neighbours are those that it left)
     while left > 0 {
         left -= 1;
         let node = trail[left] as usize;

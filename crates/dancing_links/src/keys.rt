@@ -12,6 +12,7 @@ use std::alloc::{AllocError, Global};
 /// One node in a column, in the key of its item; numbers of items are less.
 const ONE_OPTION: u32 = 65_536;
 
+// (no count gets so far: 20,000 options make 1,310,720,000)
 /// The mark of a covered item; an uncovered one has a lesser key.
 const COVERED: u32 = 2_147_483_648;
 
@@ -25,6 +26,7 @@ pub fn build_keys(alloc: Global, layout: &Layout) -> Result<Vec<u32>, AllocError
 {
     let heads = layout.heads();
     let mut keys = numbers_below(alloc, heads - 1)?;
+    // (before them are the heads and the nodes of the items, one fewer)
     for node in 2 * heads - 1..layout.tails() {
         count_node(layout, &mut keys, node);
     }
@@ -50,6 +52,7 @@ pub fn count_less(rows: &Rows<'_>, keys: &mut [u32], node: usize)
     ensures { keys.new ≡ with_less rows.now keys.old node }
 {
     let item = rows.item_at(node);
+    // (the node was counted, so nothing wraps; by a wrapping call no contract above has to say so)
     keys[item] = keys[item].wrapping_sub(ONE_OPTION);
 }
 
@@ -71,6 +74,7 @@ pub fn turn_mark(keys: &mut [u32], item: usize)
     requires { item < length keys.old }
     ensures { keys.new ≡ with_mark keys.old item }
 {
+    // (wrapping, since the mark is half of 2^32: added once more it is gone)
     keys[item] = keys[item].wrapping_add(COVERED);
 }
 
@@ -102,6 +106,7 @@ pub fn least_of(keys: &[u32]) -> u32
     if count < AT_A_TIME {
         return least_after(u32::MAX, keys);
     }
+    // (a length that is a multiple of eight: the compiler can look at eight keys at once)
     let least = least_after(u32::MAX, &keys[..count - count % AT_A_TIME]);
     least_after(least, &keys[count - AT_A_TIME..])
 }

@@ -164,6 +164,7 @@ fn first_nodes(alloc: Global, problem: &Problem) -> Result<Vec<u32>, AllocError>
     ensures { IfOk result (λ list. list.items ≡ first_list problem.now) }
 {
     let mut list = Vec::new(alloc);
+    // (at most 200,000 nodes of options and 3,002 others, so 32 bits hold all numbers)
     let mut node = 2 * problem.items() + 1;
     for option in 0..problem.options() as u16 {
         list.push(node as u32)?;
@@ -305,6 +306,7 @@ impl Layout {
         requires linked { IsLinked self.now links.now }
         ensures { result ≡ (down_of links.now (up_of links.now node) == node) }
     {
+        // (a look inside is what brings in the type's invariant)
         let _ = &self.places;
         let above = links[node].up as usize;
         links[above].down as usize == node
@@ -381,6 +383,7 @@ impl<'a> Rows<'a> {
         ensures links { links.new ≡ unlinked links.old node }
     {
         let _places = self.places;
+        // (read one by one, which takes fewer instructions than a copy of the link)
         let up = links[node].up;
         let down = links[node].down;
         links[up as usize].down = down;

@@ -72,11 +72,13 @@ impl<'a> Links<'a> {
         ensures problem { IfOk result (λ links. links.problem ≡ problem.now) }
         ensures chosen { IfOk result (λ links. links.chosen ≡ []) }
     {
+        // (each choice covers a primary item, so there is room for all choices, and the search takes no memory)
         let chosen = Vec::with_capacity(alloc, problem.primary())?;
         let entries = Vec::with_capacity(alloc, problem.primary())?;
         let marks = Vec::with_capacity(alloc, problem.primary())?;
         let layout = layout_of(alloc, problem)?;
         let mut trail = Vec::new(alloc);
+        // (no node leaves its column twice, so this is room enough for all that leave)
         trail.resize(layout.tails(), 0)?;
         let links = build_links(alloc, &layout)?;
         let keys = build_keys(alloc, &layout)?;
@@ -114,6 +116,7 @@ impl<'a> Links<'a> {
         requires live { is_live self.old.problem self.old.chosen option ≡ true }
         ensures { self.new ≡ with_choice self.old option }
     {
+        // (always the first primary item: so after such choices the links depend on the options alone)
         let node = primary_node(&self.layout, self.problem, option);
         let start = self.board.out();
         let middle = cover_from(&self.layout, &mut self.board, node);
@@ -165,6 +168,7 @@ impl<'a> Links<'a> {
             return None;
         }
         uncover_others(layout, &mut self.board, mark.middle, node);
+        // (read only now: in a column whose item has a colour, covering the others may have taken out nodes below)
         let next = self.board.links()[node].down as usize;
         if next >= layout.tails() {
             uncover_one(layout, &mut self.board, mark.start, node);
@@ -211,6 +215,7 @@ impl<'a> Links<'a> {
     {
         let node = primary_node(&self.layout, self.problem, option);
         let item = self.layout.item_at(node) as u16;
+        // (both: the nodes of a covered item stay in its own column, so being in doesn't say that they are live)
         !self.is_covered(item) && self.layout.is_known(self.board.links(), node)
     }
 
@@ -287,5 +292,6 @@ fn is_last(layout: &Layout, links: &[Link], node: usize) -> bool
         && colour_at layout.now node == 0 }
 {
     let tails = layout.tails();
+    // (with a colour, agreeing nodes below may be out for now: covering the option's other items took them out)
     links[node].down as usize >= tails && layout.colour_at(node) == 0
 }

@@ -18,6 +18,7 @@ impl<'a> Links<'a> {
         let problem = self.problem();
         // (for what the getter says: that there are at most 1,000)
         let items = problem.items();
+        // (with secondary items a key needs the live options: links have no list of them, so each look would have to make one)
         if problem.primary() == items {
             items.div_ceil(WORD)
         } else {
@@ -34,6 +35,7 @@ impl<'a> Links<'a> {
         if problem.primary() != items || words.len() != items.div_ceil(WORD) {
             return false;
         }
+        // (made for each look: to keep it up to date would cost each choice time, also where nothing repeats)
         for place in 0..words.len() {
             words[place] = self.uncovered_word(place);
         }

@@ -53,6 +53,7 @@ impl<'a> Decider<'a> {
         ensures decision { IsDecision W.may_stop (first self.old.problem []) self.new.found result }
     {
         let mut steps = 0;
+        // (asked once for a search and not at each prefix: each arm has a recursion of its own)
         match &mut self.store {
             Store::Links(links) => decide(links, watch, &mut self.kept, &mut steps),
             Store::Rows(rows) => decide(rows, watch, &mut self.kept, &mut steps),

@@ -22,6 +22,7 @@ pub fn decide<B: Branching, W: Watch>(
     ensures kept { HaveNoCover B.kind (B.choices state.old).problem kept.new.states }
 {
     state.problem();
+    // (there is no fuel, so a watch hears what is left of the greatest)
     if kept.is_watch_due() && watch.look(state.chosen(), u64::MAX.saturating_sub(*steps)) {
         return Decision::Stopped;
     }
@@ -37,12 +38,15 @@ pub fn decide<B: Branching, W: Watch>(
     let mut visits = 1u64;
     let mut next = state.choose_first(item);
     while next.is_some() {
+        // (each call has one more option chosen, so the recursion is no deeper than a prefix is long: at most 1,000)
         match decide(state, watch, kept, steps) {
+            // (no fuel bounds the sum, so it saturates: the number is in no clause)
             Decision::Barren(count) => visits = visits.saturating_add(count),
             ended => return ended,
         }
         next = state.choose_next();
     }
+    // (as asked before the children, also if a trial began or ended below)
     if looks {
         kept.keep(state, visits);
     }

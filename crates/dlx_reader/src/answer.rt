@@ -23,6 +23,7 @@ fn options_of(alloc: Global, mut lines: Lines, problem: &Problem) -> Result<Numb
     let names = Names::of_problem(alloc, problem)?;
     let colour_names = Names::of_colours(alloc, problem)?;
     let keys = keys_of(alloc, problem)?;
+    // (the index borrows the keys, as no type can own what it borrows)
     let mut index = OptionIndex::new(alloc, problem, &keys)?;
     let mut key = Vec::new(alloc);
     let mut colours = Vec::new(alloc);
@@ -45,6 +46,7 @@ fn answer_of(alloc: Global, text: &[u8], problem: &Problem) -> Result<Answer, An
     let Some(first) = lines.take_worded() else {
         return Err(AnswerFault::BadHead);
     };
+    // (the lines are counted before one is read: a wrong count is reported before an unknown option)
     match head_before(first.text, lines.count_worded())? {
         Head::NoCover => Ok(Answer::NoCover),
         Head::Cover(_) => options_of(alloc, lines, problem).map(Answer::Cover),

@@ -10,6 +10,7 @@ const MOST: usize = 4096;
 /// Bytes that wait to be written, at most 4,096. They take no memory of an allocator.
 #[derive(Drop)]
 pub struct Buffer {
+    // (an array and no list, so that an answer can be written when memory has run out)
     bytes: [u8; MOST],
     length: usize,
 }

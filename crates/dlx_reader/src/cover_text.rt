@@ -32,6 +32,7 @@ fn buffer_first<W: Sink>(bytes: &[u8], buffer: &mut Buffer, sink: &mut W) -> Res
         bytes.now result }
     ensures failed { IsCounted (W.failed sink.old) (W.failed sink.new) result }
 {
+    // (no piece of an answer is so long; without this case each caller would have to prove that)
     if bytes.len() > buffer.room() {
         return write_bytes(bytes, sink);
     }

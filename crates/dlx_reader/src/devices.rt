@@ -58,6 +58,7 @@ fn read_again<R: Read>(reader: &mut R, buffer: &mut [u8]) -> io::Result<usize>
     ensures bytes { ReadConsumes (R.remaining reader.old)
         (R.remaining reader.new) result buffer.new }
 {
+    // (a bound that no device reaches: each loop has to end)
     for _ in 0..u64::MAX {
         match reader.read(buffer) {
             Err(error) if error.kind() == ErrorKind::Interrupted => {}
@@ -85,6 +86,7 @@ fn write_again<W: Write>(writer: &mut W, piece: &[u8]) -> io::Result<usize>
 #[derive(Drop)]
 pub struct CountedReader<R> {
     inner: R,
+    // (contracts of the standard library say nothing of failures; with the count a fault is tied to one)
     failures: u64,
 }
 
@@ -161,6 +163,7 @@ impl<W: Write> Sink for CountedWriter<W> {
     fn put(&mut self, piece: &[u8]) -> Result<usize, DeviceFault> {
         match write_again(&mut self.inner, piece) {
             Ok(count) if count > 0 || piece.is_empty() => Ok(count),
+            // (nothing taken is a failure, too: a caller that writes until all is taken would else go on for ever)
             _ => {
                 self.failures += 1;
                 Err(DeviceFault)

@@ -22,6 +22,7 @@ pub fn split_line(text: &[u8]) -> (&[u8], Option<&[u8]>)
 {
     match line_end(text) {
         None => (text, None),
+        // (behind a last byte 10 there is one more line: it is empty, and those who take lines pass over it)
         Some(end) => (&text[..end], Some(&text[end + 1..])),
     }
 }
@@ -71,6 +72,7 @@ impl<'a> Lines<'a> {
     {
         let (text, left) = split_line(self.left?);
         self.left = left;
+        // (it can't overflow: a text has at most one line more than bytes)
         self.before += 1;
         Some(Line {
             number: self.before,

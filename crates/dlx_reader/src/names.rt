@@ -16,6 +16,8 @@ const NEAR: usize = 8;
 #[derive(Drop)]
 pub struct Names<'a> {
     list: Vec<Name>,
+    // (sorted, not hashed: no choice of names makes a file slow to read)
+    // (its keys are borrowed from the text or the problem, since a struct can't borrow from its own list)
     index: BTreeMap<&'a [u8], u16>,
 }
 
@@ -122,6 +124,7 @@ impl<'a> Names<'a> {
     {
         let number = self.list.len() as u16;
         let name = Name::from_vec(Vec::from_slice(alloc, word)?);
+        // (all that can be refused comes before the list grows, so a refusal leaves the names as they are)
         self.list.reserve(1)?;
         self.index.insert(word, number)?;
         self.list.push_reserved(name);

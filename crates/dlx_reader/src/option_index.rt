@@ -20,6 +20,7 @@ fn number_or_none(names: &Names, name: &[u8]) -> u16
     ensures number { result ≡ unwrap_or (item_named names.now name.now) (length names.now) }
     ensures most { result ≤ MOST_COLOURS }
 {
+    // (no option has this number in its key, so a line with an unknown name finds none)
     let none = names.len() as u16;
     names.item_named(name).unwrap_or(none)
 }
@@ -72,6 +73,7 @@ pub fn name_key(
         add_word(names, colour_names, key, colours, word)?;
         left = rest;
     }
+    // (there are as many colours as items, so lists that differ have keys that differ)
     key.extend_from_slice(colours)?;
     Ok(())
 }
@@ -129,6 +131,7 @@ fn link_options<'a>(
 {
     let mut next = vec![in alloc; 0; problem.options()]?;
     let mut start = problem.options();
+    // (from the last option on: so the map has the next one of equal key when an option comes, and the lowest of each in the end)
     while start > 0 {
         start -= 1;
         next[start] = link_option(problem, keys, start as u16, lowest)?;
@@ -198,11 +201,13 @@ impl<'a> OptionIndex<'a> {
         let Some(option) = self.lowest.get(key).copied() else {
             return Ok(None);
         };
+        // (the number behind the last option: all of this key are taken)
         if usize::from(option) >= self.problem.options() {
             return Ok(None);
         }
         let next = self.next[usize::from(option)];
         let keys = self.keys;
+        // (room first: if the map is refused memory then, neither has changed)
         self.options.reserve(1)?;
         self.lowest
             .insert(keys[usize::from(option)].as_slice(), next)?;

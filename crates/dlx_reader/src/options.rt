@@ -193,6 +193,7 @@ impl<'a> KeptOptions<'a> {
         ensures colours { OnErr result (self.new.colours ≡ self.old.colours) }
         ensures ignored { OnErr result (self.new.ignored ≡ self.old.ignored) }
     {
+        // (before its colours get numbers: those of an ignored option are none of the problem's)
         if !some_below(primary, &read.items) {
             self.ignored += 1;
             return Ok(());
@@ -205,6 +206,7 @@ impl<'a> KeptOptions<'a> {
         }
         let nodes = self.nodes + read.items.len();
         let colours = colours_of(alloc, &mut self.colour_names, &read, line)?;
+        // (room first, so that one push alone can be refused: options and colours are never of different lengths)
         self.options.reserve(1)?;
         self.colours.push(Numbers::from_vec(colours))?;
         self.options.push_reserved(Numbers::from_vec(read.items));

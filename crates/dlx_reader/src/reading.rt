@@ -299,6 +299,7 @@ fn read_content(alloc: Global, items: Line, others: Lines) -> Result<Read, ReadF
     } = kept.into_parts();
     let names = names.into_list();
     Ok(Read {
+        // (no test of its rules at run time: that what was read keeps them is proved)
         problem: Problem::from_parts(names, primary, options, colours, colour_names),
         ignored,
     })

@@ -32,6 +32,7 @@ fn first_unknown<'a>(names: &Names, line: &'a [u8]) -> Option<&'a [u8]>
 /// or memory runs out.
 pub fn unknown_item(alloc: Global, text: &[u8], number: usize) -> Option<&[u8]> {
     let mut lines = Lines::of(text);
+    // (errors are passed over: the refusal is reported already, and the name only adds to it)
     let names = read_items(alloc, lines.take_content()?).ok()?;
     while let Some(line) = lines.take_content() {
         if line.number == number {

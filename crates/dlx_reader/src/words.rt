@@ -9,6 +9,7 @@ ghost use Rattle.dlx_reader.specs.Occurrences.{bytes_in, colour_part, has_colon,
 fn is_white(byte: u8) -> bool
     ensures { result ≡ is_white byte }
 {
+    // (byte 10 is missing since it ends a line: none is left within one)
     matches!(byte, 9 | 11 | 12 | 13 | 32)
 }
 

@@ -23,6 +23,7 @@ pub fn write_bytes<W: Sink>(bytes: &[u8], sink: &mut W) -> Result<(), WriteFault
     ensures failed { IsCounted (W.failed sink.old) (W.failed sink.new) result }
 {
     let mut done = 0;
+    // (a device may take a part alone; each put takes a byte at least, so this ends)
     while done < bytes.len() {
         match sink.put(&bytes[done..]) {
             Ok(count) => done += count,

@@ -10,6 +10,7 @@ pub fn lowered(digits: u64, borrow: u64) -> (u64, u64)
     ensures { (i : ℕ) → i < 64 → bit_at result.0 i + bit_at borrow i
         ≡ bit_at digits i + 2 * bit_at result.1 i }
 {
+    // (a digit that was 0 is 1 after a borrow, so the borrow goes on where both are 1: two instructions for 64 counts)
     let lower = digits ^ borrow;
     (lower, borrow & lower)
 }

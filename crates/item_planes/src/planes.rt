@@ -55,6 +55,7 @@ impl Planes {
         ensures uncovered { result.uncovered ≡ self.now.uncovered }
         ensures counts { (i : ℕ) → i < 64 → count_at result i + count_at self.now i ≡ 127 }
     {
+        // (127 has all seven digits, so what a count lacks of it has just the digits that the count has not)
         Planes {
             uncovered: self.uncovered,
             ones: !self.ones,
@@ -93,6 +94,7 @@ impl Planes {
     {
         let eight = self.take_three(items);
         match digits {
+            // (the borrow is 0: none of these counts is 0 by its three lowest digits)
             Digits::Three => {}
             Digits::Five => {
                 self.take_two(eight);

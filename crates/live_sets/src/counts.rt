@@ -36,6 +36,7 @@ impl Counts {
         ensures counts { IfOk result (λ built. AreCounts sets.now [] built.0) }
         ensures branch { IfOk result (λ built. branch_item sets.now [] ≡ item_of built.1) }
     {
+        // (in planes an option is taken from the counts of 64 items at once, so they are used wherever the counts fit)
         if is_small(sets, live) {
             return Counts::build_planes(alloc, sets, live);
         }

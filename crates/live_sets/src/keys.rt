@@ -46,6 +46,7 @@ pub fn count_rows(sets: &OptionSets, live: &[u64], keys: &mut [u32]) -> u32
         }
         let key = count_row(sets.row(item as u16), live) * ONE_OPTION + item as u32;
         keys[item] = key;
+        // (items behind it keep the counts of the level before: a level is only read for its least key and its marks)
         if key < ONE_OPTION {
             return key;
         }

@@ -16,6 +16,7 @@ use std::alloc::{AllocError, Global};
 pub struct Levels {
     /// The words of the live options of each level.
     pub live: Vec<u64>,
+    // (kept for each: where a choice is taken back, nothing is counted again)
     /// The least key at each level.
     pub leasts: Vec<u32>,
     /// How many live options name each primary item at each level.

@@ -90,6 +90,7 @@ impl PlaneCounts {
             result }
     {
         let last = self.planes[step.chosen.len()];
+        // (counts never rise from level to level, so the digits of the last level are enough for the next)
         let digits = last.digits();
         let mut next = self.next_planes(sets, step, last, digits);
         next.cover(self.masks[step.option as usize]);
@@ -250,6 +251,7 @@ pub fn least_item(low: Option<(u32, u32)>, high: Option<(u32, u32)>) -> u32
         → branch_item problem prefix ≡ item_of result }
 {
     match (low, high) {
+        // (of equal counts the lower half has the branch item: it is the first)
         (Some((item, count)), Some((other, less))) => { if less < count { other } else { item } }
         (Some((item, _)), None) => item,
         (None, Some((item, _))) => item,

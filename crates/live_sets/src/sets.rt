@@ -101,6 +101,7 @@ impl<'a> LiveSets<'a> {
         let item = self.branch_item()?;
         let live = self.levels.live_at(self.sets, self.chosen.len());
         let untried = Untried::of_row(self.sets.row(item));
+        // (live options say which items are uncovered only if each of those has one; each has one if the branch item does)
         untried.next(live)?;
         Some(live)
     }
@@ -109,6 +110,7 @@ impl<'a> LiveSets<'a> {
     pub fn words(&self) -> usize
         ensures { result ≤ 1024 }
     {
+        // (for the rule that there are at most 20,000 options, whose bits take 313 words)
         self.sets.problem().recall_rules();
         self.sets.words()
     }
@@ -119,6 +121,7 @@ impl<'a> LiveSets<'a> {
         requires live { is_live self.old.problem self.old.chosen option ≡ true }
         ensures { self.new ≡ with_choice self.old option }
     {
+        // (each option of a problem names a primary item)
         let item = self.sets.primary_items(option)[0];
         let live = self.levels.live_at(self.sets, self.chosen.len());
         let untried = behind(self.sets.row(item), live, option);
@@ -149,6 +152,7 @@ impl<'a> LiveSets<'a> {
             IsNextChoice before item option result self.new }
     {
         let (_, mark) = self.pop();
+        // (a short cut: the call below would find none, too, after it has looked up the live options)
         if mark.untried().is_empty() {
             return None;
         }

@@ -62,12 +62,14 @@ impl<'a> Untried<'a> {
         requires small { length live.now ≤ 1024 }
         ensures { IsNextAt self.entry live.now result.0 result.1 }
     {
+        // (the live options are a parameter for the contract alone)
         let bit = self.bits.trailing_zeros();
         let rest = Untried {
             place: self.place,
             bits: self.bits & !(1 << bit),
             later: self.later,
         };
+        // (a set has at most 1,024 words, so the number has 16 bits)
         (self.place * 64 + bit as u16, rest)
     }
 }
@@ -98,6 +100,7 @@ pub fn behind<'a>(row: &'a [Word], live: &[u64], option: u16) -> Untried<'a>
     ensures { IsBehind row.now live.now option result }
 {
     let mut untried = Untried::of_row(row);
+    // (each step goes on to a greater option, so there are no more steps than this)
     for _step in 0..usize::from(option) + 1 {
         match untried.next(live) {
             None => return untried,

@@ -101,6 +101,7 @@ impl<'a> ClashTables<'a> {
         let item = self.problem.option(option)[place];
         let tint = self.lists[option as usize].as_slice()[place];
         let row = self.rows[item as usize].as_slice();
+        // (the option gives no colour: then all options that name the item clash with it, itself among them)
         if tint == 0 {
             clear_row(set, row);
         } else {

@@ -27,6 +27,7 @@ pub fn clear_row_but(set: &mut [u64], row: &[Word], kept: &[Word])
     ensures { (x : ℕ) → has set.new x
         ≡ (has set.old x && not (row_has row.now x && not (row_has kept.now x))) }
 {
+    // (places rise in both rows, and each of the second is one of the first: so one pass meets all words of both)
     let mut next = 0;
     for word in row {
         let place = word.place as usize;

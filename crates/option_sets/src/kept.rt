@@ -20,6 +20,7 @@ pub fn kept_sets(alloc: Global, tables: &ClashTables) -> Result<Vec<u64>, AllocE
     if options > MOST_KEPT {
         return Ok(Vec::new(alloc));
     }
+    // (bits past the last option stay: a kept set is only met with live options, which never have them)
     let mut kept = vec![in alloc; u64::MAX; options * tables.words()]?;
     bar_each(tables, &mut kept);
     Ok(kept)

@@ -7,6 +7,7 @@ use std::marker::Model;
 /// The tints of an option, place by place beside its items.
 #[derive(Drop)]
 pub struct Tints {
+    // (32 bits: options have up to 200,000 items together, so there may be more pairs than 16 bits count)
     numbers: Vec<u32>,
 }
 

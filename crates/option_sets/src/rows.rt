@@ -26,6 +26,7 @@ pub fn rows_of_items(alloc: Global, problem: &Problem) -> Result<Vec<Row>, Alloc
         (λ rows. AreRowsOf problem.now.options (length problem.now.names) rows.items) }
 {
     let mut rows = empty_rows(alloc, problem.items())?;
+    // (ascending, since a row takes an option only behind all that it has)
     for option in 0..problem.options() as u16 {
         add_items(&mut rows, option, problem.option(option))?;
     }

@@ -24,6 +24,7 @@ pub struct OptionSets<'a> {
     words: usize,
     /// The primary items of each option.
     named: Vec<Numbers>,
+    // (one flat list: a set is found by a product, not by a pointer that has to be loaded first)
     /// The sets that each option leaves, one behind the other; of a large problem none.
     kept: Vec<u64>,
 }
@@ -109,6 +110,7 @@ impl<'a> OptionSets<'a> {
         let kept: &[u64] = &self.kept;
         let words = next.len();
         let start = option as usize * words;
+        // (the list of a large problem is empty, so this one test serves it, too)
         if start < kept.len() {
             return meet(live, &kept[start..start + words], next);
         }
@@ -150,6 +152,7 @@ fn fill_below(set: &mut [u64], options: usize)
     ensures { (x : ℕ) → has set.new x ≡ nat_lt x options }
 {
     for place in 0..set.len() {
+        // (each word begins below the number of options, so the difference is never negative)
         set[place] = word_below(options - place * 64);
     }
 }

@@ -35,6 +35,7 @@ fn key_of(item: u16, colour: u16) -> u32
     if colour == 0 {
         0
     } else {
+        // (there are at most 10,000 colours, so pairs that differ have keys that differ, and none is 0)
         item as u32 * 16384 + colour as u32
     }
 }
@@ -95,6 +96,7 @@ pub fn tints_of(alloc: Global, problem: &Problem) -> Result<(Vec<Tints>, Numberi
         let colours = problem.colours(option);
         lists.push(tints_of_option(alloc, &mut numbering, items, colours)?)?;
     }
+    // (for what the getter says: that keys are different, and that the first is the one without a colour)
     let _count = numbering.len();
     Ok((lists, numbering))
 }
