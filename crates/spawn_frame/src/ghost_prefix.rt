@@ -15,6 +15,7 @@ pub struct GhostPrefix {
 }
 
 impl Model for GhostPrefix {
+    // (a struct may have ghost data only if it says what that owns: nothing)
     ghost also_owns = { λ _. ftrue };
 }
 
