@@ -15,7 +15,7 @@ pub struct GhostPrefix {
 }
 
 impl Model for GhostPrefix {
-    // (a struct may have ghost data only if it says what that owns: nothing)
+    // (ghost data needs this line, which says that a path owns nothing)
     ghost also_owns = { λ _. ftrue };
 }
 
