@@ -12,6 +12,7 @@ use spawn_frame::{Out, Status, Table, Unit};
 use std::alloc::{AllocError, Global};
 use std::marker::Model;
 
+// (found apart from the abort: so a caller takes all memory first, and aborts below several guests with one list)
 /// The own children of a table that are below some units, by serial. It speaks of parents alone, so it holds also after
 /// statuses and attempts have changed.
 #[derive(Drop)]
@@ -43,9 +44,11 @@ impl Descendants {
     {
         let mut serials = children_of(alloc, table, units)?;
         push_below(table, &mut serials)?;
+        // (Abort packets go out by serial; what is below two of the units was found twice)
         serials.sort_unstable();
         serials.dedup();
         Ok(Descendants {
+            // (only the view reads it: it says how many marks there are)
             issued: table.issued(),
             serials,
         })
@@ -114,6 +117,7 @@ fn push_level(table: &Table, serials: &mut Vec<u32>, first: usize) -> Result<(),
     ensures { OnOk result (Adds (IsListed first (length serials.old.items) serials.old.items)
         table.now.own serials.old.items serials.new.items) }
 {
+    // (the end is fixed here: what is pushed below is the next level)
     for place in first..serials.len() {
         let serial = serials[place];
         push_children(table, Unit::Own(serial), serials)?;
@@ -180,6 +184,7 @@ fn abort_at(table: &mut Table, serial: u32, list: &mut Vec<Out>)
         ≡ vec_len list.old + length (out_of true serial (slice_get table.old.own serial)) }
     ensures room { vec_capacity list.new ≡ vec_capacity list.old }
 {
+    // (before the abort, since the status that it replaces names the thief)
     if let Some(out) = out_at(table, serial) {
         list.push_reserved(out);
     }

@@ -6,6 +6,7 @@ ghost use Rattle.spawn_frame.specs.Units.{Entry};
 ghost use Rattle.spawn_frame.specs.declared.unit.Unit.{Unit as WorkUnit};
 ghost use Rattle.abort_tree.specs.Below.{MarksBelow};
 
+// (a law is called where a proof needs its clause; nothing happens at run time, so its body is empty)
 /// What is below some units depends on the parents alone: marks stay right where these stay the same.
 pub fn parents_decide()
     ensures { (top : WorkUnit → Bool) (old new : List Entry) (marks : List Bool) →

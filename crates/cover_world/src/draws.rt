@@ -15,6 +15,7 @@ fn pick(rng: &mut Pcg32, bound: usize) -> usize
     requires { 0 < bound }
     ensures { (result, rng.new) ≡ pick bound rng.old }
 {
+    // (small numbers come a little more often, which does no harm: safety is proved of every sequence of events)
     rng.next_word() as usize % bound
 }
 

@@ -19,6 +19,7 @@ ghost use Rattle.spawn_frame.specs.declared.child_result.ChildResult.TheVariants
 ghost use Rattle.spawn_frame.specs.declared.status.Status.TheVariants.{Aborted, Done, Dropped, Finished, Ready, Settled};
 ghost use Rattle.spawn_frame.specs.declared.unit.Unit.TheVariants.{Own};
 
+// (a run is a list of events, and its proof computes what they do: so the bodies are empty)
 /// One item and no option. A node searches the root and returns that there is none; the packet comes twice. The first
 /// time none is published; the second time the registry sends an equal packet of acceptance and changes nothing.
 pub fn repeated_result()

@@ -91,6 +91,7 @@ fn draw(world: &mut World, rng: &mut Pcg32, fuel: u64, restarts: u32) -> Result<
 {
     let event = world.draw_event(rng, fuel, restarts);
     attempt(world, event)?;
+    // (a restart is counted when it is drawn, even if it is refused)
     Ok(left_after(restarts, event))
 }
 
@@ -126,6 +127,7 @@ fn deliver_last(world: &mut World) -> Result<(), AllocError>
     ensures tries { OnOk result
         (Tries world.old.problem world.old.world (deliver_last world.old.world) world.new.world) }
 {
+    // (where nothing was sent there is no packet 0 either, so the event is passed over)
     attempt(world, WorldEvent::Deliver(world.sent().saturating_sub(1)))
 }
 
@@ -136,6 +138,7 @@ fn close(world: &mut World) -> Result<(), AllocError>
     ensures run { Run world.old.problem world.old.world world.new.world }
     ensures closes { OnOk result (Closes world.old.problem world.old.world world.new.world) }
 {
+    // (so that a root that is out is redone, whoever has it, and node 1 has all its names and no other work)
     all_greet(world)?;
     ask_for_work(world)?;
     search(world)
@@ -185,6 +188,7 @@ fn ask_for_work(world: &mut World) -> Result<(), AllocError>
     ensures asks { OnOk result (AsksForWork world.old.problem world.old.world world.new.world) }
 {
     attempt(world, WorldEvent::Ask(1, 0))?;
+    // (the Steal at the registry, then the Give that answers it)
     deliver_last(world)?;
     deliver_last(world)
 }

@@ -133,6 +133,7 @@ impl<'a> Sites<'a> {
         let nodes = state.ledger().nodes();
         let site = Site { node, incarnation };
         let core = NodeCore::start(self.alloc, self.problem, site, nodes, NAMES_LIMIT)?;
+        // (the earlier run goes with all its units, as in a crash)
         self.nodes[node as usize - 1] = core;
         Ok(())
     }
@@ -147,6 +148,7 @@ impl<'a> Sites<'a> {
         let Some(state) = self.state(node) else {
             return Err(WorldFault::NoSuchNode);
         };
+        // (as the site refuses a Post, and in the same order, since the search comes before its event)
         if node == 0 {
             return Err(WorldFault::Core(ActFault::OtherSite));
         }
@@ -201,6 +203,7 @@ fn is_at_work(table: &Table, job: Job) -> bool
     ensures { result ≡ has_job table.now job }
 {
     match table.unit(job.unit) {
+        // (unlike in `has_job` no prefix is compared, since it is read from the unit itself)
         Some(view) => view.status.is_here() && view.attempt == job.attempt,
         None => false,
     }

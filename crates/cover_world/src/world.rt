@@ -89,6 +89,7 @@ impl<'a> World<'a> {
         ensures err { OnErr result (self.new ≡ self.old) }
         ensures holds { HoldsThroughout self.old.problem self.old.world self.new.world }
     {
+        // (the theorem, called for its clause; it does nothing at run time)
         safe_over_every_run();
         self.happen(event)
     }
@@ -271,6 +272,7 @@ impl<'a> World<'a> {
         ensures err { OnErr result (self.new ≡ self.old) }
     {
         let prefix = self.sites.job_prefix(node, job)?;
+        // (with no fuel a prefix that covers all items would count as spent, and be split into no children)
         match self.searcher.find(prefix, fuel.max(1)) {
             Ok(finding) => self.act(node, Event::Post(job, finding)),
             Err(_) => Err(WorldFault::Memory),
@@ -290,6 +292,7 @@ impl<'a> World<'a> {
         let Some(packet) = self.sent.get(place) else {
             return Err(WorldFault::NoSuchPacket);
         };
+        // (a copy: the packet stays, to be delivered once more)
         let packet = packet.copy()?;
         self.act(packet.to.node, Event::Deliver(packet))
     }

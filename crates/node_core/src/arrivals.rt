@@ -36,6 +36,7 @@ impl SiteState {
             ≡ give_refusal problem.now self.old from (gifts_of given) }
         ensures err { OnErr result (self.new ≡ self.old) }
     {
+        // (first: a Give is repeated until its child is done, and a repeat needs no test of its prefix)
         if self.ledger.is_older(from) || self.ledger.are_there(from, &given) {
             return Ok(Reply::Ignored);
         }
@@ -43,6 +44,7 @@ impl SiteState {
             return Err(ActFault::BadPrefix);
         }
         let gifts = given.into_gifts(self.alloc)?;
+        // (not by the ledger's `receive_give`, which would look for these guests again)
         self.ledger.admit_each(from, gifts)?;
         Ok(Reply::Moved)
     }
@@ -124,6 +126,7 @@ impl SiteState {
             return Ok(Reply::Moved);
         };
         let given = self.ledger.given(&serials)?;
+        // (before the children are out: nothing behind this can fail)
         out.send(answer_packet(site, from, given_body(given)))?;
         self.ledger.give_each(&serials, from);
         Ok(Reply::Moved)
@@ -148,6 +151,7 @@ impl SiteState {
         let site = self.site();
         match self.ledger.judge(from, serial, attempt) {
             Judged::Enters => {
+                // (the packet takes a copy; the result itself stays, to answer a Return that comes once more)
                 let result = child_result.copy()?;
                 let body = Body::Accept {
                     serial,
@@ -195,6 +199,7 @@ impl SiteState {
         ensures list { OnErr result (MaySend out.old out.new) }
     {
         let site = self.site();
+        // (for as many as an abort can reach at most: how many it does reach is known only when it is done)
         out.reserve(self.out_count())?;
         let mut stolen = Vec::new(self.alloc);
         let dropped = self

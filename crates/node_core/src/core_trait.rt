@@ -57,6 +57,7 @@ pub trait Core {
         ensures list { OnErr result (out.new.items ≡ out.old.items) }
     {
         let alloc = self.allocator();
+        // (an Outgoing owns its lists: the caller's moves in and back, and the empty one in its place takes no memory)
         let mut outgoing = Outgoing::one(alloc, mem::replace(out, Vec::new(alloc)));
         let before = outgoing.lengths();
         let answer = self.answer(event, &mut outgoing);
@@ -86,6 +87,7 @@ pub trait Core {
         ensures copies { OnErr result (copies.new.items ≡ copies.old.items) }
     {
         let alloc = self.allocator();
+        // (a recorded step needs its packets twice: for the book and for the outbox)
         let packets = mem::replace(out, Vec::new(alloc));
         let mut outgoing = Outgoing::two(packets, mem::replace(copies, Vec::new(alloc)));
         let before = outgoing.lengths();

@@ -12,6 +12,7 @@ pub(crate) fn is_longer(problem: &Problem, prefix: &[u16], option: u16) -> bool
     if !is_prefix(problem, prefix) {
         return false;
     }
+    // (what a packet has may be beyond the options of this problem)
     if problem.options() <= option as usize {
         return false;
     }

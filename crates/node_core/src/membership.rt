@@ -28,6 +28,7 @@ impl SiteState {
         ensures list { OnErr result (MaySend out.old out.new) }
     {
         let site = self.site();
+        // (no `?` here: that a child is at its last attempt is reported even where memory runs out)
         if out.reserve(self.out_count()).is_err() {
             return Err(self.learning_fault(incarnations));
         }

@@ -65,6 +65,7 @@ impl<'a> NodeCore<'a> {
     {
         let ledger = Ledger::start(alloc, site, nodes, names_limit)?;
         let links = Links::build(alloc, problem)?;
+        // (for the proof alone, which gets from it what is true of every problem)
         problem.recall_rules();
         // (read so that the prover knows its range)
         let _incarnation = site.incarnation;
@@ -127,6 +128,7 @@ fn answer_event(
     ensures err { OnErr result (state.new ≡ state.old) }
     ensures list { OnErr result (MaySend out.old out.new) }
 {
+    // (before the test for over: a packet for another site is refused as such, also at a node that is over)
     if let Event::Deliver(packet) = event {
         return deliver(state, links.problem(), packet, out);
     }
@@ -153,6 +155,7 @@ fn hear(
     ensures list { OnErr result (MaySend out.old out.new) }
 {
     match body {
+        // (a Hello goes to the registry alone: one to a node has no spelling)
         Body::Hello => unreachable!(),
         Body::Members(incarnations) => state.receive_members(incarnations.as_slice(), out),
         Body::Steal => state.receive_steal(from, out),
@@ -182,6 +185,7 @@ fn hear(
             attempt,
             result,
         } => Ok(state.receive_accept(from, serial, attempt, result)),
+        // (the cause isn't read: whatever it is, the guest isn't wanted any more)
         Body::Refuse {
             serial,
             attempt,

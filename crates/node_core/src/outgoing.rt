@@ -32,6 +32,7 @@ impl Model for Outgoing {
     } };
 }
 
+// (made before a step changes anything and put behind the change: the copy takes memory, the put doesn't)
 /// A packet for each of the lists, ready to be put there.
 #[derive(Drop)]
 pub struct ReadyPacket {
@@ -167,6 +168,7 @@ impl Outgoing {
     {
         self.packets.push_reserved(abort_packet(site, child));
         if self.both {
+            // (made a second time, not copied: an Abort has no list, so this can't fail)
             self.copies.push_reserved(abort_packet(site, child));
         }
     }

@@ -17,6 +17,7 @@ use spawn_frame::{Site, Status, Unit};
 use std::alloc::AllocError;
 use steal_return::RedoFault;
 
+// (known to each node from the beginning, since the registry never restarts)
 /// The site of the registry.
 const REGISTRY: Site = Site {
     node: 0,
@@ -113,6 +114,7 @@ impl SiteState {
         let Some(Status::Out(thief)) = self.ledger.table().status(Unit::Own(serial)) else {
             return Ok(());
         };
+        // (by itself, even if it went with others: some of these may be done)
         let gift = self.ledger.gift(serial)?;
         out.send(self.packet_to(*thief, gift_body(gift)))
     }
@@ -144,6 +146,7 @@ impl SiteState {
         let body = Body::Return {
             serial: guest.name.serial,
             attempt: guest.attempt,
+            // (a copy: until the owner answers, the guest keeps its result to say it again)
             result: result.copy()?,
         };
         out.send(self.packet_to(guest.name.site, body))

@@ -136,10 +136,12 @@ impl SiteState {
             ≡ split_refusal links.old.problem self.now prefix.now }
     {
         choose_prefix(links, prefix);
+        // (a prefix that used up its fuel goes on, so there is an item to branch on)
         let Branch::Item(item) = branch(links) else {
             unreachable!();
         };
         let table = self.ledger.table();
+        // (`spawn` tests it, too, but only after memory was taken for this list, and this fault goes before that of memory)
         if ((table.names_limit() - table.issued()) as usize) < links.count(item) {
             return Err(ActFault::NamesSpent);
         }
@@ -165,6 +167,7 @@ impl SiteState {
             return Err(ActFault::NotSettled);
         }
         let site = self.site();
+        // (made before anything changes, but put behind the aborts, as the protocol orders them)
         let load = self.return_load(unit, out)?;
         out.reserve(self.out_count() + 1)?;
         let mut stolen = Vec::new(self.alloc);

@@ -15,6 +15,7 @@ impl SiteState {
         ensures memory { IfErr result (λ fault. fault ≡ ActFault.Memory) }
         ensures err { OnErr result (self.new ≡ self.old) }
     {
+        // (a settled frame comes first: its end may abort what is ready below it)
         if let Some(unit) = self.ledger.table().ripe() {
             return Ok(Reply::Ripe(unit));
         }
@@ -22,6 +23,7 @@ impl SiteState {
             return Ok(Reply::Idle);
         };
         let mut prefix = Vec::new(self.alloc);
+        // (read before the unit is taken up: where memory runs out, it stays ready)
         self.ledger.table().prefix_into(unit, &mut prefix)?;
         let job = self.ledger.take_up(unit);
         Ok(Reply::Taken(job, Numbers::from_vec(prefix)))

@@ -104,7 +104,9 @@ impl Kind {
             && match self {
                 Kind::Hello => to.node == 0,
                 Kind::Members | Kind::Over => from.node == 0,
+                // (the registry does no work of its own, so it neither steals nor returns)
                 Kind::Steal | Kind::Return => from.node != 0,
+                // (the registry has one child, the root, and nobody gives the registry work)
                 Kind::GiveMany => from.node != 0 && to.node != 0,
                 _ => to.node != 0,
             }

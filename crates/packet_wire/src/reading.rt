@@ -105,6 +105,7 @@ fn header_at(bytes: &[u8]) -> Result<(Header, &[u8]), WireFault>
     let (kind, rest) = start_at(bytes)?;
     let (from, rest) = site_at(rest)?;
     let (to, rest) = site_at(rest)?;
+    // (refused here once, so that no step of a site has to ask who may send what)
     if !kind.is_routed(from, to) {
         return Err(WireFault::Field);
     }
@@ -126,6 +127,7 @@ fn option_at(bytes: &[u8]) -> Result<(u16, &[u8]), WireFault>
 fn options_of(alloc: Global, count: u16, bytes: &[u8]) -> Result<(Vec<u16>, &[u8]), WireFault>
     ensures { Gives (λ x. (x.0.items, x.1.now)) result (fields_at 2 is_option count bytes.now) }
 {
+    // (the callers have tested the count, so forged bytes get room for 1,000 options at most)
     let mut options = Vec::with_capacity(alloc, count as usize)?;
     let mut rest = bytes;
     for _ in 0..count {
@@ -227,6 +229,7 @@ fn next_serial_at(last: Option<u32>, bytes: &[u8]) -> Result<(u32, &[u8]), WireF
 fn sibling_at(last: Option<u32>, bytes: &[u8]) -> Result<(Sibling, &[u8]), WireFault>
     ensures { Gives (λ x. (x.0, x.1.now)) result (sibling_at last bytes.now) }
 {
+    // (serials rise, so no packet gives one child twice)
     let (serial, rest) = next_serial_at(last, bytes)?;
     let (attempt, rest) = counted_at(rest)?;
     let (option, rest) = option_at(rest)?;
@@ -408,6 +411,7 @@ fn whole_packet(alloc: Global, bytes: &[u8]) -> Result<Packet, WireFault>
     ensures { Gives (λ packet. packet) result (reading bytes.now) }
 {
     let (packet, rest) = packet_at(alloc, bytes)?;
+    // (else further bytes would make other spellings of the same packet)
     if !rest.is_empty() {
         return Err(WireFault::Trailing);
     }

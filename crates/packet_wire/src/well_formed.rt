@@ -41,6 +41,7 @@ fn is_site(site: Site) -> bool
 pub(crate) fn is_option(number: u16) -> bool
     ensures { result ≡ is_option number }
 {
+    // (the bound of all problems: bytes are read without one; a node tests a prefix, the registry a cover)
     usize::from(number) < MOST_OPTIONS
 }
 
@@ -90,6 +91,7 @@ fn are_incarnations(incarnations: &[u32]) -> bool
 fn is_child(serial: u32, attempt: Attempt) -> bool
     ensures { result ≡ is_child serial attempt }
 {
+    // (any serial may be, since only the owner knows which ones it has named)
     is_counted(attempt)
 }
 
@@ -99,6 +101,7 @@ fn is_result(told: &ChildResult) -> bool
 {
     match told {
         ChildResult::Empty => true,
+        // (every problem has a primary item, so a cover has an option)
         ChildResult::Cover(options) => are_options(1, options.as_slice()),
     }
 }

@@ -234,6 +234,7 @@ fn spelling_of(alloc: Global, packet: &Packet) -> Result<Vec<u8>, AllocError>
     requires { is_well_formed packet.now ≡ true }
     ensures { IfOk result (λ text. text.items ≡ spelling packet.now) }
 {
+    // (room for the longest packet, so none of the writes below takes memory)
     let mut text = Vec::with_capacity(alloc, MOST_BYTES)?;
     write_header(&mut text, Kind::of(&packet.body), packet.from, packet.to)?;
     write_body(&mut text, &packet.body)?;
@@ -258,6 +259,7 @@ pub fn write_packet(alloc: Global, packet: &Packet, out: &mut Vec<u8>) -> Result
     ensures written { OnOk result (out.new.items ≡ out.old.items ++ spelling packet.now) }
     ensures kept { OnErr result (out.new.items ≡ out.old.items) }
 {
+    // (written apart, so that the caller's list never gets part of a packet)
     let text = spelling_of(alloc, packet)?;
     out.extend_from_slice(&text)
 }

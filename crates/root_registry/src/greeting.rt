@@ -49,6 +49,7 @@ fn send_members(state: &SiteState, from: Site, out: &mut Outgoing) -> Result<(),
     let _table = ledger.table();
     let later = raised_runs(state.allocator(), ledger.runs(), from)?;
     let incarnations = Incarnations::from_vec(later);
+    // (a copy, since the same numbers also address the packets)
     let body = Body::Members(incarnations.copy()?);
     send_to_each(state.site(), &body, incarnations.as_slice(), out)
 }
@@ -72,7 +73,9 @@ pub(crate) fn receive_hello(
     if !state.ledger().may_learn_hello(from) {
         return Err(ActFault::NamesSpent);
     }
+    // (also to nodes that know it already: nothing else repeats a Members that was lost)
     send_members(state, from, out)?;
+    // (tested above, and without memory, so it can't fail once the packets are out)
     state.learn_hello(from)?;
     Ok(Reply::Moved)
 }

@@ -12,6 +12,7 @@ use std::marker::Model;
 #[derive(Drop)]
 pub(crate) struct Publication<'a> {
     problem: &'a Problem,
+    // (kept beside the root's result: file order takes memory, and a look at the answer must not fail)
     answer: Option<Answer>,
 }
 

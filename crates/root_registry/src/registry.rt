@@ -101,6 +101,7 @@ impl<'a> Core for Registry<'a> {
     }
 
     fn answer(&mut self, event: Event, out: &mut Outgoing) -> Result<Reply, ActFault> {
+        // (laws, for the type's invariant: the view stays formed, and what is published is the root's result)
         the_registry_stays_formed();
         the_root_has_what_enters();
         answer_event(&mut self.state, &mut self.publication, event, out)
@@ -196,6 +197,7 @@ fn hear(
             };
             receive_return(state, publication, from, returned, out)
         }
+        // (no other packet for the registry has a spelling)
         _ => unreachable!(),
     }
 }

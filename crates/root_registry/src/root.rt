@@ -110,6 +110,7 @@ pub(crate) fn receive_return(
         attempt,
         result: child_result,
     } = returned;
+    // (only a result that would enter is counted: a repeat costs no test of its cover)
     if !is_awaited(state, from, serial, attempt) {
         return state.receive_return(from, serial, attempt, child_result, out);
     }
@@ -130,6 +131,7 @@ pub(crate) fn receive_return(
         },
     })?;
     send_over(state, out)?;
+    // (all memory is taken by now, so the result enters and is published, or neither)
     state.enter(serial, child_result);
     publication.publish(answer);
     Ok(Reply::Moved)

@@ -16,6 +16,7 @@ use std::alloc::Global;
 pub fn new_root(alloc: Global) -> Child
     ensures { result ≡ root_child }
 {
+    // (an empty list takes no memory; the root's ghost prefix has to be made from some list)
     let empty = Numbers::from_vec(Vec::new(alloc));
     Child {
         parent: None,

@@ -49,11 +49,14 @@ impl Table {
         ensures err { OnErr result (self.new ≡ self.old) }
     {
         let first = self.own.len();
+        // (no table names more than its limit; tested before memory is taken, so that too few names are reported even where it runs out)
         if options.len() > self.names_limit as usize - first {
             return Err(SpawnFault::NamesSpent);
         }
         let path = self.path(unit);
+        // (the only call that can fail, so it comes before the unit changes)
         self.own.append(unit, &path, options)?;
+        // (neither number is above the limit on names, which is a u32)
         let first = first as u32;
         let count = options.len() as u32;
         split_unit(&mut self.own, &mut self.guests, unit, first, count);

@@ -1,6 +1,7 @@
 use crate::unit::Unit;
 use crate::work::Work;
 
+// (one option in place of a list: a split copies no prefix, and a child's is read by steps from parent to parent)
 /// An own child of a site. Its prefix is the one of its parent, and its own option behind it.
 #[derive(Drop)]
 pub struct Child {

@@ -79,6 +79,7 @@ impl Children {
     {
         let index = serial as usize;
         if index < self.count {
+            // (each page is full before the next one has a child, so these two numbers find it)
             Some(&self.pages[index / PAGE].as_slice()[index % PAGE])
         } else {
             None
@@ -109,6 +110,7 @@ impl Children {
         ensures err { OnErr result (self.new ≡ self.old) }
     {
         let end = (self.count + options.len()).div_ceil(PAGE);
+        // (pages that were made before memory ran out stay: they have no child, and a later split fills them)
         add_pages(self.alloc, &mut self.pages, end)?;
         push_children(&mut self.pages, self.count, unit, path, options);
         self.count += options.len();

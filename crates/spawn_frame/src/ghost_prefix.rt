@@ -15,6 +15,7 @@ pub struct GhostPrefix {
 }
 
 impl Model for GhostPrefix {
+    // (ghost data needs this line, which says that a path owns nothing)
     ghost also_owns = { λ _. ftrue };
 }
 

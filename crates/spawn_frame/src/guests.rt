@@ -23,6 +23,7 @@ use std::marker::Model;
 /// that ended.
 #[derive(Drop)]
 pub struct Guests {
+    // (a guest that ended stays, so that its Give is ignored when it comes once more)
     items: Vec<Guest>,
     /// The places of the open ones, ascending.
     places: Vec<usize>,
@@ -96,6 +97,7 @@ impl Guests {
         ensures ok { OnOk result (self.new ≡ insert self.old place guest) }
         ensures err { OnErr result (self.new ≡ self.old) }
     {
+        // (the room comes first, since it does no harm if the insert then fails)
         self.places.reserve(1)?;
         self.items.insert(place, guest)?;
         // There are no more guests than numbers of places, so each place may move on.
@@ -113,6 +115,7 @@ impl Guests {
         ensures err { OnErr result (self.new ≡ self.old) }
     {
         let count = gifts.len();
+        // (room for all, even for those that are there already: what follows can't fail, so all are admitted or none)
         self.items.reserve(count)?;
         self.places.reserve(count)?;
         put_gifts(&mut self.items, &mut self.places, from, gifts);
@@ -137,6 +140,7 @@ impl Guests {
         requires fits { first + count < 2 ^ 32 }
         ensures { self.new ≡ change_place (split_work first count) self.old place }
     {
+        // (a guest that is split stays open, so the places stay as they are)
         self.items[place].work.split(first, count);
     }
 
@@ -163,6 +167,7 @@ fn put_gifts(items: &mut Vec<Guest>, places: &mut Vec<usize>, from: Site, gifts:
     ensures open { places.new.items ≡ open_places items.new.items }
 {
     let mut left = gifts;
+    // (from the end, as the definition does; a pop also gives the gift away, so its prefix moves into the guest)
     while let Some(gift) = left.pop() {
         put_gift(items, places, from, gift);
     }

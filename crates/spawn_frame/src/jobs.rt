@@ -82,6 +82,7 @@ impl Table {
         ensures status { IfSome result (λ unit.
             has_status (wanted_status wanted) (unit_of self.now unit) ≡ true) }
     {
+        // (the newest child first, so that a site goes deep before it begins another guest)
         match self.own.last(wanted) {
             Some(unit) => Some(unit),
             None => self.guests.first(wanted),

@@ -69,6 +69,7 @@ impl Page {
         requires { length self.old < 256 }
         ensures { self.new ≡ self.old ++ child ∷ [] }
     {
+        // (a new child adds kinds and takes none away, so no pass is needed)
         self.kinds = self.kinds.with(&child);
         self.children.push_reserved(child);
     }
@@ -79,6 +80,7 @@ impl Page {
         ensures { self.new ≡ change_child (with_work_status status) self.old place }
     {
         self.children[place].work.status = status;
+        // (only a pass finds out whether another child is left of the kind that this one was)
         self.kinds = Kinds::of(&self.children);
     }
 

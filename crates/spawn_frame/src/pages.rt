@@ -63,6 +63,7 @@ pub fn last_in_pages(pages: &[Page], wanted: Wanted) -> Option<Unit>
         let page = &pages[number];
         if page.has(wanted) {
             let found = last_child(page.as_slice(), first_of(number), wanted);
+            // (always so: the kinds of a page say that it has one)
             if found.is_some() {
                 return found;
             }

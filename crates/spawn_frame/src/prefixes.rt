@@ -54,6 +54,7 @@ fn push_upwards(
     ensures kept { take (length list.old.items) list.new.items ≡ list.old.items }
 {
     let mut at = unit;
+    // (it ends: a parent was named before its child, so serials fall on the way up)
     'upwards: loop {
         match part_of(own, guests, at) {
             PrefixPart::Whole(options) => return push_backwards(options, list),

@@ -60,6 +60,7 @@ impl Table {
             Unit::Own(serial) => self.set_child_result(serial, child_result),
             Unit::Guest(..) => {
                 self.set_status(unit, Status::Finished(child_result));
+                // (a guest's parent is at its owner, so no frame here hears of it)
                 Heard::Open
             }
         }
@@ -76,6 +77,7 @@ impl Table {
             Some(child) => child.parent,
             None => unreachable!(),
         };
+        // (before the result moves into the child: the frame only looks at it, so no cover is copied)
         let heard = tell_parent(
             &mut self.own,
             &mut self.guests,

@@ -20,6 +20,7 @@ pub struct Sibling {
     pub option: u16,
 }
 
+// (no bare Vec: a contract sees that with its pointer and capacity, so no copy of it would be equal)
 /// Children of one parent, in the order in which they are given.
 #[derive(Debug, Drop)]
 pub struct Siblings {

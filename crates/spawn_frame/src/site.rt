@@ -6,6 +6,7 @@ pub const LAST_NODE: u8 = 16;
 /// The last attempt, after which no child is redone: the greatest number that a packet can tell.
 pub const LAST_ATTEMPT: Attempt = 4_294_967_295;
 
+// (the derived order compares fields from the first on: guests are sorted by node, incarnation and serial)
 /// One run of one node: each start of a node has a greater incarnation.
 #[derive(Clone, Copy, Debug, PartialEq, Eq, PartialOrd, Ord)]
 pub struct Site {

@@ -79,6 +79,7 @@ impl Status {
     pub fn is_open(&self) -> bool
         ensures { result ≡ is_open self.now }
     {
+        // (a finished guest is open, too: its owner may still refuse its result or abort it)
         matches!(
             self,
             Status::Ready | Status::Here | Status::Split | Status::Out(_) | Status::Finished(_)

@@ -69,6 +69,7 @@ impl Table {
         };
         Ok(Table {
             site,
+            // (the root is the registry's only child: nothing is ever split there)
             names_limit: 1,
             own,
             guests: Guests::new(alloc),

@@ -52,6 +52,7 @@ pub fn place_of(guests: &[Guest], name: ChildName, attempt: Attempt) -> Option<u
     if behind == 0 {
         return None;
     }
+    // (guests ascend without repeats: if it is there, it is the last one that isn't behind its own key)
     if guests[behind - 1].is_at(name, attempt) {
         Some(behind - 1)
     } else {
@@ -90,6 +91,7 @@ pub fn set_unit(own: &mut Children, guests: &mut Guests, unit: Unit, status: Sta
     ensures own { own.new ≡ own_after unit (with_work_status status) own.old }
     ensures guests { guests.new ≡ guests_after unit (with_work_status status) guests.old }
 {
+    // (each of these calls has its own match: for one that lends a `&mut` out of either list the prover has no form)
     match unit {
         Unit::Own(serial) => own.set_status(serial, status),
         Unit::Guest(name, attempt) => {

@@ -49,6 +49,7 @@ impl Work {
     {
         match wanted {
             Wanted::Ready => self.status.is_ready(),
+            // (the inlet stays settled after the frame has got its result, so the status is asked, too)
             Wanted::Ripe => self.status.is_split() && self.heard() == Heard::Settled,
             Wanted::Here => self.status.is_here(),
             Wanted::Out => self.status.is_out(),
@@ -77,6 +78,7 @@ impl Work {
         requires { self.old.attempt < last_attempt }
         ensures { self.new ≡ redone_work self.old }
     {
+        // (there is no inlet to reset: only a child that is out is redone, and it was never split)
         self.attempt += 1;
         self.status = Status::Ready;
     }

@@ -123,6 +123,7 @@ impl Ledger {
         }
         let reach = Descendants::below(self.alloc, &self.table, &[Unit::Guest(name, attempt)])?;
         list.reserve(reach.outs(&self.table))?;
+        // (nothing takes memory from here on: the guest and all below it end together or not at all)
         self.table.drop_guest(name, attempt);
         reach.abort(&mut self.table, list);
         Ok(true)

@@ -32,6 +32,7 @@ pub fn first_lost(table: &Table, known: &Known) -> Option<u32>
         if is_lost(table, known, serial) {
             return Some(serial);
         }
+        // (each serial is below the limit on names, which is a u32, so the sum fits)
         from = serial + 1;
     }
     None

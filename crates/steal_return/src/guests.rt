@@ -30,6 +30,7 @@ pub fn lost_guests(alloc: Global, table: &Table, known: &Known) -> Result<Vec<Un
 fn is_lost(known: &Known, guest: GuestView<'_>) -> bool
     ensures { result ≡ is_lost known.now (seen_guest guest.entry) }
 {
+    // (on this walk each guest is open; the definition is of any guest)
     known.is_older(guest.name.site) && guest.status.is_open()
 }
 

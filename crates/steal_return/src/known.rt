@@ -43,6 +43,7 @@ impl Known {
     pub fn nodes(&self) -> u8
         ensures { length self.now ≡ suc result }
     {
+        // (the registry's run is always there, and at most 16 others)
         (self.runs.len() - 1) as u8
     }
 
@@ -78,6 +79,7 @@ impl Known {
     {
         let known = self.as_slice();
         let node = site.node as usize;
+        // (one entry, not the whole new list: this has to be answered where memory was refused, too)
         node < known.len() && site.incarnation < run_after(known, told, node)
     }
 
@@ -126,6 +128,7 @@ fn later_run(known: &[u32], own: u8, incarnations: &[u32], node: usize) -> u32
     ensures { result ≡ slice_index (now_known own known.now incarnations.now) node }
 {
     let before = known[node];
+    // (the registry never restarts, and a site ignores its own entry)
     if node == 0 || node == own as usize {
         return before;
     }
@@ -139,6 +142,7 @@ fn later_run(known: &[u32], own: u8, incarnations: &[u32], node: usize) -> u32
 fn later_of(first: u32, second: u32) -> u32
     ensures { result ≡ max first second }
 {
+    // (packets come late and out of order: an earlier incarnation lowers nothing)
     first.max(second)
 }
 

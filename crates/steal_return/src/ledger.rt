@@ -180,10 +180,13 @@ impl Ledger {
         ensures err { OnErr result (self.new ≡ self.old) }
         ensures list { OnErr result (list.new.items ≡ list.old.items) }
     {
+        // (a copy: the child keeps its cover, with which a Return that comes once more is answered)
         let came = self.frame_result(unit)?;
         let reach = Descendants::below(self.alloc, &self.table, &[unit])?;
         list.reserve(reach.outs(&self.table))?;
+        // (whether the parent's frame is settled now isn't asked: the next Take looks for settled frames)
         self.table.set_result(unit, came);
+        // (a law: no parent has changed, so what was found below the unit is still below it)
         parents_decide();
         reach.abort(&mut self.table, list);
         Ok(())

@@ -60,11 +60,13 @@ impl Ledger {
         }
         let known = self.known.learnt(own, incarnations)?;
         let lost = lost_guests(self.alloc, &self.table, &known)?;
+        // (a Members of runs that are all known costs no more than these looks)
         if !self.differs(&known, &lost) {
             return Ok(false);
         }
         let reach = Descendants::below(self.alloc, &self.table, &lost)?;
         list.reserve(reach.outs(&self.table))?;
+        // (before the aborts: a child whose thief is gone is ready by then, so no Abort goes to that thief)
         redo_lost(&mut self.table, &known);
         drop_guests(&mut self.table, &lost);
         parents_decide();
@@ -97,6 +99,7 @@ impl Ledger {
         if !is_redoable(&self.table, &self.known, Told::Hello(from)) {
             return Err(LearnFault::NamesSpent);
         }
+        // (before the redos, which go by what is known now: a greeting that comes late redoes nothing)
         self.known.raise(from.node, from.incarnation);
         redo_lost(&mut self.table, &self.known);
         Ok(())

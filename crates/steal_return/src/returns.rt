@@ -27,6 +27,7 @@ impl Ledger {
         }
         match view.status {
             Status::Aborted => Judged::Refuses(Cause::Aborted),
+            // (whoever returns what, at any attempt that there was: so all thieves of a child settle on one result)
             Status::Done(held) => Judged::Holds(held),
             Status::Out(thief) if *thief == from && view.attempt == attempt => Judged::Enters,
             _ => Judged::Refuses(Cause::Superseded),
@@ -63,6 +64,7 @@ impl Ledger {
         match self.judge(from, serial, attempt) {
             Judged::Enters => {
                 let accepted = child_result.copy()?;
+                // (both copies are made before the result enters, so a refusal of memory leaves the child out)
                 self.enter(serial, child_result.copy()?);
                 Ok(ReturnReply::Accept(accepted))
             }

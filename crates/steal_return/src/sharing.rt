@@ -9,6 +9,7 @@ ghost use Rattle.steal_return.specs.Steals.{first_ready};
 use arrayvec::ArrayVec;
 use spawn_frame::{MOST_SIBLINGS, Table, Unit};
 
+// (half of 15, rounded up, is eight, the most that one packet gives: a look at more ready children is of no use)
 /// No share is larger than that of so many ready children.
 pub const MOST_READY: usize = 2 * MOST_SIBLINGS - 1;
 
@@ -52,6 +53,7 @@ fn share_of(count: usize) -> usize
     requires { count < 16 }
     ensures { result ≡ share_of count }
 {
+    // (rounded up, so that a single ready child is given, too)
     (count + 1) / 2
 }
 
@@ -63,6 +65,7 @@ fn ready_below(table: &Table, parent: Unit, least: u32) -> ArrayVec<u32, MOST_RE
 {
     let siblings = table.children(parent);
     let mut ready = ArrayVec::new();
+    // (this one is the least ready child of all, so none of its siblings before it is ready)
     let mut serial = least;
     while serial < siblings.end && ready.len() < MOST_READY {
         if is_ready(table, serial) {

@@ -26,6 +26,7 @@ impl Ledger {
     pub fn ready_child(&self, thief: Site) -> Option<u32>
         ensures { MatchOption result (GivesNothing self.now thief) (MayGive self.now thief) }
     {
+        // (that run of the thief is gone: a child that it gets would only have to be redone)
         if self.known.is_older(thief) {
             return None;
         }
@@ -53,6 +54,7 @@ impl Ledger {
     {
         let first = serials[0];
         match self.table.parent(first) {
+            // (a GiveMany has two children at least, and the root has no parent)
             Some(parent) if 1 < serials.len() => self.several(parent, serials),
             _ => {
                 let gift = self.gift(first)?;
