@@ -40,6 +40,7 @@ impl<S: Source> Remembered<S> {
     fn keep(&mut self, bytes: &[u8])
         ensures { self.new.inner ≡ self.old.inner }
     {
+        // (two tests, since a sum might overflow; the text may pass the bound by its last piece)
         let fits = self.text.len() <= MOST && bytes.len() <= MOST;
         self.is_whole = self.is_whole && fits && self.text.extend_from_slice(bytes).is_ok();
     }
@@ -50,6 +51,7 @@ impl<S: Source> Remembered<S> {
         if status != 3 || !self.is_whole {
             return;
         }
+        // (read once more, as the status doesn't show which fault it was)
         let Err(ReadFault::UnknownItem(line)) = read_problem(self.alloc, &self.text) else {
             return;
         };
@@ -70,6 +72,7 @@ impl<S: Source> Read for Remembered<S> {
     ghost remaining = { λ s. S.remaining s.inner };
 
     fn read(&mut self, buf: &mut [u8]) -> io::Result<usize> {
+        // (nothing is kept here: a source has this call only by its trait, and is read by fetch alone)
         self.inner.read(buf)
     }
 }
