@@ -40,7 +40,6 @@ impl<S: Source> Remembered<S> {
     fn keep(&mut self, bytes: &[u8])
         ensures { self.new.inner ≡ self.old.inner }
     {
-        // (two tests, since a sum might overflow; the text may pass the bound by its last piece)
         let fits = self.text.len() <= MOST && bytes.len() <= MOST;
         self.is_whole = self.is_whole && fits && self.text.extend_from_slice(bytes).is_ok();
     }
