@@ -39,14 +39,17 @@ pub fn audit<J: Run>(alloc: Global, books: &[Book<J>]) -> Result<Clean, Unclean>
     ensures complete { OnOk result (AllHaveBooks books.now) }
     ensures cause { IfErr result (λ cause. IsCause books.now cause) }
 {
+    // (a law, empty at run time: any merge of all books is a run, so all that is left is to find one)
     merged_books_are_a_run();
     are_of_run(books);
+    // (first, as the other causes promise that no site lacks a book)
     if let Some(site) = missing_book(books) {
         return Err(Unclean::MissingBook(site));
     }
     let Ok(mut cursors) = vec![in alloc; 0usize; books.len()] else {
         return Err(Unclean::Memory);
     };
+    // (index and path save time alone: what they say is tested before an entry is taken)
     let Ok(index) = PacketIndex::new(alloc, books) else {
         return Err(Unclean::Memory);
     };

@@ -49,10 +49,12 @@ fn next<J: Run>(
     ensures some { IfSome result (λ k. (k < length books.now) × Takes books.now cursors.now k) }
     ensures none { IfNone result (IsStuck books.now cursors.now) }
 {
+    // (as many steps as the path has room for: on a longer one nobody could go on)
     for _ in 0..books.len() {
         let Some(k) = path.last(cursors) else {
             break;
         };
+        // (never so, but no contract of the path says it)
         if k >= books.len() {
             break;
         }
@@ -65,6 +67,7 @@ fn next<J: Run>(
         path.restart(k);
         return Some(k);
     }
+    // (an equal digest may hide a packet from the index, so a no of the index ends no merge)
     first_to_take(books, cursors, Evidence::AllBooks)
 }
 
@@ -81,6 +84,7 @@ fn awaited<J: Run>(
 {
     match spot_at(&books[k], cursors[k], index) {
         Some(spot) if spot.is_ahead(cursors) => Some(spot.awaited_book()),
+        // (no packet that the index knows holds the book up, so an earlier incarnation of its node may)
         _ => earlier_incarnation(books, cursors, books[k].site()),
     }
 }

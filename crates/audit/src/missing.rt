@@ -19,6 +19,7 @@ pub fn are_of_run<J: Run>(books: &[Book<J>])
     ensures { AllByRecursion (IsBook J.run) books.now }
 {
     for book in books {
+        // (a getter's clause is what brings in the invariant of the book's type)
         let _site = book.site();
     }
 }

@@ -80,6 +80,7 @@ impl PacketIndex {
     ) -> Result<(), AllocError> {
         for among in 0..packets.len() {
             if let Some(spot) = Spot::new(book, place, among) {
+                // (the first spot stays: a delivery may follow as soon as an equal packet was put out once)
                 self.spots.entry(digest(&packets[among]))?.or_insert(spot);
             }
         }
@@ -125,6 +126,7 @@ fn is_among<J: Run>(
 ) -> bool
     ensures { result ≡ true → PutOut books.now cursors.now packet.now }
 {
+    // (a spot has no contract, so its numbers are tested before they are used)
     if book >= books.len() || book >= cursors.len() || place >= cursors[book] {
         return false;
     }
@@ -138,6 +140,7 @@ fn is_among<J: Run>(
 
 /// A number that is mostly another for another packet of a run.
 fn digest(packet: &Packet) -> u64 {
+    // (prefixes and results are left out: sites, serial and attempt differ already from child to child)
     let sites = with_site(with_site(0, packet.from), packet.to);
     match &packet.body {
         Body::Hello => with_word(sites, 1),
@@ -207,5 +210,6 @@ fn with_all(sum: u64, words: &[u32]) -> u64 {
 
 /// The sum with one word more.
 fn with_word(sum: u64, word: u64) -> u64 {
+    // (an odd factor, 2^64 by the golden ratio, spreads numbers that are close; a digest loses nothing by what wraps)
     (sum.rotate_left(5) ^ word).wrapping_mul(0x9E37_79B9_7F4A_7C15)
 }

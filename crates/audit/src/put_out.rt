@@ -31,6 +31,7 @@ fn is_put_out_before(entries: &[Entry], end: usize, packet: &Packet) -> bool
     ensures { Decides result (IsPutOutBefore entries.now end packet.now) }
 {
     for place in 0..end {
+        // (never so of a cursor, which no requirement here says)
         if place >= entries.len() {
             return false;
         }

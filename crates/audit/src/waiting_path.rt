@@ -64,6 +64,7 @@ impl WaitingPath {
         self.length = 0;
         self.wait_for(Some(AwaitedBook {
             number,
+            // (no book waits for this one, so no count of merged entries takes it off)
             until: usize::MAX,
         }));
     }

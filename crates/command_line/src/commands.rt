@@ -131,6 +131,7 @@ fn with_two<'a>(
         (with_rule (app_of command.entry) (rule_of first.entry)) (rule_of second.entry)) }
     ensures local { IfOk result (λ grown. (out-Command grown).has_globals ≡ false) }
 {
+    // (two at a time: each further call in one chain doubles the time of its proof)
     command.arg(first)?.arg(second)
 }
 
@@ -305,6 +306,7 @@ pub fn value_error(
     message: &str,
 ) -> Result<Error, AllocError> {
     let called = format!(in alloc; "{program} {}", name_of(mode))?;
+    // (made by itself, since the whole command would report the usage of all subcommands)
     let mut command = command_of(alloc, mode)?.bin_name(&called)?;
     command.error(ErrorKind::ValueValidation, message)
 }

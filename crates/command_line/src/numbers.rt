@@ -46,6 +46,7 @@ pub fn nodes(inner: &ArgMatches<'_>) -> Option<u8>
         ⊥) }
 {
     let nodes = number_or(inner, "nodes", 4)?;
+    // (tested here, not by a range of clap's: the proof of a command with one is longer, and Settings asks for the bound anyway)
     if nodes == 0 || nodes > MOST_NODES {
         return None;
     }

@@ -67,6 +67,7 @@ fn answer_file<'a>(mode: Mode, inner: &ArgMatches<'a>) -> Option<Option<&'a str>
 fn is_set(inner: &ArgMatches<'_>, id: &str) -> bool
     ensures { IsFlag (first_value (found_of inner.now) id.now) result }
 {
+    // (clap keeps the value of a flag that is set as this word)
     matches!(inner.get_str(id), Some("true"))
 }
 
@@ -166,6 +167,7 @@ pub fn request<'a>(alloc: Global, words: &'a [&'a str]) -> Result<Request<'a>, S
     let Ok(mut command) = solver_command(alloc) else {
         return Err(SettingsFault::Memory);
     };
+    // (by reference: the command is still there to report an error of its own)
     let matches = match command.try_get_matches_from_mut(words) {
         Ok(matches) => matches,
         Err(error) => return Err(fault_of(error)),

@@ -83,6 +83,7 @@ impl<'a, E: Sink> State<'a, E> {
         }
         if finding.outcome() == Outcome::Barren {
             let part = self.estimate.part(finding.prefix());
+            // (what was redone for a restarted node counts twice, so the sum might pass the whole)
             self.share = self.share.saturating_add(part).min(TreeEstimate::WHOLE);
         }
     }
@@ -145,6 +146,7 @@ impl<'a, E: Sink, R: Wait + Clock> Gate for FollowedRun<'a, E, R> {
 
     fn recorded(&self, entries: u64, most: u64) {
         let percent = entries.saturating_mul(100) / most.max(1);
+        // (beside the lock, since each event of the threads of all nodes comes here)
         self.fullest.fetch_max(percent, Ordering::SeqCst);
     }
 

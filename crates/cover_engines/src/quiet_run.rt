@@ -62,6 +62,7 @@ impl<'a, R: Wait + Clock> Gate for QuietRun<'a, R> {
     fn finished(&self, is_answered: bool) {
         let mut state = self.state.lock(self.rt);
         if !is_answered {
+            // (asked now: the time that an audit takes after this is no time of the run)
             state.told = Some(state.reasons.told(self.rt));
         }
     }

@@ -34,6 +34,7 @@ impl Reasons {
     /// Why there is no answer, with what may give one: the limit of the run's time, or how the first site ended.
     pub(crate) fn told<C: Clock>(&self, clock: &C) -> &'static str {
         match self.first {
+            // (before the causes of sites: those that the limit ends would say that their turns are over)
             _ if self.is_late(clock) => "the time is over: try more --seconds",
             Some(reason) => reason,
             None => "nothing was published: try again, or alone",

@@ -15,9 +15,11 @@ pub fn links<R: Net>(rt: &R, alloc: Global, nodes: u8) -> io::Result<Vec<UdpLink
 {
     let count = usize::from(nodes) + 1;
     let sockets = sockets(rt, alloc, count)?;
+    // (shared by all links, so that no port is free for another process before the last of them is gone)
     let sockets = Arc::new(alloc, Sockets::new(alloc, sockets)?)?;
     let mut links = Vec::with_capacity(alloc, count)?;
     for site in 0..count {
+        // (no site has a number above that of the nodes, which has eight bits)
         links.push(UdpLink::new(Arc::try_clone(&sockets)?, site as u8))?;
     }
     Ok(links)

@@ -105,6 +105,7 @@ fn solve_within<
     };
     let run_plan = RunPlan {
         plan,
+        // (at most 100 by the type of the settings)
         restarts: settings.restarts as u8,
         limit: task.limit,
     };
@@ -112,6 +113,7 @@ fn solve_within<
     let Ok(end) = ran else {
         return Err(EngineFault::Memory);
     };
+    // (an answer is right whatever became of a site, so lack of memory is a fault only without one)
     if end.answer.is_none() && has_starved(&end.sites) {
         return Err(EngineFault::Memory);
     }
@@ -178,6 +180,7 @@ fn write_audited_run<
         result }
     ensures failed { result ≡ Err EngineFault.Write → W.failed sink.old < W.failed sink.new }
 {
+    // (a law, empty at run time: it ties the answer that is written to the books that are audited)
     a_book_tells_what_is_published();
     let problem = task.problem;
     let end: SolveEnd<J> = solve_within(rt, alloc, task, links, gate)?;
@@ -213,6 +216,7 @@ pub fn solve_problem<L: Link + Send, G: Gate + Sync, W: Sink, R: Threads + Wait 
     ensures failed { result ≡ Err EngineFault.Write → W.failed sink.old < W.failed sink.new }
 {
     if task.settings.audit {
+        // (a type names the run in the contracts of books and sites: here Brand gets the name of this one)
         return write_audited_run::<Brand, L, G, W, R>(rt, alloc, task, links, gate, sink);
     }
     write_run::<Brand, L, G, W, R>(rt, alloc, task, links, gate, sink)

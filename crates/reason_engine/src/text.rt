@@ -93,6 +93,7 @@ fn push_lines(
     ensures { OnOk result
         (text.new.items ≡ text.old.items ++ lines_text problem.now word.now amounts.now) }
 {
+    // (a problem has 1,000 items at most, so 16 bits hold each number)
     for item in 0..problem.items() as u16 {
         push_line(text, problem, word, amounts, item)?;
     }

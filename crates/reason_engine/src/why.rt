@@ -28,6 +28,7 @@ fn write_reason<W: Sink>(
         (W.contents sink.new) result }
     ensures failed { result ≡ Err EngineFault.Write → W.failed sink.old < W.failed sink.new }
 {
+    // (the whole text before its first byte is written, so that nothing is written if memory runs out)
     let Ok(text) = text_of(alloc, problem, reason) else {
         return Err(EngineFault::Memory);
     };

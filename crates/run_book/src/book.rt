@@ -78,6 +78,7 @@ impl<J: Run> Book<J> {
             answer ≡ published_by J.run.problem last) }
         ensures counts_right { IfOk result (λ answer. IfSome answer (CountsRight J.run.problem)) }
     {
+        // (two laws, empty at run time: their clauses are what `published` and `counts_right` rest on)
         a_book_tells_what_is_published();
         what_is_published_counts_right();
         match first_result(self.entries.as_slice()) {
@@ -131,6 +132,7 @@ fn first_result(entries: &[Entry]) -> Option<&ChildResult>
     ensures { option_map (λ told. told.now) result ≡ first_result entries.now }
 {
     for entry in entries {
+        // (the first is enough: each later Accept of the registry repeats the root's result, which is final)
         if let Some(told) = first_accepted(entry.packets()) {
             return Some(told);
         }

@@ -33,6 +33,7 @@ impl Model for CellParts {
 impl CellParts {
     /// A new table of receipts, and a new ledger of seats. The only error is out of memory.
     pub fn new(alloc: Global) -> Result<CellParts, AllocError> {
+        // (room for one is enough: nothing is ever put in, the queue is there for its passes)
         let (carrier, keeper) = Carrier::ruled(alloc, 1)?;
         Ok(CellParts {
             carrier,

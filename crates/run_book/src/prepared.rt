@@ -38,6 +38,7 @@ impl Prepared {
         ensures event { IfOk result (λ prepared. prepared.event ≡ event) }
         ensures back { IfErr result (λ back. back ≡ event) }
     {
+        // (the core takes the event itself, the book keeps one copy, and the other goes back to the caller, entered or refused)
         let Ok(kept) = event.copy() else {
             return Err(event);
         };
@@ -70,6 +71,7 @@ impl AnswerRoom {
     {
         let packets = packets_for(event);
         Ok(AnswerRoom {
+            // (taken before the core acts: what it did can't be undone, so nothing may fail behind it)
             prefix: Vec::with_capacity(alloc, numbers_for(event))?,
             packets: Vec::with_capacity(alloc, packets)?,
             copies: Vec::with_capacity(alloc, packets)?,

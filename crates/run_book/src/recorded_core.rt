@@ -148,12 +148,15 @@ impl<J: Run, C: Core + Drop, N: CellName> RecordedCore<J, C, N> {
             (Refuses J.run N.site N.limit C.refusal seat.old prepared.event)) }
     {
         let place = self.entries.len() as u64;
+        // (before any memory is taken: that the book is full is to be the answer where memory would be refused, too)
         if place >= self.limit {
             return Err((prepared.into_event(), BookFault::BookFull(place)));
         }
+        // (room before the core acts, or what it did would have no entry)
         if self.entries.reserve(1).is_err() {
             return Err((prepared.into_event(), BookFault::Memory));
         }
+        // (for its clause: no seat counts more than there are entries, as a refusal promises)
         self.seats.bound(seat);
         let Acted { entry, told } = act_on(&mut self.core, prepared)?;
         let entry = self.repeated.shared(entry);
@@ -181,6 +184,7 @@ impl<J: Run, C: Core + Drop, N: CellName> RecordedCore<J, C, N> {
         ensures back { IfErr result (λ back.
             (back.seats.items ≡ seats.items) × (back.receipts.items ≡ receipts.items)) }
     {
+        // (while all is still in one piece, so that it can go back as it came)
         if let Some(cause) = missing(self.seats.given(), seats.as_slice(), receipts.len()) {
             return Err(Unclosed {
                 recorded_core: self,
@@ -200,6 +204,7 @@ impl<J: Run, C: Core + Drop, N: CellName> RecordedCore<J, C, N> {
         } = self;
         all.close(seats);
         let mut register = register.take_back(receipts);
+        // (for its clause: no two receipts are at one place, and there are as many as entries, so none is missing)
         register.look();
         Ok(Book::new(site, entries))
     }
@@ -277,6 +282,7 @@ fn act_on<C: Core>(core: &mut C, prepared: Prepared) -> Result<Acted, (Event, Bo
         copies,
     } = match run(core, event, packets, copies) {
         Ok(done) => done,
+        // (the core has taken the event, so a copy of it goes back)
         Err(fault) => return Err((told, of_core(fault))),
     };
     *written = Step::of(kept, copied_reply(&reply, prefix), copies);
@@ -342,6 +348,7 @@ fn missing<N: CellName>(given: u64, seats: &[Seat<N>], receipts: usize) -> Optio
 fn counted<N: CellName>(seats: &[Seat<N>]) -> u128
     ensures { result ≡ sum seats.now }
 {
+    // (fewer than 2^64 counts, each below 2^64: their sum fits into 128 bits)
     let mut all = 0u128;
     for seat in seats {
         all += u128::from(seat.count());

@@ -129,6 +129,7 @@ impl<N: CellName> Register<N> {
         ensures log { self.new.log ≡ self.old.log ++ entry.now ∷ [] }
         ensures back { self.new.back ≡ self.old.back }
     {
+        // (a split of a pass has no argument for the entry, so a type names it, which this call picks)
         let token = ticket::<Brand>(&self.carrier, &mut self.keeper, entry);
         let Step {
             event,

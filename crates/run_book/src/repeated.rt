@@ -28,6 +28,7 @@ impl Repeated {
     pub fn shared(&mut self, entry: Entry) -> Entry
         ensures { result ≡ entry }
     {
+        // (its packets change with what is out, so it is compared with the last alone, and takes no place from idle steps)
         if entry.step().is_again() {
             return self.shared_again(entry);
         }
@@ -61,6 +62,7 @@ impl Repeated {
     {
         for known in &self.entries {
             if known.step().is_same(entry.step()) {
+                // (a step that can't have one owner more is not shared, which costs only memory)
                 return known.twin().ok();
             }
         }

@@ -121,6 +121,7 @@ impl<N: CellName> Seats<N> {
             given: _,
         } = self;
         let mut all = merged(rest, seats);
+        // (a share of all parts has all that was ever counted: this is where the ledger says so)
         book.audit(&mut all);
     }
 }

@@ -57,6 +57,7 @@ impl<J: Run, C: Core + Drop, N: CellName> SiteCell<J, C, N> {
         requires view { C.view core ≡ opening_of J.run N.site N.limit }
     {
         SiteCell {
+            // (neither ever changes, so both are beside the lock, and nobody waits to read them)
             site: core.site(),
             alloc: core.allocator(),
             lock: Mutex::new(RecordedCore::new(cell_parts, core, limit)),
@@ -97,9 +98,11 @@ impl<J: Run, C: Core + Drop, N: CellName> SiteCell<J, C, N> {
         ensures refusal { IfErr result (λ back. IfSome (fault_told back.1)
             (Refuses J.run N.site N.limit C.refusal seat.old event)) }
     {
+        // (copies are made before the lock is taken: no other thread waits for them)
         match Prepared::new(self.alloc, event) {
             Ok(prepared) => self.lock.lock(rt).act(seat, prepared),
             Err(event) => {
+                // (only the book knows whether it is full, which is the fault even where memory ran out)
                 let fault = self.lock.lock(rt).fault();
                 Err((event, fault))
             }

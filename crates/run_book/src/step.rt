@@ -106,6 +106,7 @@ fn are_same_events(event: &Event, other: &Event) -> bool
             true,
         (Event::Ask(node), Event::Ask(other)) => node == other,
         (Event::Deliver(packet), Event::Deliver(other)) => packet.is_same(other),
+        // (a wrong no only leaves a step unshared, so events that idle sites don't repeat aren't compared)
         _ => false,
     }
 }
@@ -114,6 +115,7 @@ fn are_same_events(event: &Event, other: &Event) -> bool
 fn are_same_replies(reply: &Reply, other: &Reply) -> bool
     ensures { IsTrue result → reply.now ≡ other.now }
 {
+    // (Taken and Ripe are no replies of idle steps, so steps with them are never compared)
     matches!(
         (reply, other),
         (Reply::Idle, Reply::Idle) | (Reply::Moved, Reply::Moved) | (Reply::Ignored, Reply::Ignored)

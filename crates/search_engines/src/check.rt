@@ -53,6 +53,7 @@ fn write_wrong<W: Sink>(
         (W.contents sink.new) result }
     ensures failed { result ≡ Err EngineFault.Write → W.failed sink.old < W.failed sink.new }
 {
+    // (the whole line before its first byte is written, so that nothing is written if memory runs out)
     match item_line(alloc, problem, wrong, item) {
         Ok(line) => write_line(&line, 1, sink),
         Err(_) => Err(EngineFault::Memory),
@@ -80,6 +81,7 @@ pub(crate) fn write_verdict<W: Sink>(
         Verdict::CoveredTwice(item) => {
             write_wrong(alloc, problem, b"wrong: CoveredTwice ", item, sink)
         }
+        // (the answer was read into options of the problem, each once, and the requirement above shows it to the prover)
         Verdict::NoSuchOption | Verdict::ChosenTwice => unreachable!(),
     }
 }

@@ -63,6 +63,7 @@ fn is_excluded(alloc: Global, problem: &Problem) -> bool
     ensures { result ≡ true → first problem.now [] ≡ None }
 {
     match find_reason(alloc, problem) {
+        // (for its clause, that a search finds nothing then: the finder has tested the reason already)
         Ok(Some(reason)) => holds_of(problem, &reason),
         _ => false,
     }
@@ -90,6 +91,7 @@ pub fn answer_until<V: Watch, C: Clock>(
     if is_excluded(alloc, problem) {
         return Ok(Some(Answer::NoCover));
     }
+    // (from the start once more: what the short search did is a tenth of a second, little beside what may follow)
     searched(alloc, &tables, watch)
 }
 

@@ -39,6 +39,7 @@ impl Forecast {
         if left == 0 {
             return None;
         }
+        // (no division by 0: parts are LEAST or more)
         let seconds = seconds.saturating_mul(left) / parts;
         Some(Forecast { seconds })
     }

@@ -54,6 +54,7 @@ pub fn problem_of(alloc: Global, text: &[u8]) -> Result<Read, EngineFault>
 {
     match read_problem(alloc, text) {
         Ok(read) => Ok(read),
+        // (no fault of the file, so the run ends with another status than a refusal)
         Err(ReadFault::Memory) => Err(EngineFault::Memory),
         Err(fault) => Err(EngineFault::File(fault)),
     }
@@ -151,6 +152,7 @@ pub fn read_given<R: Source, S: Source>(
     ensures unwritten { result ≢ Err EngineFault.Write }
 {
     let file = read_all(alloc, file)?;
+    // (before the first text is tested: a refusal then says that both could be read)
     let answer = read_all(alloc, answer)?;
     given_by(alloc, &file, &answer)
 }

@@ -63,6 +63,7 @@ impl<'a, E: Sink, C: Clock> Watch for ProgressWatch<'a, E, C> {
     ghost may_stop = { false };
 
     fn look(&mut self, chosen: &[u16], left: u64) -> bool {
+        // (first, since the estimate chooses all these options once more, which only a line is worth)
         let Some(seconds) = self.timer.due(self.clock, self.log.style()) else {
             return false;
         };

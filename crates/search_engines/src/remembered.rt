@@ -50,6 +50,7 @@ impl<S: Source> Remembered<S> {
         if status != 3 || !self.is_whole {
             return;
         }
+        // (read once more, as the status doesn't show which fault it was)
         let Err(ReadFault::UnknownItem(line)) = read_problem(self.alloc, &self.text) else {
             return;
         };
@@ -70,6 +71,7 @@ impl<S: Source> Read for Remembered<S> {
     ghost remaining = { λ s. S.remaining s.inner };
 
     fn read(&mut self, buf: &mut [u8]) -> io::Result<usize> {
+        // (nothing is kept here: a source has this call only by its trait, and is read by fetch alone)
         self.inner.read(buf)
     }
 }

@@ -66,6 +66,7 @@ impl<'a> TreeEstimate<'a> {
     /// Chooses these options, up to the first that is no child of those before it, and returns the part of the tree below them. What
     /// comes before one of the first options, as many as the length says, isn't counted.
     fn span(&mut self, length: usize, chosen: &[u16]) -> Span {
+        // (the links of the last call are emptied, not built once more, which would take memory)
         choose_prefix(&mut self.links, &[]);
         let mut span = Span {
             before: 0,
@@ -77,6 +78,7 @@ impl<'a> TreeEstimate<'a> {
             };
             span.part /= rank.children;
             if depth >= length {
+                // (fewer children come before than there are, so this is less than the part of the parent)
                 let before = span.part.saturating_mul(rank.before);
                 span.before = span.before.saturating_add(before);
             }
@@ -91,12 +93,14 @@ impl<'a> TreeEstimate<'a> {
         let item = self.links.branch_item()?;
         let before = count_before(&self.links, item, option)?;
         let children = self.links.count(item) as u64;
+        // (never so, as it was just met among the live options; choose asks for both, and the walk shows neither to the prover)
         if usize::from(option) >= self.links.problem().options() || !self.links.is_live(option) {
             return None;
         }
         self.links.choose(option);
         Some(ChildRank {
             before,
+            // (never 0, as the option is among them; the prover has it from here)
             children: children.max(1),
         })
     }

@@ -60,6 +60,7 @@ fn fueled_answer<V: Watch>(
     match searcher.find_until(Vec::new(alloc), fuel, watch) {
         Ok(Some((finding, _visits))) => found_answer(alloc, problem, &finding),
         Ok(None) => Ok(None),
+        // (the prefix comes back for a caller that tries again; here the search ends)
         Err(_prefix) => Err(AllocError),
     }
 }
@@ -146,6 +147,7 @@ fn write_limited<V: EndWatch, W: Sink, C: Clock>(
         (W.contents sink.old) (W.contents sink.new) result }
     ensures failed { result ≡ Err EngineFault.Write → W.failed sink.old < W.failed sink.new }
 {
+    // (two ways: without a limit of time the watch stops nothing, so the contract names the one text that is written)
     match &limits.time {
         Some(_) => write_given(clock, alloc, problem, limits, watch, sink),
         None => write_whole(clock, alloc, problem, limits.fuel, watch, sink),
@@ -178,6 +180,7 @@ pub fn alone_within<R: Source, W: Sink, E: Sink, C: Clock>(
     ensures write_fault { result ≡ Err EngineFault.Write → W.failed sink.old < W.failed sink.new }
 {
     let read = read_whole(alloc, source)?;
+    // (a search without a limit counts down from the greatest number, from which the log takes its visits)
     let fuel = limits.fuel.unwrap_or(u64::MAX);
     let Ok(mut watch) = ProgressWatch::new(clock, alloc, &read.problem, fuel, log) else {
         return Err(EngineFault::Memory);

@@ -105,6 +105,7 @@ impl Timer {
     fn is_over<R: Clock>(&self, rt: &R) -> bool {
         match self.began.elapsed(rt) {
             Ok(elapsed) => elapsed >= self.limit,
+            // (else a run that was to be limited would have no limit)
             Err(_) => true,
         }
     }

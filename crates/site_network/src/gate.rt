@@ -130,11 +130,14 @@ impl<'a, G: Gate> Watch for SearchWatch<'a, G> {
     ghost may_stop = { true };
 
     fn look(&mut self, chosen: &[u16], left: u64) -> bool {
+        // (stopped by its quota, not by its site: what it came to so far is posted, so is_over stays as it is)
         if self.is_at_limit(left) {
             return true;
         }
+        // (a search that keeps no states never calls made: all its visits are in the fuel that is gone)
         let visits = self.made.saturating_add(self.left.saturating_sub(left));
         self.gate.seen(self.length, chosen, visits);
+        // (nothing else is read by this flag, and one look more does no harm, so it needs no order)
         self.is_over = self.over.load(Ordering::Relaxed);
         self.is_over
     }

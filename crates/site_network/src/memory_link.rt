@@ -31,6 +31,7 @@ impl Wires {
         let Some(queue) = self.queues.get(usize::from(to)) else {
             return false;
         };
+        // (copied before the queue is locked, so that no receiver waits for the copy)
         match Vec::from_slice(self.alloc, bytes) {
             Ok(copy) => queue.lock(rt).push_back(copy).is_ok(),
             Err(_) => false,
@@ -81,9 +82,11 @@ impl Link for MemoryLink {
 
     fn receive<R: Wait>(&mut self, rt: &R, into: &mut [u8]) -> Result<Option<usize>, LinkFault> {
         let Some(datagram) = self.wires.take(rt, self.site) else {
+            // (nothing waits here, so an empty receive gives the processor to a thread that may send)
             thread::yield_now();
             return Ok(None);
         };
+        // (what doesn't fit is cut off, as a socket does)
         let bytes = datagram.len().min(into.len());
         into[..bytes].copy_from_slice(&datagram[..bytes]);
         Ok(Some(bytes))

@@ -75,6 +75,7 @@ impl Pace {
     pub fn fuel(&mut self, length: usize, is_hungry: bool) -> u64
         ensures { 1 ≤ result }
     {
+        // (the empty prefix is the only job at first: until it is split all other workers wait)
         if self.base == 1 || (length == 0 && !self.alone) {
             return self.base.max(1);
         }
@@ -84,11 +85,13 @@ impl Pace {
         if is_hungry || self.is_too_long(length) || self.is_wary {
             return self.small();
         }
+        // (searches of one length differ, and one that is spent is lost: so it gets far more than it is thought to take)
         self.plenty().saturating_mul(8).max(1)
     }
 
     /// The quota of a search of a prefix of this length that keeps states, where one that keeps none has so many visits.
     pub fn quota(&self, length: usize, visits: u64) -> Quota {
+        // (a small job is there to be split, so its quota doesn't grow, however much its states save)
         if self.base == 1 || visits <= self.small() {
             return Quota {
                 visits,
@@ -113,6 +116,7 @@ impl Pace {
         let small = self.small();
         match outcome {
             Outcome::Barren => self.is_wary = false,
+            // (a small job that is spent says nothing of how long its search is)
             Outcome::Spent if visits > small => self.is_wary = true,
             Outcome::Cover | Outcome::Spent => {}
         }
@@ -152,6 +156,7 @@ impl Pace {
             .flatten();
         match self.expected.get_mut(length) {
             Some(Some(expected)) if *expected > plenty => {
+                // (divided first, so that no product can leave 64 bits)
                 *expected = *expected / 10 * 9;
                 true
             }

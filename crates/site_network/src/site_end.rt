@@ -38,6 +38,7 @@ impl SiteEnd {
             EndCause::Over => node == 0,
             EndCause::Memory => true,
             EndCause::BookFull | EndCause::Faults | EndCause::Silence | EndCause::Turns => {
+                // (a node that lacked threads has taken no work, so the others lose nothing with it)
                 node == 0 || self.is_manned
             }
         }

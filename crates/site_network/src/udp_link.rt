@@ -80,6 +80,7 @@ fn empty(socket: &UdpSocket) -> io::Result<()> {
 /// Takes out what a socket that doesn't block has received: no more than can wait there, so that a flood holds nobody up.
 fn take_out(socket: &UdpSocket) -> io::Result<()> {
     for _ in 0..MOST_WAITING {
+        // (room for one byte: nobody reads these datagrams, and the system drops what doesn't fit)
         match socket.recv_from(&mut [0]) {
             Err(error) if error.kind() == ErrorKind::WouldBlock => break,
             Err(error) if error.kind() != ErrorKind::Interrupted => return Err(error),
@@ -163,6 +164,7 @@ impl Link for UdpLink {
         match self.received(into) {
             Ok(bytes) => Ok(Some(bytes)),
             Err(error) => match error.kind() {
+                // (a receive that timed out is either of the first two, by the system; a signal only ends the wait sooner)
                 ErrorKind::WouldBlock | ErrorKind::TimedOut | ErrorKind::Interrupted => Ok(None),
                 _ => Err(self.fail()),
             },

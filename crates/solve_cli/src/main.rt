@@ -90,6 +90,7 @@ fn line_style(rt: &HostRuntime, is_followed: bool) -> LineStyle {
 /// Runs `alone` on a file, and returns the exit status.
 fn run_alone(rt: &HostRuntime, request: &Request<'_>) -> u8 {
     let mut errors = CountedWriter::new(rt.stderr());
+    // (the time counts from here, so opening and reading the file is part of it)
     let limits = limits_of(rt, request);
     let mut source = match open(rt, request.settings.file) {
         Ok(source) => source,
@@ -123,6 +124,7 @@ fn run_check(rt: &HostRuntime, request: &Request<'_>) -> u8
 {
     let settings = &request.settings;
     let mut errors = CountedWriter::new(rt.stderr());
+    // (settings for a check can't be made without an answer's file, and the prover knows that by their type)
     let Some(answer_name) = settings.answer else {
         unreachable!()
     };
@@ -161,6 +163,7 @@ fn check_inputs(
 {
     let mut sink = CountedWriter::new(rt.stdout());
     let (alloc, fuel) = (rt.alloc(), request.settings.fuel);
+    // (three engines: only one with a limit of time may write no answer at any moment, so the contracts of the others say more)
     if limits.time.is_some() {
         check_within(rt, alloc, limits, file, answer, &mut sink)
     } else if request.unlimited {

@@ -72,6 +72,7 @@ impl<'a, J: Run, C: Core + Drop, N: CellName, G: Gate> Actor<'a, J, C, N, G> {
     fn signal(&self, step: &Step, stirs: bool) {
         let signals = self.shared.signals;
         let reply = step.reply();
+        // (where nothing moved, a look at the core would only be one entry more in the book)
         if stirs && matches!(reply, Reply::Moved) {
             signals.stir();
         }
@@ -98,7 +99,9 @@ impl<'a, J: Run, C: Core + Drop, N: CellName, G: Gate> Actor<'a, J, C, N, G> {
             Ok(parcel) => self.shared.outbox.put(rt, &mut self.pass, parcel).is_ok(),
             Err(AllocError) => false,
         };
+        // (also if the outbox was full: then there is most to send)
         self.shared.signals.rouse();
+        // (to the protocol it is a packet that was lost on its way, so the event isn't undone)
         if !is_put {
             self.losses = self.losses.saturating_add(1);
         }

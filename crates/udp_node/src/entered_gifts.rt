@@ -41,6 +41,7 @@ impl EnteredGifts {
 
     /// Whether the packet brings this site only what it has entered.
     pub fn has_all(&self, here: Site, packet: &Packet) -> bool {
+        // (the keys below lack the receiver: a packet to another incarnation goes on to the core, which refuses it)
         if packet.to != here {
             return false;
         }
@@ -106,6 +107,7 @@ impl EnteredGifts {
             let _ = self.gifts.push(gift);
             return;
         }
+        // (always there: oldest is below MOST, and so many gifts are kept by now)
         if let Some(place) = self.gifts.get_mut(self.oldest) {
             *place = gift;
         }

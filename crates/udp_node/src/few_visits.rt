@@ -24,6 +24,7 @@ impl Watch for FewVisits {
     }
 
     fn wait(&self) -> u64 {
+        // (a watch that names no number is asked only after 1,024 visits, four times what CLIMB allows)
         self.left
     }
 

@@ -116,6 +116,7 @@ fn work<J: Run, C: Core + Drop, N: CellName, G: Gate, R: Wait + Clock>(
     left: &mut Limits,
 ) -> EndCause {
     let shared = actor.shared;
+    // (a thread that is only started once the others have ended must not count as begun, or the site would seem manned)
     if shared.is_over(rt) {
         return EndCause::Turns;
     }
@@ -125,6 +126,7 @@ fn work<J: Run, C: Core + Drop, N: CellName, G: Gate, R: Wait + Clock>(
     match Worker::new(shared.alloc, shared.tables, shared.plan, node, number) {
         Ok(mut worker) => {
             let cause = take_turns(rt, actor, &mut worker, left);
+            // (the others may have left all jobs to this worker, which does none from here on)
             shared.signals.work_together(number);
             cause
         }
@@ -139,6 +141,7 @@ fn take_turns<'a, J: Run, C: Core + Drop, N: CellName, G: Gate, R: Wait + Clock>
     worker: &mut Worker<'a, J>,
     left: &mut Limits,
 ) -> EndCause {
+    // (a range in place of a loop without end, so that the prover sees it end; the limits end it long before)
     for _turn in 0..u64::MAX {
         if left.is_spent() {
             break;
@@ -273,12 +276,14 @@ pub(crate) fn run_threads<
         ending,
         alloc,
     } = context;
+    // (one handle to send by and one to receive by, so that neither thread waits for the other)
     let (Ok((outbox, drain)), Ok(twin)) = (Outbox::new(alloc), link.twin()) else {
         return NodeEnd::starved(alloc);
     };
     let Ok(exchange) = Exchange::new(alloc, plan.workers) else {
         return NodeEnd::starved(alloc);
     };
+    // (the one more is the thread that receives; the one that sends puts nothing into the outbox)
     let signals = Signals::new(u64::from(plan.workers) + 1, plan.workers > 0);
     let shared = Shared {
         cell,
@@ -328,6 +333,7 @@ impl<'a, J: Run, C: Core + Drop, N: CellName, L: Link, G: Gate> Crew<'a, J, C, N
     ) -> Result<Crew<'a, J, C, N, L, G>, AllocError>
         ensures { IfOk result (λ crew. crew.workers ≡ workers) }
     {
+        // (taken before a thread acts: later a refusal would lose seats, and with them the site's book)
         let seats = Vec::with_capacity(shared.alloc, usize::from(workers) + 1)?;
         let threads = threads_for(rt, shared, twin, workers)?;
         Ok(Crew {
@@ -373,9 +379,11 @@ fn run_acting<
     ensures { vec_len threads.new ≡ vec_len threads.old }
 {
     let count = threads.len();
+    // (never so, as a crew has a thread that receives; the call below asks for one thread at least)
     if count == 0 {
         return;
     }
+    // (the threads stay where they are and no list of results is made, so that no seat is lost where memory runs out)
     thread::for_each_mut(
         rt,
         threads.as_mut_slice(),

@@ -61,6 +61,7 @@ impl<N: CellName> NodeEnd<N> {
         let Some(many) = receipts_of(&self.seats) else {
             return Err(self);
         };
+        // (both lists before anything is taken apart, so that the end can come back whole)
         let (Ok(seats), Ok(tokens)) = (
             Vec::with_capacity(alloc, self.seats.len()),
             Vec::with_capacity(alloc, many),

@@ -100,10 +100,12 @@ impl<L: Link> Receiver<L> {
         }
         // (a packet that brings nothing new puts off neither greetings, which the registry answers, nor the end of a site that has lost it)
         let number = number.saturating_sub(self.repeats);
+        // (while only repeats come the number stays the same, and one greeting is enough for it)
         let is_due = number % GREETING == 0 && self.greeted != Some(number);
         if !is_due || actor.shared.cell.site().node == 0 {
             return self.receive(rt, actor);
         }
+        // (while workers search nothing else may be sent for long, and after a long silence registry and nodes give up)
         self.greeted = Some(number);
         match after(actor.act(rt, Event::Greet)) {
             Turn::Used | Turn::Waited => self.receive(rt, actor),
@@ -151,12 +153,14 @@ impl<L: Link> Receiver<L> {
         }
         let packet = match read_packet(actor.shared.alloc, bytes) {
             Ok(packet) => packet,
+            // (the packet is lost, as it may be on its way: what needs an answer is said again)
             Err(WireFault::Memory) => return Turn::Starved,
             Err(_) => return self.dropped(rt, actor),
         };
         let site = actor.shared.cell.site();
         let here = site.node;
         let goes_on = here == 0 || packet.from.node == 0;
+        // (99 in 100 packets of a long run: each would be an entry of the book and a turn of two threads)
         if self.entered.has_all(site, &packet) {
             return self.repeated(rt, actor, goes_on);
         }
@@ -166,12 +170,14 @@ impl<L: Link> Receiver<L> {
             Ok(step) => step,
             Err(back) => return after_refusal(back.1),
         };
+        // (noted only once it is entered: a packet that was refused has to be delivered when it is repeated)
         if let Event::Deliver(packet) = step.event() {
             self.entered.note(packet);
         }
         if is_end {
             return Turn::Ended(EndCause::Over);
         }
+        // (from here on only the end is announced, and receives of 4 to 8 milliseconds each would draw it out)
         if !self.over && here == 0 && tells_end(step.packets()) {
             self.over = true;
             self.link.hasten();
@@ -256,6 +262,7 @@ impl<L: Link> Receiver<L> {
         actor: &mut Actor<'_, J, C, N, G>,
         is_over: bool,
     ) -> Turn {
+        // (longer at the end, when the socket itself doesn't wait)
         let nap = if self.over { LAST_NAP } else { NAP };
         thread::sleep(rt, Duration::from_micros(nap));
         self.listen(false);
@@ -276,6 +283,7 @@ impl<L: Link> Receiver<L> {
         shared: &Shared<'_, J, C, N, G>,
         is_over: bool,
     ) -> Option<EndCause> {
+        // (the registry has no workers, so its one thread that acts is alone from the start)
         let is_deserted = shared.cell.site().node != 0 && shared.signals.is_deserted();
         if is_over || is_deserted {
             Some(EndCause::Turns)

@@ -75,6 +75,7 @@ pub fn run_sites<
         limit,
     } = run_plan;
     let ending = Ending::within(rt, limit, plan.nodes);
+    // (the name of a run promises a lawful problem, which only a look inside shows to the prover)
     problem.recall_rules();
     let tables = Tables::build(alloc, problem)?;
     let context = RunContext {
@@ -86,6 +87,7 @@ pub fn run_sites<
         alloc,
         run: PhantomData,
     };
+    // (room for all before any site starts, so that no book is lost at the end)
     let books = Vec::with_capacity(alloc, links.len() + usize::from(restarts))?;
     let sites = Vec::with_capacity(alloc, links.len())?;
     let mut runs = runs_for(alloc, restarts, links)?;
@@ -111,6 +113,7 @@ fn runs_for<J: Run, L: Link>(
 {
     let mut runs = Vec::with_capacity(alloc, links.len())?;
     for link in links {
+        // (a run has 17 sites at most, so eight bits hold each number)
         let node = runs.len() as u8;
         let site = SiteRun::new(alloc, node, restarts, link)?;
         runs.push(site)?;

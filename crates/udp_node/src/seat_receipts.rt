@@ -62,6 +62,7 @@ impl<N: CellName> SeatReceipts<N> {
         }
         match cell.act_at(rt, &mut self.seat, event) {
             Ok(receipt) => {
+                // (the receipt knows its place, so nobody takes the lock to ask how long the book is)
                 self.entries = receipt.place.saturating_add(1);
                 let (receipt_token, step) = receipt.into_parts();
                 self.tokens.push_reserved(receipt_token);

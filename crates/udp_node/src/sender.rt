@@ -75,7 +75,9 @@ fn send_each<L: Link, R: Wait + Clock>(rt: &R, sender: Sender<'_, L>) -> Sent {
         let is_last = signals.is_left();
         let found = send_waiting(rt, outbox, &mut drain, &mut link);
         losses = losses.saturating_add(found.losses);
+        // (no turn, whatever it finds: what is said again would use up the turns in a day)
         left.wait();
+        // (while it sent, more may have come in, so it looks again before it dozes or ends)
         if found.parcels > 0 {
             continue;
         }
@@ -84,6 +86,7 @@ fn send_each<L: Link, R: Wait + Clock>(rt: &R, sender: Sender<'_, L>) -> Sent {
         }
         signals.doze(rt);
     }
+    // (a site that sends nothing can't go on; if the others have left already, this changes nothing)
     signals.end();
     Sent {
         losses,
@@ -114,6 +117,7 @@ fn send_waiting<L: Link, R: Wait>(rt: &R, outbox: &Outbox, drain: &mut Drain, li
             break;
         };
         found.parcels = found.parcels.saturating_add(1);
+        // (the site goes on: a send that failed is one packet lost, which is repeated if it matters)
         if link.send(rt, parcel.to, &parcel.bytes).is_err() {
             found.losses = found.losses.saturating_add(1);
         }

@@ -91,6 +91,7 @@ impl Signals {
     /// A thread that put parcels into the outbox puts no more.
     pub fn leave(&self) {
         self.running.fetch_sub(1, Ordering::SeqCst);
+        // (the thread that sends may doze, and ends once it sees that all have left)
         self.rouse();
     }
 
@@ -150,6 +151,7 @@ impl Signals {
     /// This worker leaves the others work again, if they left it all.
     pub fn work_together(&self, worker: u8) {
         let own = u64::from(worker) + 1;
+        // (where this fails, the others are at work already or have left all jobs to another worker)
         let _ = self
             .sole
             .compare_exchange(own, 0, Ordering::Relaxed, Ordering::Relaxed);

@@ -111,9 +111,11 @@ impl<J: Run, L: Link> SiteRun<J, L> {
             context.end(self.node, &self.end);
             return;
         }
+        // (the site is behind a reference, so its link is taken out for the threads to own)
         if let Some(link) = self.link.take() {
             self.run_starts(rt, context, link);
         }
+        // (the registry isn't counted: without a node there is nobody who could return the root's result)
         let is_last = self.node != 0 && context.ending.leave();
         if is_last || self.end.ends_run(self.node) {
             context.end(self.node, &self.end);
@@ -136,6 +138,7 @@ impl<J: Run, L: Link> SiteRun<J, L> {
         ensures { self.new.node ≡ self.old.node }
     {
         for _start in 0..self.restarts {
+            // (handed on as it is: a twin that was refused ends this start as one without memory)
             let twin = link.twin();
             self.start(rt, context, twin);
         }
@@ -228,6 +231,7 @@ fn start_registry<J: Run + Send + Sync, L: Link + Send, G: Gate, R: Threads + Wa
     let link = link?;
     let cell_parts = CellParts::new(context.alloc)?;
     let core = Registry::start(context.alloc, context.problem, context.plan.nodes)?;
+    // (a type names the cell, by which seats and receipts are tied to it: here Brand gets the names of these parts)
     Ok(run_registry::<J, Brand, L, G, R>(rt, context, start, cell_parts, core, link))
 }
 

@@ -30,6 +30,7 @@ impl Start {
     {
         let plan = Plan {
             turns: plan.turns / (u64::from(restarts) + 1),
+            // (the registry may be gone by then, so a later incarnation doesn't wait for packets that nobody sends)
             quiet: if is_over { 1 } else { plan.quiet },
             ..plan
         };

@@ -73,11 +73,13 @@ impl<'a, J: Run> Worker<'a, J> {
     ) -> Result<Worker<'a, J>, AllocError>
         requires { tables.now ≡ J.run.problem }
     {
+        // (a stream for each worker of the run: on one stream two workers would draw the same victims)
         let stream = u64::from(node) * 16 + u64::from(number);
         let alone = plan.nodes == 1 && plan.workers == 1;
         Ok(Worker {
             searcher: Searcher::keeping(alloc, tables, room_for(plan))?,
             hand: Hand::Nothing,
+            // (each option of a prefix covers a primary item, so no prefix has more options than these)
             pace: Pace::new(alloc, plan.fuel, alone, tables.problem().primary() + 1)?,
             rng: Pcg32::new(plan.seed, stream),
             idle: 0,
@@ -99,6 +101,7 @@ impl<'a, J: Run> Worker<'a, J> {
             return Turn::Ended(EndCause::Turns);
         }
         match mem::replace(&mut self.hand, Hand::Nothing) {
+            // (only with nothing in hand: a job that was taken up is known to no other worker)
             Hand::Nothing if actor.shared.signals.is_spared(self.number) => spared(rt),
             Hand::Nothing => self.take(rt, actor),
             Hand::Search(search_job) => self.search(rt, actor, search_job),
@@ -112,7 +115,9 @@ impl<'a, J: Run> Worker<'a, J> {
         rt: &R,
         actor: &mut Actor<'_, J, C, N, G>,
     ) -> Turn {
+        // (read before the look, so that an event between the two brings one look more, and is never missed)
         let stirs = actor.shared.signals.stirs();
+        // (a Take that is answered Idle is an entry, too, and idle workers would soon fill the book)
         if self.looked_at == Some(stirs) {
             return self.rest(rt, actor);
         }
@@ -134,6 +139,7 @@ impl<'a, J: Run> Worker<'a, J> {
             }
             Reply::Idle | Reply::Moved | Reply::Ignored => {
                 self.looked_at = Some(stirs);
+                // (it has nothing to do itself, so the others have no reason to leave it all jobs)
                 actor.shared.signals.work_together(self.number);
                 self.rest(rt, actor)
             }
@@ -165,6 +171,7 @@ impl<'a, J: Run> Worker<'a, J> {
         if drawn == u32::from(self.node) {
             return 0;
         }
+        // (at most the number of nodes, which has eight bits)
         drawn as u8
     }
 
@@ -181,9 +188,11 @@ impl<'a, J: Run> Worker<'a, J> {
             fuel,
             run,
         } = search_job;
+        // (a finding has a fuel of at least 1, which no type says of the job's)
         let limit = fuel.max(1);
         self.limit = limit;
         let keeps = self.searcher.keeps();
+        // (fuel also counts visits that kept states save, and prefixes with very many would be split for ever: the watch limits those made)
         let fuel = if keeps { u64::MAX } else { limit };
         let (gate, signals) = (actor.shared.gate, actor.shared.signals);
         self.learn(rt, actor.shared.exchange);
@@ -210,6 +219,7 @@ impl<'a, J: Run> Worker<'a, J> {
             }
             Ok(_) => Turn::Ended(EndCause::Turns),
             Err(prefix) => {
+                // (it ends, where a refused Post is tried again: without room to search it would go on for hours and do nothing)
                 let prefix = Numbers::from_vec(prefix);
                 self.hand = Hand::Search(SearchJob::new(job, prefix, limit));
                 Turn::Ended(EndCause::Memory)
@@ -220,6 +230,7 @@ impl<'a, J: Run> Worker<'a, J> {
     /// Keeps what the node's other workers found to have no cover.
     fn learn<R: Wait>(&mut self, rt: &R, exchange: &Exchange<J>) {
         for _ in 0..INBOX {
+            // (an inbox full at most: others may add to it as fast as it is read, and the job waits)
             let Some(told) = exchange.hear(rt, self.number) else {
                 return;
             };
@@ -235,6 +246,7 @@ impl<'a, J: Run> Worker<'a, J> {
         for length in (0..prefix.len() + 1).rev() {
             let front = &prefix[..length];
             let mut few = FewVisits::new(CLIMB);
+            // (each shorter front has this one below it, so the first that isn't done is the last to look at)
             let Some(count) = self.searcher.barren_visits(front, &mut few) else {
                 return;
             };
@@ -360,6 +372,7 @@ pub fn after_refusal(refused: Refused) -> Turn {
         Refused::Cell(BookFault::BookFull(_)) => Turn::Ended(EndCause::BookFull),
         Refused::Cell(BookFault::Core(ActFault::Over)) => Turn::Ended(EndCause::Over),
         Refused::Cell(BookFault::Memory) => Turn::Starved,
+        // (nothing changed: packets that come late, and results of jobs that were aborted meanwhile, are refused)
         Refused::Cell(_) => Turn::Used,
     }
 }

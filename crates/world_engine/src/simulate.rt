@@ -51,6 +51,7 @@ fn played_out(world: &mut World, settings: &Settings) -> Result<Option<Answer>, 
         settings.restarts,
     );
     match ended {
+        // (a copy, as the answer outlives the world that published it)
         Ok(()) => copied(world.published()),
         Err(_) => Err(EngineFault::Memory),
     }
@@ -67,6 +68,7 @@ fn simulated(
     ensures memory { IfErr result (λ fault. fault ≡ EngineFault.Memory) }
 {
     match World::start(alloc, problem, settings.nodes) {
+        // (the rest is a function over a reference: where a world is owned each ? drops it, and that takes the prover long)
         Ok(mut world) => played_out(&mut world, settings),
         Err(_) => Err(EngineFault::Memory),
     }
