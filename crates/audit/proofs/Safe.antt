@@ -1,4 +1,4 @@
--- A merge that takes every book whole is a run, and what the registry's book tells is what the run publishes.
+-- A merge that takes every book whole is a run, and what the registry's book says is what the run publishes.
 use Rattle.std.proofs.Common.{◌≡◌, ◌≢◌, ℕ, Bool, true, List, [], ◌∷◌, Option, Some, None, slice_get, slice_set, sym, ap, ◌∙◌, subst, ⊎_elim, arith}
 use Rattle.std.proofs.lemmas.Option.{same_Some}
 use Rattle.std.specs.List.{AllByRecursion}

@@ -1,4 +1,4 @@
--- How far a visit has come: what it tells of the root, and what comes next.
+-- How far a visit has come: what it says of the root, and what comes next.
 use Rattle.std.proofs.Common.{◌≡◌, ℕ, ◌+◌, ◌-◌, ◌<◌, ◌≤◌, List, [], ◌∷◌, ◌++◌, length, true, false, Option, Some, None, refl, arith, sym, ap, ◌∙◌, slice_get, subst, is_some, IfSome}
 use Rattle.std.proofs.lemmas.Bool.{both_ways}
 use Rattle.std.proofs.lemmas.List.{length-append}
@@ -9,7 +9,7 @@ use Rattle.choices.specs.Choices.{Choices, IsChild, IsNextChoice, with_child, wi
 use Rattle.brancher.specs.Reach.{IsSoFar, IsReached, at_root, at_child, IsBarrenAt, IsEnded}
 use Rattle.brancher.proofs.Visits.{so_far_start, so_far_found, so_far_spent, so_far_stopped, so_far_barren, so_far_next, so_far_end}
 
--- ---- what it tells of the root
+-- ---- what it says of the root
 
 pub reached_problem : (root : Choices) (fuel : ℕ) (now : Choices) (left : ℕ) → IsReached root fuel now left → now.problem ≡ root.problem
 reached_problem root fuel now left at_root = refl

@@ -20,7 +20,7 @@ outcome_sort (search.Covers cover) = 0
 outcome_sort search.Barren = 1
 outcome_sort search.Spent = 2
 
--- the cover that an outcome tells of, or none
+-- the cover that an outcome has, or none
 abbrev pub outcome_cover : search.Outcome → List ℕ
 outcome_cover (search.Covers cover) = cover
 outcome_cover _ = []

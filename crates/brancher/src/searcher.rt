@@ -190,7 +190,7 @@ impl<'a> Searcher<'a> {
         Finding::from_parts(prefix, fuel, outcome, cover)
     }
 
-    /// Searches as `find` does until the watch stops it; none where it did. With the finding it tells how many visits were made: all
+    /// Searches as `find` does until the watch stops it; none where it did. With the finding it returns how many visits were made: all
     /// those of a prefix without a cover, else the fuel. It takes the room for a cover first: if memory runs out, nothing is searched,
     /// and the prefix comes back.
     pub fn find_until<W: Watch>(
@@ -222,7 +222,7 @@ impl<'a> Searcher<'a> {
         Ok(Some((self.copied_into(room, prefix, fuel, outcome), made)))
     }
 
-    /// Searches as `find_until` does. Where the watch stopped it, it tells what it came to by then: with fuel for the visits that were made
+    /// Searches as `find_until` does. Where the watch stopped it, it returns what it came to by then: with fuel for the visits that were made
     /// alone it would be spent, so the finding has that fuel. None where not one was made.
     pub fn find_so_far<W: Watch>(
         &mut self,

@@ -33,7 +33,7 @@ says_with false run what = RunSays run what
 abbrev pub SolveSays : Settings → Problem → Said → Type 0
 SolveSays settings problem = says_with settings.audit (run_of problem settings)
 
--- It ends at a text as an engine does, and the exit status tells how. (Where no links can be had, it ends as where the source fails.)
+-- It ends at a text as an engine does, and the exit status says how. (Where no links can be had, it ends as where the source fails.)
 pub record EndsAs (may : Problem → Said → Type 0) (text : List ℕ) (old new : Option (List ℕ)) (status : ℕ) : Type 0 where
   pub end : Result EngineEnd EngineFault
   pub ended : IsEnded may refuses_none text old new end

@@ -1,4 +1,4 @@
--- What a list of options makes of an item, told by how many of them name it and by their colours.
+-- What a list of options makes of an item, known by how many of them name it and by their colours.
 use Rattle.std.proofs.Common.{◌≡◌, ℕ, ◌+◌, ◌<◌, ◌≤◌, Bool, true, false, not, ◌&&◌, ◌||◌, ◌==◌, ◌⊎◌, cond, nat_le, List, [], ◌∷◌, ◌++◌, length, take, get_or, set, find, count_by, Option, Some, None, refl, sym, ap, ◌∙◌, subst, arith, inl, inr, if◌then◌else◌}
 use Rattle.std.proofs.lemmas.Bool.{cases_Bool, cases_eq, cases_lt, both_ways, or_left, or_right, or_cases, and_parts, and_right, and_from, not_from_true, not_from_false, false_from_ne_true, eqb-true, eq-eqb, leb-true, le-leb}
 use Rattle.std.proofs.lemmas.List.{get_or-set_other, get_or-set_same, take_more, length-replicate, get_or-replicate}

@@ -51,7 +51,7 @@ verdict_of problem options =
     then verdicts.ChosenTwice
     else uncovered_or (first_uncovered problem options) (twice_or_exact (first_twice problem options)))
 
--- an item that a verdict tells is one of the problem
+-- an item in a verdict is one of the problem
 abbrev pub TellsItemOf : Problem → Verdict → Type 0
 TellsItemOf problem (verdicts.Uncovered item) = item < length problem.names
 TellsItemOf problem (verdicts.CoveredTwice item) = item < length problem.names

@@ -50,7 +50,7 @@ fn verdict_on(problem: &Problem, options: &[u16]) -> Verdict
     }
 }
 
-/// Tests whether the list is an exact cover with each option once, and tells the first thing that is wrong.
+/// Tests whether the list is an exact cover with each option once, and returns the first thing that is wrong.
 ///
 /// It takes no memory but 70 KiB of the stack, and time of the order of the items of the list's options.
 pub fn check_cover(problem: &Problem, options: &[u16]) -> Verdict

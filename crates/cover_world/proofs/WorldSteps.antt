@@ -89,7 +89,7 @@ read_packet core now list place packet copied now_is list_is there read copied_i
     ap (λ (s : WorldCore). slice_get s.world.sent place) (sym now_is) ∙ ap (λ ps. slice_get ps place) (sym list_is)
     ∙ slice_get_read list (length list) place packet refl (ltb-true _ _ (sym there)) read ∙ ap Some (sym copied_is)
 
--- ---- what tells of a refusal may tell of it
+-- ---- what is said of a refusal may be said of it
 
 fault_may_tell : (fault : WorldFault) (refusal : Option WorldFault) → FaultTells fault refusal → FaultMayTell fault refusal
 fault_may_tell faults.NoSuchPacket refusal h = h

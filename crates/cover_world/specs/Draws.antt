@@ -45,7 +45,7 @@ finish_or_ask node None = Ask node 0
 abbrev pub ask_any : ℕ → ℕ → Lcg → Drawn WorldEvent
 ask_any nodes node rng = (Ask node (pick (suc nodes) rng).0, (pick (suc nodes) rng).1)
 
--- a child that is out is done anew; where there is none, the node says all again
+-- a child that is out is done again; where there is none, the node says all again
 abbrev pub redo_or_again : ℕ → Option ℕ → WorldEvent
 redo_or_again node (Some serial) = Redo node serial
 redo_or_again node None = Again node

@@ -112,17 +112,17 @@ abbrev pub world_answer : Result Reply ActFault → Result Reply WorldFault
 world_answer (Ok reply) = Ok reply
 world_answer (Err fault) = Err (world_fault fault)
 
--- what a fault tells of the refusal: which it is, and that memory ran out, that there is none
+-- what a fault says of the refusal: which it is, and that memory ran out, that there is none
 abbrev pub FaultTells : WorldFault → Option WorldFault → Type 0
 FaultTells faults.Memory refusal = refusal ≡ None
 FaultTells fault refusal = refusal ≡ Some fault
 
--- what an answer tells of the refusal: that there is none, or which it is
+-- what an answer says of the refusal: that there is none, or which it is
 abbrev pub AnswerTells : {A : Type 0} → Result A WorldFault → Option WorldFault → Type 0
 AnswerTells (Ok answer) refusal = refusal ≡ None
 AnswerTells (Err fault) refusal = FaultTells fault refusal
 
--- the same where memory is taken before the event is tested: that it ran out tells nothing
+-- the same where memory is taken before the event is tested: that it ran out says nothing
 abbrev pub FaultMayTell : WorldFault → Option WorldFault → Type 0
 FaultMayTell faults.Memory refusal = ⊤
 FaultMayTell fault refusal = refusal ≡ Some fault
@@ -132,7 +132,7 @@ abbrev pub AnswerMayTell : {A : Type 0} → Result A WorldFault → Option World
 AnswerMayTell (Ok answer) refusal = refusal ≡ None
 AnswerMayTell (Err fault) refusal = FaultMayTell fault refusal
 
--- what the answer to an event tells: for the search of a job and for the copy of a packet memory is taken first
+-- what the answer to an event says: for the search of a job and for the copy of a packet memory is taken first
 abbrev pub EventTells : {A : Type 0} → WorldEvent → Result A WorldFault → Option WorldFault → Type 0
 EventTells (calls.Post node job fuel) result refusal = AnswerMayTell result refusal
 EventTells (calls.Deliver place) result refusal = AnswerMayTell result refusal

@@ -32,7 +32,7 @@ root_steal = record { from = site1; to = site0; body = Steal }
 abbrev pub first_give : Packet
 first_give = record { from = site0; to = site1; body = Give 0 1 [] }
 
--- it gets the root anew, and once more when the registry says it again
+-- it gets the root again, and once more when the registry says it again
 abbrev pub second_give : Packet
 second_give = record { from = site0; to = site1; body = Give 0 2 [] }
 

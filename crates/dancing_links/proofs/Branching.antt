@@ -31,7 +31,7 @@ fewest_branch p os i a = go (branch_item p os) refl
     go None e = absurd (complete_none_open p os i e a.open_item)
     go (Some k) e = e ∙ ap Some (one_fewest p os i k a (branch_fewest p os k e))
 
--- what the least key of the primary items tells
+-- what the least key of the primary items says
 pub record IsLeast (p : Problem) (os keys : List ℕ) (least : ℕ) : Type 0 where
   pub found : least < 2147483648 → IsFirstFewest p os (least % 65536)
   pub none : 2147483648 ≤ least → branch_item p os ≡ None

@@ -327,7 +327,7 @@ nodes_short c (k ∷ es) t small each =
 pub nodes_more : (c : Columns) (es : List ℕ) (k : ℕ) → chosen_nodes c (es ++ k ∷ []) ≡ chosen_nodes c es ++ nodes_by c k
 nodes_more c es k = flat_map-append (nodes_by c) es (k ∷ []) ∙ ap (λ ks. chosen_nodes c es ++ ks) (append-nil (nodes_by c k))
 
--- ---- nodes that are told by their option and their item
+-- ---- nodes that are known by their option and their item
 
 pub one_node : (p : Problem) (c : Columns) (k j : ℕ) → c ≡ table p → IsProblem p → IsOptionNode c k → IsOptionNode c j → option_of c k ≡ option_of c j → column_of c k ≡ column_of c j → k ≡ j
 one_node p c k j same is =

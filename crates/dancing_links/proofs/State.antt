@@ -77,7 +77,7 @@ pub record IsState (p : Problem) (c : Columns) (os es : List ℕ) (m : List Link
   pub cast : IsCast p c os (with_all [] (chosen_nodes c es)) (with_all [] (covering_nodes c es)) (commits_of c es)
   pub names : (i : ℕ) → covers c (with_all [] (covering_nodes c es)) i ≡ is_covered p os i
 
--- the items that are covered, as what is out is told by them
+-- the items that are covered, as what is out is known by them
 pub frame_names : (p : Problem) (c : Columns) (os es : List ℕ) (room i : ℕ) → IsFrame p c os es room → covers c (with_all [] (covering_nodes c es)) i ≡ is_covered p os i
 frame_names p c os es room i f =
     let P : Columns → Type 0 = λ t. IsCastBy p t os es → covers t (with_all [] (covering_nodes t es)) i ≡ is_covered p os i in

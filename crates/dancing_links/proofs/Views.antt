@@ -80,7 +80,7 @@ unmarked_free p c os es m keys room i is h small = elim (cases_Bool (is_covered 
   | inr free ↦ free
 ]
 
--- so the mark tells it
+-- so the mark shows it
 pub covered_test : (p : Problem) (c : Columns) (os es : List ℕ) (m : List Link) (keys : List ℕ) (room i : ℕ) → IsLinks p c os es m keys room → i < length p.names → not (nat_lt (get_or keys i 0) 2147483648) ≡ is_covered p os i
 covered_test p c os es m keys room i is h =
     let key : ℕ = get_or keys i 0 in
@@ -89,7 +89,7 @@ covered_test p c os es m keys room i is h =
       | inr marked ↦ rw (le-ltb key 2147483648 marked) (sym (marked_covered p c os es m keys room i is h marked))
     ]
 
--- what the first key without a mark tells, from an item on
+-- what the first key without a mark says, from an item on
 pub record IsFirstOpen (p : Problem) (os : List ℕ) (start : ℕ) (r : Option ℕ) : Type 0 where
   pub first : r ≡ slice_get (open_items_from p os start) 0
   pub uncovered : IfSome r (IsOpen p os)

@@ -62,7 +62,7 @@ abbrev pub marks_from : Columns → List ℕ → List ℕ → List TrailMark
 marks_from c done [] = []
 marks_from c done (k ∷ entries) = mark_at c done k ∷ marks_from c (done ++ k ∷ []) entries
 
--- the trail has what is hidden, and room for all nodes; what is kept of each choice tells how long it was
+-- the trail has what is hidden, and room for all nodes; what is kept of each choice says how long it was
 pub record IsTrail (c : Columns) (primary : ℕ) (entries trail : List ℕ) (room : ℕ) (marks : List TrailMark) (space : ℕ) : Type 0 where
   pub trail_is : trail ≡ trail_of c entries
   pub enough : c.tails ≤ room

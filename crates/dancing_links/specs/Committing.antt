@@ -45,7 +45,7 @@ pub record IsFirst (c : Columns) (front now : List ℕ) (k : ℕ) : Type 0 where
   pub none : slice_index_or front (column_of c k) 0 ≡ 0
   pub commits : now ≡ commit c front k
 
--- the links before a node covered its item, of which a piece of the trail tells what that hid
+-- the links before a node covered its item, of which a piece of the trail says what that hid
 abbrev pub IsBefore : Columns → List Link → List ℕ → ℕ → List ℕ → List Link → Type 0
 IsBefore c old piece k out before = IsSpelled c out before × IsOpen c out (column_of c k) × (old ≡ unlinks before (hides c out k)) × (piece ≡ hides c out k)
 

@@ -168,7 +168,7 @@ fn read_parts(word: &[u8], line: usize) -> Result<(&[u8], bool), ReadFault>
     Ok((word, false))
 }
 
-/// Whether an item is among others, all of which are below the bound: where options name items in their order, the bound alone tells.
+/// Whether an item is among others, all of which are below the bound: where options name items in their order, the bound alone decides.
 fn is_among(items: &[u16], bound: usize, item: u16) -> bool
     requires { All (λ i. i < bound) items.now }
     ensures { result ≡ is_in items.now item }

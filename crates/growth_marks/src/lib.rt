@@ -1,4 +1,4 @@
-//! Marks by which a test tells where a call begins and ends, so that memory can be refused to that call from outside.
+//! Marks by which a test shows where a call begins and ends, so that memory can be refused to that call from outside.
 //!
 //! A mark asks for memory of a size that nothing else asks for. `scripts/refuse_growth.c` sees it, and knows the same numbers.
 #![tactic(auto)]

@@ -20,7 +20,7 @@ count_in row set = count_by (λ x. row_has row x && has set x) (range_with_len 0
 abbrev pub item_of : ℕ → Option ℕ
 item_of key = if nat_lt key 2147483648 then Some (key % 65536) else None
 
--- whether the key of an item tells if it is covered
+-- whether the key of an item says that it is covered
 pub record IsMarked (problem : Problem) (prefix : List ℕ) (item key : ℕ) : Type 0 where
   pub covered : is_covered problem prefix item ≡ true → 2147483648 ≤ key
   pub uncovered : is_covered problem prefix item ≡ false → key < 2147483648
@@ -34,7 +34,7 @@ pub record AreMarked (problem : Problem) (prefix keys : List ℕ) : Type 0 where
 abbrev pub IsCounted : Problem → List ℕ → ℕ → ℕ → Type 0
 IsCounted problem prefix item key = is_covered problem prefix item ≡ false → key ≡ item + 65536 * length (live_options problem prefix item)
 
--- the keys of a level and their least, which tells the branch item; where an uncovered item has no live option, they need not count
+-- the keys of a level and their least, which gives the branch item; where an uncovered item has no live option, they need not count
 pub record AreKeys (problem : Problem) (prefix keys : List ℕ) (least : ℕ) : Type 0 where
   pub marked : AreMarked problem prefix keys
   pub counted : 65536 ≤ least → (item : ℕ) → item < problem.primary → IsCounted problem prefix item (slice_index keys item)

@@ -24,7 +24,7 @@ AreCounts problem chosen (Keys keys) = AreKeyCounts problem chosen keys.items
 AreCounts problem chosen (Planes planes) = (problem.primary ≤ 64) × (planes.first ≡ 0) × ArePlaneCounts problem chosen planes
 AreCounts problem chosen (Halves low high) = (problem.primary ≤ 128) × (low.first ≡ 0) × (high.first ≡ 64) × ArePlaneCounts problem chosen low × ArePlaneCounts problem chosen high
 
--- what is kept of a prefix: its live options, and the least key, which tells the branch item
+-- what is kept of a prefix: its live options, and the least key, which gives the branch item
 pub record IsLevel (problem : Problem) (prefix live : List ℕ) (least : ℕ) : Type 0 where
   pub is_live : IsLive problem prefix live
   pub branch : branch_item problem prefix ≡ item_of least

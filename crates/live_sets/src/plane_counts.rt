@@ -98,7 +98,7 @@ impl PlaneCounts {
         least_from(&next, self.first, digits)
     }
 
-    /// The counts of a level once one more option is chosen, whose items are not covered yet: counted anew, or from the last ones, which
+    /// The counts of a level once one more option is chosen, whose items are not covered yet: counted from the start, or from the last ones, which
     /// have so many digits.
     #[inline(always)]
     fn next_planes(

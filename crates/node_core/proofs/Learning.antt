@@ -39,7 +39,7 @@ none_reached lost serial (c ∷ cs) =
     (reached_none serial (redo_if lost c c.status).attempt (redo_if lost c c.status).status c.status (λ e. still_aborted lost c c.status refl e))
     ∙ none_reached lost (suc serial) cs
 
--- the reply tells whether anything changed or was sent
+-- the reply says whether anything changed or was sent
 pub members_tell : (old seen : View) (incarnations : List ℕ) (site : Site) (outs : List Reached) (ledger : Ledger) (moved : Bool)
     → seen ≡ old → LearnsMembers seen.ledger incarnations outs ledger
     → OnTrue moved (ledger ≢ seen.ledger) → OnFalse moved (ledger ≡ seen.ledger)

@@ -68,7 +68,7 @@ split_limit : (table : Table) (unit : WorkUnit) (ps : List (List ℕ)) → (spli
 split_limit table (Own serial) ps = refl
 split_limit table (Guest name attempt) ps = refl
 
--- ---- what a result that is held tells
+-- ---- what is known of a result that is held
 
 status_told : (site : Site) (s : Status) (from : Site) (at : Bool) (r : ChildResult) → judged_by s from at ≡ Holds r → is_child_status site s ≡ true → is_result r ≡ true
 status_told site (Done result) from at r e h = let same : result ≡ r = cc in subst (λ x. is_result x ≡ true) same h

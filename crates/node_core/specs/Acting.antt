@@ -32,7 +32,7 @@ abbrev pub named_fault : ActFault → Option ActFault
 named_fault Memory = None
 named_fault fault = Some fault
 
--- the refusal that an answer tells
+-- the refusal in an answer
 abbrev pub refusal_told : {A : Type 0} → Result A ActFault → Option ActFault
 refusal_told (Ok answer) = None
 refusal_told (Err fault) = named_fault fault

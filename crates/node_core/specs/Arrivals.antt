@@ -68,7 +68,7 @@ GiveStep problem old from gifts Moved out new = Admits problem old from gifts ou
 GiveStep problem old from gifts Ignored out new = NoneIsNew old.ledger from gifts × Stays old out new
 GiveStep problem old from gifts _ out new = ⊥
 
--- the packet that tells what is answered to a Return
+-- the packet that says what is answered to a Return
 abbrev pub reply_body : ℕ → ℕ → ReturnReply → Body
 reply_body serial attempt (replies.Accept result) = Accept serial attempt result
 reply_body serial attempt (replies.Refuse cause) = Refuse serial attempt cause

@@ -17,7 +17,7 @@ use Rattle.packet_wire.specs.declared.packet.Body.TheVariants.{Abort, Accept, Gi
 use Rattle.packet_wire.specs.declared.packet.Packet.{Packet}
 use Rattle.spawn_frame.specs.declared.site.Site.{Site}
 
--- Moved tells of a change or a packet
+-- Moved means a change or a packet
 abbrev pub Tells : View → List Packet → View → Reply → Type 0
 Tells old out new Moved = Stays old out new → ⊥
 Tells old out new Ignored = Stays old out new

@@ -90,7 +90,7 @@ impl SiteState {
             || is_longer(problem, prefix, sibling.option)
     }
 
-    /// The owner of a guest tells the result that the child has.
+    /// The owner of a guest sends the result that the child has.
     pub fn receive_accept(
         &mut self,
         from: Site,

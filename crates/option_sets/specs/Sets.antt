@@ -1,4 +1,4 @@
--- Sets of options as words: bit x % 64 of word x / 64 tells whether option x is in.
+-- Sets of options as words: bit x % 64 of word x / 64 says whether option x is in.
 use Rattle.std.specs.Prelude.{◌≡◌, ℕ, ◌+◌, ◌/◌, ◌%◌, ◌<◌, ◌≤◌, List, length, map, slice_index_or, Bool, true, ◌==◌, ◌&&◌}
 use Rattle.std.specs.Int.{bit_at}
 use Rattle.std.specs.List.{All, list_any}

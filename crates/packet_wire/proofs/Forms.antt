@@ -45,7 +45,7 @@ pub chained_again : {A B C : Type 0} (first : List ℕ → Read A) (second : A �
 chained_again first second make {text} {more} f g a b rest p q =
     ap (chained first second make) (append_assoc (text a) (more a b) rest) ∙ rw (f.again a (more a b ++ rest) p, (g a p).again b rest q) refl
 
--- the second of two parts, which tells the first
+-- the second of two parts, which fixes the first
 abbrev pub followed : {A B : Type 0} → (List ℕ → Read A) → (A → List ℕ → Read B) → List ℕ → Read B
 followed first second bytes = first bytes >>= λ x. second x.0 x.1
 

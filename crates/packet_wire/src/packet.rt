@@ -42,7 +42,7 @@ pub enum Body {
         /// What the search of the child came to.
         result: ChildResult,
     },
-    /// The owner tells the result that the child has.
+    /// The owner sends the result that the child has.
     Accept {
         /// The child's serial number.
         serial: u32,

@@ -20,7 +20,7 @@ use cover_problem::Numbers;
 use spawn_frame::{Attempt, Cause, ChildResult, Sibling, Siblings, Site};
 use std::alloc::Global;
 
-/// Reads a number of one byte, and tells the bytes after it.
+/// Reads a number of one byte, and returns the bytes after it.
 #[tactic(auto, unfolding(crate::specs::Reading::number_at))]
 fn u8_at(bytes: &[u8]) -> Result<(u8, &[u8]), WireFault>
     ensures { Gives (λ x. (x.0, x.1.now)) result (number_at 1 bytes.now) }

@@ -1,4 +1,4 @@
--- The registry's first Accept tells the root's result.
+-- The registry's first Accept holds the root's result.
 use Rattle.std.proofs.Common.{◌≡◌, ℕ, zero, suc, Bool, true, false, List, [], ◌∷◌, ◌++◌, map, drop, Option, Some, None, slice_get, option_map, arith, refl, sym, ap, ◌∙◌, inl, inr, ◌&&◌, nat_lt, ◌==◌, if◌then◌else◌}
 use Rattle.std.proofs.lemmas.Option.{none-some}
 use Rattle.std.specs.Option.{option_or}
@@ -216,7 +216,7 @@ registry_tells zero run site limit entries last at is may l =
     entries_tell run.problem (opening_at 0 site run.nodes limit) entries last (formed_at_first 0 run site limit is may) l
 registry_tells (suc n) run site limit entries last at is may l = absurd (omega (arith, at))
 
--- what the registry's book tells is what its last view publishes
+-- what the registry's book says is what its last view publishes
 pub book_tells : (run : RunName) (book : Book) (limit : ℕ) (last : View) → book.site.node ≡ 0 → EndsIn run book limit last
     → book_answer run.problem book.entries ≡ published_by run.problem last
 book_tells run book limit last at ends =

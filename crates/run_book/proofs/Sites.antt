@@ -1,4 +1,4 @@
--- Sites of a run: what is true of each when it begins and stays true, and how long the prefixes are that it tells.
+-- Sites of a run: what is true of each when it begins and stays true, and how long the prefixes in it are.
 use Rattle.std.proofs.Common.{◌≡◌, ℕ, zero, suc, ◌≤◌, List, [], ◌∷◌, length, refl, sym, ap, subst, arith, true, inl, inr, ⊎_elim, ◌⊎◌}
 use Rattle.cover_problem.proofs.Firsts.{few_options}
 use Rattle.cover_problem.specs.Prefix.{is_prefix}

@@ -1,4 +1,4 @@
--- What the registry published, as its book tells it.
+-- What the registry published, as its book says it.
 use Rattle.std.specs.Prelude.{List, [], ◌∷◌, Option, None, Some, option_map}
 use Rattle.std.specs.Option.{option_or}
 use Rattle.cover_problem.specs.Problem.{Problem}
@@ -15,12 +15,12 @@ abbrev pub accepted_in : Body → Option ChildResult
 accepted_in (Accept serial attempt result) = Some result
 accepted_in _ = None
 
--- the result that the first Accept of these packets tells
+-- the result in the first Accept of these packets
 abbrev pub first_accepted : List Packet → Option ChildResult
 first_accepted [] = None
 first_accepted (packet ∷ packets) = option_or (accepted_in packet.body) (first_accepted packets)
 
--- the result that the first Accept of these entries tells
+-- the result in the first Accept of these entries
 abbrev pub first_result : List Entry → Option ChildResult
 first_result [] = None
 first_result (entry ∷ entries) = option_or (first_accepted entry.packets) (first_result entries)

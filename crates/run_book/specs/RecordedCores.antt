@@ -52,7 +52,7 @@ pub record Refuses (run : RunName) (site : Site) (names : ℕ) (rules : Problem 
   pub counted : seat ≤ length entries
   pub refusal : rules run.problem view event ≡ Some fault
 
--- the fault of a core that a book's fault tells
+-- the fault of a core in a book's fault
 abbrev pub fault_told : BookFault → Option ActFault
 fault_told (Core fault) = Some fault
 fault_told _ = None
@@ -67,7 +67,7 @@ abbrev pub prefix_in : Reply → List ℕ
 prefix_in (Taken job prefix) = prefix
 prefix_in _ = []
 
--- What a core does with an event: each packet that it puts out has a spelling, and a prefix that it tells is one.
+-- What a core does with an event: each packet that it puts out has a spelling, and a prefix in it is one.
 pub record IsLawful (problem : Problem) (entry : Entry) : Type 0 where
   pub formed : AllFormed entry.packets
   pub prefix : is_prefix problem (prefix_in entry.reply) ≡ true

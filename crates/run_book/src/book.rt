@@ -63,8 +63,8 @@ impl<J: Run> Book<J> {
         self.entries.as_slice()
     }
 
-    /// What the registry published, by its book: the result that the first Accept tells, as a cover with its options in the
-    /// order of the file, or that there is none; nothing where there is no Accept. A cover is exact. The only error is want of
+    /// What the registry published, by its book: the result in the first Accept, as a cover with its options in the
+    /// order of the file, or that there is none; nothing where there is no Accept. A cover is exact. The only error is out of
     /// memory.
     ///
     /// It asks for the registry's book, and for the problem of the book's run, which a book doesn't hold.
@@ -115,7 +115,7 @@ pub fn has_site<J: Run>(site: Site, books: &[Book<J>]) -> bool
     false
 }
 
-/// The result that the first Accept of these packets tells.
+/// The result in the first Accept of these packets.
 fn first_accepted(packets: &[Packet]) -> Option<&ChildResult>
     ensures { option_map (λ told. told.now) result ≡ first_accepted packets.now }
 {
@@ -127,7 +127,7 @@ fn first_accepted(packets: &[Packet]) -> Option<&ChildResult>
     None
 }
 
-/// The result that the first Accept of these entries tells.
+/// The result in the first Accept of these entries.
 fn first_result(entries: &[Entry]) -> Option<&ChildResult>
     ensures { option_map (λ told. told.now) result ≡ first_result entries.now }
 {

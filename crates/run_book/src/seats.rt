@@ -104,7 +104,7 @@ impl<N: CellName> Seats<N> {
         ensures total { self.new.total ≡ self.old.total + 1 }
         ensures given { self.new.given ≡ self.old.given }
     {
-        // (for what it tells: that no share counts more than all together)
+        // (for what it says: that no share counts more than all together)
         self.book.audit(&mut seat.share);
         self.book.add(&mut seat.share, 1);
         seat.count += 1;

@@ -78,7 +78,7 @@ impl<J: Run, C: Core + Drop, N: CellName> SiteCell<J, C, N> {
         self.lock.lock(rt).seat().ok_or(AllocError)
     }
 
-    /// Hands an event to the core. It is entered with what the core did, and the receipt tells the same.
+    /// Hands an event to the core. It is entered with what the core did, and the receipt says the same.
     ///
     /// `BookFull` comes exactly where the book has as many entries as it may have. The core may refuse the event, at the view to
     /// which the book leads then: among its entries are those that the seat counts. It then enters nothing. Where memory ran out

@@ -1,4 +1,4 @@
-//! `run_tally FILE NODES WORKERS SEED FUEL TURNS` lets sites with threads search a file's problem over links in memory, and tells how
+//! `run_tally FILE NODES WORKERS SEED FUEL TURNS` lets sites with threads search a file's problem over links in memory, and prints how
 //! each ended and what its book holds. `bench/books.py` reads it.
 #![tactic(auto)]
 

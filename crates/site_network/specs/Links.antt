@@ -1,7 +1,7 @@
 -- How a link counts its failures.
 use Rattle.std.specs.Prelude.{ℕ, suc, min}
 
--- the greatest number of failures that a link tells
+-- the greatest number of failures that a link reports
 abbrev pub most_failures : ℕ
 most_failures = 18446744073709551615
 

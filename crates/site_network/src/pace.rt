@@ -30,7 +30,7 @@ pub struct Quota {
 }
 
 /// How many visits a worker's next search gets. Where work is short jobs are small, so that they are split; in plenty they are
-/// large and grow with the work done, so that few visits are made twice. A search that ends for want of visits is lost,
+/// large and grow with the work done, so that few visits are made twice. A search that runs out of visits is lost,
 /// so a prefix that is thought to take far more is split at once: for each length of a prefix a worker keeps
 /// how many visits a search without a cover takes, as the last ones show. It learns from long prefixes upwards: a length of which it
 /// knows nothing is thought to take eight times the next one, and where that isn't known either, too much.

@@ -156,7 +156,7 @@ set_filled (old ∷ pages) (suc p) page d within e h =
     let later = length_set pages p page d (omega (arith, within)) e in
     (omega (arith, later, h.0), set_filled pages p page d (omega (arith, within)) e h.1)
 
--- the page of a child written anew, with that child changed
+-- the page of a child written again, with that child changed
 pub page_changed : (f : Work → Work) (pages : List (List Child)) (k : ℕ) (page d : List Child) → AreFilled pages → k < length (in_pages pages) → page ≡ change_child f (get_or pages (k / 256) d) (k % 256)
     → in_pages (slice_set pages (k / 256) page) ≡ change_child f (in_pages pages) k
 page_changed f pages k page d h there is =

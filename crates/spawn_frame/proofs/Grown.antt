@@ -57,7 +57,7 @@ each_guest (g ∷ gs) h = (h.0, each_guest gs h.1)
 
 -- ---- units that are looked up
 
--- the own child of which a link tells
+-- the own child that a link names
 pub record IsLinkOf (own : List Child) (k : ℕ) (link : Link) : Type 0 where
   pub child : Child
   pub is : slice_get own k ≡ Some child
@@ -70,7 +70,7 @@ link_at own k link at = go (slice_get own k) refl (sym (slice_get-map link_of ow
     go None e q = absurd (none-some link q)
     go (Some c) e q = record { child = c; is = e; same = same_Some (link_of c) link q }
 
--- the path that some work tells
+-- the path of some work
 abbrev pub path_in : Option Work → List ℕ
 path_in None = []
 path_in (Some w) = w.path.options

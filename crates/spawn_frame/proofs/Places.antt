@@ -19,7 +19,7 @@ child_set f [] k c h at = absurd (omega (arith, h))
 child_set f (x ∷ xs) zero c h at = ap (λ y. with_work f y ∷ xs) at
 child_set f (x ∷ xs) (suc k) c h at = ap (λ l. x ∷ l) (child_set f xs k c (omega (arith, h)) at)
 
--- a child whose work is written anew
+-- a child whose work is written again
 pub work_written : (f : Work → Work) (own : List Child) (k : ℕ) (c : Child) (w : Work) → k < length own → c ≡ get_or own k c → w ≡ f c.work
     → slice_set own k (record { parent = c.parent; option = c.option; work = w }) ≡ change_child f own k
 work_written f own k c w within at is = ap (λ (v : Work). slice_set own k (record { parent = c.parent; option = c.option; work = v })) is ∙ child_set f own k c within at

@@ -67,7 +67,7 @@ front_get [] ys j h = absurd (omega (arith, h))
 front_get (x ∷ xs) ys zero h = refl
 front_get (x ∷ xs) ys (suc j) h = front_get xs ys j (omega (arith, h))
 
--- what a new child tells of its prefix
+-- what a new child holds of its prefix
 pub record IsNewLink (unit : WorkUnit) (before : List ℕ) (link : Link) : Type 0 where
   pub parent : link.parent ≡ Some unit
   pub path : link.path ≡ before ++ link.option ∷ []

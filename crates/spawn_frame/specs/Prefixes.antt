@@ -10,13 +10,13 @@ use Rattle.spawn_frame.specs.declared.site.ChildName.{ChildName}
 use Rattle.spawn_frame.specs.declared.unit.Unit.{Unit as WorkUnit}
 use Rattle.spawn_frame.specs.declared.unit.Unit.TheVariants.{Guest as OfGuest, Own}
 
--- what an own child tells of its prefix: its parent and its option, and the whole path for proofs alone
+-- what an own child holds of its prefix: its parent and its option, and the whole path for proofs alone
 pub record Link : Type 0 where
   pub parent : Option WorkUnit
   pub option : ℕ
   pub path : List ℕ
 
--- what a guest tells of its prefix: all of it, and the path for proofs alone
+-- what a guest holds of its prefix: all of it, and the path for proofs alone
 pub record Origin : Type 0 where
   pub name : ChildName
   pub attempt : ℕ

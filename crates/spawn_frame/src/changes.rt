@@ -81,7 +81,7 @@ impl Table {
         self.own.redo(serial);
     }
 
-    /// Another site's child becomes a ready guest, which keeps the prefix that is handed in; the only error is want of
+    /// Another site's child becomes a ready guest, which keeps the prefix that is handed in; the only error is out of
     /// memory, which changes nothing. It costs searches by halving, a move of the guests that stand behind, and one of
     /// the places of those among them that are open.
     pub fn admit(

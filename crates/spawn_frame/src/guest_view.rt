@@ -1,7 +1,7 @@
 use crate::site::{Attempt, ChildName};
 use crate::status::Status;
 
-/// What a table tells of a guest.
+/// What a table holds of a guest.
 #[derive(Clone, Copy)]
 pub struct GuestView<'a> {
     /// Its name.

@@ -1,7 +1,7 @@
 use crate::site::Attempt;
 use crate::status::Status;
 
-/// What a table tells of a unit.
+/// What a table holds of a unit.
 #[derive(Clone, Copy)]
 pub struct UnitView<'a> {
     /// Its attempt, from 1.

@@ -83,7 +83,7 @@ impl Known {
         node < known.len() && site.incarnation < run_after(known, told, node)
     }
 
-    /// What is known once a site of the node `own` learns the incarnations of nodes 1, 2, ..; the only error is want of
+    /// What is known once a site of the node `own` learns the incarnations of nodes 1, 2, ..; the only error is out of
     /// memory.
     pub fn learnt(&self, own: u8, incarnations: &[u32]) -> Result<Known, AllocError>
         ensures { IfOk result (λ learnt. learnt ≡ now_known own self.now incarnations.now) }

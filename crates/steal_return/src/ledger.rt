@@ -165,7 +165,7 @@ impl Ledger {
     }
 
     /// Gives a settled frame its result: the cover of its child of least serial that has one, else Empty. All open units
-    /// below become Aborted, and each of them that was out is appended to the list, by serial. The only error is want of
+    /// below become Aborted, and each of them that was out is appended to the list, by serial. The only error is out of
     /// memory, which changes nothing.
     ///
     /// It costs the copy of the cover, a walk down to what is below the frame, and the aborts, however many other units there

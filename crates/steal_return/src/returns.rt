@@ -44,7 +44,7 @@ impl Ledger {
     }
 
     /// Judges a result that a site returns for an own child at an attempt, and lets it enter where it may: the child is
-    /// done with it. The answer tells what is accepted or why nothing is. The only error is out of memory, which changes
+    /// done with it. The answer says what is accepted or why nothing is. The only error is out of memory, which changes
     /// nothing.
     pub fn receive_return(
         &mut self,

@@ -34,7 +34,7 @@ fn word_of(outcome: Outcome) -> &'static str {
     }
 }
 
-/// Searches the problem of a file, and tells of which kind the search was and what it came to.
+/// Searches the problem of a file, and prints of which kind the search was and what it came to.
 fn tell_search(
     rt: &HostRuntime,
     file: &str,

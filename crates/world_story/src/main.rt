@@ -1,6 +1,6 @@
 //! `world_story`: a simulated search, told event by event.
 //!
-//! `world_story tell FILE NODES SEED FUEL RESTARTS TURNS` tells a simulated search of a file's problem with all its packets;
+//! `world_story tell FILE NODES SEED FUEL RESTARTS TURNS` prints a simulated search of a file's problem with all its packets;
 //! `world_story measure ..` plays the same and prints its turns, its packets, and whether an answer was published.
 #![tactic(auto)]
 

@@ -32,7 +32,7 @@ struct Story<'a> {
 }
 
 /// Tells the events of a search until an answer is published, or so many turns are over: those that are refused or change
-/// nothing are left out, and so are packets of which there is nothing new to tell. In the end it tells which packets never came to a site.
+/// nothing are left out, and so are packets of which there is nothing new to tell. In the end it prints which packets never came to a site.
 pub fn tell<W: Write>(alloc: Global, problem: &Problem, plan: Plan, out: &mut W) -> io::Result<()>
     requires some { 1 ≤ plan.nodes }
     requires most { plan.nodes ≤ LAST_NODE }
