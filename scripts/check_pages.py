@@ -13,7 +13,8 @@ Without a PAGE it checks every page (*.md) of the repository. Names are read in 
 Words of capitals alone are places that a reader fills in. The code is what is in crates, scripts, bench, examples and python, without pages,
 bugs and the comments of Rattle; names of files count too.
 
-The target of each link exists, and its heading. Outside of code no page uses a word of REFUSED, and none is longer than LIMITS says.
+The target of each link exists, and its heading. Outside of code no page uses a word of REFUSED, and none is longer than LIMITS says. No
+comment of Rattle uses a word of REFUSED_IN_COMMENTS.
 The options in the tables of README, SOLVE and SIMULATE are those of the program's help, and README has a row for each command. The
 version is the same in the program, in the package for Python, in CITATION.cff and at the top of CHANGELOG.md.
 
@@ -38,6 +39,10 @@ ENDINGS = (".md", ".rt", ".antt", ".py", ".dlx", ".edit", ".csv", ".svg", ".c", 
 KNOWN = {"/dev/stdin"}
 # words that no page uses
 REFUSED = ("tells", "stands", "anew", "want of memory", "of which no clause speaks", "comes to", "told by")
+# words that no comment in crates uses
+REFUSED_IN_COMMENTS = ("anew", "want of", "tells whether", "tells of", "told by")
+# where a comment begins in Rattle's files
+COMMENT_MARKS = {".rt": "//", ".antt": "--"}
 # how many words a page may have, and the pages of all crates together
 LIMITS = {
     "README.md": 1000, "CONTRIBUTING.md": 1100, "docs/MACHINES.md": 700, "python/README.md": 1000,
@@ -68,7 +73,7 @@ def all_paths() -> list[str]:
 
 def without_comments(path: str, text: str) -> str:
     """A file's text without its comments: what only they name isn't there."""
-    mark = {".rt": "//", ".antt": "--"}.get(os.path.splitext(path)[1])
+    mark = COMMENT_MARKS.get(os.path.splitext(path)[1])
     return re.sub(rf"{mark}.*", "", text) if mark else text
 
 
@@ -201,10 +206,17 @@ def missing_in(page: str, prose: str, repository: Repository) -> Iterator[Mistak
             yield number, target
 
 
-def refused_in(prose: str) -> Iterator[Mistake]:
-    """The words of a page that nobody would say, with the number of the line."""
+def comments_of(path: str) -> str:
+    """The lines of comments of a file, without their marks, and empty lines in place of the others."""
+    mark = COMMENT_MARKS[os.path.splitext(path)[1]]
+    with open(path, encoding="utf-8") as file:
+        return "\n".join(line.strip().lstrip("/!-") if line.lstrip().startswith(mark) else "" for line in file)
+
+
+def refused_in(prose: str, refused: tuple[str, ...]) -> Iterator[Mistake]:
+    """The words of a text that nobody would say, with the number of the line."""
     plain = re.sub(r"`(?:[^`\n]|\n(?!\n))+`", lambda quoted: "\n" * quoted[0].count("\n"), prose)
-    words = "|".join(re.sub(" ", r"\\s+", word) for word in REFUSED)
+    words = "|".join(re.sub(" ", r"\\s+", word) for word in refused)
     for number, word in found_in(plain, rf"(?i)\b({words})\b"):
         yield number, f'"{" ".join(word.split())}" is no plain English'
 
@@ -271,6 +283,14 @@ def options_wrong_in(page: str, name: str) -> Iterator[Mistake]:
             yield 1, f"{command} is not in the table"
 
 
+def refused_in_comments(paths: list[str]) -> Iterator[str]:
+    """The words in comments of the crates that nobody would say, each with its file and line."""
+    for path in paths:
+        if path.startswith("crates" + os.sep) and path.endswith(tuple(COMMENT_MARKS)):
+            for number, what in refused_in(comments_of(os.path.join(TOP, path)), REFUSED_IN_COMMENTS):
+                yield f"{path}:{number}: {what}"
+
+
 def versions() -> dict[str, str]:
     """The version that each file says that has one: the first there."""
     found = {}
@@ -286,7 +306,7 @@ def mistakes_in(page: str, repository: Repository) -> tuple[list[Mistake], list[
     name = os.path.relpath(page, TOP).replace(os.sep, "/")
     prose = prose_of(page)
     names = list(missing_in(page, prose, repository))
-    others = [*refused_in(prose), *lengths_in(page, name), *options_wrong_in(page, name)]
+    others = [*refused_in(prose, REFUSED), *lengths_in(page, name), *options_wrong_in(page, name)]
     return names, others
 
 
@@ -307,6 +327,9 @@ def main() -> int:
         missing, wrong = missing + len(names), wrong + len(others)
     for name in () if given else sorted(LIMITS.keys() - set(repository.paths)):
         print(f"{name}: there is no such page")
+        wrong += 1
+    for what in () if given else refused_in_comments(repository.paths):
+        print(what)
         wrong += 1
     said = versions()
     if len(set(said.values())) > 1 and not given:

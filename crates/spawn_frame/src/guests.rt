@@ -107,7 +107,7 @@ impl Guests {
         Ok(())
     }
 
-    /// Puts each of these children of a site at its place as a ready guest, unless it is there already. The only error is want
+    /// Puts each of these children of a site at its place as a ready guest, unless it is there already. The only error is out
     /// of memory, which changes nothing: it is taken before any change.
     pub fn admit_each(&mut self, from: Site, gifts: Vec<Gift>) -> Result<(), AllocError>
         requires { IsAscending (map guest_entry self.old) }
