@@ -11,8 +11,8 @@ named, or all, are measured:
   one another;
 - `idle-entries`: the bytes that a book takes for an entry of a site without work: such entries share a step;
 - `only-worker`: how many searches the only worker of a run makes for a problem of 650,000 visits: it has no limit;
-- `equal-parts`: the processor seconds of four workers of a node to those of one, where four parts of the search are equal: what one worker
-  found the others know.
+- `equal-parts`: the processor seconds of four workers of a node to those of one, where sixteen parts of the search are equal: what one
+  worker found the others know.
 
 The least of five audits counts, and of three runs. Seconds of audits are by the clock: on a busy machine they may be beyond a bound where
 nothing is wrong.
@@ -95,7 +95,7 @@ def only_worker(folder: str) -> float:
 
 
 def equal_parts(folder: str) -> float:
-    behind(folder, "equal", [2, 2])
+    behind(folder, "equal", [4, 4])
     seconds = []
     for workers in (1, 4):
         ran = [books.run(os.path.join(folder, "equal.dlx"), 1, workers) for _ in range(RUNS)]
@@ -118,7 +118,7 @@ BOUNDS = {
     "audit-books": Bound(audit_books, 2, audits.PROGRAM, "audit_trials"),
     "idle-entries": Bound(idle_entries, 64, WORKBENCH, "workbench"),
     "only-worker": Bound(only_worker, 4, RUN_TALLY, "run_tally"),
-    "equal-parts": Bound(equal_parts, 2.5, RUN_TALLY, "run_tally"),
+    "equal-parts": Bound(equal_parts, 2, RUN_TALLY, "run_tally"),
 }
 
 
