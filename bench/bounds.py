@@ -12,7 +12,7 @@ named, or all, are measured:
 - `idle-entries`: the bytes that a book takes for an entry of a site without work: such entries share a step;
 - `only-worker`: how many searches the only worker of a run makes for a problem of 650,000 visits: it has no limit;
 - `equal-parts`: the processor seconds of four workers of a node to those of one, where 32 parts of the search are equal: what one
-  worker found the others know.
+  worker found the others know. Workers meet by chance, so a run without this may stay below the bound.
 
 The least of five audits counts, and all of five runs. Seconds of audits are by the clock: on a busy machine they may be beyond a bound where
 nothing is wrong.

@@ -40,9 +40,7 @@ SLOW = {
     "audit/the_digest_is_constant": "bench/bounds.py audit-length",
     "audit/the_path_forgets": "bench/bounds.py audit-books",
     "run_book/idle_steps_are_never_shared": "bench/bounds.py idle-entries",
-    "udp_node/frames_are_not_told_of": "bench/bounds.py equal-parts",
     "udp_node/nobody_is_told": "bench/bounds.py equal-parts",
-    "udp_node/nothing_is_heard": "bench/bounds.py equal-parts",
     "udp_node/the_only_worker_has_a_limit": "bench/bounds.py only-worker",
 }
 # a bug's crate and name, the test's crate and the test
