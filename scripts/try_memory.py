@@ -12,7 +12,7 @@ all as it was before, and the same call, made again, has to give what the test's
 - audit_tests audits books.
 - book_tests acts at a cell, which has to hand seat and event back.
 - world_tests steps through runs of a world, and lets them run.
-- engine_tests runs `alone` and `check`, again with a new source and sink; nothing may be written before.
+- engine_tests runs `alone` and `check`, each of them within limits too, again with a new source and sink; nothing may be written before.
 - search_tests searches prefixes, which have to come back.
 - file_tests reads problems and answers.
 - wire_tests reads packets.
@@ -46,7 +46,7 @@ KINDS = [(event, CORES) for event in (
     "Refuse", "Abort", "Over")]
 KINDS += [("spawn", "table"), ("spawn within a page", "table"), ("GiveMany", CORES), ("audit", "books"), ("read_problem", "file"),
           ("read_answer", "file"), ("read_packet", "bytes"), ("find", "search"), ("step", "world"), ("run", "world"), ("act", "cell"),
-          ("alone_engine", "engine"), ("check_engine", "engine")]
+          ("alone_engine", "engine"), ("check_engine", "engine"), ("alone_within", "engine"), ("check_within", "engine")]
 SHORT = 7
 # The bugs outside the gate that no contract refuses and no test finds but where memory is refused, each with the tests that find it:
 # what was refused memory once is refused it for ever.

@@ -60,13 +60,13 @@ Turns problem fuel (suc turns) old new = (middle : Simulation) × Turns problem 
 
 -- ---- the closing phase
 
--- the run after the present one of a site, or the last one
-abbrev pub next_run : Option View → ℕ
-next_run site = min (suc (present site)) last_incarnation
+-- the incarnation after the present one of a site, or the last one
+abbrev pub next_incarnation : Option View → ℕ
+next_incarnation site = min (suc (present site)) last_incarnation
 
 -- a node restarts
 abbrev pub begin_anew : World → ℕ → WorldEvent
-begin_anew world node = Restart node (next_run (slice_get world.sites node))
+begin_anew world node = Restart node (next_incarnation (slice_get world.sites node))
 
 -- the packet that was sent last is delivered
 abbrev pub deliver_last : World → WorldEvent

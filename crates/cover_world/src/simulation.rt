@@ -4,7 +4,7 @@ ghost use Rattle.std.specs.Prelude.{◌≡◌, ◌<◌, ◌≤◌, is_some, leng
 ghost use Rattle.cover_world.specs.Courses.{HoldsThroughout};
 ghost use Rattle.cover_world.specs.Draws.{node_count};
 ghost use Rattle.cover_world.specs.Safety.{published};
-ghost use Rattle.cover_world.specs.Simulation.{deliver_last, left_after, next_run, simulation, AllGreet, AsksForWork, Closes, Draws, Ends, Greets, Searches, Simulated, SearchesJob, Tries, Turns};
+ghost use Rattle.cover_world.specs.Simulation.{deliver_last, left_after, next_incarnation, simulation, AllGreet, AsksForWork, Closes, Draws, Ends, Greets, Searches, Simulated, SearchesJob, Tries, Turns};
 ghost use Rattle.cover_world.specs.Views.{here_job, looked_up};
 ghost use Rattle.cover_world.specs.Worlds.{Run};
 
@@ -90,7 +90,7 @@ fn draw(world: &mut World, rng: &mut Pcg32, fuel: u64, restarts: u32) -> Result<
         (simulation world.old.world rng.old restarts) (simulation world.new.world rng.new left)) }
 {
     let event = world.draw_event(rng, fuel, restarts);
-    attempt(world, event)?;
+    try_event(world, event)?;
     // (a restart is counted when it is drawn, even if it is refused)
     Ok(left_after(restarts, event))
 }
@@ -107,7 +107,7 @@ fn left_after(restarts: u32, event: WorldEvent) -> u32
 
 /// Lets an event happen, or passes it over where it is refused; the only error is out of memory.
 #[tactic(auto, using(crate::proofs::Simulating::passed_nodes, crate::proofs::Reached::passed_run, crate::proofs::Reached::same_run))]
-fn attempt(world: &mut World, event: WorldEvent) -> Result<(), AllocError>
+fn try_event(world: &mut World, event: WorldEvent) -> Result<(), AllocError>
     ensures problem { world.new.problem ≡ world.old.problem }
     ensures run { Run world.old.problem world.old.world world.new.world }
     ensures nodes { length world.new.world.sites ≡ length world.old.world.sites }
@@ -128,7 +128,7 @@ fn deliver_last(world: &mut World) -> Result<(), AllocError>
         (Tries world.old.problem world.old.world (deliver_last world.old.world) world.new.world) }
 {
     // (where nothing was sent there is no packet 0 either, so the event is passed over)
-    attempt(world, WorldEvent::Deliver(world.sent().saturating_sub(1)))
+    try_event(world, WorldEvent::Deliver(world.sent().saturating_sub(1)))
 }
 
 /// All nodes restart and greet; then the first one asks for work and searches it.
@@ -167,15 +167,18 @@ fn greet(world: &mut World, node: u8) -> Result<(), AllocError>
     ensures nodes { length world.new.world.sites ≡ length world.old.world.sites }
     ensures greets { OnOk result (Greets world.old.problem node world.old.world world.new.world) }
 {
-    attempt(world, WorldEvent::Restart(node, next_run(world, node)))?;
-    attempt(world, WorldEvent::Greet(node))?;
+    try_event(
+        world,
+        WorldEvent::Restart(node, next_incarnation(world, node)),
+    )?;
+    try_event(world, WorldEvent::Greet(node))?;
     deliver_last(world)
 }
 
-/// The run after a node's present one, or the last.
-fn next_run(world: &World, node: u8) -> u32
+/// The incarnation after a node's present one, or the last.
+fn next_incarnation(world: &World, node: u8) -> u32
     requires { node < length world.now.world.sites }
-    ensures { result ≡ next_run (slice_get world.now.world.sites node) }
+    ensures { result ≡ next_incarnation (slice_get world.now.world.sites node) }
 {
     world.incarnation(node).saturating_add(1)
 }
@@ -187,7 +190,7 @@ fn ask_for_work(world: &mut World) -> Result<(), AllocError>
     ensures run { Run world.old.problem world.old.world world.new.world }
     ensures asks { OnOk result (AsksForWork world.old.problem world.old.world world.new.world) }
 {
-    attempt(world, WorldEvent::Ask(1, 0))?;
+    try_event(world, WorldEvent::Ask(1, 0))?;
     // (the Steal at the registry, then the Give that answers it)
     deliver_last(world)?;
     deliver_last(world)
@@ -200,7 +203,7 @@ fn search(world: &mut World) -> Result<(), AllocError>
     ensures run { Run world.old.problem world.old.world world.new.world }
     ensures searches { OnOk result (Searches world.old.problem world.old.world world.new.world) }
 {
-    attempt(world, WorldEvent::Take(1))?;
+    try_event(world, WorldEvent::Take(1))?;
     search_job(world)?;
     deliver_last(world)
 }
@@ -214,7 +217,7 @@ fn search_job(world: &mut World) -> Result<(), AllocError>
         (looked_up here_job (slice_get world.old.world.sites 1)) world.old.world world.new.world) }
 {
     match world.here(1) {
-        Some(job) => attempt(world, WorldEvent::Post(1, job, u64::MAX)),
+        Some(job) => try_event(world, WorldEvent::Post(1, job, u64::MAX)),
         None => Ok(()),
     }
 }

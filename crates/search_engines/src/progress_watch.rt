@@ -2,7 +2,7 @@
 
 use crate::line_timer::LineTimer;
 use crate::progress::Progress;
-use crate::progress_log::ProgressLog;
+use crate::progress_log::{LineStyle, ProgressLog};
 use crate::tree_estimate::TreeEstimate;
 use brancher::{Unwatched, Watch};
 use cover_problem::Problem;
@@ -25,7 +25,8 @@ impl EndWatch for Unwatched {
 #[derive(Drop)]
 pub struct ProgressWatch<'a, E: Sink, C: Clock> {
     clock: &'a C,
-    estimate: TreeEstimate<'a>,
+    /// None where nobody sees it: at the limits of the format it takes megabytes.
+    estimate: Option<TreeEstimate<'a>>,
     log: ProgressLog<'a, E>,
     fuel: u64,
     timer: LineTimer,
@@ -40,9 +41,13 @@ impl<'a, E: Sink, C: Clock> ProgressWatch<'a, E, C> {
         fuel: u64,
         log: ProgressLog<'a, E>,
     ) -> Result<ProgressWatch<'a, E, C>, AllocError> {
+        let estimate = match log.style() {
+            LineStyle::Silent => None,
+            LineStyle::Listed | LineStyle::Overwritten => Some(TreeEstimate::new(alloc, problem)?),
+        };
         Ok(ProgressWatch {
             clock,
-            estimate: TreeEstimate::new(alloc, problem)?,
+            estimate,
             log,
             fuel,
             timer: LineTimer::new(clock),
@@ -63,14 +68,17 @@ impl<'a, E: Sink, C: Clock> Watch for ProgressWatch<'a, E, C> {
     ghost may_stop = { false };
 
     fn look(&mut self, chosen: &[u16], left: u64) -> bool {
-        // (first, since the estimate chooses all these options once more, which only a line is worth)
+        let Some(estimate) = &mut self.estimate else {
+            return false;
+        };
+        // (before the share, since the estimate chooses all these options once more, which only a line is worth)
         let Some(seconds) = self.timer.due(self.clock, self.log.style()) else {
             return false;
         };
         self.log.write(Progress {
             seconds,
             visits: self.fuel.saturating_sub(left),
-            share: self.estimate.share(chosen),
+            share: estimate.share(chosen),
             jobs: None,
             fullest: None,
         });

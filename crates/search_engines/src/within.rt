@@ -160,7 +160,7 @@ fn write_limited<V: EndWatch, W: Sink, C: Clock>(
 ///
 /// Meanwhile it writes to the log how far the search has come, by the visits that it made itself: what lies below a state that it
 /// knows is skipped. The log changes no answer: a fault of its sink is passed over. `Memory` also comes where there is none for the
-/// estimate that the log shows.
+/// estimate that a log with lines shows.
 pub fn alone_within<R: Source, W: Sink, E: Sink, C: Clock>(
     clock: &C,
     alloc: Global,

@@ -189,16 +189,14 @@ impl<'a, J: Run> Worker<'a, J> {
             run,
         } = search_job;
         // (a finding has a fuel of at least 1, which no type says of the job's)
-        let limit = fuel.max(1);
-        self.limit = limit;
+        self.limit = fuel.max(1);
         let keeps = self.searcher.keeps();
-        // (fuel also counts visits that kept states save, and prefixes with very many would be split for ever: the watch limits those made)
-        let fuel = if keeps { u64::MAX } else { limit };
+        let fuel = search_fuel(keeps, self.limit);
         let (gate, signals) = (actor.shared.gate, actor.shared.signals);
         self.learn(rt, actor.shared.exchange);
         gate.begun();
         let length = prefix.as_slice().len();
-        let quota = self.pace.quota(length, limit);
+        let quota = self.pace.quota(length, self.limit);
         let mut watch = SearchWatch::new(signals.over(), gate, length, fuel, quota);
         match self
             .searcher
@@ -209,22 +207,22 @@ impl<'a, J: Run> Worker<'a, J> {
                 gate.searched(&finding, visits);
                 if keeps {
                     self.share(signals, &watch);
-                    if finding.outcome() == Outcome::Barren && count >= TOLD {
-                        self.tell(rt, actor.shared.exchange, finding.prefix());
-                    }
+                    self.tell_if_barren(rt, actor.shared.exchange, &finding, count);
                 }
-                self.pace
-                    .note(finding.prefix().len(), finding.outcome(), visits);
+                self.pace.note(length, finding.outcome(), visits);
                 self.post(rt, actor, Searched { job, finding, run })
             }
             Ok(_) => Turn::Ended(EndCause::Turns),
-            Err(prefix) => {
-                // (it ends, where a refused Post is tried again: without room to search it would go on for hours and do nothing)
-                let prefix = Numbers::from_vec(prefix);
-                self.hand = Hand::Search(SearchJob::new(job, prefix, limit));
-                Turn::Ended(EndCause::Memory)
-            }
+            Err(prefix) => self.end_unsearched(job, Numbers::from_vec(prefix)),
         }
+    }
+
+    /// Ends the site, since there was no room for a search: tried again and again, as a refused Post is, it would do nothing for hours.
+    fn end_unsearched(&mut self, job: Job, prefix: Numbers) -> Turn
+        requires { is_prefix J.run.problem prefix ≡ true }
+    {
+        self.hand = Hand::Search(SearchJob::new(job, prefix, self.limit));
+        Turn::Ended(EndCause::Memory)
     }
 
     /// Keeps what the node's other workers found to have no cover.
@@ -235,6 +233,21 @@ impl<'a, J: Run> Worker<'a, J> {
                 return;
             };
             self.searcher.learn(told.prefix.as_slice(), told.count);
+        }
+    }
+
+    /// Tells the node's other workers of a finding, if there is no cover and another search for it would take so many visits.
+    fn tell_if_barren<R: Wait>(
+        &mut self,
+        rt: &R,
+        exchange: &Exchange<J>,
+        finding: &Finding,
+        count: u64,
+    )
+        requires { is_prefix J.run.problem finding.now.prefix ≡ true }
+    {
+        if finding.outcome() == Outcome::Barren && count >= TOLD {
+            self.tell(rt, exchange, finding.prefix());
         }
     }
 
@@ -327,6 +340,15 @@ impl<'a, J: Run> Worker<'a, J> {
             (_, refused) => after_refusal(refused),
         }
     }
+}
+
+/// The fuel of a search that may make so many visits. Where states are kept it is the greatest: fuel also counts visits that they save, and
+/// prefixes with very many would be split for ever, so the watch limits those that are made.
+fn search_fuel(keeps: bool, limit: u64) -> u64
+    requires { 1 ≤ limit }
+    ensures { 1 ≤ result }
+{
+    if keeps { u64::MAX } else { limit }
 }
 
 /// A turn of a worker that leaves all jobs to another.

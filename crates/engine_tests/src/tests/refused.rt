@@ -6,17 +6,25 @@
 ghost use Rattle.std.specs.Prelude.{◌≤◌};
 
 use super::run_output::RunOutput;
-use super::{alone, check};
+use super::{alone, check, within};
 use dlx_reader::{CountedReader, CountedWriter};
 use growth_marks::{begin, end};
-use search_engines::{AloneEnd, EngineFault, alone_engine, check_engine, tell_end};
+use search_engines::{
+    AloneEnd, EngineFault, LineStyle, ProgressLog, SearchLimits, alone_engine, alone_within,
+    check_engine, check_within, tell_end,
+};
 use std::alloc::Global;
 use std::process::Abort;
+use std::time::Clock;
 
-/// The numbers of the calls: `alone` runs, or `check`.
+/// The numbers of the calls: `alone` runs, or `check`, and each of them within limits.
 const ALONE: usize = 112;
 
 const CHECK: usize = 116;
+
+const ALONE_WITHIN: usize = 120;
+
+const CHECK_WITHIN: usize = 124;
 
 /// Room for all that is written, so that the sink asks for no memory.
 const ROOM: usize = 1000;
@@ -106,5 +114,68 @@ fn refused_memory_where_check_refuses(rt: HostRuntime) {
     for (text, answer, errors) in check::REFUSALS.iter() {
         let output = check_output(&rt, rt.alloc(), (text, answer), 1);
         assert!(rt; output.is("", errors, 3), "{answer}");
+    }
+}
+
+/// Runs `alone` within limits between marks and returns what is written; where memory is refused, once more and without marks.
+fn alone_within_output<R: Abort + Clock>(
+    rt: &R,
+    alloc: Global,
+    text: &str,
+    limits: &SearchLimits,
+    style: LineStyle,
+) -> RunOutput {
+    let mut out = Vec::with_capacity(alloc, ROOM).expect(rt, "memory");
+    let mut lines = Vec::new(alloc);
+    let mut source = CountedReader::new(text.as_bytes());
+    let mut sink = CountedWriter::new(&mut out);
+    let mut line_sink = CountedWriter::new(&mut lines);
+    let log = ProgressLog::new(&mut line_sink, style);
+    begin(alloc, ALONE_WITHIN).expect(rt, "memory");
+    let ended = alone_within(rt, alloc, limits, &mut source, &mut sink, log);
+    if is_refused(rt, alloc, &ended, &out) {
+        return within::alone(rt, alloc, text, limits);
+    }
+    output_of(alloc, out, &ended)
+}
+
+#[test]
+fn refused_memory_in_alone_within_limits(rt: HostRuntime) {
+    let styles = [LineStyle::Silent, LineStyle::Listed];
+    for (text, fuel, out, errors, status) in within::ANSWERS.iter() {
+        let limits = within::limits(&rt, *fuel, within::LONG);
+        for style in styles.iter() {
+            let output = alone_within_output(&rt, rt.alloc(), text, &limits, *style);
+            assert!(rt; output.is(out, errors, *status), "{text} {fuel}");
+        }
+    }
+}
+
+/// Runs `check` within limits between marks and returns what is written; where memory is refused, once more and without marks.
+fn check_within_output<R: Abort + Clock>(
+    rt: &R,
+    alloc: Global,
+    texts: (&str, &str),
+    limits: &SearchLimits,
+) -> RunOutput {
+    let (text, answer) = texts;
+    let mut out = Vec::with_capacity(alloc, ROOM).expect(rt, "memory");
+    let mut file = CountedReader::new(text.as_bytes());
+    let mut source = CountedReader::new(answer.as_bytes());
+    let mut sink = CountedWriter::new(&mut out);
+    begin(alloc, CHECK_WITHIN).expect(rt, "memory");
+    let ended = check_within(rt, alloc, limits, &mut file, &mut source, &mut sink);
+    if is_refused(rt, alloc, &ended, &out) {
+        return within::check(rt, alloc, text, answer, limits);
+    }
+    output_of(alloc, out, &ended)
+}
+
+#[test]
+fn refused_memory_in_check_within_limits(rt: HostRuntime) {
+    for (text, answer, fuel, out, errors, status) in within::VERDICTS.iter() {
+        let limits = within::limits(&rt, *fuel, within::LONG);
+        let output = check_within_output(&rt, rt.alloc(), (text, answer), &limits);
+        assert!(rt; output.is(out, errors, *status), "{answer} {fuel}");
     }
 }

@@ -14,10 +14,10 @@ use std::sync::atomic::AtomicU64;
 use std::time::{Clock, Duration};
 
 /// A time that no test lasts.
-const LONG: u64 = 1_000_000;
+pub const LONG: u64 = 1_000_000;
 
 /// The limits of a search that begins now: so many visits, or any number for 0, and so many seconds.
-fn limits<C: Clock>(clock: &C, fuel: u64, seconds: u64) -> SearchLimits {
+pub fn limits<C: Clock>(clock: &C, fuel: u64, seconds: u64) -> SearchLimits {
     let time = TimeLimit::from_now(clock, Duration::from_secs(seconds));
     if fuel == 0 {
         SearchLimits::new(None, Some(time))
@@ -27,7 +27,7 @@ fn limits<C: Clock>(clock: &C, fuel: u64, seconds: u64) -> SearchLimits {
 }
 
 /// Runs `alone` on a problem within limits and returns what is written.
-fn alone<C: Clock>(clock: &C, alloc: Global, text: &str, limits: &SearchLimits) -> RunOutput {
+pub fn alone<C: Clock>(clock: &C, alloc: Global, text: &str, limits: &SearchLimits) -> RunOutput {
     let mut out = Vec::new(alloc);
     let mut errors = Vec::new(alloc);
     let mut source = CountedReader::new(text.as_bytes());
@@ -44,7 +44,7 @@ fn alone<C: Clock>(clock: &C, alloc: Global, text: &str, limits: &SearchLimits) 
 }
 
 /// Runs `check` on an answer to a problem within limits and returns what is written.
-fn check<C: Clock>(
+pub fn check<C: Clock>(
     clock: &C,
     alloc: Global,
     text: &str,
@@ -66,7 +66,7 @@ fn check<C: Clock>(
 }
 
 /// Problems with a fuel, each with what is written to both outputs, and the status.
-static ANSWERS: [(&str, u64, &str, &str, u8); 8] = [
+pub static ANSWERS: [(&str, u64, &str, &str, u8); 8] = [
     (LETTERS, 0, "cover 3\nc e\na d f\nb g\n", "", 0),
     (LETTERS, 6, "cover 3\nc e\na d f\nb g\n", "", 0),
     (LETTERS, 5, "no answer\n", "", 4),
@@ -86,7 +86,7 @@ fn within_its_time_alone_has_the_same_answer(rt: HostRuntime) {
 }
 
 /// Answers to problems with a fuel, each with what is written to both outputs, and the status.
-static VERDICTS: [(&str, &str, u64, &str, &str, u8); 7] = [
+pub static VERDICTS: [(&str, &str, u64, &str, &str, u8); 7] = [
     (LETTERS, "cover 3\nc e\na d f\nb g\n", 1, "right\n", "", 0),
     (
         LETTERS,
