@@ -72,7 +72,7 @@ pub record SitesStay : Type 0 where
 module _ (stay_so : SitesStay) (problem : Problem) (nodes : ℕ) (limits : ℕ → ℕ) (lasts : ℕ → View) (start : World) where
   -- ---- a site restarts
 
-  -- another book of the node whose next run begins
+  -- another book of the node whose next incarnation begins
   left_behind : (names : ℕ) (view : View) (site other : Site) (entries : List Entry) (limit : ℕ) (last : View) → other.node ≡ site.node → view.site.incarnation < site.incarnation
       → (other.incarnation < site.incarnation → entries ≡ []) → other ≢ site → 0 < site.node
       → Stands problem nodes view other entries limit last

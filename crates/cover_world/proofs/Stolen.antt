@@ -296,7 +296,7 @@ anew15 =
     acts anew14 1 (Deliver child_return) Moved _ _ _ refl (4, refl)
     (refl, (refl, omega arith, (refl, (Refuses causes.Superseded, refl, (refl, refl)))))
 
--- the second run of the second node takes no packet that was for the first
+-- the second incarnation of the second node takes no packet that was for the first
 pub refused : (packet : Packet) → packet.to ≡ site2 → IsRefused small anew15.end (Acts 2 (Deliver packet))
 refused packet to new step =
     let view : step.before ≡ opening_node 2 2 2 9 = sym (same_Some (opening_node 2 2 2 9) step.before step.is) in

@@ -54,7 +54,7 @@ redo_or_again node None = Again node
 abbrev pub again_any : ℕ → Lcg → Drawn WorldEvent
 again_any nodes rng = (Again (pick (suc nodes) rng).0, (pick (suc nodes) rng).1)
 
--- the incarnation in which a site runs
+-- the present incarnation of a node
 abbrev pub present : Option View → ℕ
 present None = 0
 present (Some view) = view.site.incarnation

@@ -14,11 +14,11 @@ root_steal = record { from = site1; to = site0; body = Steal }
 abbrev pub root_give : Packet
 root_give = record { from = site0; to = site1; body = Give 0 1 [] }
 
--- the second node greets in its second run
+-- the second node greets in its second incarnation
 abbrev pub second_hello : Packet
 second_hello = record { from = site2_again; to = site0; body = Hello }
 
--- the first node is told of that run
+-- the first node is told of that incarnation
 abbrev pub first_members : Packet
 first_members = record { from = site0; to = site1; body = Members (1 ∷ 2 ∷ []) }
 
@@ -26,7 +26,7 @@ first_members = record { from = site0; to = site1; body = Members (1 ∷ 2 ∷ [
 abbrev pub second_members : Packet
 second_members = record { from = site0; to = site2_again; body = Members (1 ∷ 2 ∷ []) }
 
--- the first node asks the second for work, in the run that it was told of
+-- the first node asks the second for work, in the incarnation that it was told of
 abbrev pub thief_steal : Packet
 thief_steal = record { from = site1; to = site2_again; body = Steal }
 
@@ -34,11 +34,11 @@ thief_steal = record { from = site1; to = site2_again; body = Steal }
 abbrev pub no_work : Packet
 no_work = record { from = site2_again; to = site1; body = NoWork }
 
--- the first node greets in its second run
+-- the first node greets in its second incarnation
 abbrev pub first_hello : Packet
 first_hello = record { from = site1_again; to = site0; body = Hello }
 
--- it is told which runs are known now
+-- it is told which incarnations are known now
 abbrev pub first_members_later : Packet
 first_members_later = record { from = site0; to = site1_again; body = Members (2 ∷ 2 ∷ []) }
 

@@ -50,19 +50,19 @@ over_in world node = option_map (λ view. view.over) (slice_get world.sites node
 abbrev pub site0 : Site
 site0 = record { node = 0; incarnation = 1 }
 
--- the first node in its first run
+-- the first node in its first incarnation
 abbrev pub site1 : Site
 site1 = record { node = 1; incarnation = 1 }
 
--- the second node in its first run
+-- the second node in its first incarnation
 abbrev pub site2 : Site
 site2 = record { node = 2; incarnation = 1 }
 
--- the first node in its second run
+-- the first node in its second incarnation
 abbrev pub site1_again : Site
 site1_again = record { node = 1; incarnation = 2 }
 
--- the second node in its second run
+-- the second node in its second incarnation
 abbrev pub site2_again : Site
 site2_again = record { node = 2; incarnation = 2 }
 

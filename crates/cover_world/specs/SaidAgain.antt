@@ -8,7 +8,7 @@ use Rattle.packet_wire.specs.declared.packet.Body.TheVariants.{Accept, Give, Hel
 use Rattle.packet_wire.specs.declared.packet.Packet.{Packet}
 use Rattle.spawn_frame.specs.declared.child_result.ChildResult.TheVariants.{Empty}
 
--- the second node greets in its first run
+-- the second node greets in its first incarnation
 abbrev pub first_hello : Packet
 first_hello = record { from = site2; to = site0; body = Hello }
 
@@ -16,7 +16,7 @@ first_hello = record { from = site2; to = site0; body = Hello }
 abbrev pub second_hello : Packet
 second_hello = record { from = site2_again; to = site0; body = Hello }
 
--- the first node is told which runs are known, also when the earlier greeting comes late
+-- the first node is told which incarnations are known, also when the earlier greeting comes late
 abbrev pub first_members : Packet
 first_members = record { from = site0; to = site1; body = Members (1 ∷ 2 ∷ []) }
 
@@ -48,7 +48,7 @@ second_accept = record { from = site0; to = site1; body = Accept 0 2 Empty }
 abbrev pub first_over : Packet
 first_over = record { from = site0; to = site1; body = Over }
 
--- the same to the second node, in the run that is known
+-- the same to the second node, in the incarnation that is known
 abbrev pub second_over : Packet
 second_over = record { from = site0; to = site2_again; body = Over }
 

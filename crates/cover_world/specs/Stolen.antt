@@ -104,7 +104,7 @@ late_events =
 
 -- ---- another end: the thief restarts before its result comes
 
--- the second node greets in its second run
+-- the second node greets in its second incarnation
 abbrev pub anew_hello : Packet
 anew_hello = record { from = site2_again; to = site0; body = Hello }
 
@@ -116,7 +116,7 @@ anew_first_members = record { from = site0; to = site1; body = Members (1 ∷ 2 
 abbrev pub anew_second_members : Packet
 anew_second_members = record { from = site0; to = site2_again; body = Members (1 ∷ 2 ∷ []) }
 
--- the result of the earlier run comes after that
+-- the result of the earlier incarnation comes after that
 abbrev pub anew_refuse : Packet
 anew_refuse = record { from = site1; to = site2; body = Refuse 0 1 causes.Superseded }
 

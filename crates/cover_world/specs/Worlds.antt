@@ -11,7 +11,7 @@ use Rattle.packet_wire.specs.declared.packet.Packet.{Packet}
 use Rattle.root_registry.specs.RegistryStep.{RegistryStep}
 use Rattle.steal_return.specs.Ledger.{opening_ledger, root_ledger}
 
--- the sites in their present runs, and the network as the packets ever sent
+-- the registry and the nodes in their present incarnations, and the network as the packets ever sent
 pub record World : Type 0 where
   pub sites : List View  -- by node, the registry first
   pub sent : List Packet  -- every packet that was ever sent
@@ -36,7 +36,7 @@ opening_nodes nodes node (limit ∷ limits) = opening_node nodes node 1 limit �
 abbrev pub opening_world : ℕ → List ℕ → World
 opening_world nodes limits = record { sites = opening_registry nodes ∷ opening_nodes nodes 1 limits; sent = [] }
 
--- a move of the world: a site has an event, or a node restarts in this run with this limit on names
+-- a move of the world: a site has an event, or a node restarts in this incarnation with this limit on names
 pub data WorldMove : Type 0 where
   Acts : (node : ℕ) → (event : Event) → WorldMove
   Restarts : (node incarnation limit : ℕ) → WorldMove

@@ -29,7 +29,7 @@ ghost use Rattle.steal_return.specs.Members.{now_known};
 ghost use Rattle.steal_return.specs.Returns.{Enters, judged};
 ghost use Rattle.steal_return.specs.Steals.{is_older};
 
-/// A packet for another site, another run of the same node too, changes nothing and isn't answered.
+/// A packet for another site, another incarnation of the same node too, changes nothing and isn't answered.
 pub fn packet_for_another_site()
     ensures node { (problem : Problem) (view : View) (packet : Packet) → packet.to ≢ view.site →
         NodeRefuses problem view (Deliver packet) }

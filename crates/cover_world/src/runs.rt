@@ -48,8 +48,8 @@ pub fn late_result()
         × (status_in end 2 stolen.stolen ≡ Some Dropped)) }
 {}
 
-/// The thief of a child restarts. Its owner learns of that and redoes the child; the result of the thief's earlier run
-/// is refused then, and the packets to that run find nobody.
+/// The thief of a child restarts. Its owner learns of that and redoes the child; the result of the thief's earlier
+/// incarnation is refused then, and the packets to that one find nobody.
 pub fn thief_begins_anew()
     ensures run { Plays small (opening_world 2 limits) stolen.anew_events stolen.anew_packets
         (λ end.
@@ -64,15 +64,15 @@ pub fn thief_begins_anew()
         × IsRefused small end (Acts 2 (Deliver stolen.anew_refuse))) }
 {}
 
-/// A greeting of an earlier run comes late, and no known incarnation falls. A root that is out is redone; it, its
-/// result and that the search is over are said again, and a node that asks for work then hears that it is over.
+/// A greeting of an earlier incarnation comes late, and no known incarnation falls. A root that is out is redone; it,
+/// its result and that the search is over are said again, and a node that asks for work then hears that it is over.
 pub fn said_again()
     ensures run { Plays bare (opening_world 2 limits) said_again.events said_again.packets (λ end.
         (published bare end ≡ Some answers.NoCover) × (over_in end 1 ≡ Some true)) }
 {}
 
 /// A node restarts while the root is out to another one: the root stays out there. The thief is told of the node's later
-/// run and asks that run for work. Then the thief restarts, and the root is ready again at the next attempt.
+/// incarnation and asks that one for work. Then the thief restarts, and the root is ready again at the next attempt.
 pub fn later_runs()
     ensures run { Plays bare (opening_world 2 limits) later_runs.events later_runs.packets (λ end.
         entry_in end 0 (Own 0) ≡ Some (record {

@@ -20,7 +20,7 @@ use std::marker::Model;
 /// How many children each node may name.
 pub const NAMES_LIMIT: u32 = 1_000_000;
 
-/// The cores of the sites of a world: the registry's, and one for each node in its present run.
+/// The cores of the sites of a world: the registry's, and one for each node in its present incarnation.
 #[derive(Drop)]
 pub struct Sites<'a> {
     registry: Registry<'a>,
@@ -133,7 +133,7 @@ impl<'a> Sites<'a> {
         let nodes = state.ledger().nodes();
         let site = Site { node, incarnation };
         let core = NodeCore::start(self.alloc, self.problem, site, nodes, NAMES_LIMIT)?;
-        // (the earlier run goes with all its units, as in a crash)
+        // (the earlier incarnation goes with all its units, as in a crash)
         self.nodes[node as usize - 1] = core;
         Ok(())
     }

@@ -27,7 +27,7 @@ use std::alloc::{AllocError, Global};
 use std::marker::Model;
 
 /// The registry and the nodes of a search as one thing that runs: the cores of their sites, and all packets that were ever
-/// sent. Each node may name 1,000,000 children in each of its runs.
+/// sent. Each node may name 1,000,000 children in each of its incarnations.
 ///
 /// Losses, repeats and other orders of the packets are its caller's choice: a packet that was sent may be delivered at any
 /// time, any number of times, or never.
@@ -57,7 +57,7 @@ impl<'a> Model for World<'a> {
 }
 
 impl<'a> World<'a> {
-    /// The registry and 1 to 16 nodes, all in their first run, and nothing sent. The only error is out of memory.
+    /// The registry and 1 to 16 nodes, all in their first incarnation, and nothing sent. The only error is out of memory.
     pub fn start(alloc: Global, problem: &'a Problem, nodes: u8) -> Result<World<'a>, AllocError>
         requires some { 1 ≤ nodes }
         requires most { nodes ≤ LAST_NODE }
@@ -200,7 +200,7 @@ impl<'a> World<'a> {
         &self.sent[place]
     }
 
-    /// The incarnation in which a node, or the registry at 0, runs now. The other clauses say what is true of each world.
+    /// The present incarnation of a node, or of the registry at 0. The other clauses say what is true of each world.
     #[tactic(auto, using(crate::proofs::SiteCores::site_view))]
     pub fn incarnation(&self, node: u8) -> u32
         requires { node < length self.now.world.sites }

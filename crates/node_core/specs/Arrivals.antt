@@ -62,7 +62,7 @@ pub record Admits (problem : Problem) (old : View) (from : Site) (gifts : List G
   pub after : new ≡ with_ledger old ledger
   pub sends : out ≡ []
 
--- a Give of these children makes guests; one of an earlier run, or of guests that are all there, is ignored
+-- a Give of these children makes guests; one of an earlier incarnation, or of guests that are all there, is ignored
 abbrev pub GiveStep : Problem → View → Site → List Gift → Reply → List Packet → View → Type 0
 GiveStep problem old from gifts Moved out new = Admits problem old from gifts out new
 GiveStep problem old from gifts Ignored out new = NoneIsNew old.ledger from gifts × Stays old out new

@@ -105,7 +105,7 @@ pub record FormedStep (problem : Problem) (old : View) (event : Event) (reply : 
   pub fit : IsFit problem event
   pub step : NodeStep problem old event reply out new
 
--- A site that a node may be: one of at most as many nodes as there may be, in a run that packets can tell, as each name that it may give.
+-- A site that a node may be: one of at most as many nodes as there may be, in an incarnation that packets can tell, as each name that it may give.
 pub record MayBegin (site : Site) (nodes limit : ℕ) : Type 0 where
   pub most : nodes ≤ LAST_NODE
   pub first : 1 ≤ site.node

@@ -105,7 +105,7 @@ members_refusal view incarnations =
     then Some faults.NamesSpent
     else None
 
--- a Give is ignored: a later run of its sender is known, or all of the guests are there already
+-- a Give is ignored: a later incarnation of its sender is known, or all of the guests are there already
 abbrev pub is_ignored : View → Site → List Gift → Bool
 is_ignored view from gifts = is_older view.known from || list_all (is_there from view.guests) gifts
 

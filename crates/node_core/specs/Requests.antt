@@ -22,7 +22,7 @@ registry = record { node = 0; incarnation = 1 }
 abbrev pub hello_packet : Site → Packet
 hello_packet from = record { from = from; to = registry; body = Hello }
 
--- a node in the run that is known of it
+-- a node in the incarnation that is known of it
 abbrev pub known_site : View → ℕ → Site
 known_site view node = record { node = node; incarnation = slice_index view.known node }
 

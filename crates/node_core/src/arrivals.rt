@@ -22,7 +22,7 @@ use steal_return::{Given, Judged, aborts_are_few};
 
 impl SiteState {
     /// Children of another site are given to this one: those that aren't there already become ready guests, unless the
-    /// packet is of an earlier run. Whether they may is tested before any memory is taken.
+    /// packet is of an earlier incarnation. Whether they may is tested before any memory is taken.
     pub fn receive_give(
         &mut self,
         problem: &Problem,

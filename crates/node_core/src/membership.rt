@@ -13,7 +13,7 @@ use crate::site_state::SiteState;
 use steal_return::{LearnFault, aborts_are_few};
 
 impl SiteState {
-    /// Learns which runs of the nodes there are: children out to earlier runs are redone, guests of earlier runs dropped
+    /// Learns the incarnations of the nodes: children out to earlier ones are redone, guests of earlier ones dropped
     /// with all below, and the thieves below told.
     pub fn receive_members(
         &mut self,

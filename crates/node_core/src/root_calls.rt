@@ -20,9 +20,9 @@ impl SiteState {
         self.ledger.enter(serial, child_result);
     }
 
-    /// Learns that a node runs so: the later run of it is kept, and each child that is out to an earlier run of it is
-    /// redone. `NamesSpent`, the only fault, comes where one of them stands at its last attempt; then nothing changes.
-    /// It takes no memory.
+    /// Learns that a node is in this incarnation: the later incarnation of it is kept, and each child that is out to an
+    /// earlier one is redone. `NamesSpent`, the only fault, comes where one of them is at its last attempt; then
+    /// nothing changes. It takes no memory.
     pub fn learn_hello(&mut self, from: Site) -> Result<(), ActFault>
         requires { from.node ≤ self.old.nodes }
         ensures ok { OnOk result (LearnsHello self.old.ledger from self.new.ledger) }

@@ -30,7 +30,7 @@ is_counted n = nat_lt 0 n && nat_lt n 4294967296
 abbrev pub is_incarnation_of : ℕ → ℕ → Bool
 is_incarnation_of node n = is_counted n && (not (node == 0) || n == 1)
 
--- a node or the registry, in one of its runs
+-- a node or the registry, in one of its incarnations
 abbrev pub is_site : Site → Bool
 is_site s = is_node s.node && is_incarnation_of s.node s.incarnation
 

@@ -11,7 +11,7 @@ use Rattle.steal_return.proofs.Learning.{raised_is, raised_length}
 use Rattle.steal_return.specs.Ledger.{Ledger}
 use Rattle.steal_return.specs.Members.{IsRedoable, IsSpentForHello}
 
--- the runs of the nodes alone, once one of them is raised
+-- the incarnations of the nodes alone, once one of them is raised
 nodes_raised : (runs : List ℕ) (node incarnation : ℕ) → 1 ≤ node → raised (drop 1 runs) (node - 1) incarnation ≡ drop 1 (raised runs node incarnation)
 nodes_raised [] node incarnation some = refl
 nodes_raised (k ∷ ks) zero incarnation some = absurd (omega (arith, some))
@@ -39,7 +39,7 @@ raised_nodes runs later node incarnation before run some there nodes at is =
     ∙ ap (λ l. raised l (node - 1) incarnation) nodes
     ∙ nodes_raised runs node incarnation some
 
--- as many runs as nodes
+-- as many incarnations as nodes
 drop_length : (runs : List ℕ) (nodes : ℕ) → length runs ≡ suc nodes → length (drop 1 runs) ≡ nodes
 drop_length [] nodes e = absurd (omega (arith, e))
 drop_length (k ∷ ks) nodes e = omega (arith, e)

@@ -184,7 +184,7 @@ module _ (problem : Problem) where
     remains = itself old new a.0;
   }
 
-  -- a sender that greets is a node, in a run that counts
+  -- a sender that greets is a node, in an incarnation that counts
   greeter_node : (from to : Site) → to.node ≡ 0 → (not (from.node == to.node) && (to.node == 0)) ≡ true → 1 ≤ from.node
   greeter_node from to registry routed =
       let other = eqb-false from.node to.node (not-true (from.node == to.node) (and_parts (not (from.node == to.node)) (to.node == 0) routed).0) in

@@ -17,7 +17,7 @@ use Rattle.steal_return.specs.Ledger.{root_ledger}
 abbrev pub opening_registry_core : Problem → ℕ → SiteCore
 opening_registry_core problem nodes = record { problem = problem; view = opening_view (root_ledger nodes) }
 
--- the runs of the nodes, told to each of them
+-- the incarnations of the nodes, told to each of them
 abbrev pub members_packets : Site → List ℕ → List Packet
 members_packets from runs = to_each from (Members runs) 1 runs
 

@@ -32,7 +32,7 @@ to_each from body node (k ∷ ks) = record { from = from; to = record { node = n
 abbrev pub known_nodes : View → List ℕ
 known_nodes view = drop 1 view.known
 
--- A node greets: the greater incarnation is kept, a root that is out to an earlier run of it is redone, and all nodes are told.
+-- A node greets: the greater incarnation is kept, a root that is out to an earlier one is redone, and all nodes are told.
 pub record HelloStep (old : View) (from : Site) (out : List Packet) (new : View) : Type 0 where
   pub known : List ℕ
   pub known_is : known ≡ raised old.known from.node from.incarnation

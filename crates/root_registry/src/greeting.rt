@@ -14,7 +14,7 @@ use packet_wire::{Body, Incarnations};
 use spawn_frame::Site;
 use std::alloc::{AllocError, Global};
 
-/// The runs of the nodes once it is learnt that one of them runs so; the only error is out of memory.
+/// The incarnations of the nodes once that of one of them is learnt; the only error is out of memory.
 fn raised_runs(alloc: Global, runs: &[u32], from: Site) -> Result<Vec<u32>, AllocError>
     requires some { 1 ≤ from.node }
     requires there { from.node < length runs.now }
@@ -27,14 +27,14 @@ fn raised_runs(alloc: Global, runs: &[u32], from: Site) -> Result<Vec<u32>, Allo
     Ok(later)
 }
 
-/// The later of two runs of a node.
+/// The later of two incarnations of a node.
 fn later_of(first: u32, second: u32) -> u32
     ensures { result ≡ max first second }
 {
     first.max(second)
 }
 
-/// Tells every node which runs there will be; the only error is out of memory.
+/// Sends every node the incarnations that will be known; the only error is out of memory.
 fn send_members(state: &SiteState, from: Site, out: &mut Outgoing) -> Result<(), AllocError>
     requires most { state.now.nodes ≤ LAST_NODE }
     requires some { 1 ≤ from.node }
@@ -45,7 +45,7 @@ fn send_members(state: &SiteState, from: Site, out: &mut Outgoing) -> Result<(),
     ensures err { OnErr result (MaySend out.old out.new) }
 {
     let ledger = state.ledger();
-    // (for what the getter says: that a run is known of the registry and of each node)
+    // (for what the getter says: that an incarnation is known of the registry and of each node)
     let _table = ledger.table();
     let later = raised_runs(state.allocator(), ledger.runs(), from)?;
     let incarnations = Incarnations::from_vec(later);
@@ -54,7 +54,7 @@ fn send_members(state: &SiteState, from: Site, out: &mut Outgoing) -> Result<(),
     send_to_each(state.site(), &body, incarnations.as_slice(), out)
 }
 
-/// A node tells that it is there: every node is told, then its run is learnt.
+/// A node says that it is there: every node is told, then its incarnation is learnt.
 pub(crate) fn receive_hello(
     state: &mut SiteState,
     from: Site,

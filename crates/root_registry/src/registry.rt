@@ -25,7 +25,7 @@ use steal_return::Ledger;
 
 /// The core of the registry.
 ///
-/// It has the root, knows which runs of the nodes there are, publishes the answer, and does no work of its own.
+/// It has the root, knows the incarnations of the nodes, publishes the answer, and does no work of its own.
 #[derive(Drop)]
 pub struct Registry<'a> {
     state: SiteState,
@@ -46,8 +46,8 @@ impl<'a> Model for Registry<'a> {
 impl<'a> Registry<'a> {
     ghost use Rattle.root_registry.specs.Core.{opening_registry_core};
 
-    /// The registry that begins, of 1 to 16 nodes: it has the root alone, which is ready, and knows the first run of
-    /// every node. The only error is out of memory.
+    /// The registry that begins, of 1 to 16 nodes: it has the root alone, which is ready, and knows the first
+    /// incarnation of every node. The only error is out of memory.
     pub fn start(alloc: Global, problem: &'a Problem, nodes: u8) -> Result<Registry<'a>, AllocError>
         requires some { 1 ≤ nodes }
         requires most { nodes ≤ LAST_NODE }

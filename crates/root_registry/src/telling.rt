@@ -12,7 +12,7 @@ use packet_wire::{Body, Packet};
 use spawn_frame::Site;
 use std::alloc::AllocError;
 
-/// Sends this body to each of the nodes from 1 on, whose runs these are; the only error is out of memory.
+/// Sends this body to each of the nodes from 1 on, whose incarnations these are; the only error is out of memory.
 pub(crate) fn send_to_each(
     from: Site,
     body: &Body,
@@ -30,7 +30,7 @@ pub(crate) fn send_to_each(
     Ok(())
 }
 
-/// Sends this body to a node in this run.
+/// Sends this body to a node in this incarnation.
 fn send_to_node(
     from: Site,
     body: &Body,
@@ -54,7 +54,7 @@ pub(crate) fn send_over(state: &SiteState, out: &mut Outgoing) -> Result<(), All
     ensures err { OnErr result (MaySend out.old out.new) }
 {
     let ledger = state.ledger();
-    // (for what the getter says: that a run is known of the registry and of each node)
+    // (for what the getter says: that an incarnation is known of the registry and of each node)
     let _table = ledger.table();
     let body = Body::Over;
     send_to_each(state.site(), &body, &ledger.runs()[1..], out)

@@ -26,12 +26,12 @@ abbrev pub DeliversPutOut : List SiteEntry → Event → Type 0
 DeliversPutOut merged (Deliver packet) = WasPutOut merged packet
 DeliversPutOut merged _ = ⊤
 
--- a book of an earlier run of the site's node has nothing left
+-- a book of an earlier incarnation of the site's node has nothing left
 abbrev pub IsUsedUp : Site → Book → Type 0
 IsUsedUp site book = book.site.node ≡ site.node → book.site.incarnation < site.incarnation → book.entries ≡ []
 
--- The k-th book has an entry left, whose turn it may be: its packet was put out, and the books of earlier runs of its node
--- are used up.
+-- The k-th book has an entry left, whose turn it may be: its packet was put out, and the books of earlier incarnations of
+-- its node are used up.
 pub record MayFollow (merged : List SiteEntry) (left : List Book) (k : ℕ) (next : SiteEntry) (later : List Entry) : Type 0 where
   pub is : slice_get left k ≡ Some (record { site = next.site; entries = next.entry ∷ later })
   pub delivers : DeliversPutOut merged next.entry.event

@@ -1,4 +1,4 @@
--- Names of sites, children and units, compared and ordered. A site is a node in one of its runs (Cilk-NOW).
+-- Names of sites, children and units, compared and ordered. A site is a node in one of its incarnations (Cilk-NOW).
 use Rattle.std.specs.Prelude.{ℕ, Bool, false, ◌&&◌, ◌||◌, nat_lt, ◌==◌}
 use Rattle.spawn_frame.specs.declared.site.ChildName.{ChildName}
 use Rattle.spawn_frame.specs.declared.site.Site.{Site}

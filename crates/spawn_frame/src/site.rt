@@ -7,7 +7,7 @@ pub const LAST_NODE: u8 = 16;
 pub const LAST_ATTEMPT: Attempt = 4_294_967_295;
 
 // (the derived order compares fields from the first on: guests are sorted by node, incarnation and serial)
-/// One run of one node: each start of a node has a greater incarnation.
+/// One node in one incarnation: each start of a node has a greater one.
 #[derive(Clone, Copy, Debug, PartialEq, Eq, PartialOrd, Ord)]
 pub struct Site {
     /// 0 for the registry, 1 to 16 for the nodes beside it.

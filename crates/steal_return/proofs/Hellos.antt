@@ -1,4 +1,4 @@
--- What is redone once a node says that it runs: the children that are out to earlier runs of that very node.
+-- What is redone once a node says in which incarnation it is: the children that are out to earlier ones of that very node.
 use Rattle.std.proofs.Common.{◌≡◌, ℕ, zero, suc, ◌-◌, length, Bool, true, false, ◌&&◌, ◌==◌, nat_le, nat_lt, cond, List, [], ◌∷◌, slice_get, refl, sym, ap, subst, ◌∙◌}
 use Rattle.std.proofs.lemmas.Bool.{and_parts, eqb-false}
 use Rattle.spawn_frame.specs.Units.{Entry, Table, last_attempt, redone, table_own}

@@ -62,7 +62,7 @@ pub known_length : (self : ℕ) (known ms : List ℕ) → 0 < length known → l
 known_length self [] ms h = absurd (omega (arith, h))
 known_length self (k ∷ ks) ms h = ap suc (learnt_length self 1 ks ms)
 
--- of a node that there is not, no later run is known
+-- of a node that there is not, no later incarnation is known
 pub no_such_node : (known : List ℕ) (site : Site) → length known ≤ site.node → is_older known site ≡ false
 no_such_node known site past =
     ap (λ n. nat_lt site.incarnation n) (get_or_past known site.node 0 past) ∙ le-ltb site.incarnation 0 (omega arith)
@@ -94,7 +94,7 @@ raised_other (k ∷ ks) zero incarnation (suc other) h = refl
 raised_other (k ∷ ks) (suc node) incarnation zero h = refl
 raised_other (k ∷ ks) (suc node) incarnation (suc other) h = raised_other ks node incarnation other (λ e. h (ap suc e))
 
--- as many runs are known then
+-- as many incarnations are known then
 pub after_length : (told : Told) (known : List ℕ) → 0 < length known → length (known_after told known) ≡ length known
 after_length (Members self incarnations) known h = known_length self known incarnations.now h
 after_length (Hello site) known h = raised_length known site.node site.incarnation

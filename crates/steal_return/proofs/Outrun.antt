@@ -1,4 +1,4 @@
--- No child of a ledger comes to be out to an earlier run than is known.
+-- No child of a ledger comes to be out to an earlier incarnation than is known.
 use Rattle.std.proofs.Common.{◌≡◌, ℕ, zero, suc, Bool, true, false, ◌&&◌, ◌++◌, cond, map, List, [], ◌∷◌, OnErr, OnOk, Result, Ok, Err, refl, sym, ap, subst, ◌∙◌}
 use Rattle.abort_tree.specs.Below.{aborted}
 use Rattle.spawn_frame.specs.Aborts.{is_open}

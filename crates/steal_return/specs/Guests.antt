@@ -23,7 +23,7 @@ pub record AdmitsGuests (old : Ledger) (from : Site) (gifts : List Gift) (new : 
   pub some_new : list_all (is_there from old.guests) gifts ≡ false
   pub after : new ≡ ledger_guests old (admit_each from gifts old.guests)
 
--- the site is of an earlier run than is known, or each of these guests is there already, in whatever status
+-- the site is of an earlier incarnation than is known, or each of these guests is there already, in whatever status
 abbrev pub NoneIsNew : Ledger → Site → List Gift → Type 0
 NoneIsNew old from gifts = (is_older old.known from ≡ true) ⊎ (list_all (is_there from old.guests) gifts ≡ true)
 

@@ -7,7 +7,7 @@ use Rattle.spawn_frame.specs.declared.site.Site.{Site}
 use Rattle.spawn_frame.specs.declared.status.Status.{Status}
 use Rattle.spawn_frame.specs.declared.unit.Unit.{Unit as WorkUnit}
 
--- a site's units of work, and the run of each node that it knows of
+-- a site's units of work, and the incarnation of each node that it knows of
 pub record Ledger : Type 0 where
   pub table : Table
   pub open table use *
@@ -35,7 +35,7 @@ abbrev pub ledger_split : Ledger → WorkUnit → List ℕ → Ledger
 ledger_split ledger unit options =
     ledger_table ledger (split_into ledger.table unit (longer_prefixes (prefix_in (unit_of ledger.table unit)) options))
 
--- a site that begins: nothing in its table, and the first run known of every node
+-- a site that begins: nothing in its table, and the first incarnation known of every node
 abbrev pub opening_ledger : Site → ℕ → ℕ → Ledger
 opening_ledger site nodes limit = record { table = empty_table site limit; nodes = nodes; known = replicate (suc nodes) 1 }
 

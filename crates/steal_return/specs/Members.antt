@@ -19,7 +19,7 @@ learnt self node [] new = []
 learnt self node (k ∷ ks) [] = k ∷ ks
 learnt self node (k ∷ ks) (m ∷ ms) = (if node == self then k else max k m) ∷ learnt self (suc node) ks ms
 
--- an earlier run of this node
+-- an earlier incarnation of this node
 abbrev pub is_earlier_run : ℕ → List ℕ → Site → Bool
 is_earlier_run node known site = site.node == node && is_older known site
 
@@ -94,7 +94,7 @@ abbrev pub is_lost_guest : List ℕ → List GuestEntry → WorkUnit → Bool
 is_lost_guest known guests (Own serial) = false
 is_lost_guest known guests (Guest name attempt) = is_older known name.site && has_status is_open (guest_in guests name attempt)
 
--- what a site of this node knows then: the registry has one run alone
+-- what a site of this node knows then: the registry has one incarnation alone
 abbrev pub now_known : ℕ → List ℕ → List ℕ → List ℕ
 now_known self known incarnations = slice_index known 0 ∷ learnt self 1 (drop 1 known) incarnations
 
@@ -103,19 +103,19 @@ abbrev pub known_after : Told → List ℕ → List ℕ
 known_after (tells.Members self incarnations) known = now_known self known incarnations.now
 known_after (tells.Hello site) known = raised known site.node site.incarnation
 
--- what makes a difference: another run is known, or a guest is dropped, or a child is redone
+-- what makes a difference: another incarnation is known, or a guest is dropped, or a child is redone
 abbrev pub Differs : Ledger → List ℕ → List WorkUnit → Type 0
 Differs old known lost =
     (known ≢ old.known)
     ⊎ ((0 < length lost) ⊎ ((k : ℕ) × (has_status (is_out_to (is_older known)) (slice_get old.own k) ≡ true)))
 
--- No other run is known, no guest is dropped and no child is redone.
+-- No other incarnation is known, no guest is dropped and no child is redone.
 pub record IsAlike (old : Ledger) (known : List ℕ) (lost : List WorkUnit) : Type 0 where
   pub same : known ≡ old.known
   pub none_lost : lost ≡ []
   pub none_redone : (k : ℕ) (entry : Entry) → slice_get old.own k ≡ Some entry → is_out_to (is_older known) entry.status ≡ false
 
--- Incarnations are learnt; then children out to earlier runs are redone, then guests of earlier runs dropped with all below (redo of Cilk-NOW).
+-- Incarnations are learnt; then children out to earlier ones are redone, then guests of earlier ones dropped with all below (redo of Cilk-NOW).
 pub record LearnsMembers (old : Ledger) (incarnations : List ℕ) (outs : List Reached) (new : Ledger) : Type 0 where
   pub known : List ℕ
   pub known_is : known ≡ now_known old.site.node old.known incarnations
@@ -128,7 +128,7 @@ pub record LearnsMembers (old : Ledger) (incarnations : List ℕ) (outs : List R
   }
   pub reaches : outs ≡ reached 0 (redo_lost (is_older known) old.own) own
 
--- A node says that it runs: the later run is kept, and each child that is out to an earlier run of it is redone.
+-- A node says in which incarnation it is: the later incarnation of it is kept, and each child that is out to an earlier one is redone.
 pub record LearnsHello (old : Ledger) (from : Site) (new : Ledger) : Type 0 where
   pub known : List ℕ
   pub known_is : known ≡ raised old.known from.node from.incarnation
@@ -142,6 +142,6 @@ pub record LearnsHello (old : Ledger) (from : Site) (new : Ledger) : Type 0 wher
 abbrev pub IsSpentForMembers : Ledger → List ℕ → Type 0
 IsSpentForMembers old incarnations = IsSpent (is_older (now_known old.site.node old.known incarnations)) old.own
 
--- a child that would have to be redone for this run stands at its last attempt
+-- a child that would have to be redone for this incarnation is at its last attempt
 abbrev pub IsSpentForHello : Ledger → Site → Type 0
 IsSpentForHello old from = IsSpent (is_earlier_run from.node (raised old.known from.node from.incarnation)) old.own

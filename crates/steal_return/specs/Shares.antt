@@ -70,7 +70,7 @@ abbrev pub is_spelled : Given → Bool
 is_spelled (One gift) = true
 is_spelled (Several prefix siblings) = nat_lt 1 (length siblings)
 
--- The children that a thief may be given, where no later run of its node is known.
+-- The children that a thief may be given, where no later incarnation of its node is known.
 pub record MayShare (ledger : Ledger) (thief : Site) (serials : List ℕ) : Type 0 where
   pub not_older : is_older ledger.known thief ≡ false
   pub chosen_so : serials ≡ chosen ledger.own

@@ -16,7 +16,7 @@ use Rattle.steal_return.specs.Ledger.{Ledger, ledger_own}
 abbrev pub is_older : List ℕ → Site → Bool
 is_older known site = nat_lt site.incarnation (slice_index known site.node)
 
--- A thief gets nothing: it is of an earlier run than is known, or no own child is ready.
+-- A thief gets nothing: it is of an earlier incarnation than is known, or no own child is ready.
 abbrev pub GivesNothing : Ledger → Site → Type 0
 GivesNothing old thief = (is_older old.known thief ≡ true) ⊎ ((k : ℕ) (entry : Entry) → slice_get old.own k ≡ Some entry → entry.status ≢ Ready)
 
@@ -24,7 +24,7 @@ GivesNothing old thief = (is_older old.known thief ≡ true) ⊎ ((k : ℕ) (ent
 abbrev pub first_ready : List Entry → Option ℕ
 first_ready own = position_from (λ c. is_ready c.status) 0 own
 
--- A child that a thief may be given: the ready one of least serial, where no later run of the thief's node is known.
+-- A child that a thief may be given: the ready one of least serial, where no later incarnation of the thief's node is known.
 pub record MayGive (ledger : Ledger) (thief : Site) (serial : ℕ) : Type 0 where
   pub not_older : is_older ledger.known thief ≡ false
   pub least : first_ready ledger.own ≡ Some serial

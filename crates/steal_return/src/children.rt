@@ -20,7 +20,7 @@ pub fn first_ready(table: &Table) -> Option<u32>
     table.next_ready(0)
 }
 
-/// The child of least serial that is out to a site of which a later run is known.
+/// The child of least serial that is out to an earlier incarnation than is known.
 pub fn first_lost(table: &Table, known: &Known) -> Option<u32>
     ensures { result ≡ position_from
         (λ c. is_out_to (is_older known.now) c.status) 0 table.now.own }
@@ -89,7 +89,7 @@ fn is_spent(table: &Table, known: &Known, told: Told<'_>, serial: u32) -> bool
     }
 }
 
-/// Redoes each child that is out to a site of which a later run is known.
+/// Redoes each child that is out to an earlier incarnation than is known.
 pub fn redo_lost(table: &mut Table, known: &Known)
     requires { IsRedoable (is_older known.now) table.old.own }
     ensures { table.new ≡ table_own table.old (redo_lost (is_older known.now) table.old.own) }

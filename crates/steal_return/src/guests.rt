@@ -10,8 +10,8 @@ use crate::known::Known;
 use spawn_frame::{Attempt, ChildName, GuestView, Table, Unit};
 use std::alloc::{AllocError, Global};
 
-/// The open guests of owners of which a later run is known; the only error is out of memory. It costs a pass through
-/// the open guests.
+/// The open guests of owners of which a later incarnation is known; the only error is out of memory. It costs a pass
+/// through the open guests.
 pub fn lost_guests(alloc: Global, table: &Table, known: &Known) -> Result<Vec<Unit>, AllocError>
     ensures lost { IfOk result (λ lost. lost.items ≡ lost_units known.now table.now.guests) }
     ensures ascending { IfOk result (λ _. IsAscending table.now.guests) }
@@ -26,7 +26,7 @@ pub fn lost_guests(alloc: Global, table: &Table, known: &Known) -> Result<Vec<Un
     Ok(lost)
 }
 
-/// Whether a guest is open, and a later run of its owner is known.
+/// Whether a guest is open, and a later incarnation of its owner is known.
 fn is_lost(known: &Known, guest: GuestView<'_>) -> bool
     ensures { result ≡ is_lost known.now (seen_guest guest.entry) }
 {

@@ -1,4 +1,4 @@
-//! The runs of nodes that a site knows of.
+//! The incarnations of nodes that a site knows of.
 
 ghost use Rattle.std.specs.Prelude.{◌≡◌, ◌<◌, ◌≤◌, IfOk, length, max, replicate, slice_index, suc};
 ghost use Rattle.steal_return.specs.Invariant.{IsKnown};
@@ -11,7 +11,7 @@ use spawn_frame::Site;
 use std::alloc::{AllocError, Global};
 use std::marker::Model;
 
-/// The latest run of each node that is known, the registry's first.
+/// The latest incarnation of each node that is known, the registry's first.
 #[derive(Drop)]
 pub struct Known {
     runs: Vec<u32>,
@@ -30,7 +30,7 @@ impl Model for Known {
 }
 
 impl Known {
-    /// The first run of the registry and of each of so many nodes; the only error is out of memory.
+    /// The first incarnation of the registry and of each of so many nodes; the only error is out of memory.
     pub fn start(alloc: Global, nodes: u8) -> Result<Known, AllocError>
         requires { nodes ≤ LAST_NODE }
         ensures { IfOk result (λ known. known ≡ replicate (suc nodes) 1) }
@@ -43,11 +43,11 @@ impl Known {
     pub fn nodes(&self) -> u8
         ensures { length self.now ≡ suc result }
     {
-        // (the registry's run is always there, and at most 16 others)
+        // (the registry's incarnation is always there, and at most 16 others)
         (self.runs.len() - 1) as u8
     }
 
-    /// The runs, the registry's first. The other clause says what is true of all that is known.
+    /// The incarnations, the registry's first. The other clause says what is true of all that is known.
     pub fn as_slice(&self) -> &[u32]
         ensures value { result.now ≡ self.now }
         ensures known { IsKnown self.now }
@@ -55,7 +55,7 @@ impl Known {
         &self.runs
     }
 
-    /// The run of a node, or of the registry at 0.
+    /// The incarnation of a node, or of the registry at 0.
     pub fn of(&self, node: u8) -> u32
         requires { node < length self.now }
         ensures { result ≡ slice_index self.now node }
@@ -63,7 +63,7 @@ impl Known {
         self.runs[node as usize]
     }
 
-    /// Whether a later run of the site's node is known.
+    /// Whether a later incarnation of the site's node is known.
     pub fn is_older(&self, site: Site) -> bool
         ensures { result ≡ is_older self.now site }
     {
@@ -73,7 +73,7 @@ impl Known {
         }
     }
 
-    /// Whether a later run of the site's node is known once that is told.
+    /// Whether a later incarnation of the site's node is known once that is told.
     pub fn will_outrun(&self, told: Told<'_>, site: Site) -> bool
         ensures { result ≡ is_older (known_after told.entry self.now) site }
     {
@@ -95,7 +95,7 @@ impl Known {
         })
     }
 
-    /// Keeps the later run of a node. It takes no memory.
+    /// Keeps the later incarnation of a node. It takes no memory.
     pub fn raise(&mut self, node: u8, incarnation: u32)
         requires { node < length self.old }
         ensures { self.new ≡ raised self.old node incarnation }
@@ -105,7 +105,7 @@ impl Known {
     }
 }
 
-/// The run of a node that is known once that is told.
+/// The incarnation of a node that is known once that is told.
 fn run_after(known: &[u32], told: Told<'_>, node: usize) -> u32
     requires { node < length known.now }
     ensures { result ≡ slice_index (known_after told.entry known.now) node }
@@ -122,7 +122,7 @@ fn run_after(known: &[u32], told: Told<'_>, node: usize) -> u32
     }
 }
 
-/// The run of a node that is known once the incarnations of nodes 1, 2, .. are learnt at a site of the node `own`.
+/// The incarnation of a node that is known once those of nodes 1, 2, .. are learnt at a site of the node `own`.
 fn later_run(known: &[u32], own: u8, incarnations: &[u32], node: usize) -> u32
     requires { node < length known.now }
     ensures { result ≡ slice_index (now_known own known.now incarnations.now) node }
@@ -138,7 +138,7 @@ fn later_run(known: &[u32], own: u8, incarnations: &[u32], node: usize) -> u32
     }
 }
 
-/// The later of two runs of a node.
+/// The later of two incarnations of a node.
 fn later_of(first: u32, second: u32) -> u32
     ensures { result ≡ max first second }
 {
@@ -146,7 +146,7 @@ fn later_of(first: u32, second: u32) -> u32
     first.max(second)
 }
 
-/// All known runs then; the only error is out of memory.
+/// All known incarnations then; the only error is out of memory.
 fn later_runs(
     alloc: Global,
     known: &[u32],

@@ -19,7 +19,7 @@ use spawn_frame::{ChildResult, Heard, Job, Site, SpawnFault, Status, Table, Unit
 use std::alloc::{AllocError, Global};
 use std::marker::Model;
 
-/// The units of work of a site, with the run of each node that it knows of.
+/// The units of work of a site, with the incarnation of each node that it knows of.
 #[derive(Drop)]
 pub struct Ledger {
     pub(crate) table: Table,
@@ -45,8 +45,8 @@ impl Model for Ledger {
 }
 
 impl Ledger {
-    /// The ledger of a node that begins, one of so many: no units, and the first run known of the registry and of every
-    /// node. It may name so many children. The only error is out of memory.
+    /// The ledger of a node that begins, one of so many: no units, and the first incarnation known of the registry and
+    /// of every node. It may name so many children. The only error is out of memory.
     pub fn start(
         alloc: Global,
         site: Site,
@@ -67,8 +67,8 @@ impl Ledger {
         })
     }
 
-    /// The registry's ledger when the search of so many nodes begins: the root alone, and the first run known of every
-    /// node. The only error is out of memory.
+    /// The registry's ledger when the search of so many nodes begins: the root alone, and the first incarnation known
+    /// of every node. The only error is out of memory.
     pub fn with_root(alloc: Global, nodes: u8) -> Result<Ledger, AllocError>
         requires some { 1 ≤ nodes }
         requires most { nodes ≤ LAST_NODE }
@@ -111,7 +111,7 @@ impl Ledger {
         self.known.as_slice()
     }
 
-    /// Whether a later run of the site's node is known. It costs nothing.
+    /// Whether a later incarnation of the site's node is known. It costs nothing.
     pub fn is_older(&self, site: Site) -> bool
         ensures { result ≡ is_older self.now.known site }
     {

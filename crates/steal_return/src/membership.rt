@@ -31,9 +31,9 @@ impl Ledger {
     }
 
     /// Learns the incarnations of nodes 1, 2, ..: of each other node the greater one is kept; what is told beyond the
-    /// nodes that there are is passed over. Then each own child that is out to an earlier run than is known now is
-    /// redone. Then each open guest of such an owner is dropped, and all open units below these guests become Aborted;
-    /// each of them that is out then is appended to the list, by serial. True where anything changed.
+    /// nodes that there are is passed over. Then each own child that is out to an earlier incarnation than is known now
+    /// is redone. Then each open guest of such an owner is dropped, and all open units below these guests become
+    /// Aborted; each of them that is out then is appended to the list, by serial. True where anything changed.
     ///
     /// `NamesSpent` comes exactly where a child that would have to be redone stands at its last attempt, `Memory` only
     /// where memory ran out; a fault changes nothing. It costs walks over the own children that are out and a pass
@@ -60,7 +60,7 @@ impl Ledger {
         }
         let known = self.known.learnt(own, incarnations)?;
         let lost = lost_guests(self.alloc, &self.table, &known)?;
-        // (a Members of runs that are all known costs no more than these looks)
+        // (a Members of incarnations that are all known costs no more than these looks)
         if !self.differs(&known, &lost) {
             return Ok(false);
         }
@@ -75,8 +75,8 @@ impl Ledger {
         Ok(true)
     }
 
-    /// Whether it can be learnt that a node runs so: no child that would have to be redone stands at its last attempt.
-    /// It takes no memory, and costs a walk over the own children that are out.
+    /// Whether it can be learnt that a node is in this incarnation: no child that would have to be redone is at its
+    /// last attempt. It takes no memory, and costs a walk over the own children that are out.
     pub fn may_learn_hello(&self, from: Site) -> bool
         ensures able { OnTrue result
             (IsRedoable (is_earlier_run from.node
@@ -86,9 +86,9 @@ impl Ledger {
         is_redoable(&self.table, &self.known, Told::Hello(from))
     }
 
-    /// Learns that a node runs so: the later run of it is kept, and each child that is out to an earlier run of it is
-    /// redone. `NamesSpent`, the only fault, comes exactly where one of them stands at its last attempt; then nothing
-    /// changes. It takes no memory, and costs two walks over the own children that are out, and the redos.
+    /// Learns that a node is in this incarnation: the later incarnation of it is kept, and each child that is out to an
+    /// earlier one is redone. `NamesSpent`, the only fault, comes exactly where one of them is at its last attempt;
+    /// then nothing changes. It takes no memory, and costs two walks over the own children that are out, and the redos.
     pub fn learn_hello(&mut self, from: Site) -> Result<(), LearnFault>
         requires { from.node ≤ self.old.nodes }
         ensures ok { OnOk result (LearnsHello self.old from self.new) }
@@ -105,7 +105,7 @@ impl Ledger {
         Ok(())
     }
 
-    /// Whether it makes a difference that these runs are known and these guests lost.
+    /// Whether it makes a difference that these incarnations are known and these guests lost.
     fn differs(&self, known: &Known, lost: &[Unit]) -> bool
         ensures differs { OnTrue result (Differs self.now known.now lost.now) }
         ensures alike { OnFalse result (IsAlike self.now known.now lost.now) }

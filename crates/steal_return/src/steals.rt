@@ -22,11 +22,11 @@ use std::alloc::AllocError;
 
 impl Ledger {
     /// The own child that a thief may be given: the ready one of least serial. None where there is none, or where a later
-    /// run of the thief's node is known. It takes no memory, and costs what the table's `next_ready` does.
+    /// incarnation of the thief's node is known. It takes no memory, and costs what the table's `next_ready` does.
     pub fn ready_child(&self, thief: Site) -> Option<u32>
         ensures { MatchOption result (GivesNothing self.now thief) (MayGive self.now thief) }
     {
-        // (that run of the thief is gone: a child that it gets would only have to be redone)
+        // (that incarnation of the thief is gone: a child that it gets would only have to be redone)
         if self.known.is_older(thief) {
             return None;
         }
@@ -34,9 +34,9 @@ impl Ledger {
     }
 
     /// The own children that a thief may be given: with the ready one of least serial the first ready ones of its parent,
-    /// as many as half of those rounded up, and at most eight. None where none is ready, or where a later run of the
-    /// thief's node is known. It takes no memory. It costs what the table's `next_ready` does, and a look at each later
-    /// child of that parent until 15 of them are ready.
+    /// as many as half of those rounded up, and at most eight. None where none is ready, or where a later incarnation of
+    /// the thief's node is known. It takes no memory. It costs what the table's `next_ready` does, and a look at each
+    /// later child of that parent until 15 of them are ready.
     pub fn ready_share(&self, thief: Site) -> Option<ArrayVec<u32, MOST_READY>>
         ensures { MatchOption result (GivesNothing self.now thief)
             (λ serials. MayShare self.now thief serials.items) }
@@ -121,8 +121,8 @@ impl Ledger {
         })
     }
 
-    /// Gives a ready own child to a thief, of whose node no later run is known: the child is out then. It takes no
-    /// memory, and costs passes through the child's page.
+    /// Gives a ready own child to a thief, of whose node no later incarnation is known: the child is out then. It takes
+    /// no memory, and costs passes through the child's page.
     pub fn give_child(&mut self, serial: u32, thief: Site)
         requires not_older { is_older self.old.known thief ≡ false }
         requires ready { has_status is_ready (slice_get self.old.own serial) ≡ true }
@@ -132,8 +132,8 @@ impl Ledger {
         self.table.give(serial, thief);
     }
 
-    /// Gives children that may go together to a thief, of whose node no later run is known: they are out then. It takes no
-    /// memory, and costs passes through the page of each.
+    /// Gives children that may go together to a thief, of whose node no later incarnation is known: they are out then. It
+    /// takes no memory, and costs passes through the page of each.
     pub fn give_each(&mut self, serials: &[u32], thief: Site)
         requires not_older { is_older self.old.known thief ≡ false }
         requires together { MayGoTogether self.old.own serials.now }
@@ -144,8 +144,8 @@ impl Ledger {
         }
     }
 
-    /// Gives a thief its share of the ready own children, if one is ready and no later run of the thief's node is known:
-    /// those of `ready_share`, which are out then. The only error is out of memory, which changes nothing.
+    /// Gives a thief its share of the ready own children, if one is ready and no later incarnation of the thief's node
+    /// is known: those of `ready_share`, which are out then. The only error is out of memory, which changes nothing.
     pub fn give(&mut self, thief: Site) -> Result<Option<Given>, AllocError>
         ensures gives { IfOk result (λ answer. TellsSteal self.old thief answer self.new) }
         ensures chosen { IfOk result (λ answer. IfSome answer (λ given.

@@ -1,10 +1,10 @@
 use spawn_frame::Site;
 
-/// What a site is told of the runs of nodes.
+/// What a site is told of the incarnations of nodes.
 #[derive(Clone, Copy)]
 pub enum Told<'a> {
-    /// At a site of this node, the runs of nodes 1, 2, ..: of each node but its own the later one is kept.
+    /// At a site of this node, the incarnations of nodes 1, 2, ..: of each node but its own the later one is kept.
     Members(u8, &'a [u32]),
-    /// A node runs so: the later run of it is kept.
+    /// A node is in this incarnation: the later incarnation of it is kept.
     Hello(Site),
 }

@@ -5,7 +5,7 @@ use packet_wire::Body;
 use spawn_frame::{Attempt, Cause, ChildResult, Sibling, Site, Status, Unit};
 use std::fmt;
 
-/// A run of a node.
+/// A node in one incarnation.
 #[derive(Clone, Copy)]
 pub struct SiteText(pub Site);
 
