@@ -6,7 +6,8 @@
 Of each file, so many runs are made by `audit_trials`, which prints the books of all sites, and so many times the book of one site
 in which one entry was changed: an event left out, repeated, or put behind the next one, a packet with another bit, or the packet of
 another entry. This script reads the books as text and merges them in the plainest way: it goes round all books, takes each entry
-that delivers nothing or a packet that was put out, and ends where a round takes none. A later run of a node waits for the earlier one.
+that delivers nothing or a packet that was put out, and ends where a round takes none. A later incarnation of a node waits for the
+earlier one.
 
 The table has a row for each kind of change, of a delivery and of an event of the site's own: how many were tried, how many left the
 book as it was, how many were found clean and unclean, and in how many both audits differ. A clean one is lawful: a network may lose, repeat and
@@ -90,7 +91,7 @@ def missing(books: Books) -> Optional[Site]:
 
 
 def may_go_on(books: Books, taken: dict[Site, int], site: Site) -> bool:
-    """Whether the books of all earlier runs of the site's node are used up."""
+    """Whether the books of all earlier incarnations of the site's node are used up."""
     return all(taken[other] == len(books[other]) for other in books if other[0] == site[0] and other[1] < site[1])
 
 

@@ -257,9 +257,9 @@ def packets_of_solve(folder: str) -> None:
     asked = [first_asked(sends_of(folder, lambda sent: len(first_asked(sent)) == 16, "--nodes", "16", "--seed", seed)) for seed in "112"]
     expect(f"--seed: {asked}", len(asked[0]) == len(asked[2]) == 16 and asked[0] == asked[1] != asked[2])
     # (node 2, which never restarts, would end the run after four times the turns that each start of node 1 has)
-    for words, runs in (("--restarts", "3"), {1, 2, 3, 4}), ((), {1}):
+    for words, incarnations in (("--restarts", "3"), {1, 2, 3, 4}), ((), {1}):
         sent = sends_of(folder, lambda sent: False, "--nodes", "2", "--turns", "200", *words)
-        expect(f"--restarts {words}: {len(sent)} packets", {packet.incarnation for packet in sent if packet.sender == 1} == runs)
+        expect(f"--restarts {words}: {len(sent)} packets", {packet.incarnation for packet in sent if packet.sender == 1} == incarnations)
 
 
 def options_of_solve(folder: str) -> None:

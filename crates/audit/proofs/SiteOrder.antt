@@ -21,8 +21,8 @@ is_before s t (inr p) = or_right (nat_lt s.node t.node) (s.node == t.node && nat
     (and_from (s.node == t.node) (nat_lt s.incarnation t.incarnation) (eq-eqb s.node t.node p.0) (lt-ltb s.incarnation t.incarnation p.1))
 
 -- an earlier incarnation of a node is before a later one
-pub earlier_run : (s t : Site) → s.node ≡ t.node → s.incarnation < t.incarnation → site_before s t ≡ true
-earlier_run s t node run = is_before s t (inr (node, run))
+pub earlier_is_before : (s t : Site) → s.node ≡ t.node → s.incarnation < t.incarnation → site_before s t ≡ true
+earlier_is_before s t node incarnation = is_before s t (inr (node, incarnation))
 
 pub not_itself : (s : Site) → site_before s s ≡ false
 not_itself s = false_from_ne_true (site_before s s) (λ h.

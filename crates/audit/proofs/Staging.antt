@@ -7,7 +7,7 @@ use Rattle.node_core.specs.declared.event.Event.TheVariants.{Deliver, Take}
 use Rattle.packet_wire.specs.declared.packet.Packet.{Packet}
 use Rattle.audit.proofs.Merging.{all_at, all_from, from_put_out, in_put_out, put_out, put_out_more}
 use Rattle.audit.proofs.Setting.{get_set, In, in_left, in_right, in_split, set_get, set_here, within}
-use Rattle.audit.proofs.SiteOrder.{earlier_run}
+use Rattle.audit.proofs.SiteOrder.{earlier_is_before}
 use Rattle.audit.specs.Audits.{site_before, WasNeverSent}
 use Rattle.run_book.specs.Books.{Book}
 use Rattle.audit.specs.Cursors.{AreOfMerge, AreUsedUp, HasNext, IsSent, IsTurn, left_at, LeastLeft, PutOut, IsStuck, Takes}
@@ -146,9 +146,9 @@ takes books cs s k t =
             earlier = all_from (IsUsedUp t.book.site) (left_at cs books) (λ j b e n i.
                 let f = left_from cs books j b e in
                 let node : f.book.site.node ≡ t.book.site.node = ap (λ x. x.node) f.site ∙ n in
-                let run : f.book.site.incarnation < t.book.site.incarnation = subst (λ (x : Site). x.incarnation < t.book.site.incarnation) (sym f.site) i in
+                let incarnation : f.book.site.incarnation < t.book.site.incarnation = subst (λ (x : Site). x.incarnation < t.book.site.incarnation) (sym f.site) i in
                 ⊎_elim
-                (λ (h : f.cursor < length f.book.entries). absurd (t.is_next.0 j f.book f.cursor f.is f.at (node, run, h)))
+                (λ (h : f.cursor < length f.book.entries). absurd (t.is_next.0 j f.book f.cursor f.is f.at (node, incarnation, h)))
                 (λ (h : length f.book.entries ≤ f.cursor). sym f.entries ∙ drop_all f.book.entries f.cursor h)
                 (cases_lt f.cursor (length f.book.entries)));
           }));
@@ -240,7 +240,7 @@ waits_by books cs entry _ e n = absurd (n tt)
 never_sent : (books : List Book) (cs : List ℕ) (s : AreOfMerge books cs) → IsStuck books cs → (k : ℕ) (l : LeastLeft books cs k) → WasNeverSent books l.book.site l.cursor
 never_sent books cs s still k l =
     let turn : IsTurn books cs l.book.site = λ j b c e f h.
-    true≢false (sym (earlier_run b.site l.book.site h.0 h.1) ∙ l.least j b c e f h.2) in
+    true≢false (sym (earlier_is_before b.site l.book.site h.0 h.1) ∙ l.least j b c e f h.2) in
     let w = waits_by books cs l.entry l.entry.event refl (λ sent. still k (record { next = l.next; is_next = (turn, sent) })) in
     record {
       merged = s.merged;

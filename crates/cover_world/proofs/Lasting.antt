@@ -9,7 +9,7 @@ use Rattle.node_core.specs.declared.event.Event.TheVariants.{Deliver}
 use Rattle.node_core.specs.declared.reply.Reply.{Reply}
 use Rattle.packet_wire.specs.declared.packet.Body.TheVariants.{Hello, Members}
 use Rattle.packet_wire.specs.declared.packet.Packet.{Packet}
-use Rattle.root_registry.specs.RegistryStep.{RegistryStep, RootHears, is_earlier_run, raised}
+use Rattle.root_registry.specs.RegistryStep.{RegistryStep, RootHears, is_earlier_incarnation, raised}
 use Rattle.spawn_frame.specs.Units.{Entry, last_attempt}
 use Rattle.spawn_frame.specs.declared.site.Site.{Site}
 use Rattle.steal_return.specs.Members.{IsRedoable, now_known}
@@ -37,9 +37,9 @@ members_refused problem view packet incarnations serial thief body last older re
     last_not_redoable view serial thief last (is_older heard.0.known) (ap (λ known. is_older known thief) heard.0.known_is ∙ older) heard.0.redoable
 
 pub hello_refused : (problem : Problem) (view : View) (packet : Packet) (known : List ℕ) (serial : ℕ) (thief : Site) → packet.body ≡ Hello
-    → IsLastOut view serial thief → known ≡ raised view.known packet.from.node packet.from.incarnation → is_earlier_run packet.from.node known thief ≡ true
+    → IsLastOut view serial thief → known ≡ raised view.known packet.from.node packet.from.incarnation → is_earlier_incarnation packet.from.node known thief ≡ true
     → (reply : Reply) (out : List Packet) (new : View) → RegistryStep problem view (Deliver packet) reply out new → ⊥
 hello_refused problem view packet known serial thief body last is earlier reply out new step =
     let heard : RootHears problem view packet.from Hello reply out new = subst (λ b. RootHears problem view packet.from b reply out new) body step.2 in
     let same : heard.1.known ≡ known = heard.1.known_is ∙ sym is in
-    last_not_redoable view serial thief last (is_earlier_run packet.from.node heard.1.known) (ap (λ n. is_earlier_run packet.from.node n thief) same ∙ earlier) heard.1.redoable
+    last_not_redoable view serial thief last (is_earlier_incarnation packet.from.node heard.1.known) (ap (λ n. is_earlier_incarnation packet.from.node n thief) same ∙ earlier) heard.1.redoable

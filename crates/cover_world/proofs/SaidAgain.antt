@@ -9,7 +9,7 @@ use Rattle.cover_world.specs.SaidAgain.{first_hello, second_hello, root_steal, s
 use Rattle.cover_world.specs.Worlds.{Restarts, go, opening_node}
 use Rattle.node_core.specs.declared.event.Event.TheVariants.{Again, Ask, Deliver, Greet, Post, Redo, Take}
 use Rattle.node_core.specs.declared.reply.Reply.TheVariants.{Moved, Taken}
-use Rattle.root_registry.specs.RegistryStep.{is_earlier_run}
+use Rattle.root_registry.specs.RegistryStep.{is_earlier_incarnation}
 use Rattle.spawn_frame.specs.Tables.{root_entry}
 use Rattle.spawn_frame.specs.Units.{last_attempt}
 use Rattle.spawn_frame.specs.declared.site.Site.{Site}
@@ -35,12 +35,12 @@ s3 = acts s2 2 Greet Moved _ _ _ refl tt (refl, (refl, refl, refl))
 abbrev pub s4 : Stage bare
 s4 =
     acts s3 0 (Deliver second_hello) Moved _ _ _ refl (1, refl)
-    (refl, omega arith, (refl, record { known = _; known_is = refl; redoable = redoable (is_earlier_run 2 (1 ∷ 1 ∷ 2 ∷ [])); after = refl; sends = refl }))
+    (refl, omega arith, (refl, record { known = _; known_is = refl; redoable = redoable (is_earlier_incarnation 2 (1 ∷ 1 ∷ 2 ∷ [])); after = refl; sends = refl }))
 
 abbrev pub s5 : Stage bare
 s5 =
     acts s4 0 (Deliver first_hello) Moved _ _ _ refl (0, refl)
-    (refl, omega arith, (refl, record { known = _; known_is = refl; redoable = redoable (is_earlier_run 2 (1 ∷ 1 ∷ 2 ∷ [])); after = refl; sends = refl }))
+    (refl, omega arith, (refl, record { known = _; known_is = refl; redoable = redoable (is_earlier_incarnation 2 (1 ∷ 1 ∷ 2 ∷ [])); after = refl; sends = refl }))
 
 abbrev pub s6 : Stage bare
 s6 =

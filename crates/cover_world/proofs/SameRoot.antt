@@ -12,7 +12,7 @@ use Rattle.node_core.specs.declared.reply.Reply.{Reply}
 use Rattle.packet_wire.specs.declared.packet.Body.{Body}
 use Rattle.packet_wire.specs.declared.packet.Body.TheVariants.{Abort, Accept, Give, GiveMany, Hello, Members, NoWork, Over, Refuse, Return, Steal}
 use Rattle.packet_wire.specs.declared.packet.Packet.{Packet}
-use Rattle.root_registry.specs.RegistryStep.{HelloStep, RegistryStep, RootAnswers, RootHears, is_earlier_run, to_each}
+use Rattle.root_registry.specs.RegistryStep.{HelloStep, RegistryStep, RootAnswers, RootHears, is_earlier_incarnation, to_each}
 use Rattle.spawn_frame.specs.Units.{table_own}
 use Rattle.spawn_frame.specs.declared.child_result.ChildResult.{ChildResult}
 use Rattle.spawn_frame.specs.declared.site.Site.{Site}
@@ -21,7 +21,7 @@ use Rattle.steal_return.specs.Returns.{Enters, Holds, Judgement, Refuses}
 
 abbrev pub after_hello : View → Site → List ℕ → View
 after_hello old from known = with_ledger old (record {
-  table = table_own old.table (redo_lost (is_earlier_run from.node known) old.own);
+  table = table_own old.table (redo_lost (is_earlier_incarnation from.node known) old.own);
   nodes = old.nodes;
   known = known;
 })

@@ -15,7 +15,7 @@ use Rattle.node_core.specs.SiteView.{View, with_table}
 use Rattle.node_core.specs.declared.event.Event.TheVariants.{Ask, Deliver, Finish, Greet, Post, Take}
 use Rattle.node_core.specs.declared.reply.Reply.TheVariants.{Moved, Taken}
 use Rattle.packet_wire.specs.declared.packet.Packet.{Packet}
-use Rattle.root_registry.specs.RegistryStep.{is_earlier_run}
+use Rattle.root_registry.specs.RegistryStep.{is_earlier_incarnation}
 use Rattle.spawn_frame.specs.Aborts.{AbortsBelow}
 use Rattle.spawn_frame.specs.Splits.{split_into}
 use Rattle.spawn_frame.specs.Units.{Entry, last_attempt, redone, with_status}
@@ -249,7 +249,7 @@ anew12 = acts anew11 2 Greet Moved _ _ _ refl tt (refl, (refl, refl, refl))
 abbrev pub anew13 : Stage small
 anew13 =
     acts anew12 0 (Deliver anew_hello) Moved _ _ _ refl (5, refl)
-    (refl, omega arith, (refl, record { known = _; known_is = refl; redoable = root_redoable (is_earlier_run 2 (1 ∷ 1 ∷ 2 ∷ [])); after = refl; sends = refl }))
+    (refl, omega arith, (refl, record { known = _; known_is = refl; redoable = root_redoable (is_earlier_incarnation 2 (1 ∷ 1 ∷ 2 ∷ [])); after = refl; sends = refl }))
 
 -- what the first node holds when it hears of the restart
 abbrev pub anew13_view : View

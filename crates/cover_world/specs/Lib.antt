@@ -3,7 +3,7 @@ pub mod Courses
 pub mod Coverage
 pub mod Determined
 pub mod Draws
-pub mod LaterRuns
+pub mod LaterIncarnations
 pub mod Moves
 pub mod Overtaken
 pub mod Plays

@@ -23,7 +23,7 @@ pub use refusals::{
     wrong_cover,
 };
 pub use runs::{
-    given_together, late_result, later_runs, overtaken_result, repeated_result, said_again,
+    given_together, late_result, later_incarnations, overtaken_result, repeated_result, said_again,
     thief_begins_anew,
 };
 pub use simulation::simulate;

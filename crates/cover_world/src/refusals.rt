@@ -15,7 +15,7 @@ ghost use Rattle.node_core.specs.declared.event.Event.TheVariants.{Ask, Deliver,
 ghost use Rattle.node_core.specs.declared.reply.Reply.{Reply};
 ghost use Rattle.packet_wire.specs.declared.packet.Body.TheVariants.{Give, Hello, Members, Return};
 ghost use Rattle.packet_wire.specs.declared.packet.Packet.{Packet};
-ghost use Rattle.root_registry.specs.RegistryStep.{IsAcceptable, is_earlier_run, raised};
+ghost use Rattle.root_registry.specs.RegistryStep.{IsAcceptable, is_earlier_incarnation, raised};
 ghost use Rattle.spawn_frame.specs.Aborts.{is_open};
 ghost use Rattle.spawn_frame.specs.Frames.{frame, frame_result};
 ghost use Rattle.spawn_frame.specs.Units.{Entry, guest_in, last_attempt};
@@ -120,7 +120,7 @@ pub fn lost_at_the_last_attempt()
     ensures hello { (problem : Problem) (view : View) (packet : Packet) (known : List ℕ)
         (serial : ℕ) (thief : Site) → packet.body ≡ Hello → IsLastOut view serial thief →
         known ≡ raised view.known packet.from.node packet.from.incarnation →
-        is_earlier_run packet.from.node known thief ≡ true →
+        is_earlier_incarnation packet.from.node known thief ≡ true →
         RegistryRefuses problem view (Deliver packet) }
 {}
 

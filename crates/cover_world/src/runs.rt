@@ -3,7 +3,7 @@
 ghost use Rattle.std.specs.Prelude.{◌≡◌, ◌∷◌, [], None, Some, true};
 ghost use Rattle.cover_problem.specs.Examples.{bare, small};
 ghost use Rattle.cover_problem.specs.declared.answer.Answer.TheVariants as answers;
-ghost use Rattle.cover_world.specs.LaterRuns as later_runs;
+ghost use Rattle.cover_world.specs.LaterIncarnations as later_incarnations;
 ghost use Rattle.cover_world.specs.Overtaken as overtaken;
 ghost use Rattle.cover_world.specs.Overtaken.{two_ways};
 ghost use Rattle.cover_world.specs.Plays.{IsRefused, Plays, entry_in, limits, over_in, root_guest, status_in};
@@ -73,8 +73,8 @@ pub fn said_again()
 
 /// A node restarts while the root is out to another one: the root stays out there. The thief is told of the node's later
 /// incarnation and asks that one for work. Then the thief restarts, and the root is ready again at the next attempt.
-pub fn later_runs()
-    ensures run { Plays bare (opening_world 2 limits) later_runs.events later_runs.packets (λ end.
+pub fn later_incarnations()
+    ensures run { Plays bare (opening_world 2 limits) later_incarnations.events later_incarnations.packets (λ end.
         entry_in end 0 (Own 0) ≡ Some (record {
           parent = None;
           prefix = [];

@@ -204,7 +204,7 @@ impl<'a> World<'a> {
     #[tactic(auto, using(crate::proofs::SiteCores::site_view))]
     pub fn incarnation(&self, node: u8) -> u32
         requires { node < length self.now.world.sites }
-        ensures run { option_map (λ view. view.site.incarnation)
+        ensures incarnation { option_map (λ view. view.site.incarnation)
             (slice_get self.now.world.sites node) ≡ Some result }
         ensures lawful { IsProblem self.now.problem }
         ensures site { (view : View) → slice_get self.now.world.sites node ≡ Some view

@@ -60,7 +60,7 @@ impl<'a> NodeCore<'a> {
         requires most { nodes ≤ LAST_NODE }
         requires first { 1 ≤ site.node }
         requires last { site.node ≤ nodes }
-        requires run { 1 ≤ site.incarnation }
+        requires incarnation { 1 ≤ site.incarnation }
         ensures { IfOk result (λ core. core ≡ opening_core problem.now site nodes names_limit) }
     {
         let ledger = Ledger::start(alloc, site, nodes, names_limit)?;

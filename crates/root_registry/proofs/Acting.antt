@@ -21,7 +21,7 @@ use Rattle.packet_wire.specs.declared.packet.Body.TheVariants as bodies
 use Rattle.packet_wire.specs.declared.packet.Packet.{Packet}
 use Rattle.root_registry.proofs.Acceptable.{passing_is_acceptable}
 use Rattle.root_registry.specs.Refusal.{IsRegistryView, RegistryActs, hello_refusal, is_acceptable, registry_refusal, return_refusal, root_hear_refusal}
-use Rattle.root_registry.specs.RegistryStep.{RootAnswers, RootHears, RootSteal, if_done, is_earlier_run, over_packets, raised, root_result, to_each}
+use Rattle.root_registry.specs.RegistryStep.{RootAnswers, RootHears, RootSteal, if_done, is_earlier_incarnation, over_packets, raised, root_result, to_each}
 use Rattle.spawn_frame.specs.Units.{table_own}
 use Rattle.spawn_frame.specs.declared.child_result.ChildResult.{ChildResult}
 use Rattle.spawn_frame.specs.declared.site.Site.{Site}
@@ -35,11 +35,11 @@ HearActs problem view from body = (reply : Reply) × (out : List Packet) × (new
 hello_acts : (problem : Problem) (view : View) (from : Site) → hello_refusal view from ≡ None → HearActs problem view from bodies.Hello
 hello_acts problem view from passes =
     let known : List ℕ = raised view.known from.node from.incarnation in
-    let none = unless (any_spent (is_earlier_run from.node known) view.own) _ _ passes in (
+    let none = unless (any_spent (is_earlier_incarnation from.node known) view.own) _ _ passes in (
       Moved,
       to_each view.site (bodies.Members (drop 1 known)) 1 (drop 1 known),
       with_ledger view (record {
-        table = table_own view.table (redo_lost (is_earlier_run from.node known) view.own);
+        table = table_own view.table (redo_lost (is_earlier_incarnation from.node known) view.own);
         nodes = view.nodes;
         known = known;
       }),
@@ -48,7 +48,7 @@ hello_acts problem view from passes =
         record {
           known = known;
           known_is = refl;
-          redoable = all_redoable (is_earlier_run from.node known) view.own none.0;
+          redoable = all_redoable (is_earlier_incarnation from.node known) view.own none.0;
           after = refl;
           sends = refl;
         },

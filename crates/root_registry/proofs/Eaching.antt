@@ -9,8 +9,8 @@ use Rattle.root_registry.specs.RegistryStep.{to_each}
 use Rattle.spawn_frame.specs.declared.site.Site.{Site}
 
 -- the packet to one node more, of those from node n on
-each_next : (from : Site) (body : Body) (n : ℕ) (runs : List ℕ) (i : ℕ) → i < length runs
-    → to_each from body n (take (suc i) runs) ≡ to_each from body n (take i runs) ++ to_each from body (n + i) (slice_index runs i ∷ [])
+each_next : (from : Site) (body : Body) (n : ℕ) (incarnations : List ℕ) (i : ℕ) → i < length incarnations
+    → to_each from body n (take (suc i) incarnations) ≡ to_each from body n (take i incarnations) ++ to_each from body (n + i) (slice_index incarnations i ∷ [])
 each_next from body n [] i l = absurd (omega (arith, l))
 each_next from body n (k ∷ ks) zero l =
     let same : n ≡ n + 0 = omega arith in
@@ -23,16 +23,16 @@ each_next from body n (k ∷ ks) (suc i) l =
     ∙ ap (λ m. to_each from body (suc n) (take i ks) ++ to_each from body m (slice_index ks i ∷ [])) same)
 
 -- the packets up to a place are sent, and that to the node at it
-pub each_sent : (old mid new : Outgoing) (from : Site) (body : Body) (runs : List ℕ) (i node run : ℕ) → i < length runs → node ≡ 1 + i → run ≡ slice_index runs i
-    → Sends old (to_each from body 1 (take i runs)) mid → Sends mid (to_each from body node (run ∷ [])) new
-    → Sends old (to_each from body 1 (take (i + 1) runs)) new
-each_sent old mid new from body runs i node run l at there before then =
+pub each_sent : (old mid new : Outgoing) (from : Site) (body : Body) (incarnations : List ℕ) (i node incarnation : ℕ) → i < length incarnations → node ≡ 1 + i → incarnation ≡ slice_index incarnations i
+    → Sends old (to_each from body 1 (take i incarnations)) mid → Sends mid (to_each from body node (incarnation ∷ [])) new
+    → Sends old (to_each from body 1 (take (i + 1) incarnations)) new
+each_sent old mid new from body incarnations i node incarnation l at there before then =
     let P : List Packet → Type 0 = λ ps. Sends old ps new in
     let more : i + 1 ≡ suc i = omega arith in
-    let all : to_each from body 1 (take (i + 1) runs) ≡ to_each from body 1 (take i runs) ++ to_each from body node (run ∷ []) =
-    ap (λ k. to_each from body 1 (take k runs)) more
-    ∙ each_next from body 1 runs i l
-    ∙ ap (λ m. to_each from body 1 (take i runs) ++ to_each from body m (slice_index runs i ∷ [])) (sym at)
-    ∙ ap (λ r. to_each from body 1 (take i runs) ++ to_each from body node (r ∷ [])) (sym there)
+    let all : to_each from body 1 (take (i + 1) incarnations) ≡ to_each from body 1 (take i incarnations) ++ to_each from body node (incarnation ∷ []) =
+    ap (λ k. to_each from body 1 (take k incarnations)) more
+    ∙ each_next from body 1 incarnations i l
+    ∙ ap (λ m. to_each from body 1 (take i incarnations) ++ to_each from body m (slice_index incarnations i ∷ [])) (sym at)
+    ∙ ap (λ r. to_each from body 1 (take i incarnations) ++ to_each from body node (r ∷ [])) (sym there)
     in
-    subst P (sym all) (sends_more old mid new (to_each from body 1 (take i runs)) (to_each from body node (run ∷ [])) before then)
+    subst P (sym all) (sends_more old mid new (to_each from body 1 (take i incarnations)) (to_each from body node (incarnation ∷ [])) before then)

@@ -15,7 +15,7 @@ use Rattle.packet_wire.specs.declared.packet.Body.TheVariants.{Abort, Accept, Gi
 use Rattle.packet_wire.specs.declared.packet.Packet.{Packet}
 use Rattle.root_registry.proofs.Acceptable.{acceptable_passes}
 use Rattle.root_registry.specs.Refusal.{hello_refusal, registry_refusal, return_refusal, root_hear_refusal}
-use Rattle.root_registry.specs.RegistryStep.{HelloStep, RegistryStep, RootAnswers, RootHears, is_earlier_run}
+use Rattle.root_registry.specs.RegistryStep.{HelloStep, RegistryStep, RootAnswers, RootHears, is_earlier_incarnation}
 use Rattle.spawn_frame.specs.declared.child_result.ChildResult.{ChildResult}
 use Rattle.spawn_frame.specs.declared.site.Site.{Site}
 use Rattle.steal_return.specs.Returns.{Enters, Holds, Judgement, Refuses}
@@ -23,7 +23,7 @@ use Rattle.steal_return.specs.Returns.{Enters, Holds, Judgement, Refuses}
 hello_passes : (view : View) (from : Site) (out : List Packet) (new : View) → HelloStep view from out new → hello_refusal view from ≡ None
 hello_passes view from out new h =
     ap (λ b. cond b (Some faults.NamesSpent) None)
-    (subst (λ known. any_spent (is_earlier_run from.node known) view.own ≡ false) h.known_is (none_spent (is_earlier_run from.node h.known) view.own h.redoable))
+    (subst (λ known. any_spent (is_earlier_incarnation from.node known) view.own ≡ false) h.known_is (none_spent (is_earlier_incarnation from.node h.known) view.own h.redoable))
 
 answers_pass : (problem : Problem) (view : View) (from : Site) (serial attempt : ℕ) (result : ChildResult) (judgement : Judgement) (out : List Packet) (new : View)
     → RootAnswers problem view from serial attempt result judgement out new → return_refusal problem result judgement ≡ None

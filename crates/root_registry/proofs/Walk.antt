@@ -26,7 +26,7 @@ use Rattle.packet_wire.specs.declared.packet.Body.TheVariants as bodies
 use Rattle.packet_wire.specs.declared.packet.Packet.{Packet}
 use Rattle.root_registry.proofs.Raising.{OfNodes, members_told, of_nodes, raised_known}
 use Rattle.root_registry.specs.Formed.{FormedRegistryStep, IsFormedRegistry, origin}
-use Rattle.root_registry.specs.RegistryStep.{HelloStep, RegistryStep, RootAnswers, RootHears, RootSteal, if_done, is_earlier_run, over_packets, root_result, to_each}
+use Rattle.root_registry.specs.RegistryStep.{HelloStep, RegistryStep, RootAnswers, RootHears, RootSteal, if_done, is_earlier_incarnation, over_packets, root_result, to_each}
 use Rattle.spawn_frame.specs.Units.{Entry, Table, change_at, redone, table_own, with_status}
 use Rattle.spawn_frame.specs.declared.child_result.ChildResult.{ChildResult}
 use Rattle.spawn_frame.specs.declared.site.Site.{Site}
@@ -122,7 +122,7 @@ module _ (problem : Problem) where
   hello_continues : (old : View) (from : Site) (out : List Packet) (new : View) → old.site.node ≡ 0 → 1 ≤ from.node → is_counted from.incarnation ≡ true → HelloStep old from out new → IsFormed problem old → Continues problem old out new
   hello_continues old from out new registry some counted h f =
       let known : IsKnown old.nodes h.known = subst (IsKnown old.nodes) (sym h.known_is) (raised_known old.nodes from.node from.incarnation old.known some counted f.known) in
-      let table : Table = table_own old.table (redo_lost (is_earlier_run from.node h.known) old.own) in
+      let table : Table = table_own old.table (redo_lost (is_earlier_incarnation from.node h.known) old.own) in
       let mid : View = with_ledger old (record { table = table; nodes = old.nodes; known = h.known }) in
       record {
         follows_on =
@@ -133,11 +133,11 @@ module _ (problem : Problem) where
               most = f.most;
               within = f.within;
               known = known;
-              units = redo_formed problem old.table (is_earlier_run from.node h.known) h.redoable f.units;
+              units = redo_formed problem old.table (is_earlier_incarnation from.node h.known) h.redoable f.units;
             }) refl
             (hello_sends old h.known registry f known);
         remains = remains_as old mid new h.after (record {
-          root = kept_mapped origin (λ c. redo_if (is_earlier_run from.node h.known) c c.status) (λ c. redo_origin (is_earlier_run from.node h.known) c c.status) old.own;
+          root = kept_mapped origin (λ c. redo_if (is_earlier_incarnation from.node h.known) c c.status) (λ c. redo_origin (is_earlier_incarnation from.node h.known) c c.status) old.own;
           guests = refl;
         });
       }

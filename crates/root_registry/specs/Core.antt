@@ -19,7 +19,7 @@ opening_registry_core problem nodes = record { problem = problem; view = opening
 
 -- the incarnations of the nodes, told to each of them
 abbrev pub members_packets : Site → List ℕ → List Packet
-members_packets from runs = to_each from (Members runs) 1 runs
+members_packets from incarnations = to_each from (Members incarnations) 1 incarnations
 
 -- what nodes say to the registry
 abbrev pub goes_to_registry : Body → Bool

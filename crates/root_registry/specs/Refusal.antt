@@ -14,7 +14,7 @@ use Rattle.node_core.specs.declared.reply.Reply.{Reply}
 use Rattle.packet_wire.specs.declared.packet.Body.{Body}
 use Rattle.packet_wire.specs.declared.packet.Body.TheVariants.{Hello, Return}
 use Rattle.packet_wire.specs.declared.packet.Packet.{Packet}
-use Rattle.root_registry.specs.RegistryStep.{RegistryStep, is_earlier_run, raised}
+use Rattle.root_registry.specs.RegistryStep.{RegistryStep, is_earlier_incarnation, raised}
 use Rattle.spawn_frame.specs.declared.child_result.ChildResult.{ChildResult}
 use Rattle.spawn_frame.specs.declared.child_result.ChildResult.TheVariants.{Cover, Empty}
 use Rattle.spawn_frame.specs.declared.site.Site.{Site}
@@ -23,7 +23,7 @@ use Rattle.steal_return.specs.Returns.{Enters, Judgement, judged}
 -- a Hello is learnt, unless the root would have to be redone and stands at its last attempt
 abbrev pub hello_refusal : View → Site → Option ActFault
 hello_refusal view from =
-    if any_spent (is_earlier_run from.node (raised view.known from.node from.incarnation)) view.own
+    if any_spent (is_earlier_incarnation from.node (raised view.known from.node from.incarnation)) view.own
     then Some faults.NamesSpent
     else None
 

@@ -20,7 +20,7 @@ use Rattle.spawn_frame.specs.declared.site.Site.{Site}
 use Rattle.spawn_frame.specs.declared.status.Status.{Status}
 use Rattle.spawn_frame.specs.declared.status.Status.TheVariants.{Done}
 use Rattle.steal_return.specs.Members.{IsRedoable, redo_lost}
-pub use Rattle.steal_return.specs.Members.{is_earlier_run, raised}
+pub use Rattle.steal_return.specs.Members.{is_earlier_incarnation, raised}
 use Rattle.steal_return.specs.Returns.{Enters, Judgement, judged, returned}
 
 -- one packet to each node, ascending, at its known incarnation
@@ -36,9 +36,9 @@ known_nodes view = drop 1 view.known
 pub record HelloStep (old : View) (from : Site) (out : List Packet) (new : View) : Type 0 where
   pub known : List ℕ
   pub known_is : known ≡ raised old.known from.node from.incarnation
-  pub redoable : IsRedoable (is_earlier_run from.node known) old.own
+  pub redoable : IsRedoable (is_earlier_incarnation from.node known) old.own
   pub after : new ≡ with_ledger old (record old.ledger {
-    table = table_own old.table (redo_lost (is_earlier_run from.node known) old.own);
+    table = table_own old.table (redo_lost (is_earlier_incarnation from.node known) old.own);
     known = known;
   })
   pub sends : out ≡ to_each old.site (Members (drop 1 known)) 1 (drop 1 known)

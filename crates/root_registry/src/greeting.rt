@@ -15,13 +15,17 @@ use spawn_frame::Site;
 use std::alloc::{AllocError, Global};
 
 /// The incarnations of the nodes once that of one of them is learnt; the only error is out of memory.
-fn raised_runs(alloc: Global, runs: &[u32], from: Site) -> Result<Vec<u32>, AllocError>
+fn raised_incarnations(
+    alloc: Global,
+    incarnations: &[u32],
+    from: Site,
+) -> Result<Vec<u32>, AllocError>
     requires some { 1 ≤ from.node }
-    requires there { from.node < length runs.now }
+    requires there { from.node < length incarnations.now }
     ensures { IfOk result (λ later.
-        later.items ≡ drop 1 (raised runs.now from.node from.incarnation)) }
+        later.items ≡ drop 1 (raised incarnations.now from.node from.incarnation)) }
 {
-    let mut later = runs[1..].to_vec(alloc)?;
+    let mut later = incarnations[1..].to_vec(alloc)?;
     let place = from.node as usize - 1;
     later[place] = later_of(later[place], from.incarnation);
     Ok(later)
@@ -47,7 +51,7 @@ fn send_members(state: &SiteState, from: Site, out: &mut Outgoing) -> Result<(),
     let ledger = state.ledger();
     // (for what the getter says: that an incarnation is known of the registry and of each node)
     let _table = ledger.table();
-    let later = raised_runs(state.allocator(), ledger.runs(), from)?;
+    let later = raised_incarnations(state.allocator(), ledger.incarnations(), from)?;
     let incarnations = Incarnations::from_vec(later);
     // (a copy, since the same numbers also address the packets)
     let body = Body::Members(incarnations.copy()?);

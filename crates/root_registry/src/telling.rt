@@ -16,16 +16,16 @@ use std::alloc::AllocError;
 pub(crate) fn send_to_each(
     from: Site,
     body: &Body,
-    runs: &[u32],
+    incarnations: &[u32],
     out: &mut Outgoing,
 ) -> Result<(), AllocError>
-    requires { length runs.now ≤ LAST_NODE }
-    ensures ok { OnOk result (Sends out.old (to_each from body.now 1 runs.now) out.new) }
+    requires { length incarnations.now ≤ LAST_NODE }
+    ensures ok { OnOk result (Sends out.old (to_each from body.now 1 incarnations.now) out.new) }
     ensures err { OnErr result (MaySend out.old out.new) }
 {
-    for place in 0..runs.len() {
+    for place in 0..incarnations.len() {
         let node = place as u8 + 1;
-        send_to_node(from, body, node, runs[place], out)?;
+        send_to_node(from, body, node, incarnations[place], out)?;
     }
     Ok(())
 }
@@ -57,7 +57,7 @@ pub(crate) fn send_over(state: &SiteState, out: &mut Outgoing) -> Result<(), All
     // (for what the getter says: that an incarnation is known of the registry and of each node)
     let _table = ledger.table();
     let body = Body::Over;
-    send_to_each(state.site(), &body, &ledger.runs()[1..], out)
+    send_to_each(state.site(), &body, &ledger.incarnations()[1..], out)
 }
 
 /// Tells each node that the search is over, if it is; the only error is out of memory.

@@ -50,12 +50,12 @@ last_passes test j (c ∷ cs) unit e = go (last_own test (suc j) cs) refl e (λ 
 pub before_itself : (n : ChildName) (a : ℕ) → guest_before n a n a ≡ false
 before_itself n a =
     let node : nat_lt n.site.node n.site.node ≡ false = le-ltb n.site.node n.site.node (omega arith) in
-    let run : nat_lt n.site.incarnation n.site.incarnation ≡ false = le-ltb n.site.incarnation n.site.incarnation (omega arith) in
+    let incarnation : nat_lt n.site.incarnation n.site.incarnation ≡ false = le-ltb n.site.incarnation n.site.incarnation (omega arith) in
     let serial : nat_lt n.serial n.serial ≡ false = le-ltb n.serial n.serial (omega arith) in
     let attempt : nat_lt a a ≡ false = le-ltb a a (omega arith) in
     or_from (nat_lt n.site.node n.site.node) _ node
     (and_right (n.site.node == n.site.node) _
-    (or_from (nat_lt n.site.incarnation n.site.incarnation) _ run
+    (or_from (nat_lt n.site.incarnation n.site.incarnation) _ incarnation
     (and_right (n.site.incarnation == n.site.incarnation) _
     (or_from (nat_lt n.serial n.serial) _ serial (and_right (n.serial == n.serial) (nat_lt a a) attempt)))))
 

@@ -20,8 +20,8 @@ learnt self node (k ∷ ks) [] = k ∷ ks
 learnt self node (k ∷ ks) (m ∷ ms) = (if node == self then k else max k m) ∷ learnt self (suc node) ks ms
 
 -- an earlier incarnation of this node
-abbrev pub is_earlier_run : ℕ → List ℕ → Site → Bool
-is_earlier_run node known site = site.node == node && is_older known site
+abbrev pub is_earlier_incarnation : ℕ → List ℕ → Site → Bool
+is_earlier_incarnation node known site = site.node == node && is_older known site
 
 -- the list with the greater number at the node's place
 abbrev pub raised : List ℕ → ℕ → ℕ → List ℕ
@@ -132,9 +132,9 @@ pub record LearnsMembers (old : Ledger) (incarnations : List ℕ) (outs : List R
 pub record LearnsHello (old : Ledger) (from : Site) (new : Ledger) : Type 0 where
   pub known : List ℕ
   pub known_is : known ≡ raised old.known from.node from.incarnation
-  pub redoable : IsRedoable (is_earlier_run from.node known) old.own
+  pub redoable : IsRedoable (is_earlier_incarnation from.node known) old.own
   pub after : new ≡ record old {
-    table = table_own old.table (redo_lost (is_earlier_run from.node known) old.own);
+    table = table_own old.table (redo_lost (is_earlier_incarnation from.node known) old.own);
     known = known;
   }
 
@@ -144,4 +144,4 @@ IsSpentForMembers old incarnations = IsSpent (is_older (now_known old.site.node 
 
 -- a child that would have to be redone for this incarnation is at its last attempt
 abbrev pub IsSpentForHello : Ledger → Site → Type 0
-IsSpentForHello old from = IsSpent (is_earlier_run from.node (raised old.known from.node from.incarnation)) old.own
+IsSpentForHello old from = IsSpent (is_earlier_incarnation from.node (raised old.known from.node from.incarnation)) old.own

@@ -14,7 +14,7 @@ use std::marker::Model;
 /// The latest incarnation of each node that is known, the registry's first.
 #[derive(Drop)]
 pub struct Known {
-    runs: Vec<u32>,
+    incarnations: Vec<u32>,
     alloc: Global,
 }
 
@@ -24,9 +24,9 @@ impl Model for Known {
 
     ghost Value = { List ℕ };
 
-    ghost view = { λ k. k.runs.items };
+    ghost view = { λ k. k.incarnations.items };
 
-    ghost invariant = { λ k. IsKnown k.runs.items };
+    ghost invariant = { λ k. IsKnown k.incarnations.items };
 }
 
 impl Known {
@@ -35,8 +35,11 @@ impl Known {
         requires { nodes ≤ LAST_NODE }
         ensures { IfOk result (λ known. known ≡ replicate (suc nodes) 1) }
     {
-        let runs = vec![in alloc; 1; nodes as usize + 1]?;
-        Ok(Known { runs, alloc })
+        let incarnations = vec![in alloc; 1; nodes as usize + 1]?;
+        Ok(Known {
+            incarnations,
+            alloc,
+        })
     }
 
     /// How many nodes there are beside the registry, at most 16.
@@ -44,7 +47,7 @@ impl Known {
         ensures { length self.now ≡ suc result }
     {
         // (the registry's incarnation is always there, and at most 16 others)
-        (self.runs.len() - 1) as u8
+        (self.incarnations.len() - 1) as u8
     }
 
     /// The incarnations, the registry's first. The other clause says what is true of all that is known.
@@ -52,7 +55,7 @@ impl Known {
         ensures value { result.now ≡ self.now }
         ensures known { IsKnown self.now }
     {
-        &self.runs
+        &self.incarnations
     }
 
     /// The incarnation of a node, or of the registry at 0.
@@ -60,14 +63,14 @@ impl Known {
         requires { node < length self.now }
         ensures { result ≡ slice_index self.now node }
     {
-        self.runs[node as usize]
+        self.incarnations[node as usize]
     }
 
     /// Whether a later incarnation of the site's node is known.
     pub fn is_older(&self, site: Site) -> bool
         ensures { result ≡ is_older self.now site }
     {
-        match self.runs.get(site.node as usize) {
+        match self.incarnations.get(site.node as usize) {
             Some(incarnation) => site.incarnation < *incarnation,
             None => false,
         }
@@ -80,7 +83,7 @@ impl Known {
         let known = self.as_slice();
         let node = site.node as usize;
         // (one entry, not the whole new list: this has to be answered where memory was refused, too)
-        node < known.len() && site.incarnation < run_after(known, told, node)
+        node < known.len() && site.incarnation < incarnation_after(known, told, node)
     }
 
     /// What is known once a site of the node `own` learns the incarnations of nodes 1, 2, ..; the only error is out of
@@ -88,9 +91,9 @@ impl Known {
     pub fn learnt(&self, own: u8, incarnations: &[u32]) -> Result<Known, AllocError>
         ensures { IfOk result (λ learnt. learnt ≡ now_known own self.now incarnations.now) }
     {
-        let runs = later_runs(self.alloc, self.as_slice(), own, incarnations)?;
+        let learnt = later_incarnations(self.alloc, self.as_slice(), own, incarnations)?;
         Ok(Known {
-            runs,
+            incarnations: learnt,
             alloc: self.alloc,
         })
     }
@@ -101,17 +104,17 @@ impl Known {
         ensures { self.new ≡ raised self.old node incarnation }
     {
         let node = node as usize;
-        self.runs[node] = later_of(self.runs[node], incarnation);
+        self.incarnations[node] = later_of(self.incarnations[node], incarnation);
     }
 }
 
 /// The incarnation of a node that is known once that is told.
-fn run_after(known: &[u32], told: Told<'_>, node: usize) -> u32
+fn incarnation_after(known: &[u32], told: Told<'_>, node: usize) -> u32
     requires { node < length known.now }
     ensures { result ≡ slice_index (known_after told.entry known.now) node }
 {
     match told {
-        Told::Members(own, incarnations) => later_run(known, own, incarnations, node),
+        Told::Members(own, incarnations) => later_incarnation(known, own, incarnations, node),
         Told::Hello(from) => {
             if node == from.node as usize {
                 later_of(known[node], from.incarnation)
@@ -123,7 +126,7 @@ fn run_after(known: &[u32], told: Told<'_>, node: usize) -> u32
 }
 
 /// The incarnation of a node that is known once those of nodes 1, 2, .. are learnt at a site of the node `own`.
-fn later_run(known: &[u32], own: u8, incarnations: &[u32], node: usize) -> u32
+fn later_incarnation(known: &[u32], own: u8, incarnations: &[u32], node: usize) -> u32
     requires { node < length known.now }
     ensures { result ≡ slice_index (now_known own known.now incarnations.now) node }
 {
@@ -147,7 +150,7 @@ fn later_of(first: u32, second: u32) -> u32
 }
 
 /// All known incarnations then; the only error is out of memory.
-fn later_runs(
+fn later_incarnations(
     alloc: Global,
     known: &[u32],
     own: u8,
@@ -158,7 +161,7 @@ fn later_runs(
 {
     let mut learnt = Vec::with_capacity(alloc, known.len())?;
     for node in 0..known.len() {
-        learnt.push(later_run(known, own, incarnations, node))?;
+        learnt.push(later_incarnation(known, own, incarnations, node))?;
     }
     Ok(learnt)
 }

@@ -57,7 +57,7 @@ impl Ledger {
         requires most { nodes ≤ LAST_NODE }
         requires first { 1 ≤ site.node }
         requires last { site.node ≤ nodes }
-        requires run { 1 ≤ site.incarnation }
+        requires incarnation { 1 ≤ site.incarnation }
         ensures { IfOk result (λ ledger. ledger ≡ opening_ledger site nodes names_limit) }
     {
         Ok(Ledger {
@@ -105,7 +105,7 @@ impl Ledger {
     }
 
     /// The known incarnation of the registry, then of each node.
-    pub fn runs(&self) -> &[u32]
+    pub fn incarnations(&self) -> &[u32]
         ensures { result.now ≡ self.now.known }
     {
         self.known.as_slice()

@@ -4,7 +4,7 @@ ghost use Rattle.std.specs.Prelude.{◌≡◌, ◌≢◌, ◌+◌, ◌≤◌, �
 ghost use Rattle.std.specs.Bool.{OnFalse, OnTrue};
 ghost use Rattle.spawn_frame.specs.Tables.{outs_of};
 ghost use Rattle.steal_return.specs.Finishing.{Appends};
-ghost use Rattle.steal_return.specs.Members.{is_earlier_run, now_known, raised, Differs, IsAlike, IsRedoable, IsSpent, IsSpentForHello, IsSpentForMembers, LearnsHello, LearnsMembers};
+ghost use Rattle.steal_return.specs.Members.{is_earlier_incarnation, now_known, raised, Differs, IsAlike, IsRedoable, IsSpent, IsSpentForHello, IsSpentForMembers, LearnsHello, LearnsMembers};
 ghost use Rattle.steal_return.specs.Steals.{is_older};
 
 use crate::children::{first_lost, is_redoable, redo_lost};
@@ -79,7 +79,7 @@ impl Ledger {
     /// last attempt. It takes no memory, and costs a walk over the own children that are out.
     pub fn may_learn_hello(&self, from: Site) -> bool
         ensures able { OnTrue result
-            (IsRedoable (is_earlier_run from.node
+            (IsRedoable (is_earlier_incarnation from.node
             (raised self.now.known from.node from.incarnation)) self.now.own) }
         ensures spent { OnFalse result (IsSpentForHello self.now from) }
     {

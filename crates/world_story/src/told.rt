@@ -109,7 +109,7 @@ impl fmt::Display for BodyText<'_> {
     fn fmt<W: fmt::Write>(&self, f: &mut fmt::Formatter<W>) -> fmt::Result {
         match self.0 {
             Body::Hello => write!(f, "Hello"),
-            Body::Members(runs) => write!(f, "Members {:?}", runs.as_slice()),
+            Body::Members(incarnations) => write!(f, "Members {:?}", incarnations.as_slice()),
             Body::Steal => write!(f, "Steal"),
             Body::NoWork => write!(f, "NoWork"),
             Body::Over => write!(f, "Over"),

@@ -55,7 +55,7 @@ enum Act {
 /// A run: what happens at the sites that have a book, the incarnations of node 1 in their order, and what an audit finds.
 struct Row {
     root: Option<&'static [Act]>,
-    runs: &'static [(u32, &'static [Act])],
+    incarnations: &'static [(u32, &'static [Act])],
     found: Result<Clean, Unclean>,
 }
 
@@ -74,72 +74,72 @@ static ROWS: [Row; 13] = [
     // a Hello that was put out, one that was altered, and one whose sender has no book
     Row {
         root: Some(&[Act::Hello(1)]),
-        runs: &[(1, &[Act::Greet])],
+        incarnations: &[(1, &[Act::Greet])],
         found: Ok(Clean),
     },
     Row {
         root: Some(&[Act::Steal(1)]),
-        runs: &[(1, &[Act::Greet])],
+        incarnations: &[(1, &[Act::Greet])],
         found: Err(Unclean::NeverSent(REGISTRY, 0)),
     },
     Row {
         root: Some(&[Act::Hello(1)]),
-        runs: &[],
+        incarnations: &[],
         found: Err(Unclean::MissingBook(FIRST)),
     },
     // two incarnations of a node
     Row {
         root: Some(&[Act::Hello(2), Act::Hello(1)]),
-        runs: &[(1, &[Act::Greet]), (2, &[Act::Greet])],
+        incarnations: &[(1, &[Act::Greet]), (2, &[Act::Greet])],
         found: Ok(Clean),
     },
     Row {
         root: Some(&[Act::Hello(2), Act::Hello(1)]),
-        runs: &[(2, &[Act::Greet])],
+        incarnations: &[(2, &[Act::Greet])],
         found: Err(Unclean::MissingBook(FIRST)),
     },
     Row {
         root: Some(&[]),
-        runs: &[(2, &[Act::Greet])],
+        incarnations: &[(2, &[Act::Greet])],
         found: Ok(Clean),
     },
     // no book, and two that lack one
     Row {
         root: None,
-        runs: &[],
+        incarnations: &[],
         found: Err(Unclean::MissingBook(REGISTRY)),
     },
     Row {
         root: Some(&[Act::Hello(3), Act::Hello(2)]),
-        runs: &[(1, &[Act::Greet])],
+        incarnations: &[(1, &[Act::Greet])],
         found: Err(Unclean::MissingBook(SECOND)),
     },
     // a packet that is delivered twice
     Row {
         root: Some(&[Act::Hello(1), Act::Hello(1)]),
-        runs: &[(1, &[Act::Greet])],
+        incarnations: &[(1, &[Act::Greet])],
         found: Ok(Clean),
     },
     // two sites that wait for each other in turn, and the same without the packet that is answered
     Row {
         root: Some(&[Act::Hello(1), Act::Steal(1)]),
-        runs: &[(1, &[Act::Greet, Act::Ask, Act::Give])],
+        incarnations: &[(1, &[Act::Greet, Act::Ask, Act::Give])],
         found: Ok(Clean),
     },
     Row {
         root: Some(&[Act::Hello(1), Act::Steal(1)]),
-        runs: &[(1, &[Act::Greet, Act::Give])],
+        incarnations: &[(1, &[Act::Greet, Act::Give])],
         found: Err(Unclean::NeverSent(REGISTRY, 1)),
     },
     // a later incarnation behind an earlier one that waits, and a lesser site that waits on the later one
     Row {
         root: Some(&[Act::Hello(1)]),
-        runs: &[(1, &[Act::Greet, Act::NoWork]), (2, &[Act::Greet])],
+        incarnations: &[(1, &[Act::Greet, Act::NoWork]), (2, &[Act::Greet])],
         found: Err(Unclean::NeverSent(FIRST, 1)),
     },
     Row {
         root: Some(&[Act::Hello(2)]),
-        runs: &[(1, &[Act::Greet, Act::NoWork]), (2, &[Act::Greet])],
+        incarnations: &[(1, &[Act::Greet, Act::NoWork]), (2, &[Act::Greet])],
         found: Err(Unclean::NeverSent(REGISTRY, 0)),
     },
 ];
@@ -147,7 +147,7 @@ static ROWS: [Row; 13] = [
 /// Node 1 in this incarnation.
 fn node(incarnation: u32) -> Site
     ensures node { result.node ≡ 1 }
-    ensures run { result.incarnation ≡ incarnation }
+    ensures incarnation { result.incarnation ≡ incarnation }
 {
     Site {
         node: 1,
@@ -188,8 +188,8 @@ fn does<J: Run, C: Core + Drop, N: CellName, R: Wait>(
     let (from, to, body) = match act {
         Act::Greet => return cell.act(rt, seat, Event::Greet).ok(),
         Act::Ask => return cell.act(rt, seat, Event::Ask(0)).ok(),
-        Act::Hello(run) => (node(run), REGISTRY, Body::Hello),
-        Act::Steal(run) => (node(run), REGISTRY, Body::Steal),
+        Act::Hello(incarnation) => (node(incarnation), REGISTRY, Body::Hello),
+        Act::Steal(incarnation) => (node(incarnation), REGISTRY, Body::Steal),
         Act::Give => (REGISTRY, node(1), root(alloc)),
         Act::NoWork => (REGISTRY, node(1), Body::NoWork),
     };
@@ -322,7 +322,7 @@ fn finds<J: Run, R: Abort + Wait>(
     if let Some(acts) = row.root {
         books.push(registry(rt, alloc, problem, acts)?).ok()?;
     }
-    for (incarnation, acts) in row.runs {
+    for (incarnation, acts) in row.incarnations {
         books
             .push(node_in(rt, alloc, problem, *incarnation, acts)?)
             .ok()?;

@@ -85,6 +85,6 @@ fn are_tables_alike<R: Abort>(rt: &R, alloc: Global, table: &Table, other: &Tabl
 pub fn is_alike<R: Abort>(rt: &R, alloc: Global, state: &SiteState, other: &SiteState) -> bool {
     state.site() == other.site()
         && state.is_over() == other.is_over()
-        && state.ledger().runs() == other.ledger().runs()
+        && state.ledger().incarnations() == other.ledger().incarnations()
         && are_tables_alike(rt, alloc, state.ledger().table(), other.ledger().table())
 }

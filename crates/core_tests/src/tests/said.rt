@@ -60,9 +60,9 @@ pub fn result_of(alloc: Global, cover: Option<&[u16]>) -> Result<ChildResult, Al
 pub fn body_of(alloc: Global, said: Said) -> Result<Body, AllocError> {
     match said {
         Said::Hello => Ok(Body::Hello),
-        Said::Members(runs) => {
-            let runs = Vec::from_slice(alloc, runs)?;
-            Ok(Body::Members(Incarnations::from_vec(runs)))
+        Said::Members(incarnations) => {
+            let incarnations = Vec::from_slice(alloc, incarnations)?;
+            Ok(Body::Members(Incarnations::from_vec(incarnations)))
         }
         Said::Steal => Ok(Body::Steal),
         Said::NoWork => Ok(Body::NoWork),

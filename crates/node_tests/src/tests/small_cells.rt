@@ -3,7 +3,7 @@
 //! Of the bugs of `udp_node` that are kept outside the gate, `a_node_of_few_names` finds `searches_again_with_twice_the_fuel` and
 //! `nodes_never_say_again`, `a_node_of_a_small_book` finds `a_full_book_is_the_end_of_its_turns`, `an_idle_worker_stays` finds
 //! `idle_workers_leave_soon`, `each_packet_is_delivered` finds `aborts_and_refusals_are_dropped` and
-//! `packets_for_an_earlier_run_are_taken`, and `a_full_outbox_loses_parcels` finds
+//! `packets_for_an_earlier_incarnation_are_taken`, and `a_full_outbox_loses_parcels` finds
 //! `a_full_outbox_is_no_loss`.
 
 use super::lone::{HERE, OTHER, REGISTRY, Room, Script, run_alone};

@@ -80,7 +80,9 @@ fn says(body: &Body, said: Said) -> bool {
         (Body::GiveMany { prefix, siblings }, Said::GiveMany(parent, expected)) => {
             prefix.as_slice() == parent && siblings.as_slice() == expected
         }
-        (Body::Members(runs), Said::Members(expected)) => runs.as_slice() == expected,
+        (Body::Members(incarnations), Said::Members(expected)) => {
+            incarnations.as_slice() == expected
+        }
         _ => says_of_child(body, said),
     }
 }

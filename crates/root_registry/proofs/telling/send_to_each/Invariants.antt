@@ -4,4 +4,4 @@ use Rattle.root_registry.proofs.telling.send_to_each.Given as goal
 use Rattle.root_registry.specs.RegistryStep.{to_each}
 
 abbrev pub invariant-loop-place : goal.invariant-loop-place
-invariant-loop-place l = Sends l.initial.out (to_each l.from l.body 1 (take l.place l.runs)) l.out
+invariant-loop-place l = Sends l.initial.out (to_each l.from l.body 1 (take l.place l.incarnations)) l.out

@@ -10,7 +10,7 @@ invariant_of-result c =
       most = c.requires.most;
       first = c.requires.first;
       last = c.requires.last;
-      counted = c.requires.run;
+      counted = c.requires.incarnation;
       four_bytes = omega arith;
       small = omega arith;
     }) in

@@ -7,6 +7,6 @@ pub invariant_of-result : goal.invariant_of-result
 invariant_of-result c =
     let known = c.args.self.now in
     let same =
-    ap length c.in_ok-runs.ensures ∙ ap (λ k. length (now_known c.args.own k c.args.incarnations.now)) c.as_slice.ensures.value
+    ap length c.in_ok-learnt.ensures ∙ ap (λ k. length (now_known c.args.own k c.args.incarnations.now)) c.as_slice.ensures.value
     ∙ known_length c.args.own known c.args.incarnations.now c.as_slice.ensures.known.some in
     record { some = omega (arith, same, c.as_slice.ensures.known.some); few = omega (arith, same, c.as_slice.ensures.known.few) }

@@ -6,8 +6,8 @@ use Rattle.steal_return.specs.Members.{known_after}
 
 pub returns-else-node-known : goal.returns-else-node-known
 returns-else-node-known c =
-    let runs = c.args.self.now in
-    let same : length c.as_slice-known.result.now ≡ length runs = ap length c.as_slice-known.ensures.value in
-    let past : length (known_after c.args.told runs) ≤ c.args.site.node =
-    omega (arith, after_length c.args.told runs c.as_slice-known.ensures.known.some, same, c.if-node-known.false) in
-    le-ltb _ _ c.if-node-known.false ∙ sym (no_such_node (known_after c.args.told runs) c.args.site past)
+    let incarnations = c.args.self.now in
+    let same : length c.as_slice-known.result.now ≡ length incarnations = ap length c.as_slice-known.ensures.value in
+    let past : length (known_after c.args.told incarnations) ≤ c.args.site.node =
+    omega (arith, after_length c.args.told incarnations c.as_slice-known.ensures.known.some, same, c.if-node-known.false) in
+    le-ltb _ _ c.if-node-known.false ∙ sym (no_such_node (known_after c.args.told incarnations) c.args.site past)

@@ -4,12 +4,12 @@ use Rattle.steal_return.proofs.Learning.{raised_length}
 use Rattle.steal_return.proofs.Outrun.{redo_leaves}
 use Rattle.steal_return.proofs.ledger.Ledger.learn_hello.Goals as goal
 use Rattle.steal_return.specs.Invariant.{NoneOutrun}
-use Rattle.steal_return.specs.Members.{IsSpent, is_earlier_run, raised}
+use Rattle.steal_return.specs.Members.{IsSpent, is_earlier_incarnation, raised}
 
 pub returns-then-not-is_redoable-clause-spent : goal.returns-then-not-is_redoable-clause-spent
 returns-then-not-is_redoable-clause-spent c = (
   λ _.
-      subst (λ l. IsSpent (is_earlier_run c.args.from.node (raised l.known c.args.from.node c.args.from.incarnation)) l.own) c.self.view_is
+      subst (λ l. IsSpent (is_earlier_incarnation c.args.from.node (raised l.known c.args.from.node c.args.from.incarnation)) l.own) c.self.view_is
       (spent_same c.self.inside.known c.args.from c.self.inside.table.own c.self.invariant.none_outrun c.if-not-is_redoable.ensures.spent),
   λ _. refl,
 )

@@ -4,11 +4,11 @@ use Rattle.std.proofs.lemmas.Option.{none-some}
 use Rattle.cover_problem.specs.Examples.{bare}
 use Rattle.cover_world.proofs.Stages.{Stage, aborts_nothing, acts, gives_first, opening}
 use Rattle.cover_world.proofs.Stolen.{learns, root_redoable}
-use Rattle.cover_world.specs.LaterRuns.{root_steal, second_hello, first_members, thief_steal, no_work, first_hello}
+use Rattle.cover_world.specs.LaterIncarnations.{root_steal, second_hello, first_members, thief_steal, no_work, first_hello}
 use Rattle.cover_world.specs.Worlds.{Restarts, go, opening_node}
 use Rattle.node_core.specs.declared.event.Event.TheVariants.{Again, Ask, Deliver, Greet}
 use Rattle.node_core.specs.declared.reply.Reply.TheVariants.{Ignored, Moved}
-use Rattle.root_registry.specs.RegistryStep.{is_earlier_run}
+use Rattle.root_registry.specs.RegistryStep.{is_earlier_incarnation}
 use Rattle.spawn_frame.specs.Tables.{root_entry}
 
 abbrev pub s1 : Stage bare
@@ -35,7 +35,7 @@ s4 = acts s3 2 Greet Moved _ _ _ refl tt (refl, (refl, refl, refl))
 abbrev pub s5 : Stage bare
 s5 =
     acts s4 0 (Deliver second_hello) Moved _ _ _ refl (2, refl)
-    (refl, omega arith, (refl, record { known = _; known_is = refl; redoable = root_redoable (is_earlier_run 2 (1 ∷ 1 ∷ 2 ∷ [])); after = refl; sends = refl }))
+    (refl, omega arith, (refl, record { known = _; known_is = refl; redoable = root_redoable (is_earlier_incarnation 2 (1 ∷ 1 ∷ 2 ∷ [])); after = refl; sends = refl }))
 
 abbrev pub s6 : Stage bare
 s6 = acts s5 0 Again Moved _ _ _ refl tt (refl, refl, refl)
@@ -95,4 +95,4 @@ s12 = acts s11 1 Greet Moved _ _ _ refl tt (refl, (refl, refl, refl))
 abbrev pub s13 : Stage bare
 s13 =
     acts s12 0 (Deliver first_hello) Moved _ _ _ refl (8, refl)
-    (refl, omega arith, (refl, record { known = _; known_is = refl; redoable = root_redoable (is_earlier_run 1 (1 ∷ 2 ∷ 2 ∷ [])); after = refl; sends = refl }))
+    (refl, omega arith, (refl, record { known = _; known_is = refl; redoable = root_redoable (is_earlier_incarnation 1 (1 ∷ 2 ∷ 2 ∷ [])); after = refl; sends = refl }))

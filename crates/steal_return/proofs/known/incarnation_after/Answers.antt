@@ -1,6 +1,6 @@
 use Rattle.std.proofs.Common.{get_or, sym, ap, ◌∙◌}
 use Rattle.steal_return.proofs.Learning.{raised_at, raised_other}
-use Rattle.steal_return.proofs.known.run_after.Goals as goal
+use Rattle.steal_return.proofs.known.incarnation_after.Goals as goal
 use Rattle.steal_return.specs.Members.{known_after}
 
 pub returns-then-node-from : goal.returns-then-node-from

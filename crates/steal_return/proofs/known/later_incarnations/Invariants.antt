@@ -1,5 +1,5 @@
 use Rattle.std.proofs.Common.{◌≡◌, take}
-use Rattle.steal_return.proofs.known.later_runs.Given as goal
+use Rattle.steal_return.proofs.known.later_incarnations.Given as goal
 use Rattle.steal_return.specs.Members.{now_known}
 
 abbrev pub invariant-loop-node : goal.invariant-loop-node

@@ -1,7 +1,7 @@
 use Rattle.std.proofs.Common.{◌≡◌, ◌-◌, max, get_or, ap, ◌∙◌, arith}
 use Rattle.steal_return.proofs.Learning.{known_other, known_own, known_untold, known_zero}
-use Rattle.steal_return.proofs.known.later_run.Goals as goal
-use Rattle.steal_return.proofs.known.later_run.Goals.{then-node-eq0-via-then-node-eq0, then-node-eq0-via-else-node-eq0+then-node-own}
+use Rattle.steal_return.proofs.known.later_incarnation.Goals as goal
+use Rattle.steal_return.proofs.known.later_incarnation.Goals.{then-node-eq0-via-then-node-eq0, then-node-eq0-via-else-node-eq0+then-node-own}
 
 pub returns-then-node-eq0 : goal.returns-then-node-eq0
 returns-then-node-eq0 c =
