@@ -113,7 +113,7 @@ def errors() -> None:
     why = raised(zarfepoch.ProblemError, lambda: Problem.parse(b"a b\na c\n"))
     expect(f"the line: {why!r}", why and (why.line, why.item) == (2, "c"))
     raised(FileNotFoundError, lambda: Problem.read(os.path.join(TOP, "nothing")))
-    hard = langford(17)
+    hard = long_search()
     for late in (zarfepoch.TimeIsUp, TimeoutError, zarfepoch.Error):
         begun = time.monotonic()
         raised(late, lambda: hard.solve(seconds=0.3))
@@ -145,13 +145,12 @@ def with_program(path: str, call: Callable[[], object]) -> None:
     os.environ["ZARFEPOCH"] = ours
 
 
-def langford(size: int) -> Problem:
-    """Langford pairs of 1 to a number. Of 17 there are none, and a search takes an hour."""
-    problem = Problem([*range(1, size + 1), *(("s", place) for place in range(2 * size))])
-    for number in range(1, size + 1):
-        for place in range(2 * size - number - 1):
-            problem.add(number, ("s", place), ("s", place + number + 1))
-    return problem
+def long_search() -> Problem:
+    """A problem whose first cover is found after minutes: an item has two options, and below the first one 62 items would have to be covered by
+    options of five. As there is a cover, no reason ends the search."""
+    draw = random.Random(1)
+    drawn = [draw.sample(range(62), 5) for _ in range(1500)]
+    return Problem(["door", *range(62)], options=[["door"], *drawn, ["door", 60, 61]])
 
 
 def files(folder: str) -> None:
@@ -228,7 +227,7 @@ def is_alone(group: int) -> bool:
 
 def killed(folder: str) -> None:
     """A Python that is killed while the program searches leaves no file behind, and no program for longer than a second more than it had."""
-    code = "import sys; sys.path.insert(0, sys.argv[1]); import try_python; print(flush=True); try_python.langford(17).solve(2)"
+    code = "import sys; sys.path.insert(0, sys.argv[1]); import try_python; print(flush=True); try_python.long_search().solve(2)"
     words, environment = [sys.executable, "-c", code, os.path.join(TOP, "scripts")], {**os.environ, "TMPDIR": folder}
     with subprocess.Popen(words, stdout=subprocess.PIPE, env=environment, cwd=folder, start_new_session=True) as run:
         assert run.stdout
@@ -244,6 +243,13 @@ def killed(folder: str) -> None:
         expect("the program has ended", is_alone(run.pid))
         with contextlib.suppress(ProcessLookupError):
             os.killpg(run.pid, signal.SIGKILL)
+
+
+def a_board() -> None:
+    """A board of more prefixes than a limit of visits can count: that dominoes don't cover it is decided by a reason."""
+    cells = {(row, column) for row in range(14) for column in range(14)} - {(0, 0), (13, 13)}
+    dominoes = [[(row, column), other] for row, column in sorted(cells) for other in ((row, column + 1), (row + 1, column)) if other in cells]
+    expect("a board of 14 by 14", zarfepoch.solve(dominoes, cells, seconds=60) is None)
 
 
 def a_call() -> None:
@@ -267,6 +273,7 @@ def main() -> int:
     for trials in (stub_answers, files, installed, killed):
         with tempfile.TemporaryDirectory() as folder:
             trials(folder)
+    a_board()
     a_call()
     return trial.end()
 

@@ -108,11 +108,12 @@ class Problem:
               audit: bool = False) -> Optional[list[int]]:
         """The places of the options of one exact cover, in rising order, or None where there is none.
 
-        One thread searches, or with `nodes` and `workers` several, as `solve_cli solve` does; with `audit` their run is audited, so that None is
-        right whatever the network did. Raises `TimeIsUp` after so many seconds, `OutOfMemory`, or a `ProgramError`.
+        One thread searches until it is decided, and looks for a reason for None, or with `nodes` and `workers` several threads search, as
+        `solve_cli solve` does; with `audit` their run is audited, so that None is right whatever the network did. Raises `TimeIsUp` after so many
+        seconds, `OutOfMemory`, or a `ProgramError`.
         """
         threads = [word for name, number in (("--nodes", nodes), ("--workers", workers)) if number is not None for word in (name, str(number))]
-        words = ["solve", "-", *threads, *["--audit"] * audit] if threads or audit else ["alone", "-"]
+        words = ["solve", "-", *threads, *["--audit"] * audit] if threads or audit else ["alone", "-", "--unlimited"]
         lines = self._numbered_lines()
         status, answer, why = self._ask(words, lines, seconds)
         if audit and answer and answer[-1].startswith("audit "):
