@@ -8,8 +8,8 @@ once half of the parts have an answer; then the same command goes on. The table 
 greatest one, and whether the joined answer is right. With --beside, `alone` and `solve --nodes 1` with so many workers are timed too.
 
 `fives` has options of five of its 62 items, drawn at random, and no cover, since five doesn't divide 62. `late` has one item more, with two
-options: behind the first of them lies all of `fives`, and the other one, which takes two of the items too, leads to a cover. `short` is a `fives`
-of 52 items.
+options: behind the first of them lies all of `fives`, and the other one, which takes two of the items too, leads to a cover. `short` and
+`short-late` are these of 52 items: `fives` takes more than 40 minutes by one thread, `short` some ten.
 
 It wants GNU parallel, and the program: (cd crates/solve_cli && rt run -- --version) builds it. The exit status is 0, 1 where an answer is wrong, 2 for a
 mistake on the command line or where something is missing.
@@ -34,8 +34,8 @@ sys.path.insert(0, os.path.join(HERE, "..", "scripts"))
 from built import SOLVE_CLI, TOP, number_from_one, parser_of, stop, want_command, want_program  # noqa: E402
 
 # items and options; and whether there is a cover, behind a search without one
-INSTANCES = {"short": (52, 1500, False), "fives": (62, 1500, False), "late": (62, 1500, True)}
-OUTCOMES = {"short": 1, "fives": 1, "late": 0}
+INSTANCES = {"short": (52, 1500, False), "short-late": (52, 1500, True), "fives": (62, 1500, False), "late": (62, 1500, True)}
+OUTCOMES = {"short": 1, "short-late": 0, "fives": 1, "late": 0}
 
 
 def write(path: str, items: int, count: int, with_cover: bool) -> None:
