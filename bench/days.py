@@ -61,7 +61,9 @@ def datagrams() -> int:
 def memory(process: int) -> float:
     """How many megabytes of memory a process has."""
     with open(f"/proc/{process}/status", encoding="ascii") as file:
-        kilobytes = next(line.split()[1] for line in file if line.startswith("VmRSS:"))
+        kilobytes = next((line.split()[1] for line in file if line.startswith("VmRSS:")), "")
+    if not kilobytes:
+        stop("the search ended before its time: more --pairs take longer")
     return int(kilobytes) / 1024
 
 

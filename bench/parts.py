@@ -22,6 +22,7 @@ import glob
 import os
 import random
 import resource
+import shlex
 import signal
 import subprocess
 import sys
@@ -119,7 +120,9 @@ def row(name: str, given: argparse.Namespace, top: str) -> bool:
     split = timed(script("split.py", file, "--parts", str(given.parts), "--into", folder))
     parts = len(glob.glob(os.path.join(folder, "part-*.dlx")))
     run_part = os.path.join(TOP, "scripts", "run_part.sh")
-    line = f'"$@" --left | parallel --will-cite --jobs {given.jobs} --joblog +{folder}/log --halt now,success=1 {run_part}'
+    # (parallel hands its command to a shell once more)
+    line = (f'"$@" --left | parallel --will-cite --jobs {given.jobs} --joblog {shlex.quote(f"+{folder}/log")} --halt now,success=1 '
+            f'{shlex.quote(shlex.quote(run_part))}')
     words = ["sh", "-c", line, "sh", *script("join.py", folder)]
     first = killed_after(words, folder, parts // 2)
     done = answers(folder)

@@ -90,7 +90,7 @@ def answer(words: list[str], said: str, folder: str) -> tuple[str, float]:
     if text == "no answer\n":
         return said, math.inf
     outcome = text.partition(" ")[0].strip()
-    if outcome != (said or outcome) or (outcome == "cover" and not is_right(words[1], text, folder)):
+    if outcome not in ("cover", "none") or outcome != (said or outcome) or (outcome == "cover" and not is_right(words[1], text, folder)):
         sys.exit(f"a wrong answer: {words}")
     return outcome, seconds
 

@@ -126,7 +126,7 @@ for name in $commands; do
     shown 755 "$pages/zarfepoch-$name" "bin/zarfepoch-$name"
 done
 rm -rf -- "$prefix/$share/zarfepoch"
-for file in "$top"/python/zarfepoch/*.py; do
+for file in "$top"/python/zarfepoch/*.py "$top"/python/zarfepoch/py.typed; do
     put 644 "$file" "$share/zarfepoch/$(basename "$file")"
 done
 echo "$prefix/$share/zarfepoch"

@@ -33,7 +33,7 @@ esac
 
 here=$(cd "$(dirname "$0")" && pwd)
 program=${ZARFEPOCH:-$(command -v solve_cli || echo "$here/../crates/solve_cli/out/solve_cli")}
-[ -x "$program" ] || fail 2 "there is no program $program"
+[ -f "$program" ] && [ -x "$program" ] || fail 2 "there is no program $program"
 
 search=
 temp=$(mktemp "$answer.XXXXXX") || fail 3 "$answer can't be written"

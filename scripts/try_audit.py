@@ -173,4 +173,5 @@ def main() -> None:
     sys.exit(0 if all(good) and not differ and tried else 1)
 
 
-main()
+if __name__ == "__main__":
+    main()

@@ -92,6 +92,11 @@ def content(path: str) -> bytes:
         return opened.read()
 
 
+def parts_in(folder: str) -> list[str]:
+    """What is left in a folder of files that were written in part."""
+    return [name for name in os.listdir(folder) if name.startswith(".part-")]
+
+
 def points_of(shape: tree.Element) -> list[Point]:
     """The outmost points of a shape; of an arc its ends."""
     value = {name: float(text) for name, text in shape.attrib.items() if re.fullmatch(r"-?[\d.]+", text)}
@@ -334,10 +339,19 @@ def written(trial: Drawing) -> None:
     trial.python("examples/generate.py", "queens", "4", "--out", pipe)
     trial.expect("a pipe stays one", stat.S_ISFIFO(os.stat(pipe).st_mode) and os.read(reader, 1 << 16) == content(target))
     os.close(reader)
+    cover = trial.path("a cover", "cover 1\n\u00fc\n".encode())
+    for words in (["examples/generate.py", "matching", trial.path("latin", "\u00fc \u00e9\n".encode())],
+                  ["scripts/draw.py", trial.path("latin.dlx", "\u00fc\n\u00fc\n".encode()), cover, "--svg", "-"]):
+        ran = subprocess.run([sys.executable, os.path.join(TOP, words[0]), *words[1:]], env={**os.environ, "PYTHONIOENCODING": "latin-1"},
+                             capture_output=True)
+        trial.expect(f"{words[0]} writes UTF-8 wherever it is: {ran.stderr!r}", ran.returncode == 0 and "\u00fc".encode() in ran.stdout)
     ended = trial.python("examples/generate.py", "queens", "4", "--out", "/dev/stdout")
     trial.expect("the standard output by its name", ended.returncode == 0 and ended.stdout == content(target))
     ended = trial.python("examples/generate.py", "queens", "4", "--out", trial.folder)
-    trial.expect("a folder", ended.returncode == 2 and not os.path.exists(trial.folder + ".part"))
+    trial.expect("a folder", ended.returncode == 2 and not parts_in(os.path.dirname(trial.folder)))
+    own, out = trial.path("own.dlx.part", b"own"), trial.path("own.dlx")
+    trial.python("examples/generate.py", "queens", "4", "--out", out)
+    trial.expect("a file of a like name stays", content(own) == b"own" and content(out) == content(target))
     old, cover = trial.path("old", b"old"), trial.path("cover", b"cover 3\nc e\na d f\nb g\n")
     for words, status in ((["scripts/draw.py", os.path.join(EXAMPLES, "letters.dlx"), cover, "--svg", old], 3),
                           (["examples/generate.py", "queens", "4", "--out", old], 2)):
@@ -345,7 +359,7 @@ def written(trial: Drawing) -> None:
         ended = subprocess.run([*script, *words[1:]], stdout=subprocess.PIPE, stderr=subprocess.PIPE)
         is_plain = ended.stderr.endswith(b"old can't be written: File too large\n") and not ended.stdout
         trial.expect(f"{words[0]} keeps the old file", ended.returncode == status and is_plain and content(old) == b"old")
-        trial.expect(f"{words[0]} leaves no part", not os.path.exists(old + ".part"))
+        trial.expect(f"{words[0]} leaves no part", not parts_in(trial.folder))
 
 
 def strange_names(trial: Drawing) -> None:
@@ -389,7 +403,7 @@ def refusals(trial: Drawing) -> None:
         trial.expect(f"{words} is refused", ended.returncode in (1, 2, 3) and not ended.stdout and is_plain)
     many = trial.path("many", b"".join(b"q%d a b c d\n" % number for number in range(961)))
     ended = trial.python("examples/generate.py", "squares", "31x31", many)
-    trial.expect("many squares are refused before they are laid", ended.returncode == 2 and b"in more than 20,000 ways" in ended.stderr)
+    trial.expect("many squares are refused before they are laid", ended.returncode == 3 and b"in more than 20,000 ways" in ended.stderr)
     file = trial.path("bad.dlx", b"a b\na c\n")
     letters_file = os.path.join(EXAMPLES, "letters.dlx")
     for words in ([file, file], [letters_file, file], [letters_file, trial.folder], ["nothing", file]):

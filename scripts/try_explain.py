@@ -297,8 +297,8 @@ class Trial:
 
     def compare(self, words: list[str], ran: subprocess.CompletedProcess[bytes], with_verdict: bool) -> None:
         told = [shown(line) for line in ran.stderr.split(b"\n")[:-1]]
-        # (why there is no answer isn't foretold; of a file that can't be read, explain.py names file and cause in a line of its own)
-        told = [re.sub("^(cannot read): .*", r"\1", line) for line in told if not line.startswith("ended: ")]
+        # (why there is no answer isn't foretold; of a file that can't be read, explain.py names file and cause in its own words)
+        told = [line for line in told if not line.startswith(("ended: ", "cannot read: "))]
         verdict = [shown(ran.stdout[:-1])] if with_verdict and ran.stdout.startswith((b"right", b"wrong: ")) else []
         says, by_search, first = self.explained(words)
         agrees = says == verdict + told or (by_search and says == told)
@@ -315,11 +315,18 @@ class Trial:
                     print("    " + repr(opened.read(500)))
 
     def unreadable(self) -> None:
-        """Compares a folder and a missing file, as the problem's file and as the answer's."""
+        """Compares a folder and a missing file, as the problem's file and as the answer's: both the program and explain.py name it."""
         letters, missing = self.write("letters", LETTERS), os.path.join(self.folder, "missing")
-        for path in (self.folder, missing):
-            self.compare([path], self.run("alone", path), False)
-            self.compare([letters, path], self.run("check", letters, path), True)
+        for path, cause in ((self.folder, "it is a folder"), (missing, "there is no such file")):
+            for words, ran in (([path], self.run("alone", path)), ([letters, path], self.run("check", letters, path))):
+                said = io.StringIO()
+                with contextlib.redirect_stdout(said):
+                    status = explain.main(words)
+                agrees = (ran.returncode, status) == (3, 3) and ran.stderr.startswith(f"cannot read: {path}: ".encode())
+                agrees = agrees and said.getvalue() == f"{path} can't be read: {cause}\n"
+                self.agreed, self.differ = self.agreed + agrees, self.differ + (not agrees)
+                if not agrees:
+                    print(f"differ: {words}: the program {ran.stderr!r}, explain.py {said.getvalue()!r}")
 
     def file(self, draw: random.Random, text: bytes) -> None:
         """Compares a file, and where it can be read an answer to it."""

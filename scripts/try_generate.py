@@ -181,6 +181,8 @@ def wrong_tables(trial: Generating) -> None:
             ("a period twice", 3, "2", ["a,ann,5a,r,1 2 1"]),
             ("a range over two days", 3, "2", ["a,ann,5a,r,Mon1-Tue2"]),
             ("a teacher who is a class too", 3, "2", ["a,5a,5a,r,1"]),
+            ("a lesson of nobody, nowhere", 3, "3", ["a,ann,5a,r,1", "b,-,-,-,1 2"]),
+            ("a lesson called as a teacher with a period is", 3, "3", ["a,ann,5a,r,1", "ann-1,bob,5b,s,2"]),
             ("a comma in a name", 3, "2", ["a,Smith, Ann,5a,r,1"]),
             ("a day and a number", 3, "2", ["a,ann,5a,r,Mon 1"]),
             ("a day and a range", 3, "2", ["a,ann,5a,r,Mon 1-6"]),
@@ -205,6 +207,13 @@ def wrong_tables(trial: Generating) -> None:
         trial.refused(what, 3, line, "timetable", trial.path("wrong.csv", f"{head}\n{row}\n"))
     trial.refused("double lessons that don't fit into their days", 1, "2", "timetable", trial.path(
         "wrong.csv", HEAD + ",hours,length\na,ann,5a,r,Mon1-5,3,2\n"))
+    ended = trial.python("examples/generate.py", "timetable", trial.path("twice.csv", HEAD + "\na,ann,5a,r,1\na,bob,5a,s,2\n"))
+    trial.expect(f"what two lessons of one class need: {ended.stderr}", "have two names" in ended.stderr)
+    ended = trial.python("examples/generate.py", "timetable", trial.path("long.csv", f"{HEAD},hours\n{'a' * 40},ann,5a,r,1-3,2\n1.1,bob,5b,s,1-3\n"))
+    trial.expect(f"a long name's number is no other name: {ended.stderr}", ended.returncode == 0)
+    with open(trial.path("old.csv"), "wb") as opened:
+        opened.write(HEAD.encode() + b"\ra,ann,5a,r,1\rb,bob,5b,s,1\r")
+    trial.expect("lines that end by a carriage return alone", len(trial.drawn(trial.made("timetable", trial.path("old.csv")))) > 1)
     days = trial.made("timetable", trial.path("days.csv", HEAD + "\na,ann,5a,r,M1 T1 W1 Th1 F1\nb,ann,5b,s,Mo1 MoN1 Do1 DoN1\n"))
     trial.expect("days that begin alike are several", len(trial.drawn(days)) > 1)
     ended = trial.python("examples/generate.py", "timetable", trial.path("many.csv", HEAD + ",hours\na,ann,5a,r,1-3,2\nb,bob,5a,s,1-3,3\n"))
@@ -257,7 +266,7 @@ def other_answers(trial: Generating) -> None:
         text, is_right = drawn(draw)
         lines = trial.solved(*words, trial.path("other.txt", str(text)), *further)
         changed = [line.translate(str.maketrans("1234#*", "2143. ")) for line in lines]
-        trial.expect(f"{kind}: a change is seen", is_right(lines) and not is_right(lines[:1] + changed[1:2] + lines[2:]) or not is_right(changed))
+        trial.expect(f"{kind}: a change is seen", is_right(lines) and not (is_right(lines[:1] + changed[1:2] + lines[2:]) and is_right(changed)))
 
 
 def words_from_input(trial: Generating) -> None:
@@ -309,6 +318,22 @@ def all_covers(trial: Generating) -> None:
         trial.expect(f"all covers of {words}", covers(trial, trial.made(*words)) == count)
 
 
+def no_answers(trial: Generating) -> None:
+    """What another.py refuses: answers that are cut off or no cover, and what would be too large. A file's name may end in anything."""
+    file, other = trial.path("two.dlx", "a b c\na\nb c\nb\nc\n"), "other-0:used"
+    for what, text, status in (("a cover", "cover 2\na\nb c\n", 0), ("a cover, audited", "cover 2\na\nb c\naudit clean\n", 0),
+                               ("a cover of its own problem", f"cover 4\na {other}\nb\nc\nother1 other-1:barred\n", 0),
+                               ("an answer that was cut off", "cover 2\na\n", 3), ("options that are no cover", "cover 1\na\n", 3),
+                               ("an item twice", "cover 3\na\nb c\nb\n", 3), ("none", "none\n", 3),
+                               ("a cover of its own problem, cut off", f"cover 4\na {other}\nb\nother1 other-1:barred\n", 3)):
+        ended = trial.python("examples/another.py", file, trial.path("an answer", text))
+        trial.expect(f"{what}: {ended.stderr}", ended.returncode == status and bool(ended.stdout) == (status == 0))
+    names = [f"i{k}" for k in range(900)]
+    large = "\n".join([" ".join(names), *[" ".join(names)] * 222]) + "\n"
+    ended = trial.python("examples/another.py", trial.path("large.dlx", large), trial.path("answer", f"cover 1\n{' '.join(names)}\n"))
+    trial.expect(f"too many occurrences: {ended.stderr}", ended.returncode == 3 and "occurrences" in ended.stderr and not ended.stdout)
+
+
 SQUARE = "aabb\naabb\nccdd\nccdd\n"
 EMPTY = "1...\n....\n....\n....\n"
 # puzzles that nobody can mean: what they are, the exit status, the line that is told, the kind, and the text
@@ -338,7 +363,13 @@ WRONG = (
     ("regions that aren't square", 3, "2", ["stars"], "aab\nab\nccc\n"), ("too few regions", 1, None, ["stars"], "aaa\naaa\nbbb\n"),
     ("a region without room", 1, "1", ["stars", "--stars", "2"], "aab\nabb\nccb\n"),
     ("blocks that don't fit", 1, "2", ["nonogram"], "1\n2 2\n\n1\n1\n1\n"), ("a nonogram's letter", 3, "2", ["nonogram"], "1\nx\n\n1\n1\n"),
-    ("a board of letters", 3, "2", ["board"], "xx\nxy\n"))
+    ("a board of letters", 3, "2", ["board"], "xx\nxy\n"),
+    ("a place with a hyphen", 3, "2", ["coloring"], "a b\na b-c\n"), ("no borders", 3, None, ["coloring"], "\n"),
+    ("no edges", 3, None, ["matching"], "# none\n"), ("no cubes", 3, None, ["cubes"], ""), ("black cells alone", 3, None, ["kakuro"], "##\n##\n"),
+    ("words of two lengths", 3, "2", ["word-square"], "abc cab\nab\n"),
+    ("two squares of one name", 3, "2", ["squares", "1x2"], "a r r r r\na g g g g\n"),
+    ("a square called as a cell", 3, "2", ["squares", "1x2"], "a r r r r\n1 g g g g\n"),
+    ("squares that can lie in too many ways", 3, None, ["squares", "20x20"], "".join(f"s{k} a b c {'def'[k % 3]}\n" for k in range(400))))
 WRONG_PIECES = (
     ("a piece in two parts", 3, "1", "A\nx.x\n"), ("two pieces of one name", 3, "1", "A\nx\n\nA\nxx\n"),
     ("a piece's name of digits", 3, "1", "12\nxx\n"),
@@ -349,13 +380,17 @@ WRONG_PIECES = (
 
 def wrong_boards(trial: Generating) -> None:
     for what, status, line, words, text in WRONG:
-        trial.refused(what, status, line, words[0], trial.path("wrong.txt", text), *words[1:])
+        # (of squares the size comes first)
+        paths = [*words, trial.path("wrong.txt", text)] if words[0] == "squares" else [words[0], trial.path("wrong.txt", text), *words[1:]]
+        trial.refused(what, status, line, *paths)
     for what, status, line, text in WRONG_PIECES:
         trial.refused(what, status, line, "board", "2x4", "--pieces", trial.path("wrong.txt", text))
     trial.refused("a file of pieces that isn't there", 3, None, "board", "2x4", "--pieces", "pieces.txt")
     trial.refused("a word that fits nowhere", 1, "1", "crossword", trial.path("grid.txt", "...\n#.b\n"), trial.path("list.txt", "abc\nda\n"))
     trial.refused("a word with a capital among small ones", 3, "2", "crossword", trial.path("grid.txt", "...\n#..\n"), trial.path(
         "list.txt", "ab\nAbc\n"))
+    trial.refused("a word with a dot", 3, "2", "crossword", trial.path("grid.txt", "...\n#..\n"), trial.path("list.txt", "ab\nab.\n"))
+    trial.refused("grid and words both from the standard input", 2, None, "crossword", "-", "-")
     words = ["".join(random.Random(number).choices("abcdefghij", k=5)) for number in range(1500)]
     grid, many = trial.path("grid.txt", "\n".join(["....."] * 5)), trial.path("many.txt", "\n".join(words))
     told = trial.python("examples/generate.py", "crossword", grid, many)
@@ -363,7 +398,7 @@ def wrong_boards(trial: Generating) -> None:
 
 
 TESTS = (schools, same_covers, joint_lessons, long_names, plans_in_order, rules_are_tested, wrong_tables, no_texts, puzzles,
-         other_answers, words_from_input, solids, all_covers, wrong_boards)
+         other_answers, words_from_input, solids, all_covers, no_answers, wrong_boards)
 
 
 def main() -> int:

@@ -38,6 +38,9 @@ EXAMPLES = os.path.join(TOP, "examples")
 trial = Trial()
 expect = trial.expect
 Raised = TypeVar("Raised", bound=BaseException)
+Called = TypeVar("Called")
+# what an audit may find
+MISSING = "MissingBook node 1 incarnation 1"
 
 
 def raised(kind: type[Raised], call: Callable[[], object]) -> Optional[Raised]:
@@ -105,6 +108,8 @@ def errors() -> None:
         (zarfepoch.ProblemError, lambda: Problem(["a b"]).text(), None, "a b"),
         (zarfepoch.ProblemError, lambda: Problem(["a"], ["x"], [["a", Colored("x", "1:2")]]).text(), 0, "1:2"),
         (zarfepoch.ProblemError, lambda: Problem([3]).text(), None, 3),
+        (zarfepoch.ProblemError, lambda: Problem(["\ud800"]).text(), None, "\ud800"),
+        (zarfepoch.ProblemError, lambda: Problem(["a"], options=[["a"], []]).text(), 1, None),
         (zarfepoch.TooLarge, lambda: Problem(range(1001)).solve(), None, None),
         (zarfepoch.TooLarge, lambda: Problem([0], options=[[0]] * 20_001).solve(), None, None)]
     for kind, call, option, item in cases:
@@ -129,20 +134,22 @@ def stub_answers(folder: str) -> None:
     path = os.path.join(folder, "stub")
     for status, output, kind in (
             (4, "no answer", zarfepoch.NoAnswer), (5, "", zarfepoch.OutOfMemory), (5, "", MemoryError), (3, "", zarfepoch.ProgramError),
-            (6, "none\naudit unclean: MissingBook node 1 incarnation 1", zarfepoch.UncleanAudit), (0, "none", zarfepoch.ProgramError),
+            (6, f"none\naudit unclean: {MISSING}", zarfepoch.UncleanAudit), (0, "none", zarfepoch.ProgramError),
             (1, "cover 1\n0", zarfepoch.ProgramError), (0, "cover 2\n0", zarfepoch.ProgramError)):
         with open(path, "w", encoding="ascii") as file:
             file.write(f"#!/bin/sh\ncat > /dev/null\necho '{output}'\nexit {status}\n")
         os.chmod(path, 0o755)
-        with_program(path, lambda: raised(kind, lambda: Problem(["a"], options=[["a"]]).solve(audit=True)))
+        found = with_program(path, lambda: raised(kind, lambda: Problem(["a"], options=[["a"]]).solve(audit=True)))
+        expect(f"what the audit found, of {found}", (MISSING in str(found)) == (status == 6))
 
 
-def with_program(path: str, call: Callable[[], object]) -> None:
+def with_program(path: str, call: Callable[[], Called]) -> Called:
     """Calls with this program in place of ours."""
     ours = os.environ["ZARFEPOCH"]
     os.environ["ZARFEPOCH"] = path
-    call()
+    answer = call()
     os.environ["ZARFEPOCH"] = ours
+    return answer
 
 
 def long_search() -> Problem:

@@ -189,12 +189,16 @@ def examples() -> None:
 def odd_words(folder: str) -> None:
     problem, reason = os.path.join(folder, "problem"), os.path.join(folder, "reason")
 
-    def checked(written: str, *words: str, text: str = "a b c | x\na b\nb c x:1\n") -> tuple[int, str]:
+    def run_on(written: str, *words: str, text: str = "a b c | x\na b\nb c x:1\n") -> subprocess.CompletedProcess[str]:
         for path, content in ((problem, text), (reason, written)):
-            with open(path, "w", encoding="ascii") as opened:
+            with open(path, "w", encoding="latin-1") as opened:
                 opened.write(content)
         words = words or (problem, reason)
-        ran = subprocess.run([sys.executable, os.path.join(TOP, "scripts", "check_reason.py"), *words], capture_output=True, text=True)
+        return subprocess.run([sys.executable, os.path.join(TOP, "scripts", "check_reason.py"), *words], stdin=subprocess.DEVNULL, capture_output=True,
+                              text=True)
+
+    def checked(written: str, *words: str, text: str = "a b c | x\na b\nb c x:1\n") -> tuple[int, str]:
+        ran = run_on(written, *words, text=text)
         return ran.returncode, ran.stdout.partition(":")[0].strip()
 
     right, weights = "none\nweights modulo 3\nweigh 1 a\nweigh 2 b\nweigh 1 c\n", "none\nweights modulo 3\n"
@@ -208,6 +212,11 @@ def odd_words(folder: str) -> None:
     expect("room", checked(room) == (0, "right"))
     expect("a need too many", checked(room + "need 1 x\n")[0] == 1)
     expect("just room", checked(room + "room 1 c\n")[0] == 1)
+    for what, text in (("an unknown item", "a b\na c\n"), ("an item twice in an option", "a b\na b a b\n"), ("no items", "")):
+        expect(f"a reason for a file with {what}", checked("none\ntoo little room\nneed 1 b\n", text=text) == (3, ""))
+    expect("both from the standard input", checked(right, "-", "-") == (2, ""))
+    expect("an empty standard input", checked(right, problem, "-") == (1, "no reason"))
+    expect("a name that isn't UTF-8", "this option are no multiple of 3: a \\xff" in run_on(weights + "weigh 1 a\n", text="a \xff\na \xff\n").stdout)
 
 
 def main() -> int:

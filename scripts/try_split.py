@@ -14,17 +14,19 @@ passed, 1 where something failed, 2 for a mistake on the command line or where t
 """
 from __future__ import annotations
 
+import contextlib
 import glob
 import itertools
 import os
 import random
+import shlex
 import shutil
 import signal
 import subprocess
 import sys
 import tempfile
 import time
-from typing import NamedTuple, Optional
+from typing import Callable, NamedTuple, Optional
 
 from built import SOLVE_CLI, TOP, parser_of, want_program
 from zarfepoch.cover_files import read_problem
@@ -362,6 +364,21 @@ exec {program} "$@"
 """
 
 
+def comes(is_there: Callable[[], bool], seconds: float = 60) -> bool:
+    """Whether something comes within some seconds."""
+    end = time.monotonic() + seconds
+    while not is_there() and time.monotonic() < end:
+        time.sleep(0.02)
+    return is_there()
+
+
+def has_some(pattern: str) -> bool:
+    """Whether a file of such a name has some text."""
+    with contextlib.suppress(FileNotFoundError):
+        return any(map(os.path.getsize, glob.glob(pattern)))
+    return False
+
+
 def stopped(top: str) -> None:
     """Searches that a signal ends in the middle of an answer, and that go on afterwards."""
     folder, slow = made(top, "mutilated-chessboard", 6), os.path.join(top, "slow")
@@ -370,8 +387,7 @@ def stopped(top: str) -> None:
     for number, kill in ((1, signal.SIGTERM), (2, signal.SIGINT), (3, signal.SIGHUP), (4, signal.SIGKILL)):
         part = os.path.join(folder, f"part-{number}.dlx")
         with subprocess.Popen([RUN_PART, part], env={**os.environ, "ZARFEPOCH": slow}, start_new_session=True) as run:
-            while not any(map(os.path.getsize, glob.glob(answer_of(part) + ".*"))):
-                time.sleep(0.02)
+            expect(f"an answer begins before {kill.name}", comes(lambda: has_some(answer_of(part) + ".*")))
             os.killpg(run.pid, kill) if kill == signal.SIGKILL else run.send_signal(kill)
             status = run.wait(10)
         expect(f"no answer after {kill.name}", status == (-9 if kill == signal.SIGKILL else 143) and not os.path.exists(answer_of(part)))
@@ -389,11 +405,11 @@ def by_parallel(top: str) -> None:
     folder, slow = made(top, "mutilated-chessboard", 12), os.path.join(top, "slow")
     write(slow, "#!/bin/sh\nsleep 0.3\nexec " + PROGRAM + ' "$@"\n')
     os.chmod(slow, 0o755)
-    words = (f"{sys.executable} {TOP}/scripts/join.py {folder} --left | "
-             f"parallel --will-cite --jobs 2 --joblog +{folder}/log --halt now,success=1 {RUN_PART}")
+    # (parallel hands its command to a shell once more)
+    words = (f"{shlex.join([sys.executable, os.path.join(TOP, 'scripts', 'join.py'), folder])} --left | "
+             f"parallel --will-cite --jobs 2 --joblog {shlex.quote(f'+{folder}/log')} --halt now,success=1 {shlex.quote(shlex.quote(RUN_PART))}")
     with subprocess.Popen(["sh", "-c", words], env={**os.environ, "ZARFEPOCH": slow}, stderr=subprocess.DEVNULL, start_new_session=True) as run:
-        while run.poll() is None and len(glob.glob(os.path.join(folder, "*.answer"))) < 3:
-            time.sleep(0.02)
+        expect("three parts have answers", comes(lambda: len(glob.glob(os.path.join(folder, "*.answer"))) >= 3))
         os.killpg(run.pid, signal.SIGTERM)
     expect("some are left", joined(folder, top).status == 4)
     again = ran("sh", "-c", words, program=slow)

@@ -301,4 +301,5 @@ def main() -> None:
     sys.exit(0 if all(good) else 1)
 
 
-main()
+if __name__ == "__main__":
+    main()

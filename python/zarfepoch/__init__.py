@@ -32,7 +32,7 @@ A `Problem` keeps items and options together, reads and writes files, and is ite
 
 What is raised is an `Error`: a `ProblemError`, which is a ValueError with `option`, `item` and `line`; `TimeIsUp`, a TimeoutError, where there is
 no answer after so many seconds; `OutOfMemory`, a MemoryError; or a `ProgramError`, a RuntimeError, where there is no program, or it fails. The
-program is what ZARFEPOCH names in the environment, else solve_cli on the path, else what was built in this clone.
+program is what ZARFEPOCH names in the environment, else solve_cli on the path, else, for a package in a clone, what was built there.
 """
 from __future__ import annotations
 

@@ -5,17 +5,18 @@
 A cover that isn't a given one lacks some option of it. So there is a primary item more for each answer, and for each option of the answer one
 that names this item and bars the option: it gives an item of the option's own another colour than the option does. An answer to OTHER may be
 an ANSWER too; its further items are passed over. Of options that stand several times in a file all count as one. The exit status is 0, 2 for a
-mistake on the command line, 3 for a file or an answer that can't be read, a problem that would be too large, or where the standard output
-can't be written.
+mistake on the command line, 3 for a file or an answer that can't be read, an answer that is no exact cover, a problem that would be too large, or
+where the standard output can't be written.
 """
 from __future__ import annotations
 
+import re
 import sys
 from collections.abc import Iterator
 
 from .command_words import parser_of
-from .cover_files import lines_of, MAX_ITEMS, MAX_OPTIONS, Problem, read_audited, read_bytes, read_problem, refusal, run
-from .cover_files import stop, Unreadable
+from .cover_files import lines_of, MAX_COLOURS, MAX_ITEMS, MAX_OCCURRENCES, MAX_OPTIONS, Problem, read_audited, read_bytes, read_problem, refusal
+from .cover_files import run, stop, Unreadable
 
 # the words of an option
 Words = tuple[bytes, ...]
@@ -31,10 +32,13 @@ def free_name(problem: Problem, beginning: bytes) -> bytes:
 
 def without_others(text: bytes, other: bytes) -> bytes:
     """An answer's text without the items and options that this script adds."""
-    lines = [[word.text for word in words if not word.text.startswith(other)] for words in lines_of(text)]
-    rest = [b" ".join(words) for words in lines[1:] if words]
-    head = b"cover %d" % len(rest) if lines[:1] and lines[0][:1] == [b"cover"] else b" ".join(lines[0]) if lines else b""
-    return b"\n".join([head, *rest, b""])
+    head, *lines = [[word.text for word in words] for words in lines_of(text)] or [[]]
+    rest = [words for words in ([word for word in words if not word.startswith(other)] for words in lines) if words]
+    added = len(lines) - len(rest)
+    # (the head counts all options, and a wrong count stays wrong)
+    if added and re.fullmatch(rb"cover [1-9][0-9]{0,5}", b" ".join(head)):
+        head = [b"cover", b"%d" % max(0, int(head[1]) - added)]
+    return b"".join(b" ".join(words) + b"\n" for words in [head, *rest])
 
 
 def chosen_options(problem: Problem, path: str, other: bytes) -> list[Words]:
@@ -42,6 +46,8 @@ def chosen_options(problem: Problem, path: str, other: bytes) -> list[Words]:
     answer = read_audited(without_others(read_bytes(path), other), problem)
     if answer.faults or answer.kind == "none":
         stop(f"{path} has no cover: {refusal(answer.faults) if answer.faults else 'none'}", 3)
+    if answer.uncovered(problem) or answer.covered_twice(problem):
+        stop(f"{path} is no exact cover of the file; scripts/explain.py tells why", 3)
     return list(dict.fromkeys(problem.options[place].words for _, place in answer.chosen))
 
 
@@ -72,7 +78,10 @@ def main() -> int:
     except Unreadable as why:
         stop(why, 3)
     lines = list(other_lines(problem, answers, other))
-    for count, most, what in ((len(lines[1].split()) - 1, MAX_ITEMS, "items"), (len(lines) - 2, MAX_OPTIONS, "options")):
+    words = [word for line in lines[2:] for word in line.split()]
+    colours = {word.partition(b":")[2] for word in words if b":" in word}
+    for count, most, what in ((len(lines[1].split()) - 1, MAX_ITEMS, "items"), (len(lines) - 2, MAX_OPTIONS, "options"),
+                              (len(words), MAX_OCCURRENCES, "occurrences of items in options"), (len(colours), MAX_COLOURS, "colours")):
         if count > most:
             stop(f"this would have {count:,} {what}, and the program reads at most {most:,}", 3)
     sys.stdout.buffer.write(b"".join(line + b"\n" for line in lines))

@@ -6,13 +6,13 @@ REASON is a file with what `why` wrote, or - for the standard input. No search a
 each primary item once. So where the weights in each option are a multiple of the modulus, all weights together are one; and where
 each option brings as much room as it needs, all needs together are at most all rooms.
 
-The exit status is 0 where the reason holds, 1 where it doesn't, 2 for a mistake on the command line, 3 for a file that can't be read.
+The exit status is 0 where the reason holds, 1 where it doesn't, 2 for a mistake on the command line, 3 for a file that can't be read, or a FILE
+that the program refuses.
 """
 from __future__ import annotations
 
-import sys
-
 from .command_words import parser_of
+from .cover_files import read_bytes, read_problem, refusal, run, shown, stop, Unreadable
 
 # the words of each line
 Lines = list[list[bytes]]
@@ -37,20 +37,19 @@ def check(problem: Lines, reason: Lines) -> str:
         modulus = int(reason[1][-1])
         for option in options:
             if sum(weights.get(name, 0) for name in option) % modulus:
-                return f"the weights in this option are no multiple of {modulus}: {b' '.join(option).decode()}"
+                return f"the weights in this option are no multiple of {modulus}: {shown(b' '.join(option))}"
         return "" if sum(weights.values()) % modulus else f"all weights together are a multiple of {modulus}"
 
     for option in options:
         if any(word.partition(b":")[0] in rooms for word in option if b":" in word):
-            return f"this option gives a colour to an item that has room: {b' '.join(option).decode()}"
+            return f"this option gives a colour to an item that has room: {shown(b' '.join(option))}"
         if sum(needs.get(name, 0) for name in option) > sum(rooms.get(name, 0) for name in option):
-            return f"this option needs more than it has room for: {b' '.join(option).decode()}"
+            return f"this option needs more than it has room for: {shown(b' '.join(option))}"
     return "" if sum(needs.values()) > sum(rooms.values()) else "all needs together are no more than all rooms"
 
 
-def lines_of(path: str) -> Lines:
-    """The words of each line of a file."""
-    text = sys.stdin.buffer.read() if path == "-" else open(path, "rb").read()
+def lines_of(text: bytes) -> Lines:
+    """The words of each line."""
     return [line.split() for line in text.split(b"\n")]
 
 
@@ -59,11 +58,16 @@ def main() -> int:
     parser.add_argument("file", metavar="FILE")
     parser.add_argument("reason", metavar="REASON")
     given = parser.parse_args()
+    if given.file == given.reason == "-":
+        parser.error("- is the standard input, which can be read once")
     try:
-        problem, reason = lines_of(given.file), [words for words in lines_of(given.reason) if words]
-    except OSError as why:
-        print(why, file=sys.stderr)
-        return 3
+        text, reason_text = read_bytes(given.file), read_bytes(given.reason)
+    except Unreadable as why:
+        stop(why, 3)
+    faults = read_problem(text).faults
+    if faults:
+        stop(f"{given.file} is refused: {refusal(faults)}; scripts/explain.py {given.file} explains it", 3)
+    problem, reason = lines_of(text), [words for words in lines_of(reason_text) if words]
     if reason[:1] != [[b"none"]]:
         print("no reason: the first line isn't 'none'")
         return 1
@@ -76,4 +80,4 @@ def main() -> int:
 
 
 if __name__ == "__main__":
-    sys.exit(main())
+    run(main)

@@ -12,6 +12,7 @@ import re
 import shutil
 import signal
 import sys
+import tempfile
 from typing import BinaryIO, Callable, Iterator, NamedTuple, NoReturn, Optional, Sequence, Union
 
 from .command_words import as_called
@@ -361,16 +362,25 @@ def put_bytes(path: str, text: bytes) -> None:
             file.write(text)
         return
     path = os.path.realpath(path)
-    part = path + ".part"
+    # (a name that no other file and no other run has, in the same folder, since only there a new name takes no copy)
+    handle, part = tempfile.mkstemp(prefix=".part-", dir=os.path.dirname(path))
     try:
-        with open(part, "wb") as file:
+        with open(handle, "wb") as file:
             file.write(text)
+        os.chmod(part, 0o666 & ~umask())
         if os.path.exists(path):
             shutil.copymode(path, part)
         os.replace(part, path)
     finally:
         with contextlib.suppress(OSError):
             os.remove(part)
+
+
+def umask() -> int:
+    """The rights that this process takes from each new file. (It can only be read by setting it.)"""
+    own = os.umask(0o077)
+    os.umask(own)
+    return own
 
 
 def complain(why: object) -> None:

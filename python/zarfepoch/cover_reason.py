@@ -11,7 +11,7 @@ from collections.abc import Iterable, Iterator
 from math import gcd
 from typing import Optional
 
-from .cover_files import Problem, shown, stop
+from .cover_files import Problem, shown
 from .fault_words import listed, plural, quoted
 
 # numbers by the names of their items
@@ -127,9 +127,6 @@ def one_group(modulus: int, group: tuple[int, list[bytes]]) -> Iterator[str]:
 # ---- from the program
 
 def found_reason(program: str, text: bytes) -> Optional[Reason]:
-    """The reason that the program gives for the bytes of a problem file, or None where it finds none; ends the script where it can't be run."""
-    try:
-        ran = subprocess.run([program, "why", "-"], input=text, capture_output=True)
-    except OSError as why:
-        stop(f"the program can't be run: {why}")
+    """The reason that the program gives for the bytes of a problem file, or None where it finds none; an OSError where it can't be run."""
+    ran = subprocess.run([program, "why", "-"], input=text, capture_output=True)
     return Reason(ran.stdout) if ran.returncode == 1 and ran.stdout.startswith(b"none\n") else None

@@ -73,7 +73,7 @@ def read_files(given: Namespace) -> tuple[Problem, str, Answer]:
 
 def write_svg(path: str, svg: str) -> None:
     if path == "-":
-        sys.stdout.write(svg)
+        sys.stdout.buffer.write(svg.encode("utf-8"))
         return
     try:
         put(path, svg)

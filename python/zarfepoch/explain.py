@@ -15,6 +15,7 @@ nothing is wrong, 1 if something is, 2 for a mistake on the command line, 3 for 
 """
 from __future__ import annotations
 
+import contextlib
 from collections.abc import Iterator, Sequence
 from typing import Optional
 
@@ -160,8 +161,10 @@ def forced_clashes(problem: Problem, by_item: Places) -> Iterator[str]:
 
 def room_words(problem: Problem, text: bytes) -> Iterator[str]:
     """Lines on primary items that need more than there is room for, where the program finds such."""
-    program = known_program()
-    reason = found_reason(program, text) if program else None
+    program, reason = known_program(), None
+    # (the reason is an extra, so a program that can't be run takes nothing away)
+    with contextlib.suppress(OSError):
+        reason = found_reason(program, text) if program else None
     if reason and not reason.modulus and reason.rooms and reason.holds(problem):
         first, *others = reason.words(problem)
         yield f"{first}, so there is no cover"
@@ -355,7 +358,7 @@ def main(words: Optional[Sequence[str]] = None) -> int:
         print(why)
         return 3
     except Unreadable as why:
-        print(f"{SAYS}cannot read\n{why}")
+        print(why)
         return 3
     lines, is_good = explain(text, answer_text)
     print("\n".join(lines))

@@ -109,7 +109,7 @@ def write(name: str, note: str, primary: list[str], secondary: list[str], option
     told = "".join(f"| {comment}\n" for comment in [note, *comments])
     text = "".join([f"{told}{line}\n"] + [" ".join(option) + "\n" for option in options])
     if name == "-" and not OUT:
-        sys.stdout.write(text)
+        sys.stdout.buffer.write(text.encode("utf-8"))
         return
     path = OUT[0] if name == "-" else os.path.join(HERE, name)
     try:
@@ -279,7 +279,7 @@ def squares(name: str, note: str, cells: set[Cell], pieces: Pieces, border: Opti
                 if all(map(fits, turned, outwards[r, c])):
                     options.append([piece, names[r, c]] + [f"{side}:{colour}" for side, colour in zip(sides, turned)])
         if len(options) > MAX_OPTIONS:
-            stop(f"the squares can lie in more than {MAX_OPTIONS:,} ways, and the program reads at most so many options")
+            stop(f"the squares can lie in more than {MAX_OPTIONS:,} ways, and the program reads at most so many options", STATUS[0])
     sides = sorted({word.partition(":")[0] for option in options for word in option[2:]})
     write(name, note, list(pieces) + list(names.values()), sides, options)
 
@@ -321,46 +321,54 @@ def cell(text: str) -> Cell:
     return int(found[1]), int(found[2])
 
 
-def read_pairs(path: str) -> list[Pair]:
-    """The two names of each line."""
-    lines = words_of(path)
+def some_words(path: str) -> list[tuple[int, list[str]]]:
+    """The words of each line, which are some."""
+    return words_of(path) or refuse(path, None, "there is no line with words")
+
+
+def read_pairs(path: str, of_places: bool = False) -> list[Pair]:
+    """The two names of each line; those of places become parts of the names of borders."""
+    lines = some_words(path)
     for number, words in lines:
         if len(words) != 2 or words[0] == words[1]:
-            refuse(path, number, f"two different names are expected")
+            refuse(path, number, "two different names are expected")
+        wrong = next((word for word in words if of_places and re.search("[-=]", word)), None)
+        if wrong:
+            refuse(path, number, f"'{wrong}' can't be a place here: '-' and '=' are in the names of borders")
     return list(dict.fromkeys((words[0], words[1]) for _, words in lines))
 
 
 def read_squares(path: str) -> Pieces:
     """Squares by their names, each with its four colours."""
-    lines = words_of(path)
-    for number, words in lines:
-        if len(words) != 5:
-            refuse(path, number, f"a name and four colours are expected")
-    names = [words[0] for _, words in lines]
-    for name in names:
-        if names.count(name) > 1 or re.fullmatch(r"\d+", name):
-            refuse(path, None, f"'{name}' " + ("would stand for two squares" if names.count(name) > 1 else "would be the name of a cell"))
-    return {words[0]: words[1:] for _, words in lines}
+    found: Pieces = {}
+    for number, (name, *colours) in some_words(path):
+        if len(colours) != 4:
+            refuse(path, number, "a name and four colours are expected")
+        if name in found or re.fullmatch(r"\d+", name):
+            refuse(path, number, f"'{name}' " + ("would stand for two squares" if name in found else "would be the name of a cell"))
+        found[name] = colours
+    return found
 
 
-def read_word_list(path: str) -> list[str]:
-    """Different words."""
-    words = [(word, number) for number, line in rows_of(path) for word in line.split()]
-    if not words:
-        refuse(path, None, "there are no words")
-    for word, number in words:
-        if re.search(r"[\d:|\0]", word):
-            refuse(path, number, f"'{word}' has a digit, ':' or '|', which no word may have here")
-    return list(dict.fromkeys(word for word, _ in words))
+def read_word_list(path: str) -> dict[str, int]:
+    """Different words, each with the number of its first line."""
+    words: dict[str, int] = {}
+    for number, line in rows_of(path):
+        for word in line.split():
+            if re.search(r"[\d:|\0]", word):
+                refuse(path, number, f"'{word}' has a digit, ':' or '|', which no word may have here")
+            words.setdefault(word, number)
+    return words or refuse(path, None, "there are no words")
 
 
 def read_words(path: str) -> list[str]:
     """Different words of one length."""
     words = read_word_list(path)
-    for word in words:
-        if len(word) != len(words[0]):
-            refuse(path, None, f"words of one length are expected, and '{word}' isn't as long as '{words[0]}'")
-    return words
+    first = next(iter(words))
+    for word, number in words.items():
+        if len(word) != len(first):
+            refuse(path, number, f"words of one length are expected, and '{word}' isn't as long as '{first}'")
+    return list(words)
 
 
 def read_grid(path: str) -> tuple[list[str], list[int]]:
@@ -374,21 +382,25 @@ def read_grid(path: str) -> tuple[list[str], list[int]]:
     return [row for _, row in lines], [number for number, _ in lines]
 
 
-def want_one_case(path: str, words: list[str]) -> None:
-    """Refuses a list in which a letter is capital here and small there, since these don't meet in a cell."""
+def want_letters(path: str, words: dict[str, int]) -> None:
+    """Refuses a list in which a letter is capital here and small there, since these don't meet in a cell, and words with what stands for
+    cells in a grid."""
     letters = set("".join(words))
-    for word in words:
+    for word, number in words.items():
         mixed = next((letter for letter in word if letter != letter.lower() and letter.lower() in letters), None)
         if mixed:
-            line = next((number for number, line in rows_of(path) if word in line.split()), None)
-            refuse(path, line, f"'{word}' has a capital {mixed}, and the list has a small one too, which differ here; write all words alike")
+            refuse(path, number, f"'{word}' has a capital {mixed}, and the list has a small one too, which differ here; write all words alike")
+        if re.search("[.#]", word):
+            refuse(path, number, f"'{word}' has '.' or '#', which are no letters in a grid")
 
 
 def crossword(given: Namespace, note: str) -> None:
+    if given.grid == given.file == "-":
+        stop("- is the standard input, which can be read once")
     (rows, numbers), words = read_grid(given.grid), read_word_list(given.file)
-    want_one_case(given.file, words)
+    want_letters(given.file, words)
     try:
-        problem = puzzles.crossword(rows, words, given.repeat)
+        problem = puzzles.crossword(rows, list(words), given.repeat)
     except puzzles.NoSolution as why:
         no_cover(f"{given.grid}, line {numbers[why.row]}: {why}")
     except puzzles.Refused as why:
@@ -423,7 +435,7 @@ def read_nonogram(path: str) -> tuple[list[list[int]], list[list[int]]]:
 
 def read_cubes(path: str) -> Pieces:
     """Cubes by their names, each with its six colours."""
-    lines = words_of(path)
+    lines = some_words(path)
     for number, words in lines:
         if len(words) != 7 or [other[0] for _, other in lines].count(words[0]) > 1 or re.match(r"(front|right|back|left)-", words[0]):
             refuse(path, number, f"a cube's own name and six colours are expected")
@@ -467,10 +479,7 @@ def filled_board(given: Namespace) -> Puzzle:
 
 
 def colored_map(given: Namespace, note: str) -> None:
-    borders = read_pairs(given.file)
-    for place in itertools.chain(*borders):
-        if "-" in place or "=" in place:
-            stop(f"'{place}' can't be a place here: '-' and '=' are in the names of borders")
+    borders = read_pairs(given.file, of_places=True)
     colors = [color.strip() for color in given.colors.split(",")]
     if "" in colors or len(set(colors)) < len(colors):
         stop(f"--colors takes different names with commas between, not '{given.colors}'")

@@ -104,6 +104,8 @@ def kakuro(path: str) -> Puzzle:
             run_of.setdefault(cell, []).append(run)
     want_equal(path, runs, clued)
     white = [(r, c) for r, row in enumerate(rows) for c, clue in enumerate(row) if clue is None]
+    if not white:
+        refuse(path, None, "there is no white cell")
     for cell in white:
         if cell not in run_of:
             refuse(path, numbers[cell[0]], f"the white cell in column {cell[1] + 1} has no sum across or down")

@@ -116,16 +116,16 @@ class Problem:
         words = ["solve", "-", *threads, *["--audit"] * audit] if threads or audit else ["alone", "-", "--unlimited"]
         lines = self._numbered_lines()
         status, answer, why = self._ask(words, lines, seconds)
-        if audit and answer and answer[-1].startswith("audit "):
-            answer.pop()
+        found = answer.pop() if audit and answer and answer[-1].startswith("audit ") else ""
         if (status, answer[:1]) == (0, [f"cover {len(answer) - 1}"]):
             return chosen_of(answer[1:], lines)
         if (status, answer) == (1, ["none"]):
             return None
-        raise failure(status, answer[-1] if status == 6 and answer else why)
+        raise failure(status, found.partition(": ")[2] if status == 6 else why)
 
     def covers(self, seconds: Optional[float] = None) -> Iterator[list[int]]:
-        """Each exact cover once, as the places of its options. Each is found by a search of its own, which may take so many seconds."""
+        """Each exact cover once, as the places of its options. Each is found by a search of its own, which may take so many seconds, in a problem
+        that has an item more for each cover before: after some hundred covers that raises `TooLarge`."""
         found: list[list[int]] = []
         while True:
             cover = self._lacking(found).solve(seconds)
@@ -229,9 +229,12 @@ class Problem:
             return cls.parse(file.read())
 
     def text(self) -> bytes:
-        """The text of the problem's file. Items and colours have to be texts that can be names there (docs/FORMAT.md)."""
+        """The text of the problem's file. Items and colours have to be texts that can be names there (docs/FORMAT.md), and each option names some."""
         for item in self._places:
             checked_name(item, None)
+        for place, option in enumerate(self._options):
+            if not option:
+                raise ProblemError(f"option {place} names no item, and a file can't have such an option", option=place)
         head = [*map(str, self.primary), *["|"] * bool(self.secondary), *map(str, self.secondary)]
         lines = [[name_of_word(word, place) for word in option] for place, option in enumerate(self._options)]
         return "".join(" ".join(line) + "\n" for line in [head, *lines]).encode("utf-8", "surrogateescape")
@@ -250,7 +253,10 @@ def checked_name(name: Hashable, option: Optional[int]) -> str:
     """A text that can be a name in a file."""
     if not isinstance(name, str):
         raise ProblemError(f"{name!r} is no text, and can't be a name in a file", option=option, item=name)
-    spelled = name.encode("utf-8", "surrogateescape")
+    try:
+        spelled = name.encode("utf-8", "surrogateescape")
+    except UnicodeEncodeError:
+        spelled = b""
     if not 1 <= len(spelled) <= MAX_NAME or any(byte in b"\0:|\t\n\v\f\r " for byte in spelled):
         raise ProblemError(f"{name!r} can't be a name in a file: 1 to {MAX_NAME} bytes without white space, ':' and '|'", option=option, item=name)
     return name

@@ -25,7 +25,8 @@ def known_program() -> Optional[str]:
 def missing_program(named: Optional[str]) -> str:
     """What is said where there is no program, at the place that is named, if one is."""
     where = named or "solve_cli, neither named by ZARFEPOCH nor on the path"
-    return f"there is no program {where}; at the top of a clone (cd crates/solve_cli && rt run -- --version) builds it"
+    return (f"there is no program {where}; at the top of a clone (cd crates/solve_cli && rt run -- --version) builds "
+            "crates/solve_cli/out/solve_cli, and ZARFEPOCH may name that")
 
 
 def find_program() -> str:

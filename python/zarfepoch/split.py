@@ -17,12 +17,14 @@ from __future__ import annotations
 import argparse
 import itertools
 import os
+import shlex
 import shutil
 import tempfile
 from typing import Iterable
 
-from .command_words import number_from_one, parser_of
+from .command_words import as_called, number_from_one, parser_of
 from .cover_files import run, stop
+from .fault_words import plural
 from .search_parts import LIST, MOST_PARTS, WHOLE, Split, list_text, part_name, path_in, read_tree, split, texts_of
 
 
@@ -53,11 +55,14 @@ def write_all(folder: str, files: Iterable[tuple[str, bytes]]) -> None:
 
 def told(found: Split, folder: str) -> str:
     """What was done, in a line."""
+    join = as_called(f"python3 scripts/join.py {shlex.quote(folder)}")
     if found.cover:
-        return f"a cover was met; python3 scripts/join.py {folder} writes it"
+        return f"a cover was met; {join} writes it"
     if not found.parts:
-        return f"no prefix is open, so there is no cover; python3 scripts/join.py {folder} says so"
-    return f"{len(found.parts)} parts are in {folder}; {len(found.barren)} prefixes are closed"
+        return f"no prefix is open, so there is no cover; {join} says so"
+    parts, closed = len(found.parts), len(found.barren)
+    return (f"{plural(parts, 'part')} {'is' if parts == 1 else 'are'} in {folder}; "
+            f"{f'{closed:,} prefix is' if closed == 1 else f'{closed:,} prefixes are'} closed")
 
 
 def main() -> None:

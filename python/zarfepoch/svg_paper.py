@@ -2,6 +2,7 @@
 from __future__ import annotations
 
 import math
+import unicodedata
 from collections.abc import Iterable, Mapping, Sequence
 from typing import Any, Callable, Optional
 
@@ -88,8 +89,8 @@ def escaped(text: str) -> str:
 
 
 def text_width(text: str, size: float) -> float:
-    """A width that a text surely keeps."""
-    return len(text) * size * 0.68
+    """A width that a text surely keeps: Chinese, Japanese and Korean letters are wider than others."""
+    return sum(1.05 if unicodedata.east_asian_width(letter) in "WF" else 0.68 for letter in text) * size
 
 
 def on_circle(count: int, radius: float, place: float) -> Point:

@@ -81,7 +81,8 @@ def rows_in(path: str, text: str) -> Iterator[tuple[int, list[str]]]:
 
 def read_table(path: str) -> Iterator[tuple[int, dict[str, str]]]:
     """The rows of a table by its head, each with the number of its line."""
-    text = read_text(path)
+    # (some spreadsheets end lines by a carriage return, with or without a line feed)
+    text = re.sub("\r\n?", "\n", read_text(path))
     lines = list(rows_in(path, text))
     if not lines:
         refuse(path, None, "the table has no head")
@@ -227,8 +228,18 @@ def want_different(path: str, lessons: list[Lesson]) -> None:
         for name in {lesson.name, *(f"{lesson.name}.{k}" for k in range(1, lesson.hours + 1) if lesson.hours > 1)}:
             if name in seen:
                 refuse(path, lesson.line, f"the lesson {name} stands there twice, in line {seen[name]} too; a column hours says how often "
-                       "a lesson is given")
+                       "a lesson is given, and two lessons of one class have two names")
             seen[name] = lesson.line
+
+
+def want_no_periods(path: str, lessons: list[Lesson]) -> None:
+    """Refuses a lesson that is called as somebody or a room with a period is, as ann-Mon1, since that is an item too."""
+    periods = {period for lesson in lessons for period in lesson.periods}
+    busy = {f"{who}-{period}" for lesson in lessons for who in lesson.teachers + lesson.classes + lesson.rooms for period in periods}
+    for lesson in lessons:
+        if lesson.name in busy:
+            refuse(path, lesson.line, f"the lesson {lesson.name} is called as {' in the period '.join(lesson.name.rsplit('-', 1))} is; give it "
+                   "another name")
 
 
 def want_roles(path: str, lessons: list[Lesson]) -> None:
@@ -280,6 +291,8 @@ def read_lessons(path: str) -> list[Lesson]:
         if lacking:
             refuse(path, line, f"{lacking[0]} is missing; where there is none, - says so")
         want_names(path, line, row)
+        if all(row[column] == NOBODY for column in ("teacher", "class", "rooms")):
+            refuse(path, line, "it has no teacher, no class and no room, so it can always be given, and is in no plan; leave it out")
         lessons.append(Lesson(
             line, row["lesson"], people["teacher"].read(line, row["teacher"]), people["class"].read(line, row["class"]),
             rooms_in(path, line, row["rooms"], alone), periods_in(path, line, row["periods"]),
@@ -288,6 +301,7 @@ def read_lessons(path: str) -> list[Lesson]:
         refuse(path, None, "the table has a head and no lessons")
     numbered_names(lessons)
     want_different(path, lessons)
+    want_no_periods(path, lessons)
     want_roles(path, lessons)
     want_one_spelling(path, lessons)
     want_one_week(path, lessons)

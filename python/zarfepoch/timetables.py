@@ -175,7 +175,8 @@ def short_names(lessons: list[Lesson], periods: list[str]) -> dict[str, str]:
     who = {one: len(f"-{max(periods, key=lambda period: len(period.encode()))}".encode()) for lesson in lessons
            for one in lesson.teachers + lesson.classes + lesson.rooms}
     who.update((lesson.name, len(str(lesson.hours)) + (3 if lesson.hours > 1 else 1)) for lesson in lessons)
-    numbers, taken = {}, set(who)
+    # (a number's items have a dot or a hyphen behind it, and other names may begin so too)
+    numbers, taken = {}, {*who, *(re.split("[.-]", name)[0] for name in who)}
     for name, behind in who.items():
         if len(name.encode()) + behind > MAX_NAME or re.search(r"[\s:|\0]|<\d+$", name):
             number = next(str(k) for k in range(1, 10 ** 6) if str(k) not in taken)

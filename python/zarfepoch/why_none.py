@@ -5,7 +5,7 @@
 First it asks the program for a reason (solve_cli why FILE): an item in no option; too little room, as 25 lessons for the 24 periods
 of their teacher; or weights that each option adds up to 0 modulo some number, and all items together don't, as the colours of a
 chessboard. That takes no search. It adds the reason up again by itself, and --svg draws it: the board in the colours of the weights,
-where the items are cells of one, else the items beside what they weigh, need or have room for.
+where the items are cells of one, else the items beside what they weigh, need or have room for. Without a reason there is no picture.
 
 Where the program finds no reason, or with --search, and answers `none`, this takes primary items away as long as it still does: half of
 those that are left at a time, then one by one. What is left can't be covered, and would be without any one of its items. (Where a
@@ -20,11 +20,12 @@ from __future__ import annotations
 
 import itertools
 import subprocess
+import sys
 from collections.abc import Iterator
 from typing import Callable, Optional
 
 from .command_words import parser_of
-from .cover_files import Option, Problem, Unreadable, put, read_bytes, read_problem, refusal, run, shown, stop
+from .cover_files import complain, Option, Problem, Unreadable, put, read_bytes, read_problem, refusal, run, shown, stop
 from .cover_reason import Reason, found_reason
 from .draw_reason import reason_svg
 from .fault_words import listed, plural, quoted
@@ -137,7 +138,7 @@ def draw(path: str, problem: Problem, reason: Reason) -> None:
     """Writes the picture of a reason."""
     svg = reason_svg(problem, reason)
     if path == "-":
-        print(svg, end="")
+        sys.stdout.buffer.write(svg.encode("utf-8"))
         return
     try:
         put(path, svg)
@@ -182,9 +183,14 @@ def main() -> int:
     text, problem = read(given.file)
     if given.program is None or not is_program(given.program):
         stop(missing_program(given.program))
-    reason = None if given.search else found_reason(given.program, text)
+    try:
+        reason = None if given.search else found_reason(given.program, text)
+    except OSError as why:
+        stop(f"the program can't be run: {why}")
     if reason:
         return explain_reason(problem, reason, given.svg)
+    if given.svg:
+        complain("there is no picture, since the program gives no reason")
     return explain_by_search(problem, given.program, given.fuel)
 
 
