@@ -9,7 +9,7 @@ greatest one, and whether the joined answer is right. With --beside, `alone` and
 
 `fives` has options of five of its 62 items, drawn at random, and no cover, since five doesn't divide 62. `late` has one item more, with two
 options: behind the first of them lies all of `fives`, and the other one, which takes two of the items too, leads to a cover. `short` and
-`short-late` are these of 52 items: `fives` takes more than 40 minutes by one thread, `short` more than ten.
+`short-late` are these of 52 items: `fives` takes more than 40 minutes by one thread, `short` some twenty.
 
 It wants GNU parallel, and the program: (cd crates/solve_cli && rt run -- --version) builds it. The exit status is 0, 1 where an answer is wrong, 2 for a
 mistake on the command line or where something is missing.

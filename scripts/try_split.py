@@ -382,6 +382,9 @@ def has_some(pattern: str) -> bool:
 def stopped(top: str) -> None:
     """Searches that a signal ends in the middle of an answer, and that go on afterwards."""
     folder, slow = made(top, "mutilated-chessboard", 6), os.path.join(top, "slow")
+    # (where this runs in the background these may be ignored, and what it starts would ignore them too)
+    signal.signal(signal.SIGINT, signal.default_int_handler)
+    signal.signal(signal.SIGHUP, signal.SIG_DFL)
     write(slow, SLOW.format(seconds=60, program=PROGRAM))
     os.chmod(slow, 0o755)
     for number, kill in ((1, signal.SIGTERM), (2, signal.SIGINT), (3, signal.SIGHUP), (4, signal.SIGKILL)):
