@@ -23,7 +23,7 @@ import tempfile
 from typing import Iterable
 
 from .command_words import as_called, number_from_one, parser_of
-from .cover_files import run, stop
+from .cover_files import run, stop, umask
 from .fault_words import plural
 from .search_parts import LIST, MOST_PARTS, WHOLE, Split, list_text, part_name, path_in, read_tree, split, texts_of
 
@@ -45,9 +45,7 @@ def write_all(folder: str, files: Iterable[tuple[str, bytes]]) -> None:
             with open(path_in(made, name), "wb") as file:
                 file.write(text)
         # (a folder for a time is closed to others, and this one needn't be)
-        mask = os.umask(0)
-        os.umask(mask)
-        os.chmod(made, 0o777 & ~mask)
+        os.chmod(made, 0o777 & ~umask())
         os.rename(made, folder)
     finally:
         shutil.rmtree(made, ignore_errors=True)
