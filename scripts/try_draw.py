@@ -54,6 +54,17 @@ MIXED = ["00", "01", "10", "11", "3-4", "3-5", "r0", "c0", "a1", "b2", "1", "2",
 COLOURS = ["", "", "", ":red", ":b", ":c"]
 FOUR = b"p e a c f\nq e f d a\nr c b e f\ns d e f b\n"
 MAP = "anna berta\nberta clara\nclara dora\ndora anna\nanna clara\nemil frieda\nemil anna\nfrieda dora\n"
+# problems whose names have letters of two columns in a terminal, and marks of none, each with the text of the answer that has all its options
+WIDE = [
+    ("数学 Ku\u0308nste | 王老师-1 Ann-1 王老师-2 Ann-2\n数学 王老师-1\nKu\u0308nste Ann-2\n",
+     ["period  王老师  Ann", "------  ------  ------", "1       数学", "2               Ku\u0308nste"]),
+    ("龍 A 00 01\n龍 00\nA 01\n", ["+----+----+", "| 龍 | A  |", "+----+----+"]),
+    ("東京 Ox | 東京-Ox=red 東京-Ox=blue\n東京 東京-Ox=red\nOx 東京-Ox=blue\n", ["東京  red", "Ox    blue"]),
+    ("| name 1: \u1112\u1161\u11ab\u1100\u1173\u11af\n1 Ox | 1-Ox=red 1-Ox=blue\n1 1-Ox=red\nOx 1-Ox=blue\n",
+     ["\u1112\u1161\u11ab\u1100\u1173\u11af  red", "Ox    blue"]),
+    ("A 00 | h00 v00 h10 v01\nA 00 h00:赤 v00:b h10:赤 v01:b\n", ["+-------+", "|  赤   |", "|b  A  b|", "|  赤   |", "+-------+"]),
+    ("a1 d1 d2 | 00 01 11\na1 00:東 01:x\nd1 00:東\nd2 01:x 11:京\n", ["東 x", "   京"]),
+]
 
 
 class Drawing(Trial):
@@ -382,6 +393,14 @@ def strange_names(trial: Drawing) -> None:
     trial.expect("strange names", drawn == 5000)
 
 
+def wide_names(trial: Drawing) -> None:
+    """Columns stand below one another, however wide a terminal shows the letters in them."""
+    for text, lines in WIDE:
+        problem = read_problem(text.encode())
+        drawn = picture_of(problem, problem.options, False).text()
+        trial.expect(f"the columns of {drawn}", drawn == lines)
+
+
 def refusals(trial: Drawing) -> None:
     for words in (["queens", "142"], ["queens", "0"], ["langford", "200"], ["pentominoes", "7x9"], ["pentominoes", "5"],
                   ["sudoku", "8......."], ["sudoku", "11" + "." * 79], ["dominoes", "2x2", "--without", "2,0"],
@@ -427,7 +446,7 @@ def main() -> int:
     want_program(given.program)
     with tempfile.TemporaryDirectory(prefix="try-draw-") as folder:
         trial = Drawing(given.program, folder)
-        for tests in (examples, beginnings, kinds, tables_and_graphs, maps, boards_with_colours, puzzles, written, strange_names, refusals):
+        for tests in (examples, beginnings, kinds, tables_and_graphs, maps, boards_with_colours, puzzles, written, strange_names, wide_names, refusals):
             tests(trial)
     return trial.end()
 

@@ -6,6 +6,7 @@ import re
 
 from .picture_base import Cell, CELL, cell_of, Kind, known_cell, LARGEST, Names
 from .svg_paper import ACCENT, Board, FAINT, INK, Paper
+from .terminal_text import on_left, widest
 
 WHITE, BLACK = "#fffdf8", "#3a3f47"
 
@@ -214,8 +215,9 @@ class Words(Kind):
 
     def lines(self) -> list[str]:
         board = Board(self.letters(), {cell: cell for cell in self.cells()})
-        rows = (" ".join(board.labels.get((r, c), ".") if (r, c) in board.areas else " " for c in board.columns) for r in board.rows)
-        return [row.rstrip() for row in rows]
+        wide = widest([".", *board.labels.values()])
+        rows = [[board.labels.get((r, c), ".") if (r, c) in board.areas else "" for c in board.columns] for r in board.rows]
+        return [" ".join(on_left(mark, wide) for mark in row).rstrip() for row in rows]
 
     def draw(self, paper: Paper) -> None:
         cells, letters = self.open_cells(), self.letters()

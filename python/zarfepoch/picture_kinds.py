@@ -14,6 +14,7 @@ from .picture_base import CELL, Cell, cell_of, draw_lines, Kind, known_cell, KNO
 from .planar import places
 from .sudoku_pictures import Sudoku
 from .svg_paper import ACCENT, BACKGROUND, FAINT, FILLS, INK, on_circle, Paper, Point, table_text, text_width, WIDEST
+from .terminal_text import centred, on_left, on_right, widest
 from .timetable_pictures import Timetable
 
 
@@ -99,8 +100,8 @@ class Colouring(Kind):
 
     def lines(self) -> list[str]:
         names = full_names(self.comments)
-        wide = max(len(names.get(item, item)) for item in self.primary)
-        return [f"{names.get(place, place).ljust(wide)}  {colour}" for place, colour in self.colours().items()]
+        wide = widest([names.get(item, item) for item in self.primary])
+        return [f"{on_left(names.get(place, place), wide)}  {colour}" for place, colour in self.colours().items()]
 
     def borders(self) -> list[tuple[str, str]]:
         """The pairs of places that have a border, so far as both are items."""
@@ -287,13 +288,15 @@ class Squares(Kind):
     def lines(self) -> list[str]:
         cells, marks = self.laid_by_cell(), self.marks()
         rows, columns = ({cell[k] for cell in cells} for k in (0, 1))
-        wide = max(len(name) for name, _ in cells.values())
-        wall, lines = "+" + ("-" * (wide + 4) + "+") * len(columns), []
+        wide, most = widest([name for name, _ in cells.values()]), widest([*marks.values()])
+        whole = wide + 2 * most + 2
+        wall, lines = "+" + ("-" * whole + "+") * len(columns), []
         for r in sorted(rows):
             row = [cells.get((r, c), ("", ["", "", "", ""])) for c in sorted(columns)]
-            lines += [wall, "|" + "|".join(marks[sides[0]].center(wide + 4) for _, sides in row) + "|"]
-            lines += ["|" + "|".join(f"{marks[sides[3]]} {name.center(wide)} {marks[sides[1]]}" for name, sides in row) + "|"]
-            lines += ["|" + "|".join(marks[sides[2]].center(wide + 4) for _, sides in row) + "|"]
+            lines += [wall, "|" + "|".join(centred(marks[sides[0]], whole) for _, sides in row) + "|"]
+            middle = (f"{on_left(marks[sides[3]], most)} {centred(name, wide)} {on_right(marks[sides[1]], most)}" for name, sides in row)
+            lines += ["|" + "|".join(middle) + "|"]
+            lines += ["|" + "|".join(centred(marks[sides[2]], whole) for _, sides in row) + "|"]
         return lines + [wall]
 
     def draw(self, paper: Paper) -> None:

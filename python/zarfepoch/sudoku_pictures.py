@@ -6,6 +6,7 @@ import re
 
 from .picture_base import Cell, CELL, Kind, Names
 from .svg_paper import ACCENT, Board, INK, Paper
+from .terminal_text import on_right, widest
 
 # rows and columns of a box, by the size of the sudoku
 BOXES = {4: (2, 2), 6: (2, 3), 8: (2, 4), 9: (3, 3), 10: (2, 5), 12: (3, 4), 14: (2, 7), 15: (3, 5), 16: (4, 4), 20: (4, 5), 25: (5, 5)}
@@ -195,10 +196,10 @@ class Sudoku(Kind):
         if not self.has_boxes():
             return Regions(labels, self.regions).text()
         high, wide = BOXES[self.size]
-        most = max(map(len, labels.values()))
+        most = widest([*labels.values()])
         bar, rows = "+".join(["-" * ((most + 1) * wide + 1)] * (self.size // wide))[1:-1], []
         for r in range(self.size):
-            digits = [labels[r, c].rjust(most) for c in range(self.size)]
+            digits = [on_right(labels[r, c], most) for c in range(self.size)]
             rows += [bar] * (r > 0 and r % high == 0)
             rows.append(" | ".join(" ".join(digits[k:k + wide]) for k in range(0, self.size, wide)))
         return rows

@@ -6,6 +6,8 @@ import unicodedata
 from collections.abc import Iterable, Mapping, Sequence
 from typing import Any, Callable, Optional
 
+from .terminal_text import centred, on_left, widest
+
 # a point of a sheet; a cell by row and column
 Point = tuple[float, float]
 Cell = tuple[int, int]
@@ -121,11 +123,11 @@ class Board:
         return "".join(walls) + self.corner(r, self.columns[-1] + 1)
 
     def cell_line(self, r: int, wide: int) -> str:
-        cells = [("|" if self.differ((r, c - 1), (r, c)) else " ") + self.labels.get((r, c), "").center(wide) for c in self.columns]
+        cells = [("|" if self.differ((r, c - 1), (r, c)) else " ") + centred(self.labels.get((r, c), ""), wide) for c in self.columns]
         return "".join(cells) + ("|" if (r, self.columns[-1]) in self.areas else " ")
 
     def text(self) -> list[str]:
-        wide = max([1] + [len(label) for label in self.labels.values()]) + 2
+        wide = max(1, widest([*self.labels.values()])) + 2
         lines = []
         for r in self.rows:
             lines += [self.wall_line(r, wide), self.cell_line(r, wide)]
@@ -169,8 +171,8 @@ def folded(text: str, wide: float, size: float) -> list[str]:
 
 def table_text(rows: list[list[str]]) -> list[str]:
     """Lines of a table whose first row is its head."""
-    widths = [max(len(row[k]) for row in rows) for k in range(len(rows[0]))]
-    lines = ["  ".join(cell.ljust(wide) for cell, wide in zip(row, widths)).rstrip() for row in rows]
+    widths = [widest([row[k] for row in rows]) for k in range(len(rows[0]))]
+    lines = ["  ".join(map(on_left, row, widths)).rstrip() for row in rows]
     return [lines[0], "  ".join("-" * wide for wide in widths)] + lines[1:]
 
 
