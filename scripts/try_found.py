@@ -8,12 +8,12 @@ of these bugs are tried, each in a copy of the repository and without proofs: it
 
     found: TEST        the test fails
     NOT FOUND: TEST    the test passes with the bug in the code
-    not tried: TEST    the bug no longer applies, or the test did not end
+    not tried: TEST    the bug no longer applies or compiles, or the test did not end
 
 and a last line counts them. With --memory the bugs are those that only `try_memory.py` finds: the tests are proved and built with each
-bug, which takes five to fifteen minutes, and then refused memory. With --short nothing is run: only those that no longer apply are named.
-Else it wants the toolchain's command `rt` on the path, and with --memory cc. The exit status is 1 if any was not found, else 2 if any
-could not be tried, else 0.
+bug, which takes five to fifteen minutes, and then refused memory. With --short nothing is run: only those that no longer apply are named, and
+none that applies and no longer compiles. Else it wants the toolchain's command `rt` on the path, and with --memory cc. The exit status is 1 if any was
+not found, else 2 if any could not be tried, else 0.
 """
 from __future__ import annotations
 
