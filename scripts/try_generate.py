@@ -138,6 +138,20 @@ def joint_lessons(trial: Generating) -> None:
     trial.expect("one name with blanks", any(line.startswith("| name ") and line.endswith(": Eva Maria Lang") for line in lines))
 
 
+def spellings(trial: Generating) -> None:
+    """A letter and its mark are one letter, in one character or in two, and blanks that aren't seen part no name from itself."""
+    for what, one, other in (("a mark as a character of its own", "J\u00f6rg", "Jo\u0308rg"), ("two blanks", "Ann Lee", "Ann  Lee"),
+                             ("a blank that parts no line", "Ann Lee", "Ann\u00a0Lee"), ("a line end in a cell", "Ann Lee", '"Ann\nLee"')):
+        table = trial.path("spelt.csv", f"{HEAD}\na,{one},5a,r,1\nb,{other},5b,s,1 2\n")
+        file = trial.made("timetable", table)
+        with open(file, encoding="utf-8") as opened:
+            lines = opened.read().split("\n")
+        told = [line for line in lines if line.startswith(("| teachers: ", "| name "))]
+        trial.expect(f"one teacher, by {what}: {lines}", told in (["| teachers: J\u00f6rg"], ["| teachers: 1", "| name 1: Ann Lee"]))
+    borders = trial.path("spelt.txt", "K\u00f6ln Bonn\nKo\u0308ln Aachen\nBonn Aachen\n")
+    trial.expect("one town of a map", [line.split()[0] for line in trial.drawn(trial.made("coloring", borders))] == ["Aachen", "Bonn", "K\u00f6ln"])
+
+
 def long_names(trial: Generating) -> None:
     """Names that don't fit into 32 bytes have numbers in the file, and are whole in plans."""
     lesson, teacher = "Mathematics for those who like it", "\u041a\u043e\u043d\u0441\u0442\u0430\u043d\u0442\u0438\u043d\u043e\u0432\u0430" * 2
@@ -193,6 +207,8 @@ def wrong_tables(trial: Generating) -> None:
             ("a day written in two ways", 3, "3", ["a,ann,5a,r,Mon1", "b,bob,5b,s,Monday1"]),
             ("a period with a nought", 3, "3", ["a,ann,5a,r,Mon1", "b,ann,5b,s,Mon01"]),
             ("a class with and without a capital", 3, "3", ["a,ann,5a,r,1", "b,bob,5A,r,2"]),
+            ("a class in full-width letters too", 3, "3", ["a,ann,5a,r,1", "b,bob,\uff15a,r,2"]),
+            ("a teacher with a character that isn't seen", 3, "3", ["a,ann,5a,r,1", "b,ann\u200b,5b,s,1"]),
             ("a time of the clock", 3, "2", ["a,ann,5a,r,8:00"]),
             ("another separator than the head's", 3, "2", ["a;ann;5a;r;1"]),
             ("a quotation mark that nothing ends", 3, "3", ["a,ann,5a,r,1", 'b,"bob,5a,r,2', "c,cyd,5a,r,3"]))
@@ -397,7 +413,7 @@ def wrong_boards(trial: Generating) -> None:
     trial.expect(f"what would fit: {told.stderr}", told.returncode == 3 and "with --repeat" in told.stderr)
 
 
-TESTS = (schools, same_covers, joint_lessons, long_names, plans_in_order, rules_are_tested, wrong_tables, no_texts, puzzles,
+TESTS = (schools, same_covers, joint_lessons, spellings, long_names, plans_in_order, rules_are_tested, wrong_tables, no_texts, puzzles,
          other_answers, words_from_input, solids, all_covers, no_answers, wrong_boards)
 
 

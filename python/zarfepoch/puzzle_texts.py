@@ -3,6 +3,7 @@ from __future__ import annotations
 
 import re
 import sys
+import unicodedata
 from dataclasses import dataclass, field
 from typing import NoReturn
 
@@ -63,11 +64,12 @@ def bytes_of(path: str) -> bytes:
 
 
 def text_in(path: str, content: bytes) -> str:
-    """The text of these bytes; where they are none in UTF-8, the script ends and says how a spreadsheet writes one."""
+    """The text of these bytes, in which a letter with a mark is one character wherever there is one for both, as some systems write two. Where
+    they are no text in UTF-8, the script ends and says how a spreadsheet writes one."""
     if content.startswith((b"PK\3\4", b"\xd0\xcf\x11\xe0")):
         return refuse(path, None, "this is a spreadsheet's own file; save the table as CSV in UTF-8")
     try:
-        return content.decode("utf-8-sig")
+        return unicodedata.normalize("NFC", content.decode("utf-8-sig"))
     except UnicodeDecodeError as why:
         line = None if content.startswith((b"\xff\xfe", b"\xfe\xff")) else content.count(b"\n", 0, why.start) + 1
         return refuse(path, line, "this is no text in UTF-8; a spreadsheet saves one as 'CSV UTF-8'")

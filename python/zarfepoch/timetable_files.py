@@ -8,10 +8,12 @@ from __future__ import annotations
 import csv
 import io
 import re
+import unicodedata
 from collections import Counter
 from collections.abc import Iterator
 from dataclasses import dataclass
 
+from .cover_files import shown
 from .puzzle_texts import read_text, refuse
 
 WANTED = ("lesson", "teacher", "class", "rooms", "periods")
@@ -92,7 +94,8 @@ def read_table(path: str) -> Iterator[tuple[int, dict[str, str]]]:
         if len(row) > len(columns) and any(map(str.strip, row[len(columns):])):
             refuse(path, number, f"it has {len(row)} columns, and the head {len(columns)}: a cell with a {named(separator_of(text))} in it wants "
                    "quotation marks round it, and several rooms or periods may have blanks between")
-        yield number, dict(zip(columns, [cell.strip() for cell in row] + [""] * len(columns)))
+        # (a cell may have line ends and blanks that aren't seen)
+        yield number, dict(zip(columns, [" ".join(cell.split()) for cell in row] + [""] * len(columns)))
 
 
 def want_parted(path: str, line: int, row: list[str], separator: str) -> None:
@@ -252,9 +255,17 @@ def want_roles(path: str, lessons: list[Lesson]) -> None:
                     refuse(path, lesson.line, f"{who} would be a {roles[who]} and a {role}: these have names of their own")
 
 
+def as_seen(name: str) -> str:
+    """A name without characters that nobody sees, and with usual letters in place of full-width and half-width ones."""
+    letters = (letter for letter in name if unicodedata.category(letter) != "Cf")
+    usual = (unicodedata.normalize("NFKC", letter) if unicodedata.east_asian_width(letter) in "FH" else letter for letter in letters)
+    return unicodedata.normalize("NFC", "".join(usual))
+
+
 def spelled(what: str, name: str) -> str:
     """What two spellings of one name share: a class 5A is 5a, and a period Mon01 is MON1."""
-    return re.sub(r"(?<!\d)0+(?=\d)", "", name.casefold()) if what == "period" else name.casefold()
+    name = as_seen(name).casefold()
+    return re.sub(r"(?<!\d)0+(?=\d)", "", name) if what == "period" else name
 
 
 def want_one_spelling(path: str, lessons: list[Lesson]) -> None:
@@ -265,7 +276,8 @@ def want_one_spelling(path: str, lessons: list[Lesson]) -> None:
         for what, name in ((what, name) for what, names in roles for name in names):
             before, line = seen.setdefault((what, spelled(what, name)), (name, lesson.line))
             if before != name:
-                refuse(path, lesson.line, f"the {what} {name} and the {what} {before} of line {line} would be two: write one {what} in one way")
+                refuse(path, lesson.line, f"the {what} {shown(name.encode())} and the {what} {shown(before.encode())} of line {line} would be two: "
+                       f"write one {what} in one way")
 
 
 def want_one_week(path: str, lessons: list[Lesson]) -> None:
