@@ -104,6 +104,7 @@ def errors() -> None:
         (zarfepoch.RepeatedItem, lambda: Problem(["a"], options=[["a", "a"]]), 0, "a"),
         (zarfepoch.RepeatedItem, lambda: Problem(["a"], ["x", "a"]), None, "a"),
         (zarfepoch.ColoredPrimary, lambda: Problem(["a"], options=[[Colored("a", 1)]]), 0, "a"),
+        (zarfepoch.ProblemError, lambda: Problem(["a"], ["x"], [["a", Colored("x", None)]]), 0, "x"),
         (zarfepoch.ProblemError, lambda: Problem([]), None, None),
         (zarfepoch.ProblemError, lambda: Problem(["a b"]).text(), None, "a b"),
         (zarfepoch.ProblemError, lambda: Problem(["a"], ["x"], [["a", Colored("x", "1:2")]]).text(), 0, "1:2"),

@@ -75,13 +75,16 @@ class Problem:
     def add(self, *words: Word) -> int:
         """Adds an option, and answers its place."""
         place, seen = len(self._options), set()
-        for item, colour in map(parts_of, words):
+        for word in words:
+            item, colour = parts_of(word)
             if item not in self._places:
                 raise UnknownItem(f"option {place} names {item!r}, which is neither primary nor secondary", option=place, item=item)
             if item in seen:
                 raise RepeatedItem(f"option {place} names {item!r} twice", option=place, item=item)
             if colour is not None and self.is_primary(item):
                 raise ColoredPrimary(f"option {place} gives a colour to {item!r}, which is primary", option=place, item=item)
+            if isinstance(word, Colored) and colour is None:
+                raise ProblemError(f"option {place} gives None to {item!r}, which is no colour", option=place, item=item)
             seen.add(item)
         self._options.append(words)
         return place
