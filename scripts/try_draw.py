@@ -28,7 +28,7 @@ from expected import Trial
 from zarfepoch import generate
 from zarfepoch.cover_files import read_problem
 from zarfepoch.picture_kinds import picture_of
-from zarfepoch.svg_paper import Paper
+from zarfepoch.svg_paper import folded, Paper, text_width
 
 EXAMPLES = os.path.join(TOP, "examples")
 Point = tuple[float, float]
@@ -399,6 +399,10 @@ def wide_names(trial: Drawing) -> None:
         problem = read_problem(text.encode())
         drawn = picture_of(problem, problem.options, False).text()
         trial.expect(f"the columns of {drawn}", drawn == lines)
+    long = "数学" * 20 + " maths " + "Mathe" * 10
+    parts = folded(long, 100, 13)
+    are_whole = "".join(parts).replace(" ", "") == long.replace(" ", "")
+    trial.expect(f"lines that fit: {parts}", are_whole and all(text_width(part, 13) <= 100 for part in parts))
 
 
 def refusals(trial: Drawing) -> None:

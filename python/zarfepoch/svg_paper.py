@@ -157,13 +157,24 @@ class Board:
 
 # ---- tables
 
+def pieces_of(word: str, wide: float, size: float) -> list[str]:
+    """A word in pieces that fit."""
+    pieces = [word] if text_width(word, size) <= wide else [""]
+    for letter in word if pieces == [""] else "":
+        if pieces[-1] and text_width(pieces[-1] + letter, size) > wide:
+            pieces.append("")
+        pieces[-1] += letter
+    return pieces
+
+
 def folded(text: str, wide: float, size: float) -> list[str]:
     """A text in lines that fit; a word that doesn't fit is cut in pieces."""
-    most = max(4, int(wide / (size * 0.68)))
+    # (a sum of widths may be a hair too large)
+    wide = max(wide, text_width("four", size)) + 0.001
     lines = [""] if text else []
     for word in text.split():
-        for piece in (word[k:k + most] for k in range(0, len(word), most)):
-            if lines[-1] and len(lines[-1]) + 1 + len(piece) > most:
+        for piece in pieces_of(word, wide, size):
+            if lines[-1] and text_width(f"{lines[-1]} {piece}", size) > wide:
                 lines.append("")
             lines[-1] += (" " if lines[-1] else "") + piece
     return lines
