@@ -119,6 +119,9 @@ def errors() -> None:
     why = raised(zarfepoch.ProblemError, lambda: Problem.parse(b"a b\na c\n"))
     expect(f"the line: {why!r}", why and (why.line, why.item) == (2, "c"))
     raised(FileNotFoundError, lambda: Problem.read(os.path.join(TOP, "nothing")))
+    nowhere = os.path.join(TOP, "nothing", "problem.dlx")
+    lost = raised(FileNotFoundError, lambda: Problem(["a"]).write(nowhere))
+    expect(f"the file that can't be written: {lost!r}", lost and lost.filename == nowhere)
     hard = long_search()
     for late in (zarfepoch.TimeIsUp, TimeoutError, zarfepoch.Error):
         begun = time.monotonic()

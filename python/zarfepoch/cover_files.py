@@ -361,16 +361,19 @@ def put_bytes(path: str, text: bytes) -> None:
         with open(path, "wb") as file:
             file.write(text)
         return
-    path = os.path.realpath(path)
+    real = os.path.realpath(path)
     # (a name that no other file and no other run has, in the same folder, since only there a new name takes no copy)
-    handle, part = tempfile.mkstemp(prefix=".part-", dir=os.path.dirname(path))
+    try:
+        handle, part = tempfile.mkstemp(prefix=".part-", dir=os.path.dirname(real))
+    except OSError as why:
+        raise OSError(why.errno, why.strerror, path) from None
     try:
         with open(handle, "wb") as file:
             file.write(text)
         os.chmod(part, 0o666 & ~umask())
-        if os.path.exists(path):
-            shutil.copymode(path, part)
-        os.replace(part, path)
+        if os.path.exists(real):
+            shutil.copymode(real, part)
+        os.replace(part, real)
     finally:
         with contextlib.suppress(OSError):
             os.remove(part)
