@@ -148,6 +148,8 @@ def spellings(trial: Generating) -> None:
             lines = opened.read().split("\n")
         told = [line for line in lines if line.startswith(("| teachers: ", "| name "))]
         trial.expect(f"one teacher, by {what}: {lines}", told in (["| teachers: J\u00f6rg"], ["| teachers: 1", "| name 1: Ann Lee"]))
+    plan = trial.drawn(trial.made("timetable", trial.path("plan.csv", f"{HEAD}\na,J\u00f6rg,5a,r,Mon1\n")), "--plan", "Jo\u0308rg")
+    trial.expect(f"the plan of a name with a mark of its own: {plan}", plan[:1] == ["J\u00f6rg  Mon"])
     borders = trial.path("spelt.txt", "K\u00f6ln Bonn\nKo\u0308ln Aachen\nBonn Aachen\n")
     trial.expect("one town of a map", [line.split()[0] for line in trial.drawn(trial.made("coloring", borders))] == ["Aachen", "Bonn", "K\u00f6ln"])
 

@@ -4,6 +4,7 @@ from __future__ import annotations
 import functools
 import itertools
 import re
+import unicodedata
 from collections.abc import Callable, Iterator, Sequence
 
 from .cover_files import Option, Problem
@@ -136,8 +137,8 @@ class Timetable(Kind):
 
     def called(self, word: str) -> list[str]:
         """Whom a word means that is a name, a role or `all`, in order."""
-        who = self.everybody()
-        found = [one for one in who if word in (one, self.full(one), who[one], "all")]
+        who, word = self.everybody(), composed(word)
+        found = [one for one in who if word in (composed(one), composed(self.full(one)), who[one], "all")]
         return sorted(found, key=lambda one: (ROLES.index(who[one]), natural(self.full(one))))
 
     def unknown_plans(self) -> list[str]:
@@ -209,6 +210,11 @@ class Timetable(Kind):
             plan.draw(paper, x, y, fills.__getitem__)
             x, high = x + plan.wide + GAP, max(high, plan.high)
         self.caption(paper)
+
+
+def composed(name: str) -> str:
+    """A name in which a letter with a mark is one character, wherever there is one for both."""
+    return unicodedata.normalize("NFC", name)
 
 
 def base_of(name: str) -> str:
