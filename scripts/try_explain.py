@@ -206,6 +206,12 @@ TOLD: list[tuple[bytes, Optional[bytes], list[str]]] = [
     (b"a b\na b\n", b"cover 1\n" + b" ".join(b"n%d" % k for k in range(13)), ["line 2: UnknownOption: " + "; ".join(
         [f"no item is named 'n{k}'; the items are 'a' and 'b'" for k in range(12)] + ["and 1 more"])]),
     (LETTERS, b"cover 3\nc e\na d f\nb g\n", ["the program says: right"]),
+    (LETTERS, "cover 3\nc e\na d f\nb g\n".encode("utf-16"), [
+        "line 1: BadHead: the answer is written in UTF-16, two bytes a character: save it as UTF-8"]),
+    ("J\u00f6rg b\nJo\u0308rg\nb\n".encode(), None, [
+        "line 2, column 1, 'Jo\u0308rg': UnknownItem: no item has this name; an item looks like it and has other characters, "
+        "'J\\xf6rg' and not 'Jo\\u0308rg'"]),
+    ("J\u00f6rg Jo\u0308rg\nJ\u00f6rg\nJo\u0308rg\n".encode(), None, ["names that look alike and are different: 'J\\xf6rg' and 'Jo\\u0308rg'"]),
     (LETTERS, b"none\naudit clean\n", [f"line 1: WrongCount: {AUDIT}"]),
     (LETTERS, b"cover 1\nc e\naudit unclean: MissingBook node 1 incarnation 1\n", [f"line 3: UnknownOption: {AUDIT}"]),
     (COLOURS, None, ["5 items (3 primary, 2 secondary), 5 options, 14 occurrences of items in them, 2 colours",

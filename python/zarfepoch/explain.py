@@ -23,7 +23,7 @@ from .command_words import parser_of
 from .cover_files import MAX_COLOURS, MAX_ITEMS, MAX_OCCURRENCES, MAX_OPTIONS, Answer, Fault, Line, TooLarge, Unreadable, Word
 from .cover_files import is_comment, lines_of, Problem, read_answer, read_bytes, read_problem, refusal, run, shown
 from .cover_reason import found_reason
-from .fault_words import answer_fault_words, fault_words, grouped, listed, plural, quoted
+from .fault_words import answer_fault_words, fault_words, grouped, listed, looks, plural, quoted
 from .full_names import named_numbers
 from .programs import known_program
 
@@ -232,6 +232,12 @@ def strange_names(problem: Problem) -> Iterator[str]:
     unseen = [quoted(name) for name in names if shown(name) != name.decode("utf-8", "replace")]
     if unseen:
         yield f"characters that can't be seen stand in the {plural(len(unseen), 'name', False)} {listed(unseen, MANY)}"
+    alike: dict[str, list[str]] = {}
+    for name in dict.fromkeys(names):
+        alike.setdefault(looks(name), []).append(ascii(shown(name)))
+    for some in alike.values():
+        if len(some) > 1:
+            yield f"names that look alike and are different: {listed(some, MANY)}"
 
 
 def explain_good(problem: Problem, text: bytes) -> Iterator[str]:

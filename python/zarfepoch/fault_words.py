@@ -2,6 +2,7 @@
 from __future__ import annotations
 
 import difflib
+import unicodedata
 from collections.abc import Iterator, Sequence
 from typing import Callable, Optional
 
@@ -43,9 +44,17 @@ def nearest(names: list[bytes], name: bytes) -> list[str]:
     return folded or difflib.get_close_matches(shown(name), texts, 3, 0.6)
 
 
+def looks(name: bytes) -> str:
+    """What a name looks like: a letter with a mark is the same in one character or in two."""
+    return unicodedata.normalize("NFC", shown(name))
+
+
 def instead(names: list[bytes], name: bytes) -> str:
     """What to write for a name that doesn't exist."""
     near = nearest(names, name)
+    alike = next((there for there in names if looks(there) == looks(name)), None)
+    if alike:
+        return f"an item looks like it and has other characters, {ascii(shown(alike))} and not {ascii(shown(name))}"
     commas = [there for there in names if there.strip(b",;") == name]
     if commas:
         return f"the item is named {quoted(commas[0])}: names are parted by white space alone, so the comma belongs to it"
@@ -184,6 +193,8 @@ def head_words(answer: Answer) -> str:
     first = " ".join(shown(word.text) for word in answer.head)
     if answer.head[0].text.startswith(b"\xef\xbb\xbf"):
         return "the answer begins with a byte order mark (bytes EF BB BF), which isn't seen: save it as UTF-8 without the mark"
+    if answer.head[0].text.startswith((b"\xff\xfe", b"\xfe\xff")):
+        return "the answer is written in UTF-16, two bytes a character: save it as UTF-8"
     if first == "no answer":
         return "'no answer' says that the search was stopped; that is nothing to check"
     if answer.head[0].text == b"cover":
