@@ -159,8 +159,10 @@ class Board:
 
 def pieces_of(word: str, wide: float, size: float) -> list[str]:
     """A word in pieces that fit."""
-    pieces = [word] if text_width(word, size) <= wide else [""]
-    for letter in word if pieces == [""] else "":
+    if text_width(word, size) <= wide:
+        return [word]
+    pieces = [""]
+    for letter in word:
         if pieces[-1] and text_width(pieces[-1] + letter, size) > wide:
             pieces.append("")
         pieces[-1] += letter
