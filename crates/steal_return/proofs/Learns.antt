@@ -1,22 +1,21 @@
 -- What is learnt, redone, dropped and aborted in one call.
-use Rattle.std.proofs.Common.{◌≡◌, ◌≢◌, ◌⊎◌, ℕ, zero, suc, ◌-◌, ◌<◌, Bool, true, false, ◌&&◌, cond, map, List, [], ◌∷◌, ◌++◌, length, Option, Some, None, is_some, not, ◌==◌, slice_get, refl, sym, ap, subst, ◌∙◌, inr, ⊎_elim, arith, true≢false}
+use Rattle.std.proofs.Common.{◌≡◌, ◌≢◌, ℕ, suc, ◌-◌, ◌<◌, Bool, true, false, cond, List, [], ◌∷◌, ◌++◌, length, not, ◌==◌, refl, sym, ap, subst, ◌∙◌, inr, ⊎_elim, arith, true≢false}
 use Rattle.std.proofs.lemmas.Bool.{eqb-true}
-use Rattle.std.specs.Bool.{OnFalse, OnTrue}
-use Rattle.std.specs.List.{position_from}
+use Rattle.std.specs.Bool.{OnFalse}
 use Rattle.abort_tree.specs.Below.{aborted, is_among}
-use Rattle.spawn_frame.specs.Aborts.{AbortsBelow, IsBelow, child, deeper, is_open, reached}
-use Rattle.spawn_frame.specs.Tables.{IsAscending, has_status}
-use Rattle.spawn_frame.specs.Units.{Entry, GuestEntry, Table, redone, table_guests, table_own, with_status}
+use Rattle.spawn_frame.specs.Aborts.{AbortsBelow, IsBelow, child, deeper, reached}
+use Rattle.spawn_frame.specs.Tables.{IsAscending}
+use Rattle.spawn_frame.specs.Units.{Entry, GuestEntry, Table, redone, table_guests, table_own}
 use Rattle.spawn_frame.specs.declared.site.Site.{Site}
 use Rattle.spawn_frame.specs.declared.status.Status.{Status}
-use Rattle.spawn_frame.specs.declared.status.Status.TheVariants.{Aborted, Out, Ready}
+use Rattle.spawn_frame.specs.declared.status.Status.TheVariants.{Out, Ready}
 use Rattle.spawn_frame.specs.declared.unit.Unit.{Unit as WorkUnit}
 use Rattle.steal_return.proofs.Dropping.{lost_dropped, lost_tops, none_dropped, some_dropped}
 use Rattle.steal_return.proofs.Marking.{NoMoreOut, parents, redo_no_more}
-use Rattle.steal_return.proofs.Redoing.{redo_none, redoes_lost}
-use Rattle.steal_return.proofs.Scans.{found_first, found_none}
+use Rattle.steal_return.proofs.Redoing.{redo_none}
+use Rattle.steal_return.specs.Invariant.{NoneOutrun}
 use Rattle.steal_return.specs.Ledger.{Ledger}
-use Rattle.steal_return.specs.Members.{Differs, IsAlike, IsRedoable, LearnsMembers, drop_lost, dropped, is_lost_guest, is_out_to, lost_units, now_known, redo_if, redo_lost}
+use Rattle.steal_return.specs.Members.{Differs, IsAlike, IsRedoable, LearnsMembers, drop_lost, dropped, is_lost_guest, lost_units, now_known, redo_if, redo_lost}
 use Rattle.steal_return.specs.Steals.{is_older}
 use Rattle.abort_tree.proofs.Aborting.{unreached}
 
@@ -37,27 +36,6 @@ parents_redo lost (c ∷ cs) = λ i. same_parent lost c c.status i ∷ parents_r
 -- the ledger that is left
 abbrev pub left_ledger : Ledger → List ℕ → Table → Ledger
 left_ledger was known table = record { table = table; nodes = length known - 1; known = known }
-
-abbrev attempts : List Entry → List ℕ
-attempts own = map (λ c. c.attempt) own
-
-aborted_one : (b : Bool) (c : Entry) → (cond b (with_status Aborted c) c).attempt ≡ c.attempt
-aborted_one true c = refl
-aborted_one false c = refl
-
-aborted_attempts : (marks : List Bool) (own : List Entry) → attempts (aborted marks own) ≡ attempts own
-aborted_attempts [] own = refl
-aborted_attempts (m ∷ ms) [] = refl
-aborted_attempts (m ∷ ms) (c ∷ cs) = λ i. aborted_one (m && is_open c.status) c i ∷ aborted_attempts ms cs i
-
--- a redo changes an attempt
-redo_raises : (lost : Site → Bool) (own : List Entry) (k : ℕ) → has_status (is_out_to lost) (slice_get own k) ≡ true → attempts (redo_lost lost own) ≡ attempts own → ⊥
-redo_raises lost [] k h e = true≢false (sym h)
-redo_raises lost (c ∷ cs) zero h e =
-    let same : (redo_if lost c c.status).attempt ≡ c.attempt = cc in
-    let raised : (redo_if lost c c.status).attempt ≡ suc c.attempt = ap (λ d. d.attempt) (redoes_lost lost c c.status h) in
-    omega (arith, same, raised)
-redo_raises lost (c ∷ cs) (suc k) h e = redo_raises lost cs k h (let same : attempts (redo_lost lost cs) ≡ attempts cs = cc in same)
 
 -- nothing is below no units
 below_none : (own : List Entry) (k : ℕ) → IsBelow (is_among []) own k → ⊥
@@ -113,14 +91,9 @@ module _ (was now : Ledger) (same : was ≡ now) (known incarnations : List ℕ)
       let same_end : left_ledger was known third ≡ was = e ∙ sym same in
       ⊎_elim
       (λ (d : known ≢ was.known). d (ap (λ l. l.known) same_end))
-      (λ (rest : (0 < length lost) ⊎ ((k : ℕ) × (has_status (is_out_to (is_older known)) (slice_get was.own k) ≡ true))). ⊎_elim
       (λ (d : 0 < length lost).
       let u = first_of lost d in
       some_dropped known was.guests u.0 u.1.0 (sym lost_is ∙ u.1.1) (sym (ap (λ t. t.guests) third_is) ∙ ap (λ l. l.guests) same_end))
-      (λ (d : (k : ℕ) × (has_status (is_out_to (is_older known)) (slice_get was.own k) ≡ true)).
-      redo_raises (is_older known) was.own d.0 d.1
-      (sym (aborted_attempts marks own_redone) ∙ sym (ap (λ t. attempts t.own) third_is) ∙ ap (λ l. attempts l.own) same_end))
-      rest)
       (subst (λ l. Differs l known lost) (sym same) differs)
 
 -- no more children are out once some were redone and guests were dropped
@@ -131,31 +104,18 @@ redone_no_more lost old first second guests redoes drops =
 
 -- ---- whether there is a difference
 
-pub differs_by : (was now : Ledger) → was ≡ now → (known : List ℕ) (lost : List WorkUnit) (o : Option ℕ)
-    → o ≡ position_from (λ c. is_out_to (is_older known) c.status) 0 was.own → (b : Bool) → b ≡ is_some o → OnTrue b (Differs now known lost)
-differs_by was now same known lost None found true e = absurd (true≢false e)
-differs_by was now same known lost None found false e = tt
-differs_by was now same known lost (Some k) found false e = absurd (true≢false (sym e))
-differs_by was now same known lost (Some k) found true e =
-    subst (λ l. Differs l known lost) same (inr (inr (k, found_first (is_out_to (is_older known)) was.own k (sym found))))
-
-pub alike_by : (was now : Ledger) → was ≡ now → (known : List ℕ) (lost : List WorkUnit) (o : Option ℕ)
-    → o ≡ position_from (λ c. is_out_to (is_older known) c.status) 0 was.own → (b : Bool) → b ≡ is_some o
-    → known ≡ was.known → lost ≡ [] → OnFalse b (IsAlike now known lost)
-alike_by was now same known lost None found true e k l = tt
-alike_by was now same known lost None found false e k l =
-    subst (λ w. IsAlike w known lost) same
-    (record { same = k; none_lost = l; none_redone = found_none (is_out_to (is_older known)) was.own 0 (sym found) })
-alike_by was now same known lost (Some i) found false e k l = absurd (true≢false (sym e))
-alike_by was now same known lost (Some i) found true e k l = tt
-
-pub empty_list : (us : List WorkUnit) → true ≡ (length us == 0) → us ≡ []
+empty_list : (us : List WorkUnit) → true ≡ (length us == 0) → us ≡ []
 empty_list [] h = refl
 empty_list (u ∷ us) h = absurd (let e : length (u ∷ us) ≡ 0 = eqb-true (length (u ∷ us)) 0 (sym h) in omega (arith, e))
 
 pub not_false : (b : Bool) → false ≡ not b → true ≡ b
 not_false true h = refl
 not_false false h = absurd (true≢false (sym h))
+
+pub alike_by : (was now : Ledger) → was ≡ now → (known : List ℕ) (lost : List WorkUnit) → known ≡ was.known → (b : Bool) → b ≡ (length lost == 0)
+    → OnFalse (not b) (IsAlike now known lost)
+alike_by was now same known lost k true empty = subst (λ w. IsAlike w known lost) same (record { same = k; none_lost = empty_list lost empty })
+alike_by was now same known lost k false empty = tt
 
 -- ---- where there is none
 
@@ -170,9 +130,10 @@ none_reached k (c ∷ cs) = none_reached (suc k) cs ∙ ap (λ l. l ++ reached (
 -- where nothing differs, nothing changes and no thief is told
 pub learns_nothing : (now : Ledger) (known incarnations : List ℕ) (lost : List WorkUnit) → IsAscending now.guests
     → lost ≡ lost_units known now.guests → known ≡ now_known now.site.node now.known incarnations → IsRedoable (is_older known) now.own
-    → IsAlike now known lost → LearnsMembers now incarnations [] now
-learns_nothing now known incarnations lost ascending lost_is known_is redoable alike =
-    let own : redo_lost (is_older known) now.own ≡ now.own = redo_none (is_older known) now.own alike.none_redone in
+    → NoneOutrun now.known now.own → IsAlike now known lost → LearnsMembers now incarnations [] now
+learns_nothing now known incarnations lost ascending lost_is known_is redoable none_outrun alike =
+    let own : redo_lost (is_older known) now.own ≡ now.own =
+    subst (λ k. redo_lost (is_older k) now.own ≡ now.own) (sym alike.same) (redo_none now.known now.own none_outrun) in
     let guests : drop_lost known now.guests ≡ now.guests = none_dropped known now.guests (sym lost_is ∙ alike.none_lost) in
     let tops : is_among [] ≡ is_lost_guest known now.guests = ap is_among (sym alike.none_lost ∙ lost_is) ∙ lost_tops known now.guests ascending in
     let back = sym guests in

@@ -8,7 +8,9 @@ use Rattle.spawn_frame.specs.declared.site.Site.{Site}
 use Rattle.spawn_frame.specs.declared.status.Status.{Status}
 use Rattle.spawn_frame.specs.declared.status.Status.TheVariants.{Out, Ready}
 use Rattle.steal_return.proofs.Scans.{onward}
+use Rattle.steal_return.specs.Invariant.{NoneOutrun}
 use Rattle.steal_return.specs.Members.{IsRedoable, is_out_to, is_spent_at, redo_if, redo_lost}
+use Rattle.steal_return.specs.Steals.{is_older}
 
 -- the children below n redone, and the others as they were
 abbrev pub redone_below : (Site → Bool) → ℕ → List Entry → List Entry
@@ -100,11 +102,10 @@ redo_of_other lost [] k h = refl
 redo_of_other lost (c ∷ cs) zero h = ap (λ d. d ∷ cs) (sym (kept lost c c.status h))
 redo_of_other lost (c ∷ cs) (suc k) h = ap (λ l. c ∷ l) (redo_of_other lost cs k h)
 
--- where no child is out to a lost site, none is redone
-pub redo_none : (lost : Site → Bool) (own : List Entry) → ((k : ℕ) (c : Entry) → slice_get own k ≡ Some c → is_out_to lost c.status ≡ false)
-    → redo_lost lost own ≡ own
-redo_none lost [] h = refl
-redo_none lost (c ∷ cs) h = λ i. kept lost c c.status (h 0 c refl) i ∷ redo_none lost cs (λ k d at. h (suc k) d at) i
+-- where no child is out to an earlier incarnation, none is redone
+pub redo_none : (known : List ℕ) (own : List Entry) → NoneOutrun known own → redo_lost (is_older known) own ≡ own
+redo_none known [] h = refl
+redo_none known (c ∷ cs) h = λ i. kept (is_older known) c c.status h.0 i ∷ redo_none known cs h.1 i
 
 -- ---- a walk over the children that are out
 

@@ -1,5 +1,5 @@
 -- A walk over the own children from the first, and what it finds.
-use Rattle.std.proofs.Common.{◌≡◌, ℕ, zero, suc, ◌+◌, ◌-◌, ◌<◌, ◌≤◌, Bool, true, false, cond, List, [], ◌∷◌, Option, Some, None, IfSome, length, drop, slice_get, refl, sym, ap, subst, ◌∙◌, add-one, arith, true≢false}
+use Rattle.std.proofs.Common.{◌≡◌, ℕ, zero, suc, ◌+◌, ◌-◌, ◌<◌, ◌≤◌, Bool, true, false, cond, List, [], ◌∷◌, Option, Some, None, length, drop, slice_get, refl, sym, subst, arith, true≢false}
 use Rattle.std.proofs.lemmas.Option.{none-some, same_Some}
 use Rattle.std.specs.List.{position_from}
 use Rattle.spawn_frame.specs.Picks.{is_ready}
@@ -12,34 +12,8 @@ use Rattle.spawn_frame.specs.declared.status.Status.TheVariants.{Ready}
 abbrev pub passes_from : (Status → Bool) → ℕ → List Entry → Option ℕ
 passes_from test k own = position_from (λ c. test c.status) k (drop k own)
 
-found_from : (test : Status → Bool) (own : List Entry) (k i : ℕ) → has_status test (slice_get own k) ≡ true
-    → position_from (λ c. test c.status) i (drop k own) ≡ Some i
-found_from test [] k i h = absurd (true≢false (sym h))
-found_from test (c ∷ cs) zero i h = ap (λ b. cond b (Some i) (position_from (λ d. test d.status) (i + 1) cs)) h
-found_from test (c ∷ cs) (suc k) i h = found_from test cs k i h
-
-pub found : (test : Status → Bool) (own : List Entry) (k : ℕ) → has_status test (slice_get own k) ≡ true → passes_from test k own ≡ Some k
-found test own k h = found_from test own k k h
-
-goes_on_from : (test : Status → Bool) (own : List Entry) (k i : ℕ) → k < length own → has_status test (slice_get own k) ≡ false
-    → position_from (λ c. test c.status) i (drop k own) ≡ position_from (λ c. test c.status) (i + 1) (drop (suc k) own)
-goes_on_from test [] k i l h = absurd (omega (arith, l))
-goes_on_from test (c ∷ cs) zero i l h = ap (λ b. cond b (Some i) (position_from (λ d. test d.status) (i + 1) cs)) h
-goes_on_from test (c ∷ cs) (suc k) i l h = goes_on_from test cs k i (omega (arith, l)) h
-
-pub goes_on : (test : Status → Bool) (own : List Entry) (k : ℕ) → k < length own → has_status test (slice_get own k) ≡ false
-    → passes_from test k own ≡ passes_from test (k + 1) own
-goes_on test own k l h = rw (add-one k) (rw (add-one k) at (goes_on_from test own k k l h))
-
-ends_from : (test : Status → Bool) (own : List Entry) (i : ℕ) → position_from (λ c. test c.status) i (drop (length own) own) ≡ None
-ends_from test [] i = refl
-ends_from test (c ∷ cs) i = ends_from test cs i
-
-pub ends : (test : Status → Bool) (own : List Entry) (k : ℕ) → k ≡ length own → passes_from test k own ≡ None
-ends test own k e = ap (λ n. position_from (λ c. test c.status) k (drop n own)) e ∙ ends_from test own k
-
 -- where the walk from the start finds one
-pub found_at : (test : Status → Bool) (own : List Entry) (i k : ℕ) → position_from (λ c. test c.status) i own ≡ Some k
+found_at : (test : Status → Bool) (own : List Entry) (i k : ℕ) → position_from (λ c. test c.status) i own ≡ Some k
     → (j : ℕ) × (k ≡ i + j) × (has_status test (slice_get own j) ≡ true)
 found_at test [] i k e = absurd (none-some k e)
 found_at test (c ∷ cs) i k e = go (test c.status) refl e (λ f. found_at test cs (i + 1) k f)
@@ -82,12 +56,6 @@ there test own k h = go (slice_get own k) refl h
 pub ready_status : (s : Status) → is_ready s ≡ true → s ≡ Ready
 ready_status Ready h = refl
 ready_status _ h = absurd (true≢false (sym h))
-
--- what is found from the start passes, if it is there
-pub each_found : (test : Status → Bool) (own : List Entry) (o : Option ℕ) → o ≡ position_from (λ c. test c.status) 0 own
-    → IfSome o (λ k. has_status test (slice_get own k) ≡ true)
-each_found test own None e = tt
-each_found test own (Some k) e = found_first test own k (sym e)
 
 -- ---- a walk from one that passes to the next
 
@@ -176,10 +144,3 @@ pub onward : (P : ℕ → Type 0) (from k : ℕ) → from ≤ k → ((j : ℕ) �
 onward P from k le step p =
     let whole : k - from + from ≡ k = omega arith in
     subst P whole (climb P from (k - from) (λ j l m. step j l (omega (arith, m, le))) p)
-
--- a walk for one test passes over what does not pass it
-pub scan_onward : (test : Status → Bool) (own : List Entry) (from k : ℕ) → from ≤ k → k ≤ length own
-    → ((j : ℕ) → from ≤ j → j < k → has_status test (slice_get own j) ≡ false) → passes_from test from own ≡ passes_from test k own
-scan_onward test own from k le within gap =
-    onward (λ j. passes_from test from own ≡ passes_from test j own) from k le
-    (λ j l m e. e ∙ goes_on test own j (omega (arith, m, within)) (gap j l m) ∙ ap (λ n. passes_from test n own) (add-one j)) refl

@@ -103,17 +103,14 @@ abbrev pub known_after : Told → List ℕ → List ℕ
 known_after (tells.Members self incarnations) known = now_known self known incarnations.now
 known_after (tells.Hello site) known = raised known site.node site.incarnation
 
--- what makes a difference: another incarnation is known, or a guest is dropped, or a child is redone
+-- what makes a difference: another incarnation is known, or a guest is dropped
 abbrev pub Differs : Ledger → List ℕ → List WorkUnit → Type 0
-Differs old known lost =
-    (known ≢ old.known)
-    ⊎ ((0 < length lost) ⊎ ((k : ℕ) × (has_status (is_out_to (is_older known)) (slice_get old.own k) ≡ true)))
+Differs old known lost = (known ≢ old.known) ⊎ (0 < length lost)
 
--- No other incarnation is known, no guest is dropped and no child is redone.
+-- No other incarnation is known, and no guest is dropped.
 pub record IsAlike (old : Ledger) (known : List ℕ) (lost : List WorkUnit) : Type 0 where
   pub same : known ≡ old.known
   pub none_lost : lost ≡ []
-  pub none_redone : (k : ℕ) (entry : Entry) → slice_get old.own k ≡ Some entry → is_out_to (is_older known) entry.status ≡ false
 
 -- Incarnations are learnt; then children out to earlier ones are redone, then guests of earlier ones dropped with all below (redo of Cilk-NOW).
 pub record LearnsMembers (old : Ledger) (incarnations : List ℕ) (outs : List Reached) (new : Ledger) : Type 0 where

@@ -3,7 +3,6 @@
 
 ghost use Rattle.std.specs.Prelude.{◌≡◌, slice_get, false};
 ghost use Rattle.std.specs.Bool.{OnFalse, OnTrue};
-ghost use Rattle.std.specs.List.{position_from};
 ghost use Rattle.spawn_frame.specs.Tables.{has_status};
 ghost use Rattle.spawn_frame.specs.Units.{change_at, table_own};
 ghost use Rattle.steal_return.specs.Members.{is_out_to, is_spent_at, known_after, redo_if, redo_lost, IsRedoable, IsSpent};
@@ -18,24 +17,6 @@ pub fn first_ready(table: &Table) -> Option<u32>
     ensures { result ≡ first_ready table.now.own }
 {
     table.next_ready(0)
-}
-
-/// The child of least serial that is out to an earlier incarnation than is known.
-pub fn first_lost(table: &Table, known: &Known) -> Option<u32>
-    ensures { result ≡ position_from
-        (λ c. is_out_to (is_older known.now) c.status) 0 table.now.own }
-{
-    let issued = table.issued();
-    let mut from = 0;
-    while from < issued {
-        let serial = table.next_out(from)?;
-        if is_lost(table, known, serial) {
-            return Some(serial);
-        }
-        // (each serial is below the limit on names, which is a u32, so the sum fits)
-        from = serial + 1;
-    }
-    None
 }
 
 /// Whether a child is there and out to such a site.
@@ -68,6 +49,7 @@ pub fn is_redoable(table: &Table, known: &Known, told: Told<'_>) -> bool
         if is_spent(table, known, told, serial) {
             return false;
         }
+        // (each serial is below the limit on names, which is a u32, so the sum fits)
         from = serial + 1;
     }
     true

@@ -7,7 +7,7 @@ ghost use Rattle.steal_return.specs.Finishing.{Appends};
 ghost use Rattle.steal_return.specs.Members.{is_earlier_incarnation, now_known, raised, Differs, IsAlike, IsRedoable, IsSpent, IsSpentForHello, IsSpentForMembers, LearnsHello, LearnsMembers};
 ghost use Rattle.steal_return.specs.Steals.{is_older};
 
-use crate::children::{first_lost, is_redoable, redo_lost};
+use crate::children::{is_redoable, redo_lost};
 use crate::guests::{drop_guests, lost_guests};
 use crate::known::Known;
 use crate::learn_fault::LearnFault;
@@ -105,17 +105,12 @@ impl Ledger {
         Ok(())
     }
 
-    /// Whether it makes a difference that these incarnations are known and these guests lost.
+    /// Whether it makes a difference that these incarnations are known and these guests lost. Without a new incarnation no child has to be
+    /// redone, since none is out to an earlier one than is known.
     fn differs(&self, known: &Known, lost: &[Unit]) -> bool
         ensures differs { OnTrue result (Differs self.now known.now lost.now) }
         ensures alike { OnFalse result (IsAlike self.now known.now lost.now) }
     {
-        if known.as_slice() != self.known.as_slice() {
-            return true;
-        }
-        if !lost.is_empty() {
-            return true;
-        }
-        first_lost(&self.table, known).is_some()
+        known.as_slice() != self.known.as_slice() || !lost.is_empty()
     }
 }

@@ -102,7 +102,7 @@ returns-then-not-differs-clause-learns c =
       sym (append-nil c.args.list.now.items),
       subst (λ l. LearnsMembers l c.args.incarnations.now [] l) c.self.view_is
           (learns_nothing was known c.args.incarnations.now lost c.in_ok-lost.ensures.ascending c.in_ok-lost.ensures.lost known_is redoable
-          (subst (λ l. IsAlike l known lost) (sym c.self.view_is) alike)),
+          c.self.invariant.none_outrun (subst (λ l. IsAlike l known lost) (sym c.self.view_is) alike)),
     )
 
 pub returns-clause-few : goal.returns-clause-few
