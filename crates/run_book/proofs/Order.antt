@@ -63,7 +63,7 @@ put_in m x = record {
 pub puts_keep_order : (n pass : ℕ) (v : Known) (x : Parcel) → Pushes IsInOrder n pass v x (HasSeenPut v x)
 puts_keep_order n pass v x held holders room h at =
     let put : List Parcel = h.moment.put ++ x ∷ [] in
-    let w : Known = record { seen = put; taken = v.taken } in
+    let w : Known = record { seen = put; own = v.own ++ x ∷ []; taken = v.taken } in
     let mine = h.seen pass v at in (
       w,
       record {
@@ -79,7 +79,7 @@ puts_keep_order n pass v x held holders room h at =
             (λ (p : (by ≢ pass) × (get_elem? holders by ≡ some u)). more_put h.moment.put (x ∷ []) u.seen (h.seen by u p.1))
             (at_set holders pass by w u e);
       },
-      record { between = mine.0; seen = ap (λ l. l ++ x ∷ []) mine.1; taken = refl },
+      record { between = mine.0; seen = ap (λ l. l ++ x ∷ []) mine.1; own = refl; taken = refl },
     )
 
 -- the moment after the first is taken out
@@ -93,7 +93,7 @@ taken_out m x held is = record {
 
 takes_of_first : (v : Known) → Pops IsInOrder 0 v (HasSeenTaken v)
 takes_of_first v x held holders h at =
-    let w : Known = record { seen = v.seen; taken = v.taken ++ x ∷ [] } in (
+    let w : Known = record { seen = v.seen; own = v.own; taken = v.taken ++ x ∷ [] } in (
       w,
       record {
         moment = taken_out h.moment x held h.holds;

@@ -25,21 +25,23 @@ FoundFull seen = (moment : Moment) × (length moment.held ≡ CAPACITY) × Begin
 abbrev pub FoundEmpty : List Parcel → Type 0
 FoundEmpty taken = (moment : Moment) × (moment.held ≡ []) × (moment.taken ≡ taken)
 
--- a pass: the outbox that it is of, and what it has seen put in
+-- a pass: the outbox that it is of, what it has seen put in, and what it has put in itself
 pub record Pass : Type 0 where
   pub outbox : TableId
   pub seen : List Parcel
+  pub own : List Parcel
 
 -- the drain: the outbox that it is of, and what it has taken out
 pub record Drain : Type 0 where
   pub outbox : TableId
   pub taken : List Parcel
 
--- The pass has seen more put in, at its end the parcel.
+-- The pass has put in the parcel and nothing else, and has seen more put in, at its end the parcel.
 pub record HasPut (old : Pass) (parcel : Parcel) (new : Pass) : Type 0 where
   pub outbox : new.outbox ≡ old.outbox
   pub between : List Parcel
   pub seen : new.seen ≡ (old.seen ++ between) ++ parcel ∷ []
+  pub own : new.own ≡ old.own ++ parcel ∷ []
 
 -- the drain with the parcel added to what it has taken out
 abbrev pub has_taken : Drain → Parcel → Drain
@@ -47,14 +49,15 @@ has_taken drain parcel = record drain { taken = drain.taken ++ parcel ∷ [] }
 
 -- ---- the rule of the queue
 
--- what a holder of the queue knows: what it has seen put in, and if it is the drain, what was taken out
+-- what a holder of the queue knows: what it has seen put in, what it has put in itself, and if it is the drain, what was taken out
 pub record Known : Type 0 where
   pub seen : List Parcel
+  pub own : List Parcel
   pub taken : List Parcel
 
 -- one who has seen nothing
 abbrev pub newcomer : Known
-newcomer = record { seen = []; taken = [] }
+newcomer = record { seen = []; own = []; taken = [] }
 
 -- Of what the queue holds there is a moment at which the drain, the first of the holders, knows what
 -- was taken out, and each has seen a beginning of what was put in.
@@ -65,10 +68,11 @@ pub record IsInOrder (held : List Parcel) (holders : List Known) : Type 0 where
   pub drain : (known : Known) → get_elem? holders 0 ≡ some known → known.taken ≡ moment.taken
   pub seen : (by : ℕ) (known : Known) → get_elem? holders by ≡ some known → BeginsWith moment.put known.seen
 
--- A holder has seen more put in, at its end the parcel.
+-- A holder has put in the parcel, and has seen more put in, at its end the parcel.
 pub record HasSeenPut (old : Known) (parcel : Parcel) (new : Known) : Type 0 where
   pub between : List Parcel
   pub seen : new.seen ≡ (old.seen ++ between) ++ parcel ∷ []
+  pub own : new.own ≡ old.own ++ parcel ∷ []
   pub taken : new.taken ≡ old.taken
 
 -- the drain has taken out the parcel
@@ -91,7 +95,11 @@ name_of queue = queue.table.shared.table_id
 
 -- a holder as a pass
 abbrev pub pass_view : Holder Parcel Known → Pass
-pass_view holder = record { outbox = holder.table_id; seen = (view holder).seen }
+pass_view holder = record { outbox = holder.table_id; seen = (view holder).seen; own = (view holder).own }
+
+-- the holder has put nothing in itself
+abbrev pub PutsNothing : Holder Parcel Known → Type 0
+PutsNothing holder = (view holder).own ≡ []
 
 -- a holder as the drain
 abbrev pub drain_view : Holder Parcel Known → Drain

@@ -11,7 +11,7 @@ use std::sync::Wait;
 /// How many parcels fit into an outbox.
 pub const CAPACITY: usize = 1024;
 
-/// A right to put parcels into one outbox. It knows a beginning of all that was put in.
+/// A right to put parcels into one outbox. It knows a beginning of all that was put in, and what it has put in itself.
 #[derive(Drop)]
 pub struct Pass {
     inner: crossbeam_queue::Pass<Parcel, Known>,
@@ -28,7 +28,7 @@ impl Model for Pass {
     ghost invariant = { λ p. p.inner.me.1 ≡ [] };
 }
 
-/// The right to take parcels out of one outbox. It knows all that was taken out.
+/// The right to take parcels out of one outbox. It knows all that was taken out, and puts nothing in.
 #[derive(Drop)]
 pub struct Drain {
     inner: crossbeam_queue::Pass<Parcel, Known>,
@@ -36,13 +36,13 @@ pub struct Drain {
 
 impl Model for Drain {
     ghost use Rattle.std.specs.Prelude.{◌≡◌, []};
-    ghost use Rattle.run_book.specs.Outbox.{Drain as DrainValue, drain_view};
+    ghost use Rattle.run_book.specs.Outbox.{Drain as DrainValue, drain_view, PutsNothing};
 
     ghost Value = { DrainValue };
 
     ghost view = { λ d. drain_view d.inner };
 
-    ghost invariant = { λ d. (d.inner.id ≡ 0) × (d.inner.me.1 ≡ []) };
+    ghost invariant = { λ d. (d.inner.id ≡ 0) × (d.inner.me.1 ≡ []) × PutsNothing d.inner };
 }
 
 /// A bounded queue of parcels, which leave in the order in which they came. Contracts see it as its name.
@@ -76,7 +76,7 @@ impl Outbox {
 
     /// A new pass, which has seen nothing. It takes no memory.
     pub fn pass(&self) -> Pass
-        ensures { result ≡ record { outbox = self.now; seen = [] } }
+        ensures { result ≡ record { outbox = self.now; seen = []; own = [] } }
     {
         Pass {
             inner: self.queue.pass(),
