@@ -1,4 +1,4 @@
--- Books that are gathered in the order of their nodes and starts are of different sites.
+-- Books that are gathered in the order of their nodes and incarnations are of different sites.
 use Rattle.std.proofs.Common.{◌≡◌, ℕ, suc, ◌+◌, ◌<◌, ◌≤◌, ◌⊎◌, true, false, not, ◌&&◌, ◌==◌, leb, List, [], ◌∷◌, ◌++◌, length, get_or, append-nil, arith, refl, sym, ap, subst, inl, inr, ◌∙◌}
 use Rattle.std.proofs.lemmas.Bool.{and_from, and_parts, cases_lt, eq-eqb, eqb-true, false_from_ne_true, le-leb, leb-true, not-true, or_from, or_parts}
 use Rattle.std.proofs.lemmas.List.{append_assoc, get_or_push, length_push}
@@ -7,7 +7,7 @@ use Rattle.run_book.specs.Books.{are_distinct, has_site, Book}
 use Rattle.spawn_frame.specs.Names.{same_site}
 use Rattle.spawn_frame.specs.declared.site.Site.{Site}
 use Rattle.udp_node.specs.Numbers.{AreNumbered}
-use Rattle.udp_node.specs.Starts.{are_starts}
+use Rattle.udp_node.specs.Incarnations.{are_incarnations}
 
 -- ---- numbers
 
@@ -32,40 +32,40 @@ from_places number first (x ∷ xs) each =
 pub numbered_from : {X : Type 0} (number : X → ℕ) (xs : List X) → AreNumbered number xs → NumberedFrom number 0 xs
 numbered_from number xs each = from_places number 0 xs (λ k d h. omega (arith, each k d h))
 
--- ---- one start
+-- ---- one incarnation
 
-start_parts : (node first next : ℕ) (book : Book) (books : List Book) → are_starts node first next (book ∷ books) ≡ true
-    → (book.site.node ≡ node) × (first ≤ book.site.incarnation) × (are_starts node (suc book.site.incarnation) next books ≡ true)
-start_parts node first next book books starts =
-    let rest = are_starts node (suc book.site.incarnation) next books in
-    let outer = and_parts ((book.site.node == node) && leb first book.site.incarnation) rest starts in
+incarnation_parts : (node first next : ℕ) (book : Book) (books : List Book) → are_incarnations node first next (book ∷ books) ≡ true
+    → (book.site.node ≡ node) × (first ≤ book.site.incarnation) × (are_incarnations node (suc book.site.incarnation) next books ≡ true)
+incarnation_parts node first next book books incarnations =
+    let rest = are_incarnations node (suc book.site.incarnation) next books in
+    let outer = and_parts ((book.site.node == node) && leb first book.site.incarnation) rest incarnations in
     let inner = and_parts (book.site.node == node) (leb first book.site.incarnation) outer.0 in
     (eqb-true book.site.node node inner.0, leb-true first book.site.incarnation inner.1, outer.1)
 
-start_from : (node first next : ℕ) (book : Book) (books : List Book) → book.site.node ≡ node → first ≤ book.site.incarnation
-    → are_starts node (suc book.site.incarnation) next books ≡ true → are_starts node first next (book ∷ books) ≡ true
-start_from node first next book books here at rest =
-    and_from ((book.site.node == node) && leb first book.site.incarnation) (are_starts node (suc book.site.incarnation) next books)
+incarnation_from : (node first next : ℕ) (book : Book) (books : List Book) → book.site.node ≡ node → first ≤ book.site.incarnation
+    → are_incarnations node (suc book.site.incarnation) next books ≡ true → are_incarnations node first next (book ∷ books) ≡ true
+incarnation_from node first next book books here at rest =
+    and_from ((book.site.node == node) && leb first book.site.incarnation) (are_incarnations node (suc book.site.incarnation) next books)
     (and_from (book.site.node == node) (leb first book.site.incarnation) (eq-eqb book.site.node node here) (le-leb first book.site.incarnation at))
     rest
 
--- ---- starts
+-- ---- incarnations
 
 -- there is room above the incarnations for one more
-pub starts_later : (node first next : ℕ) (books : List Book) → are_starts node first next books ≡ true → are_starts node first (suc next) books ≡ true
-starts_later node first next [] starts = le-leb first (suc next) (omega (arith, leb-true first next starts))
-starts_later node first next (book ∷ books) starts =
-    let parts = start_parts node first next book books starts in
-    start_from node first (suc next) book books parts.0 parts.1 (starts_later node (suc book.site.incarnation) next books parts.2)
+pub incarnations_later : (node first next : ℕ) (books : List Book) → are_incarnations node first next books ≡ true → are_incarnations node first (suc next) books ≡ true
+incarnations_later node first next [] incarnations = le-leb first (suc next) (omega (arith, leb-true first next incarnations))
+incarnations_later node first next (book ∷ books) incarnations =
+    let parts = incarnation_parts node first next book books incarnations in
+    incarnation_from node first (suc next) book books parts.0 parts.1 (incarnations_later node (suc book.site.incarnation) next books parts.2)
 
--- the book of the next start
-pub starts_more : (node first next : ℕ) (books : List Book) (book : Book) → are_starts node first next books ≡ true → book.site.node ≡ node → book.site.incarnation ≡ next
-    → are_starts node first (suc next) (books ++ book ∷ []) ≡ true
-starts_more node first next [] book starts here at =
-    start_from node first (suc next) book [] here (omega (arith, at, leb-true first next starts)) (le-leb (suc book.site.incarnation) (suc next) (omega (arith, at)))
-starts_more node first next (b ∷ books) book starts here at =
-    let parts = start_parts node first next b books starts in
-    start_from node first (suc next) b (books ++ book ∷ []) parts.0 parts.1 (starts_more node (suc b.site.incarnation) next books book parts.2 here at)
+-- the book of the next incarnation
+pub incarnations_more : (node first next : ℕ) (books : List Book) (book : Book) → are_incarnations node first next books ≡ true → book.site.node ≡ node → book.site.incarnation ≡ next
+    → are_incarnations node first (suc next) (books ++ book ∷ []) ≡ true
+incarnations_more node first next [] book incarnations here at =
+    incarnation_from node first (suc next) book [] here (omega (arith, at, leb-true first next incarnations)) (le-leb (suc book.site.incarnation) (suc next) (omega (arith, at)))
+incarnations_more node first next (b ∷ books) book incarnations here at =
+    let parts = incarnation_parts node first next b books incarnations in
+    incarnation_from node first (suc next) b (books ++ book ∷ []) parts.0 parts.1 (incarnations_more node (suc b.site.incarnation) next books book parts.2 here at)
 
 -- ---- sites in turn
 
@@ -129,21 +129,21 @@ distinct_more (b ∷ books) book before distinct =
     (ap not (none_more b.site books book none other))
     (distinct_more books book before.1 parts.1)
 
--- ---- the books of a node's starts after those before them
+-- ---- the books of a node's incarnations after those before them
 
 -- What is known of the books that were gathered so far: they are of different sites, all before this one.
 pub record AreGathered (node next : ℕ) (books : List Book) : Type 0 where
   pub before : AreBefore node next books
   pub distinct : are_distinct books ≡ true
 
-pub gathered_all : (node first next : ℕ) (books own : List Book) → AreGathered node first books → are_starts node first next own ≡ true → AreGathered node next (books ++ own)
-gathered_all node first next books [] gathered starts =
+pub gathered_all : (node first next : ℕ) (books own : List Book) → AreGathered node first books → are_incarnations node first next own ≡ true → AreGathered node next (books ++ own)
+gathered_all node first next books [] gathered incarnations =
     subst (AreGathered node next) (sym (append-nil books)) (record {
-      before = before_later node first next books (leb-true first next starts) gathered.before;
+      before = before_later node first next books (leb-true first next incarnations) gathered.before;
       distinct = gathered.distinct;
     })
-gathered_all node first next books (book ∷ own) gathered starts =
-    let parts = start_parts node first next book own starts in
+gathered_all node first next books (book ∷ own) gathered incarnations =
+    let parts = incarnation_parts node first next book own incarnations in
     let later = suc book.site.incarnation in
     let here : AreBefore node book.site.incarnation books = before_later node first book.site.incarnation books parts.1 gathered.before in
     let more : AreGathered node later (books ++ book ∷ []) = record {

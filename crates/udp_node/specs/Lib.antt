@@ -1,3 +1,3 @@
 pub mod Hands
+pub mod Incarnations
 pub mod Numbers
-pub mod Starts

@@ -7,6 +7,7 @@ mod entered_gifts;
 mod exchange;
 mod few_visits;
 mod hand;
+mod incarnation_plan;
 mod node;
 mod node_end;
 mod receiver;
@@ -18,7 +19,6 @@ mod shared;
 mod signals;
 mod site_context;
 mod site_run;
-mod start;
 mod worker;
 
 pub use node::{run_node, run_root};

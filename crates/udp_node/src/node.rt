@@ -6,6 +6,7 @@ ghost use Rattle.site_network.specs.declared.end_cause.EndCause.TheVariants.{Mem
 
 use crate::actor::Actor;
 use crate::exchange::Exchange;
+use crate::incarnation_plan::IncarnationPlan;
 use crate::node_end::NodeEnd;
 use crate::receiver::Receiver;
 use crate::seat_receipts::SeatReceipts;
@@ -13,7 +14,6 @@ use crate::sender::{Sender, Sent, send_all};
 use crate::shared::Shared;
 use crate::signals::Signals;
 use crate::site_context::SiteContext;
-use crate::start::Start;
 use crate::worker::Worker;
 use brancher::Tables;
 use cover_problem::Problem;
@@ -212,7 +212,7 @@ pub fn run_node<
         ending: &ending,
         alloc,
     };
-    run_threads(rt, cell, link, Start::only(plan), context)
+    run_threads(rt, cell, link, IncarnationPlan::only(plan), context)
 }
 
 /// Runs the threads of the registry to their ends: one that receives and one that sends. The seat comes back, unless memory ran out
@@ -245,7 +245,7 @@ pub fn run_root<
         ending: &ending,
         alloc,
     };
-    run_threads(rt, cell, link, Start::only(plan), context)
+    run_threads(rt, cell, link, IncarnationPlan::only(plan), context)
 }
 
 /// Runs the threads of a site in one of its incarnations, as `run_node` and `run_root` do, and ends them where the run ends. A plan without
@@ -261,15 +261,15 @@ pub(crate) fn run_threads<
     rt: &R,
     cell: &SiteCell<J, C, N>,
     link: L,
-    start: Start,
+    incarnation_plan: IncarnationPlan,
     context: SiteContext<'_, G>,
 ) -> NodeEnd<N>
     requires { context.tables.now ≡ J.run.problem }
-    ensures all { (vec_len result.seats ≡ start.plan.workers + 1) ⊎ (result.cause ≡ Memory) }
-    ensures none { (vec_len result.seats ≡ start.plan.workers + 1)
+    ensures all { (vec_len result.seats ≡ incarnation_plan.plan.workers + 1) ⊎ (result.cause ≡ Memory) }
+    ensures none { (vec_len result.seats ≡ incarnation_plan.plan.workers + 1)
         ⊎ ((vec_len result.seats ≡ 0) × (result.taken.turns ≡ 0) × (result.taken.waits ≡ 0)) }
 {
-    let Start { plan, is_last } = start;
+    let IncarnationPlan { plan, is_last } = incarnation_plan;
     let SiteContext {
         tables,
         gate,

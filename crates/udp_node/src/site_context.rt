@@ -2,7 +2,7 @@ use brancher::Tables;
 use site_network::{Ending, Gate};
 use std::alloc::Global;
 
-/// What the threads of a site are given besides their cell, their link and their start.
+/// What the threads of a site are given besides their cell, their link and their plan.
 #[derive(Drop)]
 pub struct SiteContext<'a, G: Gate> {
     /// What is searched, with what the searches of it share.

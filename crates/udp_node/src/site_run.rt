@@ -4,18 +4,18 @@ ghost use Rattle.std.specs.Prelude.{◌≡◌, ◌+◌, ◌≤◌, None, true, i
 ghost use Rattle.std.specs.Vec.{vec_capacity};
 ghost use Rattle.node_core.specs.Requests.{registry};
 ghost use Rattle.run_book.specs.Sites.{opening_of, IsRun, MayBeginIn};
-ghost use Rattle.udp_node.specs.Starts.{are_starts};
+ghost use Rattle.udp_node.specs.Incarnations.{are_incarnations};
 
+use crate::incarnation_plan::IncarnationPlan;
 use crate::node::run_threads;
 use crate::node_end::NodeEnd;
 use crate::site_context::SiteContext;
-use crate::start::Start;
 use brancher::Tables;
 use cover_problem::Problem;
 use node_core::{Core, NodeCore};
 use root_registry::Registry;
 use run_book::{Book, CellName, CellParts, Run, SiteCell, cores_step_as_their_sites, sites_begin};
-use site_network::{EndCause, Ending, Gate, Link, Open, Plan, SiteEnd};
+use site_network::{EndCause, Ending, Gate, Link, Plan, SiteEnd};
 use spawn_frame::Site;
 use std::alloc::{AllocError, Global};
 use std::marker::{Brand, PhantomData};
@@ -33,7 +33,7 @@ pub struct RunContext<'a, J: Run, G: Gate> {
     pub problem: &'a Problem,
     /// What the searches of it share.
     pub tables: &'a Tables<'a>,
-    /// What holds workers back.
+    /// What holds workers back, and hears how far all sites have come.
     pub gate: &'a G,
     /// What ends the run.
     pub ending: &'a Ending,
@@ -50,6 +50,18 @@ pub struct RunContext<'a, J: Run, G: Gate> {
 }
 
 impl<J: Run, G: Gate> RunContext<'_, J, G> {
+    /// What the threads of each site are given.
+    fn site_context(&self) -> SiteContext<'_, G>
+        ensures { result.tables.now ≡ J.run.problem }
+    {
+        SiteContext {
+            tables: self.tables,
+            gate: self.gate,
+            ending: self.ending,
+            alloc: self.alloc,
+        }
+    }
+
     /// Ends the run with the site of this node, which ended so.
     fn end(&self, node: u8, end: &SiteEnd) {
         self.gate.ended(node, end);
@@ -65,15 +77,15 @@ pub struct SiteRun<J: Run, L: Link> {
     /// How often it restarts.
     pub restarts: u8,
     /// How many incarnations there were.
-    pub starts: u32,
+    pub incarnations: u32,
     /// The books of these, in their order, with room for one of each.
     pub books: Vec<Book<J>>,
     pub end: SiteEnd,
     pub ghost there: { node ≤ J.run.nodes },
     pub ghost once: { node ≡ 0 → restarts ≡ 0 },
-    pub ghost fresh: { is_some link ≡ true → starts ≡ 0 },
-    pub ghost own: { are_starts node 1 (suc starts) books.items ≡ true },
-    pub ghost few: { vec_len books ≤ starts },
+    pub ghost fresh: { is_some link ≡ true → incarnations ≡ 0 },
+    pub ghost own: { are_incarnations node 1 (suc incarnations) books.items ≡ true },
+    pub ghost few: { vec_len books ≤ incarnations },
     pub ghost room: { restarts + 1 ≤ vec_capacity books },
 }
 
@@ -88,7 +100,7 @@ impl<J: Run, L: Link> SiteRun<J, L> {
             node,
             link: Some(link),
             restarts,
-            starts: 0,
+            incarnations: 0,
             books: Vec::with_capacity(alloc, usize::from(restarts) + 1)?,
             end: SiteEnd::NONE,
         })
@@ -113,7 +125,7 @@ impl<J: Run, L: Link> SiteRun<J, L> {
         }
         // (the site is behind a reference, so its link is taken out for the threads to own)
         if let Some(link) = self.link.take() {
-            self.run_starts(rt, context, link);
+            self.run_incarnations(rt, context, link);
         }
         // (the registry isn't counted: without a node there is nobody who could return the root's result)
         let is_last = self.node != 0 && context.ending.leave();
@@ -124,7 +136,7 @@ impl<J: Run, L: Link> SiteRun<J, L> {
 
     /// Runs all incarnations of the site to their ends. Its link stays open over all of them: the last has
     /// it, the others a twin of it.
-    fn run_starts<G: Gate + Sync, R: Threads + Wait + Clock + Sync>(
+    fn run_incarnations<G: Gate + Sync, R: Threads + Wait + Clock + Sync>(
         &mut self,
         rt: &R,
         context: &RunContext<'_, J, G>,
@@ -134,19 +146,19 @@ impl<J: Run, L: Link> SiteRun<J, L> {
         J: Send + Sync,
         L: Send,
         requires taken { self.old.link ≡ None }
-        requires none { self.old.starts ≡ 0 }
+        requires none { self.old.incarnations ≡ 0 }
         ensures { self.new.node ≡ self.old.node }
     {
-        for _start in 0..self.restarts {
-            // (handed on as it is: a twin that was refused ends this start as one without memory)
+        for _incarnation in 0..self.restarts {
+            // (handed on as it is: a twin that was refused ends this incarnation as one without memory)
             let twin = link.twin();
-            self.start(rt, context, twin);
+            self.run_next(rt, context, twin);
         }
-        self.start(rt, context, Ok(link));
+        self.run_next(rt, context, Ok(link));
     }
 
     /// Runs the next incarnation to its end, over this link, unless there is no memory for it.
-    fn start<G: Gate + Sync, R: Threads + Wait + Clock + Sync>(
+    fn run_next<G: Gate + Sync, R: Threads + Wait + Clock + Sync>(
         &mut self,
         rt: &R,
         context: &RunContext<'_, J, G>,
@@ -156,21 +168,21 @@ impl<J: Run, L: Link> SiteRun<J, L> {
         J: Send + Sync,
         L: Send,
         requires taken { self.old.link ≡ None }
-        requires left { self.old.starts ≤ self.old.restarts }
+        requires left { self.old.incarnations ≤ self.old.restarts }
         ensures taken { self.new.link ≡ None }
         ensures node { self.new.node ≡ self.old.node }
         ensures restarts { self.new.restarts ≡ self.old.restarts }
-        ensures starts { self.new.starts ≡ self.old.starts + 1 }
+        ensures incarnations { self.new.incarnations ≡ self.old.incarnations + 1 }
     {
         let is_over = self.end.cause == EndCause::Over;
-        let is_last = self.starts >= u32::from(self.restarts);
-        let start = Start::of(context.plan, self.restarts, is_over, is_last);
-        self.starts += 1;
+        let is_last = self.incarnations >= u32::from(self.restarts);
+        let incarnation_plan = IncarnationPlan::of(context.plan, self.restarts, is_over, is_last);
+        self.incarnations += 1;
         let site = Site {
             node: self.node,
-            incarnation: self.starts,
+            incarnation: self.incarnations,
         };
-        let (book, end) = run_site(rt, context, site, start, link);
+        let (book, end) = run_site(rt, context, site, incarnation_plan, link);
         if let Some(book) = book {
             self.books.push_reserved(book);
         }
@@ -179,13 +191,13 @@ impl<J: Run, L: Link> SiteRun<J, L> {
 
     /// Returns the books of its incarnations, in their order, and how it ended.
     pub fn into_end(self) -> (Vec<Book<J>>, SiteEnd)
-        ensures { are_starts self.node 1 (suc self.starts) result.0.items ≡ true }
+        ensures { are_incarnations self.node 1 (suc self.incarnations) result.0.items ≡ true }
     {
         let SiteRun {
             node: _,
             link: _,
             restarts: _,
-            starts: _,
+            incarnations: _,
             books,
             end,
         } = self;
@@ -198,19 +210,19 @@ fn run_site<J: Run + Send + Sync, L: Link + Send, G: Gate + Sync, R: Threads + W
     rt: &R,
     context: &RunContext<'_, J, G>,
     site: Site,
-    start: Start,
+    incarnation_plan: IncarnationPlan,
     link: Result<L, AllocError>,
 ) -> (Option<Book<J>>, SiteEnd)
     requires there { site.node ≤ context.now.plan.nodes }
     requires some { 1 ≤ site.incarnation }
     requires registry { site.node ≡ 0 → site.incarnation ≡ 1 }
-    requires plan { start.plan.nodes ≡ context.now.plan.nodes }
+    requires plan { incarnation_plan.plan.nodes ≡ context.now.plan.nodes }
     ensures { IfSome result.0 (λ book. book.site ≡ site) }
 {
     let ran = if site.node == 0 {
-        start_registry(rt, context, start, link)
+        start_registry(rt, context, incarnation_plan, link)
     } else {
-        start_node(rt, context, site, start, link)
+        start_node(rt, context, site, incarnation_plan, link)
     };
     match ran {
         Ok(ended) => ended,
@@ -219,10 +231,15 @@ fn run_site<J: Run + Send + Sync, L: Link + Send, G: Gate + Sync, R: Threads + W
 }
 
 /// Starts the registry, and runs it to its end. The only error is out of memory at the start.
-fn start_registry<J: Run + Send + Sync, L: Link + Send, G: Gate, R: Threads + Wait + Clock + Sync>(
+fn start_registry<
+    J: Run + Send + Sync,
+    L: Link + Send,
+    G: Gate + Sync,
+    R: Threads + Wait + Clock + Sync,
+>(
     rt: &R,
     context: &RunContext<'_, J, G>,
-    start: Start,
+    incarnation_plan: IncarnationPlan,
     link: Result<L, AllocError>,
 ) -> Result<(Option<Book<J>>, SiteEnd), AllocError>
     ensures { IfOk result (λ ended. IfSome ended.0 (λ book. book.site ≡ registry)) }
@@ -232,7 +249,7 @@ fn start_registry<J: Run + Send + Sync, L: Link + Send, G: Gate, R: Threads + Wa
     let cell_parts = CellParts::new(context.alloc)?;
     let core = Registry::start(context.alloc, context.problem, context.plan.nodes)?;
     // (a type names the cell, by which seats and receipts are tied to it: here Brand gets the names of these parts)
-    Ok(run_registry::<J, Brand, L, G, R>(rt, context, start, cell_parts, core, link))
+    Ok(run_registry::<J, Brand, L, G, R>(rt, context, incarnation_plan, cell_parts, core, link))
 }
 
 /// Starts the site of a node, and runs it to its end. The only error is out of memory at the start.
@@ -245,7 +262,7 @@ fn start_node<
     rt: &R,
     context: &RunContext<'_, J, G>,
     site: Site,
-    start: Start,
+    incarnation_plan: IncarnationPlan,
     link: Result<L, AllocError>,
 ) -> Result<(Option<Book<J>>, SiteEnd), AllocError>
     requires some { 1 ≤ site.node }
@@ -263,7 +280,7 @@ fn start_node<
         context.plan.nodes,
         NAMES,
     )?;
-    Ok(run_worker_node::<J, Brand, L, G, R>(rt, context, start, cell_parts, core, link))
+    Ok(run_worker_node::<J, Brand, L, G, R>(rt, context, incarnation_plan, cell_parts, core, link))
 }
 
 /// Runs the registry, which begins, to its end.
@@ -271,12 +288,12 @@ fn run_registry<
     J: Run + Send + Sync,
     N: CellName + Send + Sync,
     L: Link + Send,
-    G: Gate,
+    G: Gate + Sync,
     R: Threads + Wait + Clock + Sync,
 >(
     rt: &R,
     context: &RunContext<'_, J, G>,
-    start: Start,
+    incarnation_plan: IncarnationPlan,
     cell_parts: CellParts,
     core: Registry,
     link: L,
@@ -295,15 +312,13 @@ fn run_registry<
     let cell: SiteCell<J, Registry, N> = SiteCell::new(cell_parts, core, context.plan.entries);
     let plan = Plan {
         workers: 0,
-        ..start.plan
+        ..incarnation_plan.plan
     };
-    let site_context = SiteContext {
-        tables: context.tables,
-        gate: &Open,
-        ending: context.ending,
-        alloc: context.alloc,
+    let registry_plan = IncarnationPlan {
+        plan,
+        ..incarnation_plan
     };
-    let end = run_threads(rt, &cell, link, Start { plan, ..start }, site_context);
+    let end = run_threads(rt, &cell, link, registry_plan, context.site_context());
     closed(context.alloc, cell, end)
 }
 
@@ -317,7 +332,7 @@ fn run_worker_node<
 >(
     rt: &R,
     context: &RunContext<'_, J, G>,
-    start: Start,
+    incarnation_plan: IncarnationPlan,
     cell_parts: CellParts,
     core: NodeCore,
     link: L,
@@ -334,13 +349,7 @@ fn run_worker_node<
 {
     cores_step_as_their_sites();
     let cell: SiteCell<J, NodeCore, N> = SiteCell::new(cell_parts, core, context.plan.entries);
-    let site_context = SiteContext {
-        tables: context.tables,
-        gate: context.gate,
-        ending: context.ending,
-        alloc: context.alloc,
-    };
-    let end = run_threads(rt, &cell, link, start, site_context);
+    let end = run_threads(rt, &cell, link, incarnation_plan, context.site_context());
     closed(context.alloc, cell, end)
 }
 

@@ -1,11 +1,14 @@
-//! A run with a book of thousands of entries.
+//! The books of a run: one of thousands of entries, and that a gate hears of each entry.
 //!
-//! Of the bugs of `udp_node` that are kept outside the gate, `a_book_has_room_for_thousands` finds `a_book_of_2000_entries`.
+//! Of the bugs of `udp_node` that are kept outside the gate, `a_book_has_room_for_thousands` finds `a_book_of_2000_entries`, and
+//! `a_gate_hears_of_each_entry` finds `nobody_hears_of_the_registry`.
 
 use super::ends::wires;
-use super::runs::{Came, Row, Told, run};
+use super::runs::{COVERED, Came, Row, Told, run, run_whole};
+use spawn_frame::Job;
+use std::sync::atomic::{AtomicUsize, Ordering};
 use std::test::Fail;
-use udp_node::{Open, Plan};
+use udp_node::{Gate, Open, Plan};
 
 /// The pairs of nine items, those with the first item twice: no five pairs cover nine items. A search visits 1,265 prefixes.
 static PAIRS: Row = (
@@ -33,5 +36,38 @@ fn a_book_has_room_for_thousands(rt: HostRuntime) -> Result<(), Fail> {
     let came = run(&rt, rt.alloc(), &PAIRS, PLAN, links, &Open);
     let (told, books) = (Told::Right, 2);
     assert_eq!(rt; came, Some(Came { told, books }));
+    Ok(())
+}
+
+/// A gate that lets all pass, and counts the entries of which it hears.
+#[derive(Drop)]
+struct EntryCount {
+    entries: AtomicUsize,
+}
+
+impl Gate for EntryCount {
+    fn pass(&self, _worker: u8, _job: &Job) -> bool {
+        true
+    }
+
+    fn posted(&self, _worker: u8, _job: &Job) {}
+
+    fn recorded(&self, _entries: u64, _most: u64) {
+        self.entries.fetch_add(1, Ordering::SeqCst);
+    }
+}
+
+#[test]
+fn a_gate_hears_of_each_entry(rt: HostRuntime) -> Result<(), Fail> {
+    let gate = EntryCount {
+        entries: AtomicUsize::new(0),
+    };
+    let links = wires(rt.alloc(), PLAN.nodes)?;
+    let Some(ran) = run_whole(&rt, rt.alloc(), &COVERED, PLAN, links, &gate) else {
+        return Err(Fail::new("memory ran out"));
+    };
+    // (with the registry's own)
+    assert_eq!(rt; ran.came.books, 2);
+    assert_eq!(rt; gate.entries.load(Ordering::SeqCst), ran.entries);
     Ok(())
 }

@@ -80,9 +80,19 @@ impl Script {
 
 /// A link that brings what a script has, and loses what is sent.
 #[derive(Drop)]
-struct ScriptLink {
+pub struct ScriptLink {
     script: Arc<Script, Global>,
     failures: u64,
+}
+
+impl ScriptLink {
+    /// A link that brings what this script has. The only error is out of memory.
+    pub fn new(alloc: Global, script: Script) -> Result<ScriptLink, AllocError> {
+        Ok(ScriptLink {
+            script: Arc::new(alloc, script)?,
+            failures: 0,
+        })
+    }
 }
 
 impl Link for ScriptLink {
@@ -199,7 +209,7 @@ impl Gate for Counting {
 }
 
 /// In how many entries a packet is delivered.
-fn delivered(entries: &[Entry]) -> usize {
+pub fn delivered(entries: &[Entry]) -> usize {
     entries
         .iter()
         .filter(|entry| matches!(entry.event(), Event::Deliver(_)))
@@ -276,10 +286,7 @@ fn run_at<R: Threads + Wait + Clock + Sync>(
     room: Room,
 ) -> Result<Option<Ended>, Fail> {
     problem.recall_rules();
-    let link = ScriptLink {
-        script: Arc::new(alloc, script)?,
-        failures: 0,
-    };
+    let link = ScriptLink::new(alloc, script)?;
     let surroundings = Surroundings { link, room };
     let cell_parts = CellParts::new(alloc)?;
     let core = NodeCore::start(alloc, problem, HERE, 2, 1)?;

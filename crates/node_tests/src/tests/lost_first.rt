@@ -4,7 +4,7 @@
 ghost use Rattle.std.specs.Prelude.{◌≡◌, ◌+◌, ◌≤◌, ℕ, length, vec_len, IfOk, IfSome};
 
 use super::ends::wires;
-use super::runs::{BARE, COVERED, Told, run_plan, run_starts};
+use super::runs::{BARE, COVERED, Told, run_incarnations, run_plan};
 use packet_wire::{Body, read_packet};
 use std::alloc::{AllocError, Global};
 use std::sync::atomic::{AtomicU64, Ordering};
@@ -151,8 +151,14 @@ fn what_was_lost_is_said_again(rt: HostRuntime) -> Result<(), Fail> {
         for (row, restarts) in [(&COVERED, 0), (&BARE, 0), (&COVERED, 2), (&BARE, 2)] {
             let sent = Arc::new(alloc, AtomicU64::new(0))?;
             let links = links_that_lose(alloc, PLAN.nodes, kind, &sent)?;
-            let Some(ran) = run_starts(&rt, alloc, row, run_plan(PLAN, restarts), links, &Open)
-            else {
+            let Some(ran) = run_incarnations(
+                &rt,
+                alloc,
+                row,
+                run_plan(PLAN, restarts),
+                links,
+                &Open,
+            ) else {
                 return Err(Fail::new("memory ran out"));
             };
             assert_eq!(rt; ran.came.told, Told::Right, "{kind:?}, {restarts} restarts");

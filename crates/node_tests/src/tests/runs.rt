@@ -4,7 +4,7 @@ ghost use Rattle.std.specs.Prelude.{◌≡◌, ◌+◌, ◌≤◌, vec_len};
 
 use cover_problem::{Answer, Problem};
 use dlx_reader::read_problem;
-use run_book::Run;
+use run_book::{Book, Run};
 use std::alloc::Global;
 use std::marker::Brand;
 use std::sync::Wait;
@@ -49,6 +49,8 @@ pub struct Came {
 pub struct Ran {
     /// What it came to.
     pub came: Came,
+    /// How many entries the books of its sites have together.
+    pub entries: usize,
     /// How its sites ended.
     pub sites: Vec<SiteEnd>,
 }
@@ -82,7 +84,7 @@ pub fn run_whole<L: Link + Send, G: Gate + Sync, R: Threads + Wait + Clock + Syn
     requires most { plan.nodes ≤ 16 }
     requires links { vec_len links ≡ plan.nodes + 1 }
 {
-    run_starts(rt, alloc, row, RunPlan::new(plan), links, gate)
+    run_incarnations(rt, alloc, row, RunPlan::new(plan), links, gate)
 }
 
 /// A run of this plan in which node 1 restarts so many times.
@@ -96,7 +98,7 @@ pub fn run_plan(plan: Plan, restarts: u8) -> RunPlan
 }
 
 /// The same as `run_whole`, of a run that may have restarts.
-pub fn run_starts<L: Link + Send, G: Gate + Sync, R: Threads + Wait + Clock + Sync>(
+pub fn run_incarnations<L: Link + Send, G: Gate + Sync, R: Threads + Wait + Clock + Sync>(
     rt: &R,
     alloc: Global,
     row: &Row,
@@ -145,8 +147,18 @@ fn search<J: Run + Send + Sync, L: Link + Send, G: Gate + Sync, R: Threads + Wai
     };
     Some(Ran {
         came,
+        entries: entries_of(&end.books),
         sites: end.sites,
     })
+}
+
+/// How many entries these books have together.
+fn entries_of<J: Run>(books: &[Book<J>]) -> usize {
+    let mut entries = 0usize;
+    for book in books {
+        entries = entries.saturating_add(book.entries().len());
+    }
+    entries
 }
 
 /// What was published, beside the one cover that there is, or none.

@@ -1,7 +1,7 @@
 use Rattle.std.proofs.Common.{rules, ◌≡◌, true, suc, ◌++◌, ◌∷◌, [], length, arith, refl}
 use Rattle.std.proofs.lemmas.List.{length_push}
 use Rattle.std.specs.Vec.Iter.{into_iter_items}
-use Rattle.udp_node.specs.Starts.{are_starts}
+use Rattle.udp_node.specs.Incarnations.{are_incarnations}
 use Rattle.udp_node.proofs.Gathering.{NumberedFrom, before_next_node, gathered_all, numbered_from}
 use Rattle.udp_node.proofs.run.gathered.Goals as goal
 
@@ -25,12 +25,12 @@ loop-site-preserved g c =
     let rest : NumberedFrom (λ site. site.node) here (site ∷ into_iter_items c.next.new.self) = rw first at i.rest in
     let next : length (c.loop-site.yielded ++ site ∷ []) ≡ suc here = omega (arith, length_push c.loop-site.yielded site) in
     let more = c.in_ok-books.ensures in
-    let starts : are_starts here 1 (suc site.starts) own ≡ true = rw rest.0 at c.into_end-own.ensures in
-    let all = gathered_all here 1 (suc site.starts) books own i.gathered starts in
+    let incarnations : are_incarnations here 1 (suc site.incarnations) own ≡ true = rw rest.0 at c.into_end-own.ensures in
+    let all = gathered_all here 1 (suc site.incarnations) books own i.gathered incarnations in
     record {
       rest = rw next rest.1;
       gathered = rw (next, more.more) (record {
-        before = before_next_node here (suc site.starts) 1 (books ++ own) all.before;
+        before = before_next_node here (suc site.incarnations) 1 (books ++ own) all.before;
         distinct = all.distinct;
       });
       books = more.books;

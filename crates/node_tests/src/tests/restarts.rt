@@ -1,12 +1,12 @@
 //! Runs in which node 1 restarts.
 //!
 //! Of the bugs of `udp_node` that are kept outside the gate, `a_restart_frees_the_root` finds `no_node_is_restarted`,
-//! `any_number_of_restarts` finds `books_of_later_starts_are_lost`, and `a_start_that_hears_nothing_ends_after_its_turns` finds
-//! `waits_before_a_restart_are_no_turns` and `no_start_is_the_last`.
+//! `any_number_of_restarts` finds `books_of_later_incarnations_are_lost`, and `an_incarnation_that_hears_nothing_ends_after_its_turns` finds
+//! `waits_before_a_restart_are_no_turns` and `no_incarnation_is_the_last`.
 
 use super::broken::{Defect, links_with};
 use super::ends::wires;
-use super::runs::{COVERED, Came, Told, run_plan, run_starts};
+use super::runs::{COVERED, Came, Told, run_incarnations, run_plan};
 use packet_wire::{Body, Packet};
 use run_probes::recorded;
 use spawn_frame::{Job, Site, Unit};
@@ -40,7 +40,7 @@ const PLAN: Plan = Plan {
 fn a_restart_frees_the_root(rt: HostRuntime) -> Result<(), Fail> {
     for (restarts, told, books) in [(0, Told::Nothing, 2), (1, Told::Right, 3)] {
         let links = wires(rt.alloc(), PLAN.nodes)?;
-        let Some(ran) = run_starts(
+        let Some(ran) = run_incarnations(
             &rt,
             rt.alloc(),
             &COVERED,
@@ -55,7 +55,7 @@ fn a_restart_frees_the_root(rt: HostRuntime) -> Result<(), Fail> {
     Ok(())
 }
 
-/// How many turns there are and restarts: a start is long or short; and whether an answer has to come.
+/// How many turns there are and restarts: an incarnation is long or short; and whether an answer has to come.
 static TURNS: [(u64, u8, bool); 4] = [
     (1_000_000, 1, true),
     (2_000, 3, false),
@@ -73,7 +73,7 @@ fn any_number_of_restarts(rt: HostRuntime) -> Result<(), Fail> {
             ..PLAN
         };
         let links = wires(rt.alloc(), plan.nodes)?;
-        let Some(ran) = run_starts(
+        let Some(ran) = run_incarnations(
             &rt,
             rt.alloc(),
             &COVERED,
@@ -102,10 +102,10 @@ fn greetings(sent: &[Packet], incarnation: u32) -> usize {
         .count()
 }
 
-/// A node greets at its first receive, and at each thousandth after that: so a start of 900 turns greets once, and the last one, whose
+/// A node greets at its first receive, and at each thousandth after that: so an incarnation of 900 turns greets once, and the last one, whose
 /// waits are no turns, more often, until it has heard nothing for 3,000 receives.
 #[test]
-fn a_start_that_hears_nothing_ends_after_its_turns(rt: HostRuntime) -> Result<(), Fail> {
+fn an_incarnation_that_hears_nothing_ends_after_its_turns(rt: HostRuntime) -> Result<(), Fail> {
     let alloc = rt.alloc();
     let plan = Plan {
         turns: 1_800,
@@ -115,12 +115,12 @@ fn a_start_that_hears_nothing_ends_after_its_turns(rt: HostRuntime) -> Result<()
     let sent = Arc::new(alloc, Mutex::new(Vec::new(alloc)))?;
     let mute = links_with(alloc, plan.nodes, 0, Defect::Mute)?;
     let links = recorded(alloc, mute, &sent)?;
-    let Some(ran) = run_starts(&rt, alloc, &COVERED, run_plan(plan, 1), links, &Open) else {
+    let Some(ran) = run_incarnations(&rt, alloc, &COVERED, run_plan(plan, 1), links, &Open) else {
         return Err(Fail::new("memory ran out"));
     };
     assert_eq!(rt; ran.came.told, Told::Nothing);
     let sent = sent.lock(&rt);
-    assert_eq!(rt; greetings(&sent, 1), 1, "the first start");
-    assert!(rt; greetings(&sent, 2) > 1, "the last start");
+    assert_eq!(rt; greetings(&sent, 1), 1, "the first incarnation");
+    assert!(rt; greetings(&sent, 2) > 1, "the last incarnation");
     Ok(())
 }

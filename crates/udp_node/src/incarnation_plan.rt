@@ -1,0 +1,39 @@
+ghost use Rattle.std.specs.Prelude.{◌≡◌};
+ghost use Rattle.udp_node.specs.Incarnations.{incarnation_plan};
+
+use site_network::Plan;
+
+/// How a site works in one of its incarnations. A node that restarts has several, each with an empty table.
+#[derive(Clone, Copy, Debug, PartialEq, Eq)]
+pub struct IncarnationPlan {
+    /// With which limits and how many workers.
+    pub plan: Plan,
+    /// No incarnation follows. Else an empty receive is one of the turns, so that this one ends in time.
+    pub is_last: bool,
+}
+
+impl IncarnationPlan {
+    /// Returns the plan of a site's only incarnation.
+    pub fn only(plan: Plan) -> IncarnationPlan
+        ensures { result.plan ≡ plan }
+    {
+        IncarnationPlan {
+            plan,
+            is_last: true,
+        }
+    }
+
+    /// Returns the plan of an incarnation of a site that has this one and restarts so many times: whether the search was over in an
+    /// earlier one, and whether it is the last.
+    pub fn of(plan: Plan, restarts: u8, is_over: bool, is_last: bool) -> IncarnationPlan
+        ensures { result.plan ≡ incarnation_plan plan restarts is_over }
+    {
+        let plan = Plan {
+            turns: plan.turns / (u64::from(restarts) + 1),
+            // (the registry may be gone by then, so a later incarnation doesn't wait for packets that nobody sends)
+            quiet: if is_over { 1 } else { plan.quiet },
+            ..plan
+        };
+        IncarnationPlan { plan, is_last }
+    }
+}
