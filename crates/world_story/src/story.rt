@@ -151,7 +151,7 @@ impl Story<'_> {
             WorldEvent::Greet(node) => write!(out, "node {node} greets the registry"),
             WorldEvent::Deliver(place) => self.tell_arrival(place, out),
             WorldEvent::Restart(node, incarnation) => {
-                write!(out, "node {node} begins anew, run {incarnation}")
+                write!(out, "node {node} restarts: incarnation {incarnation}")
             }
         }
     }

@@ -13,7 +13,7 @@ impl fmt::Display for SiteText {
     fn fmt<W: fmt::Write>(&self, f: &mut fmt::Formatter<W>) -> fmt::Result {
         match self.0.node {
             0 => write!(f, "registry"),
-            node => write!(f, "node {node} run {}", self.0.incarnation),
+            node => write!(f, "node {node} incarnation {}", self.0.incarnation),
         }
     }
 }
