@@ -191,10 +191,10 @@ fn greeted_twice<J: Run, C: Core + Drop, N: CellName, R: Wait>(
     greets(rt, alloc, cell, seat, 2)
 }
 
-/// Whether the first receipt is that of the book's first entry.
-fn begins<N: CellName>(receipts: &[Receipt<N>]) -> bool {
+/// Whether these are the receipts of the book's first two entries.
+fn are_first_two<N: CellName>(receipts: &[Receipt<N>]) -> bool {
     match receipts {
-        [first, ..] => first.place == 0,
+        [first, second] => first.place == 0 && second.place == 1,
         _ => false,
     }
 }
@@ -218,10 +218,10 @@ fn two<J: Run, C: Core + Drop, N: CellName, R: Wait>(
         mut receipts,
         rising,
     } = greeted_twice(rt, alloc, &cell)?;
-    let is_first = begins(&receipts);
+    let are_first = are_first_two(&receipts);
     let later = receipts.pop()?;
     let book = late_book(alloc, cell, seat, receipts, later)?;
-    Some(rising && is_first && book.site() == HERE && are_greets(book.entries()))
+    Some(rising && are_first && book.site() == HERE && are_greets(book.entries()))
 }
 
 /// The seat, where a Greet comes back since the book is full with one entry.

@@ -2,12 +2,14 @@
 //!
 //! No memory is refused here: `scripts/try_memory.py` does it from outside, and sees by marks where an event begins and ends.
 
-ghost use Rattle.std.specs.Prelude.{◌≡◌, ◌≤◌};
+ghost use Rattle.std.specs.Prelude.{◌≡◌, ◌≤◌, IfSome};
+ghost use Rattle.node_core.specs.Results.{IsRight};
 ghost use Rattle.node_core.specs.Refusal.{IsFit};
 ghost use Rattle.run_book.specs.Sites.{opening_of, IsRun, MayBeginIn};
 
 use super::cells::book_of;
-use cover_problem::{Numbers, Problem};
+use brancher::{Finding, Searcher};
+use cover_problem::{Numbers, Problem, is_prefix};
 use dlx_reader::read_problem;
 use growth_marks::{begin, end};
 use node_core::{ActFault, Core, Event, NodeCore, Reply};
@@ -15,9 +17,9 @@ use packet_wire::{Body, Packet, is_well_formed};
 use run_book::{
     BookFault, CellName, CellParts, Receipt, Run, Seat, SiteCell, cores_step_as_their_sites,
 };
-use spawn_frame::Site;
+use spawn_frame::{ChildName, Job, Site, Unit};
 use std::alloc::Global;
-use std::marker::Brand;
+use std::marker::{Brand, PhantomData};
 use std::process::Abort;
 use std::sync::Wait;
 use std::test::*;
@@ -55,6 +57,14 @@ enum Act {
     Give,
     /// Another node asks for work.
     Steal,
+    /// The root is searched with one visit, which is too little.
+    PostRoot,
+    /// The root's second child is searched, and has a cover.
+    PostChild,
+    /// The root's first child is redone.
+    Redo,
+    /// The root's frame is finished.
+    Finish,
     /// The search is over.
     Over,
 }
@@ -62,13 +72,21 @@ enum Act {
 /// What is done, how long the prefix is that is taken up, none where nothing is, and how many packets are put out.
 type Row = (Act, Option<usize>, usize);
 
-static ROWS: [Row; 9] = [
+static ROWS: [Row; 16] = [
     (Act::Greet, None, 1),
     (Act::Ask, None, 1),
     (Act::Give, None, 0),
     (Act::Take, Some(0), 0),
     (Act::Steal, None, 1),
     (Act::Again, None, 0),
+    (Act::PostRoot, None, 0),
+    // (of two children one is given away, redone, and aborted with the frame)
+    (Act::Steal, None, 1),
+    (Act::Redo, None, 0),
+    (Act::Take, Some(1), 0),
+    (Act::PostChild, None, 0),
+    (Act::Finish, None, 1),
+    (Act::Again, None, 1),
     (Act::Give, None, 0),
     (Act::Greet, None, 1),
     (Act::Over, None, 0),
@@ -92,6 +110,49 @@ fn packet_of(alloc: Global, act: Act) -> Packet {
         from,
         to: HERE,
         body,
+    }
+}
+
+/// The root as the node's guest.
+const ROOT: Unit = Unit::Guest(
+    ChildName {
+        site: REGISTRY,
+        serial: 0,
+    },
+    1,
+);
+
+/// What searches for the posts.
+#[derive(Drop)]
+struct Finder<'a, J: Run> {
+    searcher: Searcher<'a>,
+    run: PhantomData<J>,
+    ghost same: { searcher.problem ≡ J.run.problem },
+}
+
+impl<J: Run> Finder<'_, J> {
+    /// What a search of these options with so much fuel comes to; none if memory runs out.
+    fn found(&mut self, alloc: Global, options: &[u16], fuel: u64) -> Option<Finding>
+        requires { 1 ≤ fuel }
+        ensures { IfSome result (λ finding. IsRight J.run.problem finding) }
+    {
+        let mut prefix = Vec::new(alloc);
+        prefix.extend_from_slice(options).ok()?;
+        if !is_prefix(self.searcher.problem(), &prefix) {
+            return None;
+        }
+        self.searcher.find(prefix, fuel).ok()
+    }
+
+    /// The event that posts the search of a unit, so found.
+    fn post(&mut self, alloc: Global, act: Act) -> Option<Event>
+        ensures { IfSome result (λ event. IsFit J.run.problem event) }
+    {
+        let (unit, finding) = match act {
+            Act::PostRoot => (ROOT, self.found(alloc, &[], 1)?),
+            _ => (Unit::Own(1), self.found(alloc, &[3], 100)?),
+        };
+        Some(Event::Post(Job { unit, attempt: 1 }, finding))
     }
 }
 
@@ -124,12 +185,19 @@ fn does<J: Run, C: Core + Drop, N: CellName, R: Abort + Wait>(
     cell: &SiteCell<J, C, N>,
     seat: Seat<N>,
     act: Act,
+    finder: &mut Finder<'_, J>,
 ) -> Option<(Seat<N>, Receipt<N>)> {
     match act {
         Act::Greet => happens(rt, alloc, cell, seat, Event::Greet),
         Act::Ask => happens(rt, alloc, cell, seat, Event::Ask(0)),
         Act::Take => happens(rt, alloc, cell, seat, Event::Take),
         Act::Again => happens(rt, alloc, cell, seat, Event::Again),
+        Act::Redo => happens(rt, alloc, cell, seat, Event::Redo(0)),
+        Act::Finish => happens(rt, alloc, cell, seat, Event::Finish(ROOT)),
+        Act::PostRoot | Act::PostChild => {
+            let event = finder.post(alloc, act)?;
+            happens(rt, alloc, cell, seat, event)
+        }
         Act::Give | Act::Steal | Act::Over => {
             let packet = packet_of(alloc, act);
             assert!(rt; is_well_formed(&packet));
@@ -153,12 +221,13 @@ fn play_rows<J: Run, C: Core + Drop, N: CellName, R: Abort + Wait>(
     alloc: Global,
     cell: &SiteCell<J, C, N>,
     receipts: &mut Vec<Receipt<N>>,
+    finder: &mut Finder<'_, J>,
 ) -> Option<(Seat<N>, bool)> {
     let mut seat = cell.seat(rt).ok()?;
     let mut right = true;
     for row in &ROWS {
         receipts.reserve(1).ok()?;
-        let (kept, receipt) = does(rt, alloc, cell, seat, row.0)?;
+        let (kept, receipt) = does(rt, alloc, cell, seat, row.0, finder)?;
         seat = kept;
         right = right && is_told(&receipt, receipts.len() as u64, row);
         receipts.push_reserved(receipt);
@@ -172,7 +241,9 @@ fn play<J: Run, N: CellName, R: Abort + Wait>(
     alloc: Global,
     cell_parts: CellParts,
     core: NodeCore,
+    problem: &Problem,
 ) -> Option<bool>
+    requires problem { problem.now ≡ J.run.problem }
     requires here { cell_parts ≡ record { table = N.table; name = N.name } }
     requires parts { N.parts ≡ 18446744073709551615 }
     requires run { IsRun J.run }
@@ -182,8 +253,12 @@ fn play<J: Run, N: CellName, R: Abort + Wait>(
 {
     cores_step_as_their_sites();
     let cell: SiteCell<J, NodeCore, N> = SiteCell::new(cell_parts, core, 100);
+    let mut finder = Finder {
+        searcher: Searcher::new(alloc, problem).ok()?,
+        run: PhantomData,
+    };
     let mut receipts = Vec::new(alloc);
-    let (seat, right) = play_rows(rt, alloc, &cell, &mut receipts)?;
+    let (seat, right) = play_rows(rt, alloc, &cell, &mut receipts, &mut finder)?;
     let book = book_of(alloc, cell, seat, receipts)?;
     Some(right && book.entries().len() == ROWS.len())
 }
@@ -197,7 +272,7 @@ fn play_in<R: Abort + Wait>(
     problem.recall_rules();
     let cell_parts = CellParts::new(alloc)?;
     let core = NodeCore::start(alloc, problem, HERE, 2, 1000)?;
-    let right = play::<Brand, Brand, _>(rt, alloc, cell_parts, core);
+    let right = play::<Brand, Brand, _>(rt, alloc, cell_parts, core, problem);
     Ok(right)
 }
 

@@ -6,7 +6,7 @@ use self::Hand::{Ask, Node, Post, Root, Take};
 use super::said::Comes::{Ignored, Moved, Taken};
 use super::said::{Comes, Said, are_sent, has_come};
 use brancher::Searcher;
-use cover_problem::{Problem, is_prefix};
+use cover_problem::{Answer, Problem, is_prefix};
 use dlx_reader::read_problem;
 use node_core::{ActFault, Core, Event, NodeCore, Reply};
 use packet_wire::{Packet, is_well_formed};
@@ -165,5 +165,8 @@ static NONE_IS_FOUND: [Row; 9] = [
 fn a_search_from_core_to_core(rt: HostRuntime) {
     let alloc = rt.alloc();
     let read = read_problem(alloc, ONE_ITEM.as_bytes()).expect(&rt, "a problem");
-    Stage::new(&rt, alloc, &read.problem).play(&rt, &NONE_IS_FOUND);
+    let mut stage = Stage::new(&rt, alloc, &read.problem);
+    assert!(rt; stage.registry.published().is_none());
+    stage.play(&rt, &NONE_IS_FOUND);
+    assert!(rt; matches!(stage.registry.published(), Some(Answer::NoCover)));
 }

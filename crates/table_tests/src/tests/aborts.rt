@@ -156,3 +156,53 @@ fn what_is_below_two_units_is_reached_once(rt: HostRuntime) {
     let reach = Descendants::below(rt.alloc(), &table, &[Own(0)]).expect(&rt, "memory");
     assert!(rt; reach.outs(&table) == 1);
 }
+
+/// A guest with children 0 and 1, of which 1 was taken up and split first: below 1 is 2, below 0 is 3. 3 is given away, then 2.
+fn one_child_each<R: Abort>(rt: &R, alloc: Global) -> Table {
+    let mut table = Table::start(alloc, HERE, 4);
+    assert!(rt; table.unit(Guest(ROOT, 1)).is_none());
+    table
+        .admit(ROOT, 1, list(rt, alloc, &[]))
+        .expect(rt, "memory");
+    split(rt, &mut table, Guest(ROOT, 1), &[0, 1]);
+    split(rt, &mut table, Own(1), &[4]);
+    assert!(rt; is_ready(&table, Own(0)));
+    table.take_up(Own(0));
+    assert!(rt; is_here(&table, Own(0)));
+    table.spawn(Own(0), &[5]).expect(rt, "memory");
+    assert!(rt; is_ready(&table, Own(3)));
+    table.give(3, THIEF);
+    assert!(rt; is_ready(&table, Own(2)));
+    table.give(2, THIEF);
+    table
+}
+
+/// The two that are out there, by serial.
+const LAST_TWO: [Out; 2] = [
+    Out {
+        serial: 2,
+        attempt: 1,
+        thief: THIEF,
+    },
+    Out {
+        serial: 3,
+        attempt: 1,
+        thief: THIEF,
+    },
+];
+
+#[test]
+fn an_abort_lists_by_serial_what_was_given_in_another_order(rt: HostRuntime) {
+    let mut table = one_child_each(&rt, rt.alloc());
+    assert!(rt; table.children(Own(1)) == Serials { first: 2, end: 3 });
+    assert!(rt; table.children(Own(0)) == Serials { first: 3, end: 4 });
+    let mut outs = Vec::new(rt.alloc());
+    abort_below(rt.alloc(), &mut table, Guest(ROOT, 1), &mut outs).expect(&rt, "memory");
+    assert!(rt;
+        is_left(
+            &table,
+            &outs,
+            (&[Aborted, Aborted, Aborted, Aborted], &LAST_TWO)
+        )
+    );
+}

@@ -1,6 +1,6 @@
 //! Whole runs of worlds of two nodes; what is expected is worked out by hand from the rules of the protocol.
 
-use self::Step::{Finds, Happens, Holds, Publishes};
+use self::Step::{Finds, Happens, Holds, Incarnations, Publishes};
 use super::said::Comes::{Fault, Ignored, Moved, Ripe, Taken};
 use super::said::Held::{Aborted, Done, Dropped, Finished, Out, Ready, Settled};
 use super::said::Said::{
@@ -116,6 +116,8 @@ pub enum Step {
     Holds(u8, Unit, Attempt, Held),
     /// The registry publishes a cover, or that there is none, or nothing yet.
     Publishes(Option<Came>),
+    /// The nodes are in these incarnations.
+    Incarnations(u32, u32),
     /// At the node the least unit that is here, the frame that is ripe, and the least child that is out are these.
     Finds(u8, Option<Job>, Option<Unit>, Option<u32>),
 }
@@ -136,6 +138,11 @@ pub fn are_sent(world: &World<'_>, first: usize, packets: &[Sent]) -> bool {
     true
 }
 
+/// Whether there are two nodes, in these incarnations.
+fn are_incarnations(world: &World<'_>, first: u32, second: u32) -> bool {
+    world.nodes() == 2 && world.incarnation(1) == first && world.incarnation(2) == second
+}
+
 /// Whether a step goes as it says.
 pub fn goes(world: &mut World<'_>, step: Step) -> bool {
     match step {
@@ -149,6 +156,7 @@ pub fn goes(world: &mut World<'_>, step: Step) -> bool {
             None => false,
         },
         Publishes(expected) => is_published(world.published(), expected),
+        Incarnations(first, second) => are_incarnations(world, first, second),
         Finds(node, here, ripe, out) => {
             world.here(node) == here && world.ripe(node) == ripe && world.out(node) == out
         }
@@ -201,6 +209,7 @@ pub static NO_COVER: &[Step] = &[
         &[(NODE_1, REGISTRY, Return(0, 1, None))],
     ),
     Holds(1, ROOT, 1, Finished(None)),
+    Publishes(None),
     Happens(
         Deliver(2),
         Moved,
@@ -210,6 +219,7 @@ pub static NO_COVER: &[Step] = &[
             (REGISTRY, NODE_2, Over),
         ],
     ),
+    Publishes(Some(None)),
     Holds(0, Unit::Own(0), 1, Done(None)),
     Happens(Deliver(2), Moved, &[(REGISTRY, NODE_1, Accept(0, 1, None))]),
     Holds(0, Unit::Own(0), 1, Done(None)),
@@ -407,7 +417,9 @@ pub static LATE_RESULT: &[Step] = &[
 
 /// The thief restarts before its result comes.
 pub static THIEF_ANEW: &[Step] = &[
+    Incarnations(1, 1),
     Happens(Restart(2, 2), Moved, &[]),
+    Incarnations(1, 2),
     Happens(Greet(2), Moved, &[(NODE_2_ANEW, REGISTRY, Hello)]),
     Happens(
         Deliver(5),
@@ -432,10 +444,16 @@ pub static THIEF_ANEW: &[Step] = &[
 /// Events without a step, each of which leaves the world as it was.
 static REFUSED: &[Step] = &[
     Happens(Greet(3), Fault(NoSuchNode), &[]),
+    Holds(0, Unit::Own(0), 1, Ready),
     Happens(Deliver(0), Fault(NoSuchPacket), &[]),
+    Holds(0, Unit::Own(0), 1, Ready),
     Happens(Restart(1, 1), Fault(OldIncarnation), &[]),
+    Incarnations(1, 1),
     Happens(Restart(0, 2), Fault(OldIncarnation), &[]),
+    Incarnations(1, 1),
+    Holds(0, Unit::Own(0), 1, Ready),
     Happens(Restart(3, 2), Fault(NoSuchNode), &[]),
+    Incarnations(1, 1),
     Happens(Post(0, FIRST_JOB, 1), Fault(Core(OtherSite)), &[]),
     Happens(Post(1, ROOT_JOB, 1), Fault(Core(StaleJob)), &[]),
     Holds(0, Unit::Own(0), 1, Ready),
