@@ -45,9 +45,9 @@ REFUSED_IN_COMMENTS = ("anew", "want of", "tells whether", "tells of", "told by"
 COMMENT_MARKS = {".rt": "//", ".antt": "--"}
 # how many words a page may have, and the pages of all crates together
 LIMITS = {
-    "README.md": 1050, "CONTRIBUTING.md": 1100, "docs/MACHINES.md": 750, "python/README.md": 1000,
+    "README.md": 1060, "CONTRIBUTING.md": 1100, "docs/MACHINES.md": 750, "python/README.md": 1000,
     "docs/PROMISES.md": 1000, "docs/PROTOCOL.md": 2400, "docs/SOLVE.md": 2000, "docs/DEFINITIONS.md": 600, "docs/GATE.md": 450,
-    "docs/DECISIONS.md": 3300, "docs/FORMAT.md": 1300, "docs/SIMULATE.md": 800, "docs/TOUR.md": 2300,
+    "docs/DECISIONS.md": 4300, "docs/FORMAT.md": 1300, "docs/SIMULATE.md": 800, "docs/TOUR.md": 2300,
     "bench/README.md": 2200, "bench/REASONS.md": 900, "bench/TRIED.md": 600, "examples/README.md": 2600,
 }
 CRATE_LIMIT, CRATES_LIMIT = 750, 8000
