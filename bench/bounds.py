@@ -6,7 +6,7 @@
 Each bound is one on a ratio of two figures that are measured here, or on the memory of an entry, so it is the same on all machines. Those that are
 named, or all, are measured:
 
-- `audit-length`: with which power of the entries the seconds of an audit grow, between some 2,000 and 10,000 of them: it finds packets by an index;
+- `audit-length`: with which power of the entries the seconds of an audit grow, between some 8,000 and 70,000 of them: it finds packets by an index;
 - `audit-books`: the seconds of an audit for each of some 10,000 entries of 17 books, to those of five: it follows the books that wait for
   one another;
 - `idle-entries`: the bytes that a book takes for an entry of a site without work: such entries share a step;
@@ -71,7 +71,7 @@ def audited(folder: str, rows: int, nodes: int) -> tuple[int, float]:
 
 
 def audit_length(folder: str) -> float:
-    (few, least), (many, most) = audited(folder, 8, 4), audited(folder, 10, 4)
+    (few, least), (many, most) = audited(folder, 10, 4), audited(folder, 12, 4)
     return math.log(most / least) / math.log(many / few)
 
 
@@ -114,7 +114,7 @@ class Bound(NamedTuple):
 
 
 BOUNDS = {
-    "audit-length": Bound(audit_length, 1.5, audits.PROGRAM, "audit_trials"),
+    "audit-length": Bound(audit_length, 1.75, audits.PROGRAM, "audit_trials"),
     "audit-books": Bound(audit_books, 2, audits.PROGRAM, "audit_trials"),
     "idle-entries": Bound(idle_entries, 64, WORKBENCH, "workbench"),
     "only-worker": Bound(only_worker, 4, RUN_TALLY, "run_tally"),
