@@ -1,5 +1,5 @@
 #!/usr/bin/env python3
-"""Attacks a running `solve` from sockets that are none of its own, and says whether its answers stay right.
+"""Attacks a running `solve` from sockets that are none of its own, and says whether its answers stay right: a run hears only what carries its key.
 
     python3 scripts/try_strangers.py [--times N] [--limit SECONDS] [--length SECONDS] [--program PATH] [--problem FILE] [--only NAME] [--audit]
 
@@ -7,10 +7,12 @@ The ports of a run are in /proc/net/udp, which every process of the machine may 
 formed and with the names that sites of a run have, for a second from the run's begin, or until its end: that a node asks for work and found
 the root without a cover (`steal and return`), that the search is over (`over`), that the root is given up (`abort`), that sites have
 restarted with the greatest incarnation (`hello`, `members`), one byte (`a byte now and then`), the same as fast as it goes (`flood of
-bytes`), and packets of random bytes (`flood of noise`). Two more send what `steal and return` does: from 127.0.0.2, by the port of a site
-(`from another host`), and before the run has all its sockets, from ports that it binds a moment later (`before all are bound`): that one is in a
-network namespace with eight ports, and left out where no such namespace can be had. Where no problem is named, it is one with a cover that
-takes hundredths to tenths of a second to find, so that there is time for an attack.
+bytes`), and packets of random bytes (`flood of noise`). Three more send what `steal and return` does: from 127.0.0.2, by the port of a site
+(`from another host`), the same with the source 127.0.0.1, which any process may name (`forged source`), and before the run has all its sockets, from
+ports that it binds a moment later (`before all are bound`): that one is in a network namespace with eight ports, and left out where no such
+namespace can be had. The first and the last of these three were of use only while runs compared addresses. One more sends all that an earlier run sent, with its codes (`replay`): it listens on
+the loopback, so it is left out where that isn't allowed. Where no problem is named, it is one with a cover that takes hundredths to tenths of a
+second to find, so that there is time for an attack.
 
 A table tells, attack by attack, how many runs were right, without an answer, wrong, or given up, the least, the middle and the greatest time
 in seconds, and how many packets strangers sent in all; the first line is of runs that nobody attacks. With --audit each run is audited, and
@@ -46,10 +48,14 @@ from built import number_from_one, parser_of, SOLVE_CLI, want_program, path_of
 Site = tuple[int, int]
 Run = subprocess.Popen[str]
 Attack = Callable[[], Iterable[bytes]]
+Send = Callable[[socket.socket, bytes, int], None]
 
 NODES = 4
 HERE, OTHER_HOST = "127.0.0.1", "127.0.0.2"
-EARLY = "before all are bound"
+EARLY, REPLAY = "before all are bound", "replay"
+# the control message by which a datagram names its source: an interface, a source and a destination
+PKTINFO, IP_PKTINFO = struct.Struct("=I4s4s"), 8
+ETHERNET_IP = 0x0800
 # the ports of a namespace, and how many strangers there bind one after the other: a run needs the five that are left
 FEW_PORTS, KNOCKERS = range(40000, 40008), 3
 GREATEST = 2**32 - 1
@@ -104,7 +110,17 @@ def noise() -> list[bytes]:
     return [random.randbytes(random.randrange(1, 200)) for _ in range(20)]
 
 
-# what is sent, and how long the sender waits between two rounds, in seconds
+def forged_source(own: socket.socket, datagram: bytes, port: int) -> None:
+    """Sends a datagram to a port of this host, with this host as its source."""
+    info = PKTINFO.pack(0, socket.inet_aton(HERE), bytes(4))
+    own.sendmsg([datagram], [(socket.IPPROTO_IP, IP_PKTINFO, info)], 0, (HERE, port))
+
+
+def plain_source(own: socket.socket, datagram: bytes, port: int) -> None:
+    own.sendto(datagram, (HERE, port))
+
+
+# what is sent, and how long the sender waits between two rounds, in seconds; from which host, and how
 ATTACKS: dict[str, tuple[Any, ...]] = {
     "steal and return": (steal_and_return, 0.001),
     "over": (over, 0.001),
@@ -115,6 +131,7 @@ ATTACKS: dict[str, tuple[Any, ...]] = {
     "flood of bytes": (lambda: [b"x"], 0),
     "flood of noise": (noise, 0),
     "from another host": (steal_and_return, 0.001, OTHER_HOST),
+    "forged source": (steal_and_return, 0.001, OTHER_HOST, forged_source),
 }
 
 
@@ -133,7 +150,7 @@ def ports(pid: int) -> list[int]:
     return [int(row[1].split(":")[1], 16) for row in rows if row[9] in inodes]
 
 
-def attack(sent: collections.Counter[str], run: Run, seconds: float, attack_of: Attack, pause: float, host: str = HERE) -> None:
+def attack(sent: collections.Counter[str], run: Run, seconds: float, attack_of: Attack, pause: float, host: str = HERE, send: Send = plain_source) -> None:
     """Sends the attack's packets to all ports of the run, for so many seconds or until it ends, and counts them in `sent`; from another host
     by the port of one of its sites."""
     own = socket.socket(socket.AF_INET, socket.SOCK_DGRAM)
@@ -149,13 +166,36 @@ def attack(sent: collections.Counter[str], run: Run, seconds: float, attack_of: 
         for datagram in attack_of():
             for port in targets:
                 try:
-                    own.sendto(datagram, (HERE, port))
+                    send(own, datagram, port)
                     sent["packets"] += 1
                 except OSError:
                     pass
         if pause and len(targets) > NODES:
             time.sleep(pause)
     own.close()
+
+
+def overheard(given: argparse.Namespace) -> Optional[list[bytes]]:
+    """What the sites of a run sent one another, as one hears it who listens on the loopback; None where that isn't allowed."""
+    try:
+        ear = socket.socket(socket.AF_PACKET, socket.SOCK_DGRAM, socket.htons(ETHERNET_IP))
+    except PermissionError:
+        return None
+    with ear:
+        ear.bind(("lo", 0))
+        ear.settimeout(0.2)
+        ear.setsockopt(socket.SOL_SOCKET, socket.SO_RCVBUF, 1 << 22)
+        one_run(given, None, 1)
+        datagrams = list[bytes]()
+        try:
+            while len(datagrams) < 10_000:
+                frame = ear.recv(65_536)
+                head = 4 * (frame[0] & 15)
+                if frame[9] == socket.IPPROTO_UDP:
+                    datagrams.append(frame[head + 8:])
+        except TimeoutError:
+            pass
+    return datagrams
 
 
 def knock(end: Event, sent: Any) -> None:
@@ -273,6 +313,19 @@ def row(given: argparse.Namespace, name: Optional[str], answer_file: str) -> boo
     return counts["wrong"] == counts["given up"] == 0 and (sent if name else counts["right"]) > 0
 
 
+def trial(given: argparse.Namespace, name: Optional[str], answer_file: str) -> bool:
+    """Whether the runs under this attack went as they had to; so they do where it can't be tried."""
+    if name == EARLY:
+        return in_namespace(given)
+    if name == REPLAY:
+        datagrams = overheard(given)
+        if not datagrams:
+            print(f"{REPLAY}: not tried, nobody may listen on the loopback", flush=True)
+            return True
+        ATTACKS[REPLAY] = (lambda: datagrams, 0.001)
+    return row(given, name, answer_file)
+
+
 def main() -> None:
     parser = parser_of(__doc__)
     parser.add_argument("--times", type=number_from_one, default=20, help="how often each attack is tried (default 20)")
@@ -280,7 +333,7 @@ def main() -> None:
     parser.add_argument("--length", type=float, default=1, help="for how many seconds a run is attacked (default 1)")
     parser.add_argument("--program", type=path_of, default=SOLVE_CLI, help="the program, in place of the built one")
     parser.add_argument("--problem", help="a file with a cover (default: one of 165 items)")
-    parser.add_argument("--only", choices=[*ATTACKS, EARLY], help="this attack alone")
+    parser.add_argument("--only", choices=[*ATTACKS, REPLAY, EARLY], help="this attack alone")
     parser.add_argument("--inside", action="store_true", help=argparse.SUPPRESS)
     parser.add_argument("--audit", action="store_true", help="audit each run")
     given = parser.parse_args()
@@ -290,14 +343,14 @@ def main() -> None:
         with tempfile.TemporaryDirectory() as folder:
             sys.exit(0 if row(given, EARLY, os.path.join(folder, "answer")) else 1)
     print(f"{'attack':<22}", *[f"{word:>10}" for word in columns(given)], "   least   middle greatest   packets", flush=True)
-    names = [given.only] if given.only else [None, *ATTACKS, EARLY]
+    names = [given.only] if given.only else [None, *ATTACKS, REPLAY, EARLY]
     with tempfile.TemporaryDirectory() as folder:
         if not given.problem:
             given.problem = os.path.join(folder, "planted.dlx")
             with open(given.problem, "w") as opened:
                 opened.write(planted())
         answer = os.path.join(folder, "answer")
-        good = [in_namespace(given) if name == EARLY else row(given, name, answer) for name in names]
+        good = [trial(given, name, answer) for name in names]
     sys.exit(0 if all(good) else 1)
 
 

@@ -32,13 +32,10 @@ use std::process::ExitCode;
 use std::sync::Wait;
 use std::thread::Threads;
 use std::time::Clock;
-use udp_node::Plan;
+use udp_node::{Plan, Timing};
 
 /// How it is called.
 const USAGE: &str = "audit_trials FILE NODES WORKERS SEED FUEL TURNS CHANGES|time|nothing";
-
-/// After how many receives in a row without a packet a site gives up: a receive in memory takes a fraction of a millisecond.
-const QUIET: u64 = 1_000_000;
 
 /// The plan of a run that the numbers spell.
 fn plan_of(nodes: &str, workers: &str, seed: &str, fuel: &str, turns: &str) -> Option<Plan>
@@ -54,7 +51,7 @@ fn plan_of(nodes: &str, workers: &str, seed: &str, fuel: &str, turns: &str) -> O
         fuel: fuel.parse::<u64>().ok()?,
         seed: seed.parse::<u64>().ok()?,
         turns: turns.parse::<u64>().ok()?,
-        quiet: QUIET,
+        timing: Timing::USUAL,
         entries: 1_000_000,
     })
 }

@@ -9,7 +9,7 @@ use spawn_frame::Job;
 use std::alloc::{AllocError, Global};
 use std::sync::atomic::{AtomicU64, Ordering};
 use std::sync::{Mutex, Wait};
-use std::time::{Clock, Duration};
+use std::time::Clock;
 use udp_node::{Gate, SiteEnd};
 
 /// A gate that lets all pass, and meanwhile writes now and then how far the run has come: of the tree, what is below prefixes that were
@@ -38,12 +38,11 @@ struct State<'a, E: Sink> {
 }
 
 impl<'a, E: Sink, R: Wait + Clock> FollowedRun<'a, E, R> {
-    /// A gate of a run that begins now and lasts so long at most, if it is limited. The only error is out of memory.
+    /// A gate of a run that begins now. The only error is out of memory.
     pub fn new(
         rt: &'a R,
         alloc: Global,
         problem: &'a Problem,
-        limit: Option<Duration>,
         log: ProgressLog<'a, E>,
     ) -> Result<FollowedRun<'a, E, R>, AllocError> {
         let estimate = TreeEstimate::new(alloc, problem)?;
@@ -55,7 +54,7 @@ impl<'a, E: Sink, R: Wait + Clock> FollowedRun<'a, E, R> {
             share: 0,
             jobs: 0,
             is_over: false,
-            reasons: Reasons::new(rt, limit),
+            reasons: Reasons::new(),
         };
         Ok(FollowedRun {
             rt,
@@ -161,7 +160,7 @@ impl<'a, E: Sink, R: Wait + Clock> Gate for FollowedRun<'a, E, R> {
         let mut state = self.state.lock(self.rt);
         state.end();
         if !is_answered {
-            let reason = state.reasons.told(self.rt);
+            let reason = state.reasons.reason();
             state.log.write_reason(reason);
         }
     }

@@ -14,7 +14,7 @@ mod solve;
 pub use audited::{AuditFinding, write_audited};
 pub use followed_run::FollowedRun;
 pub use machine::Machine;
-pub use network::{Loopback, Network};
+pub use network::{Loopback, Network, NetworkFault};
 pub use quiet_run::QuietRun;
 pub use search_engines::{
     AloneEnd, CheckEnd, EngineEnd, EngineFault, LineStyle, Progress, ProgressLog, Remembered,

@@ -1,12 +1,13 @@
 //! `solve`: from the bytes of a problem's file to the bytes of the answer.
 
-ghost use Rattle.std.specs.Prelude.{◌≡◌, ◌+◌, ◌-◌, ◌<◌, ◌^◌, ◌⊎◌, List, ℕ, vec_len, IfSome};
-ghost use Rattle.cover_engines.specs.Solve.{EndsAs, SolveSays};
+ghost use Rattle.std.specs.Prelude.{◌≡◌, ◌+◌, ◌-◌, ◌*◌, ◌<◌, ◌^◌, List, ℕ, option_map, vec_len, IfSome, MatchOption};
+ghost use Rattle.std.specs.Duration.{as_nanos};
+ghost use Rattle.cover_engines.specs.Solve.{unlinked_status, EndsAs, SolveSays};
 ghost use Rattle.dlx_reader.specs.ProblemOf.{IsProblemOf};
 ghost use Rattle.search_engines.specs.Output.{IsOutputOf};
 
 use crate::followed_run::FollowedRun;
-use crate::network::Network;
+use crate::network::{Network, NetworkFault};
 use crate::quiet_run::QuietRun;
 use crate::solve::{SolveTask, solve_problem};
 use dlx_reader::{Read, Sink, Source};
@@ -15,7 +16,6 @@ use search_engines::{
     EngineFault, LineStyle, ProgressLog, read_whole, tell, tell_fault, tell_fault_of, tell_unbound,
 };
 use std::alloc::Global;
-use std::io::{self, ErrorKind};
 use std::sync::Wait;
 use std::thread::Threads;
 use std::time::{Clock, Duration};
@@ -41,7 +41,7 @@ impl<N: Network, R: Threads + Wait + Clock + Sync> Machine<'_, N, R> {
     /// the sink failed a beginning of the text was written, else nothing. The links are had before any thread starts. What is
     /// wrong, how many options were ignored, and how far the search is, if the request has it so, is written to the other sink, whose faults
     /// are passed over.
-    #[tactic(auto, using(crate::proofs::Ends::ends_unread))]
+    #[tactic(auto, using(crate::proofs::Ends::ends_unread, crate::proofs::Ends::ends_read))]
     pub fn solve<S: Source, W: Sink, E: Sink + Send>(
         &self,
         request: &Request<'_>,
@@ -52,8 +52,9 @@ impl<N: Network, R: Threads + Wait + Clock + Sync> Machine<'_, N, R> {
         requires source { S.failed source.old < 2 ^ 64 - 1 }
         requires sink { W.failed sink.old < 2 ^ 64 - 1 }
         ensures { IfSome (S.remaining source.old) (λ text. EndsAs
-            (SolveSays request.now.settings) text (W.contents sink.old) (W.contents sink.new)
-            result) }
+            (SolveSays request.now.settings) (N.has_refused self.now.network request.now.settings.nodes)
+            (S.failed source.old < S.failed source.new) (W.failed sink.old < W.failed sink.new)
+            text (W.contents sink.old) (W.contents sink.new) result) }
     {
         match read_whole(self.alloc, source) {
             Ok(read) => self.solve_read(request, &read, sink, errors),
@@ -72,12 +73,13 @@ impl<N: Network, R: Threads + Wait + Clock + Sync> Machine<'_, N, R> {
     ) -> u8
         requires { W.failed sink.old < 2 ^ 64 - 1 }
         ensures { (text : List ℕ) → IsProblemOf text read.now.problem read.now.ignored → EndsAs
-            (SolveSays request.now.settings) text (W.contents sink.old) (W.contents sink.new)
-            result }
+            (SolveSays request.now.settings) (N.has_refused self.now.network request.now.settings.nodes)
+            ⊥ (W.failed sink.old < W.failed sink.new)
+            text (W.contents sink.old) (W.contents sink.new) result }
     {
         let links = match self.network.links(self.alloc, request.settings.nodes) {
             Ok(links) => links,
-            Err(error) => return tell_unlinked(&error, errors),
+            Err(fault) => return tell_unlinked(fault, errors),
         };
         match self.search(request, read, links, sink, errors) {
             Ok(status) => status,
@@ -97,8 +99,9 @@ impl<N: Network, R: Threads + Wait + Clock + Sync> Machine<'_, N, R> {
     ) -> Result<u8, EngineFault>
         requires links { vec_len links ≡ request.now.settings.nodes + 1 }
         requires sink { W.failed sink.old < 2 ^ 64 - 1 }
-        ensures { IsOutputOf (SolveSays request.now.settings read.now.problem)
+        ensures output { IsOutputOf (SolveSays request.now.settings read.now.problem)
             (W.contents sink.old) (W.contents sink.new) result }
+        ensures failed { result ≡ Err EngineFault.Write → W.failed sink.old < W.failed sink.new }
     {
         if request.progress {
             self.search_followed(request, read, links, sink, errors)
@@ -119,11 +122,12 @@ impl<N: Network, R: Threads + Wait + Clock + Sync> Machine<'_, N, R> {
     ) -> Result<u8, EngineFault>
         requires links { vec_len links ≡ request.now.settings.nodes + 1 }
         requires sink { W.failed sink.old < 2 ^ 64 - 1 }
-        ensures { IsOutputOf (SolveSays request.now.settings read.now.problem)
+        ensures output { IsOutputOf (SolveSays request.now.settings read.now.problem)
             (W.contents sink.old) (W.contents sink.new) result }
+        ensures failed { result ≡ Err EngineFault.Write → W.failed sink.old < W.failed sink.new }
     {
         let task = task_of(request, read);
-        let quiet = QuietRun::new(self.rt, task.limit);
+        let quiet = QuietRun::new(self.rt);
         let solved = solve_problem(self.rt, self.alloc, task, links, &quiet, sink);
         if let Ok(status) = &solved {
             tell(*status, read.ignored, errors);
@@ -144,13 +148,14 @@ impl<N: Network, R: Threads + Wait + Clock + Sync> Machine<'_, N, R> {
     ) -> Result<u8, EngineFault>
         requires links { vec_len links ≡ request.now.settings.nodes + 1 }
         requires sink { W.failed sink.old < 2 ^ 64 - 1 }
-        ensures { IsOutputOf (SolveSays request.now.settings read.now.problem)
+        ensures output { IsOutputOf (SolveSays request.now.settings read.now.problem)
             (W.contents sink.old) (W.contents sink.new) result }
+        ensures failed { result ≡ Err EngineFault.Write → W.failed sink.old < W.failed sink.new }
     {
         let (rt, alloc) = (self.rt, self.alloc);
         let task = task_of(request, read);
         let log = ProgressLog::new(&mut *errors, self.lines);
-        let Ok(followed) = FollowedRun::new(rt, alloc, task.problem, task.limit, log) else {
+        let Ok(followed) = FollowedRun::new(rt, alloc, task.problem, log) else {
             return Err(EngineFault::Memory);
         };
         let solved = solve_problem(rt, alloc, task, links, &followed, sink);
@@ -176,18 +181,27 @@ fn task_of<'a>(request: &'a Request<'_>, read: &'a Read) -> SolveTask<'a>
 }
 
 /// How long a run may last, if it is limited.
-fn limit_of(request: &Request<'_>) -> Option<Duration> {
+fn limit_of(request: &Request<'_>) -> Option<Duration>
+    ensures { MatchOption result (request.now.seconds ≡ None)
+        (λ limit. option_map (λ seconds. seconds * 1000000000) request.now.seconds ≡ Some (as_nanos limit)) }
+{
     let seconds = request.seconds?;
     Some(Duration::from_secs(u64::from(seconds)))
 }
 
-/// Reports that no links could be had, and returns the exit status: 5 if memory ran out, else 3.
-fn tell_unlinked<E: Sink>(error: &io::Error, errors: &mut E) -> u8
-    ensures { (result ≡ 3) ⊎ (result ≡ 5) }
+/// Reports why no links could be had, and returns the exit status: 5 if memory ran out, else 3.
+fn tell_unlinked<E: Sink>(fault: NetworkFault, errors: &mut E) -> u8
+    ensures { result ≡ unlinked_status fault }
 {
-    if error.kind() == ErrorKind::OutOfMemory {
-        tell_fault(&EngineFault::Memory, errors)
-    } else {
-        tell_unbound(errors)
+    match fault {
+        NetworkFault::Memory => tell_fault(&EngineFault::Memory, errors),
+        NetworkFault::NoSockets => tell_unbound(errors),
+        NetworkFault::NoKey => {
+            let _ = writeln!(
+                errors,
+                "cannot draw a key: the system gives no random bytes"
+            );
+            3
+        }
     }
 }

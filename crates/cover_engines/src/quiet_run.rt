@@ -4,12 +4,11 @@ use crate::reasons::Reasons;
 use dlx_reader::Sink;
 use spawn_frame::Job;
 use std::sync::{Mutex, Wait};
-use std::time::{Clock, Duration};
 use udp_node::{Gate, SiteEnd};
 
 /// A gate that lets all pass, and keeps why a run ended without an answer.
 #[derive(Drop)]
-pub struct QuietRun<'a, R: Wait + Clock> {
+pub struct QuietRun<'a, R: Wait> {
     rt: &'a R,
     state: Mutex<Heard>,
 }
@@ -22,11 +21,11 @@ struct Heard {
     told: Option<&'static str>,
 }
 
-impl<'a, R: Wait + Clock> QuietRun<'a, R> {
-    /// A gate of a run that begins now and lasts so long at most, if it is limited.
-    pub fn new(rt: &'a R, limit: Option<Duration>) -> QuietRun<'a, R> {
+impl<'a, R: Wait> QuietRun<'a, R> {
+    /// A gate of a run that hasn't begun.
+    pub fn new(rt: &'a R) -> QuietRun<'a, R> {
         let heard = Heard {
-            reasons: Reasons::new(rt, limit),
+            reasons: Reasons::new(),
             told: None,
         };
         QuietRun {
@@ -48,7 +47,7 @@ impl<'a, R: Wait + Clock> QuietRun<'a, R> {
     }
 }
 
-impl<'a, R: Wait + Clock> Gate for QuietRun<'a, R> {
+impl<'a, R: Wait> Gate for QuietRun<'a, R> {
     fn pass(&self, _worker: u8, _job: &Job) -> bool {
         true
     }
@@ -62,8 +61,7 @@ impl<'a, R: Wait + Clock> Gate for QuietRun<'a, R> {
     fn finished(&self, is_answered: bool) {
         let mut state = self.state.lock(self.rt);
         if !is_answered {
-            // (asked now: the time that an audit takes after this is no time of the run)
-            state.told = Some(state.reasons.told(self.rt));
+            state.told = Some(state.reasons.reason());
         }
     }
 }

@@ -1,27 +1,18 @@
 //! Why a run has no answer.
 
-use search_engines::Stopwatch;
-use std::time::{Clock, Duration};
 use udp_node::{EndCause, SiteEnd};
 
-/// Why a run has no answer, as far as the ends of its sites show it.
+/// Why a run has no answer, as the end of the site shows it with which the run ended.
 #[derive(Clone, Copy)]
 pub(crate) struct Reasons {
-    /// How long the run may last, if it is limited.
-    limit: Option<Duration>,
-    began: Stopwatch,
-    /// Why the site ended with which the run ended, if the search was not over.
+    /// Why the first site ended that didn't end with the search, if one did.
     first: Option<&'static str>,
 }
 
 impl Reasons {
-    /// Of a run that begins now and lasts so long at most, if it is limited.
-    pub(crate) fn new<C: Clock>(clock: &C, limit: Option<Duration>) -> Reasons {
-        Reasons {
-            limit,
-            began: Stopwatch::new(clock),
-            first: None,
-        }
+    /// Of a run in which no site has ended.
+    pub(crate) fn new() -> Reasons {
+        Reasons { first: None }
     }
 
     /// Notes that a site has ended so. The first that didn't end with the search is kept, since the others end because of it.
@@ -31,22 +22,10 @@ impl Reasons {
         }
     }
 
-    /// Why there is no answer, with what may give one: the limit of the run's time, or how the first site ended.
-    pub(crate) fn told<C: Clock>(&self, clock: &C) -> &'static str {
-        match self.first {
-            // (before the causes of sites: those that the limit ends would say that their turns are over)
-            _ if self.is_late(clock) => "the time is over: try more --seconds",
-            Some(reason) => reason,
-            None => "nothing was published: try again, or alone",
-        }
-    }
-
-    /// Whether the run has lasted as long as it may.
-    fn is_late<C: Clock>(&self, clock: &C) -> bool {
-        match (self.limit, self.began.elapsed(clock)) {
-            (Some(limit), Some(elapsed)) => elapsed >= limit,
-            _ => false,
-        }
+    /// Why there is no answer, with what may give one.
+    pub(crate) fn reason(&self) -> &'static str {
+        self.first
+            .unwrap_or("nothing was published: try again, or alone")
     }
 }
 
@@ -58,6 +37,7 @@ fn reason_of(end: &SiteEnd) -> &'static str {
         EndCause::Faults => "a socket failed: try again, or alone",
         EndCause::Memory => "out of memory: try fewer --nodes or --workers",
         EndCause::Silence => "a site heard nothing for long: try again, or alone",
+        EndCause::Time => "the time is over: try more --seconds",
         EndCause::Turns if !end.is_manned => {
             "a thread could not be started: try fewer --nodes or --workers"
         }

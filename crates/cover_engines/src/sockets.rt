@@ -2,6 +2,7 @@
 
 ghost use Rattle.std.specs.Prelude.{◌≡◌, ◌+◌, vec_len, IfOk};
 
+use run_key::RunKey;
 use std::alloc::Global;
 use std::io;
 use std::net::{Net, UdpSocket};
@@ -10,13 +11,12 @@ use udp_node::{Sockets, UdpLink, bound};
 
 /// The ends of the registry and of so many nodes, each with a socket of its own on 127.0.0.1. The errors are the system's, and
 /// `OutOfMemory`.
-pub fn links<R: Net>(rt: &R, alloc: Global, nodes: u8) -> io::Result<Vec<UdpLink>>
+pub fn links<R: Net>(rt: &R, alloc: Global, nodes: u8, key: RunKey) -> io::Result<Vec<UdpLink>>
     ensures { IfOk result (λ links. vec_len links ≡ nodes + 1) }
 {
     let count = usize::from(nodes) + 1;
     let sockets = sockets(rt, alloc, count)?;
-    // (shared by all links, so that no port is free for another process before the last of them is gone)
-    let sockets = Arc::new(alloc, Sockets::new(alloc, sockets)?)?;
+    let sockets = Arc::new(alloc, Sockets::new(alloc, sockets, key)?)?;
     let mut links = Vec::with_capacity(alloc, count)?;
     for site in 0..count {
         // (no site has a number above that of the nodes, which has eight bits)

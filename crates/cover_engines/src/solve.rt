@@ -18,10 +18,7 @@ use std::marker::Brand;
 use std::sync::Wait;
 use std::thread::Threads;
 use std::time::{Clock, Duration};
-use udp_node::{EndCause, Gate, Link, Plan, RunPlan, SiteEnd, run_sites};
-
-/// After how many receives a site gives up that brought it no packet, or a node none of the registry.
-const QUIET: u64 = 6_000;
+use udp_node::{EndCause, Gate, Link, Plan, RunPlan, SiteEnd, Timing, run_sites};
 
 /// A problem that sites are to search, and how.
 #[derive(Clone, Copy)]
@@ -94,17 +91,8 @@ fn solve_within<
     ensures memory { IfErr result (λ fault. fault ≡ EngineFault.Memory) }
 {
     let settings = task.settings;
-    let plan = Plan {
-        workers: settings.workers,
-        nodes: settings.nodes,
-        fuel: settings.fuel,
-        seed: settings.seed,
-        turns: u64::from(settings.turns),
-        quiet: QUIET,
-        entries: u64::from(settings.entries),
-    };
     let run_plan = RunPlan {
-        plan,
+        plan: plan_of(settings),
         // (at most 100 by the type of the settings)
         restarts: settings.restarts as u8,
         limit: task.limit,
@@ -122,6 +110,29 @@ fn solve_within<
         answer: end.answer,
         books: end.books,
     })
+}
+
+/// The plan of a run with these settings.
+fn plan_of(settings: &Settings<'_>) -> Plan
+    ensures { result ≡ record {
+      workers = settings.now.workers;
+      nodes = settings.now.nodes;
+      fuel = settings.now.fuel;
+      seed = settings.now.seed;
+      turns = settings.now.turns;
+      timing = Timing.USUAL;
+      entries = settings.now.entries;
+    } }
+{
+    Plan {
+        workers: settings.workers,
+        nodes: settings.nodes,
+        fuel: settings.fuel,
+        seed: settings.seed,
+        turns: u64::from(settings.turns),
+        timing: Timing::USUAL,
+        entries: u64::from(settings.entries),
+    }
 }
 
 /// Whether a site ended since it ran out of memory.

@@ -2,6 +2,7 @@
 
 mod books;
 mod broken;
+mod crowded;
 mod ends;
 mod failing;
 mod fails_once;
@@ -16,9 +17,11 @@ mod pace;
 mod plain;
 mod restarts;
 mod runs;
+mod schedules;
 mod sending;
 mod sent;
 mod small_cells;
 mod strangers;
+mod timings;
 mod told_again;
 mod wild;

@@ -16,10 +16,7 @@ use std::process::ExitCode;
 use std::sync::Wait;
 use std::thread::Threads;
 use std::time::Clock;
-use udp_node::{Plan, SiteEnd};
-
-/// After how many receives in a row without a datagram a site gives up: a receive in memory takes a fraction of a millisecond.
-const QUIET: u64 = 1_000_000;
+use udp_node::{Plan, SiteEnd, Timing};
 
 /// The plan of a run that the numbers spell: nodes, workers, seed, fuel, turns.
 fn plan_of(nodes: &str, workers: &str, seed: &str, fuel: &str, turns: &str) -> Option<Plan>
@@ -35,7 +32,7 @@ fn plan_of(nodes: &str, workers: &str, seed: &str, fuel: &str, turns: &str) -> O
         fuel: fuel.parse::<u64>().ok()?,
         seed: seed.parse::<u64>().ok()?,
         turns: turns.parse::<u64>().ok()?,
-        quiet: QUIET,
+        timing: Timing::USUAL,
         entries: 1_000_000,
     })
 }

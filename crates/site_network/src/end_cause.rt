@@ -11,6 +11,8 @@ pub enum EndCause {
     Memory,
     /// Nothing came for long that shows the run going on.
     Silence,
-    /// Its turns or its waits are over, or the site's other threads have ended.
+    /// The run has lasted as long as it may.
+    Time,
+    /// Its turns are over, or the site's other threads have ended.
     Turns,
 }

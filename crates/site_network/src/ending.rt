@@ -1,3 +1,4 @@
+use crate::end_cause::EndCause;
 use std::sync::atomic::{AtomicBool, AtomicU64, Ordering};
 use std::thread;
 use std::time::{Clock, Duration, Instant};
@@ -82,6 +83,15 @@ impl Ending {
     /// Whether the run has ended, by a site that can't go on or by its limit.
     pub fn is_over<R: Clock>(&self, rt: &R) -> bool {
         self.raised.load(Ordering::SeqCst) || self.is_late(rt)
+    }
+
+    /// Why a site ends with the run that ends now: its time is over, or another site has ended it.
+    pub fn cause<R: Clock>(&self, rt: &R) -> EndCause {
+        if self.is_late(rt) {
+            EndCause::Time
+        } else {
+            EndCause::Turns
+        }
     }
 
     /// Whether the run has lasted as long as it may. The clock is read only in a limited run.

@@ -99,9 +99,9 @@ impl<'a, G: Gate> SearchWatch<'a, G> {
         self.made
     }
 
-    /// How many visits are gone for each that a search which keeps states has made.
-    pub fn savings(&self) -> u64 {
-        self.fuel.saturating_sub(self.left) / self.made.max(1)
+    /// How many visits are gone by what a search that keeps states has made.
+    pub fn gone(&self) -> u64 {
+        self.fuel.saturating_sub(self.left)
     }
 
     /// Whether it was stopped because the site is to end.

@@ -10,6 +10,7 @@ mod memory_link;
 mod pace;
 mod plan;
 mod site_end;
+mod timing;
 mod turn;
 mod udp_link;
 
@@ -21,5 +22,6 @@ pub use memory_link::{MemoryLink, Wires};
 pub use pace::{Pace, Quota};
 pub use plan::Plan;
 pub use site_end::SiteEnd;
-pub use turn::{Limits, Taken, Turn};
+pub use timing::Timing;
+pub use turn::{Limits, Turn};
 pub use udp_link::{Sockets, UdpLink, bound};

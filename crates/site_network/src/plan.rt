@@ -1,3 +1,5 @@
+use crate::timing::Timing;
+
 /// How a site works.
 #[derive(Clone, Copy, Debug, PartialEq, Eq)]
 pub struct Plan {
@@ -9,11 +11,10 @@ pub struct Plan {
     pub fuel: u64,
     /// What the victims are drawn from.
     pub seed: u64,
-    /// How many turns each thread has at most. Those in which it had nothing to do and waited, and the looks of the thread that
-    /// sends, are counted apart: there are a thousand times as many.
+    /// How many turns each thread has at most. Those in which it had nothing to do don't count, but the site's time has a limit, too.
     pub turns: u64,
-    /// After how many receives a site gives up that brought no packet: the registry none at all, a node none of the registry.
-    pub quiet: u64,
+    /// When a site acts although nothing came.
+    pub timing: Timing,
     /// How many entries the book of a site may have, at least 1.
     pub entries: u64,
 }

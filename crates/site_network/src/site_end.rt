@@ -1,5 +1,4 @@
 use crate::end_cause::EndCause;
-use crate::turn::Taken;
 
 /// How a site of a run ended, over all its starts. The greatest numbers stay.
 #[derive(Clone, Copy, Debug, PartialEq, Eq)]
@@ -8,12 +7,12 @@ pub struct SiteEnd {
     pub cause: EndCause,
     /// How many parcels were lost: the outbox was full, or the link didn't send them.
     pub losses: u64,
-    /// How many datagrams came that are no packets.
+    /// How many datagrams came that are no packets: those of strangers, mostly.
     pub dropped: u64,
     /// How many calls of its link failed.
     pub failures: u64,
-    /// How many turns its threads took at most, each by itself, and in how many they waited at most.
-    pub taken: Taken,
+    /// How many turns that one of its threads took which took the most.
+    pub turns: u64,
     /// In some start a thread of each kind has begun while the site was to go on. Else the site took part in no search.
     pub is_manned: bool,
 }
@@ -26,7 +25,7 @@ impl SiteEnd {
             losses: self.losses.saturating_add(later.losses),
             dropped: self.dropped.saturating_add(later.dropped),
             failures: self.failures.saturating_add(later.failures),
-            taken: self.taken.max(later.taken),
+            turns: self.turns.max(later.turns),
             is_manned: self.is_manned || later.is_manned,
         }
     }
@@ -37,7 +36,11 @@ impl SiteEnd {
         match self.cause {
             EndCause::Over => node == 0,
             EndCause::Memory => true,
-            EndCause::BookFull | EndCause::Faults | EndCause::Silence | EndCause::Turns => {
+            EndCause::BookFull
+            | EndCause::Faults
+            | EndCause::Silence
+            | EndCause::Time
+            | EndCause::Turns => {
                 // (a node that lacked threads has taken no work, so the others lose nothing with it)
                 node == 0 || self.is_manned
             }
@@ -50,7 +53,7 @@ impl SiteEnd {
         losses: 0,
         dropped: 0,
         failures: 0,
-        taken: Taken::NONE,
+        turns: 0,
         is_manned: false,
     };
 

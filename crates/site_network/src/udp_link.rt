@@ -1,10 +1,10 @@
 //! Sockets on 127.0.0.1.
 
-ghost use Rattle.std.specs.Prelude.{◌≡◌, ◌≤◌, ◌↔◌, ℕ, length, IfOk, IsTrue};
-ghost use Rattle.std.specs.List.{Contains};
+ghost use Rattle.std.specs.Prelude.{◌≡◌, ◌≤◌, ℕ, length, IfOk};
 ghost use Rattle.site_network.specs.Links.{failed_once};
 
 use crate::link::{Link, LinkFault};
+use run_key::{CODE, RunKey};
 use std::alloc::{AllocError, Global};
 use std::io::{self, ErrorKind};
 use std::net::{Ipv4Addr, Net, SocketAddr, SocketAddrV4, UdpSocket};
@@ -14,9 +14,8 @@ use std::time::Duration;
 /// How long a receive waits at most, in milliseconds.
 const PATIENCE: u64 = 4;
 
-/// How many datagrams a socket has at most that wait to be received: for each the system counts 512 bytes at least, and in all no more
-/// than 2,147,483,647.
-const MOST_WAITING: u32 = 4_194_304;
+/// How many bytes a datagram has at most, without its code: more than the longest packet.
+const LONGEST: usize = 2_096;
 
 /// A socket on 127.0.0.1 with a port of the system's choice, whose receives wait 4 to 8 milliseconds at most, by the system's clock. The
 /// errors are the system's.
@@ -27,37 +26,30 @@ pub fn bound<R: Net>(rt: &R) -> io::Result<UdpSocket> {
     Ok(socket)
 }
 
-/// The sockets of all sites of a run, and their addresses. Each socket stays open until the last link of the run has gone: else
-/// another process could take the port of a site that has ended, and would be heard as that site.
+/// The sockets of all sites of a run, their addresses, and the key by which they know one another's datagrams.
 #[derive(Drop)]
 pub struct Sockets {
     /// By node.
     sockets: Vec<UdpSocket>,
     /// By node, too.
     addresses: Vec<SocketAddr>,
+    key: RunKey,
 }
 
 impl Sockets {
-    /// These sockets, by node, without what they have received so far: a stranger may have sent it from a port that is a site's by now.
-    /// The errors are the system's, and `OutOfMemory`.
-    pub fn new(alloc: Global, sockets: Vec<UdpSocket>) -> io::Result<Sockets> {
+    /// These sockets, by node, in a run with this key. The errors are the system's, and `OutOfMemory`.
+    pub fn new(alloc: Global, sockets: Vec<UdpSocket>, key: RunKey) -> io::Result<Sockets> {
         let addresses = addresses_of(alloc, &sockets)?;
-        for socket in &sockets {
-            empty(socket)?;
-        }
-        Ok(Sockets { sockets, addresses })
+        Ok(Sockets {
+            sockets,
+            addresses,
+            key,
+        })
     }
 
     /// The address of a node's site.
     pub fn address(&self, node: u8) -> Option<SocketAddr> {
         self.addresses.get(usize::from(node)).copied()
-    }
-
-    /// Whether a site of the run has this address: its host and its port.
-    fn is_own(&self, address: SocketAddr) -> bool
-        ensures { IsTrue result ↔ Contains self.now.addresses.items address }
-    {
-        self.addresses.contains(&address)
     }
 }
 
@@ -70,28 +62,8 @@ fn addresses_of(alloc: Global, sockets: &[UdpSocket]) -> io::Result<Vec<SocketAd
     Ok(addresses)
 }
 
-/// Takes out what a socket has received, and leaves its receives as they were.
-fn empty(socket: &UdpSocket) -> io::Result<()> {
-    socket.set_nonblocking(true)?;
-    take_out(socket)?;
-    socket.set_nonblocking(false)
-}
-
-/// Takes out what a socket that doesn't block has received: no more than can wait there, so that a flood holds nobody up.
-fn take_out(socket: &UdpSocket) -> io::Result<()> {
-    for _ in 0..MOST_WAITING {
-        // (room for one byte: nobody reads these datagrams, and the system drops what doesn't fit)
-        match socket.recv_from(&mut [0]) {
-            Err(error) if error.kind() == ErrorKind::WouldBlock => break,
-            Err(error) if error.kind() != ErrorKind::Interrupted => return Err(error),
-            _ => {}
-        }
-    }
-    Ok(())
-}
-
-/// The end of a site that has a socket; its twins have the same one. It hears the run's own sockets alone: a datagram from any other
-/// address comes as one without bytes, which is no packet.
+/// The end of a site that has a socket; its twins have the same one. Behind each datagram that it sends it puts the code of the run's key,
+/// and of what comes it hears only what has the right one: any other datagram is a stranger's, and comes as one without bytes.
 #[derive(Drop)]
 pub struct UdpLink {
     sockets: Arc<Sockets, Global>,
@@ -116,16 +88,19 @@ impl UdpLink {
         self.sockets.sockets.get(usize::from(self.node))
     }
 
-    /// Sends a datagram; whether the system took it whole.
+    /// Sends a datagram with its code; whether the system took it whole.
     fn is_sent(&self, to: u8, bytes: &[u8]) -> bool {
-        match (self.socket(), self.sockets.address(to)) {
-            (Some(socket), Some(address)) =>
-                matches!(socket.send_to(bytes, address), Ok(sent) if sent == bytes.len()),
+        let mut room = [0; LONGEST + CODE];
+        let sealed = self.sockets.key.seal(bytes, &mut room);
+        match (self.socket(), self.sockets.address(to), sealed) {
+            (Some(socket), Some(address), Some(many)) =>
+                matches!(socket.send_to(&room[..many], address), Ok(sent) if sent == many),
             _ => false,
         }
     }
 
-    /// Receives a datagram; how many bytes of it came, none of them where a stranger sent it. The errors are the system's.
+    /// Receives a datagram, and returns how many of its bytes are in the buffer, none of them where a stranger sent it. The errors are
+    /// the system's.
     fn received(&self, into: &mut [u8]) -> io::Result<usize>
         ensures fits { IfOk result (λ bytes. bytes ≤ length into.old) }
         ensures whole { length into.new ≡ length into.old }
@@ -133,8 +108,13 @@ impl UdpLink {
         let Some(socket) = self.socket() else {
             return Err(io::Error::from(ErrorKind::NotConnected));
         };
-        let (bytes, from) = socket.recv_from(into)?;
-        Ok(if self.sockets.is_own(from) { bytes } else { 0 })
+        // (a longer datagram is cut off, so its code is wrong)
+        let mut datagram = [0; LONGEST + CODE];
+        let (came, _) = socket.recv_from(&mut datagram)?;
+        let own = self.sockets.key.open(&datagram[..came]).unwrap_or(0);
+        let bytes = own.min(into.len());
+        into[..bytes].copy_from_slice(&datagram[..bytes]);
+        Ok(bytes)
     }
 
     /// Counts a failure.

@@ -218,7 +218,10 @@ fn run_solve<R: Threads + Wait + Clock + Net + Sync>(
     let machine = Machine {
         rt: threads,
         alloc: rt.alloc(),
-        network: Loopback { rt: threads },
+        network: Loopback {
+            rt: threads,
+            random: rt,
+        },
         lines: line_style(rt, request.progress),
     };
     let status = machine.solve(request, &mut source, &mut sink, &mut errors);

@@ -19,11 +19,13 @@ use cover_engines::{LineStyle, Loopback, Machine, Network, links, solve_engine};
 use cover_problem::Problem;
 use dlx_reader::{CountedReader, CountedWriter, read_problem};
 use run_book::Run;
+use run_key::RunKey;
 use run_settings::{Mode, Request, Settings};
 use std::alloc::Global;
 use std::marker::Brand;
 use std::net::Net;
 use std::process::Abort;
+use std::random::RandomSource;
 use std::sync::Wait;
 use std::test::Fail;
 use std::thread::Threads;
@@ -145,7 +147,7 @@ fn solve_over<N: Network, R: Threads + Wait + Clock + Sync>(
 }
 
 /// What `solve` writes of a problem, and the status.
-fn solve<R: Threads + Wait + Clock + Net + Sync>(
+fn solve<R: Threads + Wait + Clock + Net + RandomSource + Sync>(
     rt: &R,
     alloc: Global,
     text: &str,
@@ -161,7 +163,7 @@ fn solve<R: Threads + Wait + Clock + Net + Sync>(
         out,
         errors: _,
         status,
-    } = solve_over(rt, alloc, Loopback { rt }, text, &request);
+    } = solve_over(rt, alloc, Loopback { rt, random: rt }, text, &request);
     (out, status)
 }
 
@@ -180,7 +182,7 @@ fn is_told(told: &[u8], out: &str, audit: bool) -> bool {
 
 /// How many runs of the row's problem, with so many restarts, came to its answer; a fault where one wrote anything else, except
 /// that no answer came.
-fn answers<R: Threads + Wait + Clock + Net + Sync>(
+fn answers<R: Threads + Wait + Clock + Net + RandomSource + Sync>(
     rt: &R,
     alloc: Global,
     (text, out, status): Row,
@@ -201,7 +203,7 @@ fn answers<R: Threads + Wait + Clock + Net + Sync>(
 }
 
 /// Most runs of each problem answer.
-fn most_answer<R: Abort + Threads + Wait + Clock + Net + Sync>(
+fn most_answer<R: Abort + Threads + Wait + Clock + Net + RandomSource + Sync>(
     rt: &R,
     alloc: Global,
     restarts: u32,
@@ -219,16 +221,22 @@ fn most_runs_answer(rt: HostRuntime) -> Result<(), Fail> {
     most_answer(&rt, rt.alloc(), 0, false)
 }
 
-/// Workers that visit each state again that they meet don't come to an end: the run has half a minute.
+/// Workers that visit each state again that they meet would fill any book: a run that keeps states takes some 700 entries.
 #[test]
 fn a_run_in_which_states_repeat_ends(rt: HostRuntime) {
     let request = Request {
-        settings: sized(1, 2, 1_000, 1),
-        seconds: Some(30),
+        settings: Settings {
+            entries: 20_000,
+            ..sized(1, 2, 1_000, 1)
+        },
+        seconds: None,
         progress: false,
         unlimited: false,
     };
-    let network = Loopback { rt: &rt };
+    let network = Loopback {
+        rt: &rt,
+        random: &rt,
+    };
     let solved = solve_over(&rt, rt.alloc(), network, BOARD, &request);
     assert!(rt; solved.out.as_slice() == b"none\n".as_slice() && solved.status == 1);
 }
@@ -244,7 +252,7 @@ fn the_books_of_restarted_runs_are_clean(rt: HostRuntime) -> Result<(), Fail> {
 }
 
 /// How many books a run of the problem leaves.
-fn count_books<J: Run + Send + Sync, R: Threads + Wait + Clock + Net + Sync>(
+fn count_books<J: Run + Send + Sync, R: Threads + Wait + Clock + Net + RandomSource + Sync>(
     rt: &R,
     alloc: Global,
     settings: &Settings<'_>,
@@ -253,7 +261,7 @@ fn count_books<J: Run + Send + Sync, R: Threads + Wait + Clock + Net + Sync>(
     requires problem { problem.now ≡ J.run.problem }
     requires nodes { settings.now.nodes ≡ J.run.nodes }
 {
-    let links = links(rt, alloc, settings.nodes)?;
+    let links = links(rt, alloc, settings.nodes, RunKey::draw(rt)?)?;
     let end = solve_engine::<J, _, _, R>(rt, alloc, settings, problem, links, &Open)?;
     Ok(end.books.len())
 }
@@ -268,7 +276,7 @@ fn a_restarted_node_has_a_book_of_each_start(rt: HostRuntime) -> Result<(), Fail
 }
 
 /// Whether a run without turns writes that no answer came.
-fn is_silent<R: Threads + Wait + Clock + Net + Sync>(
+fn is_silent<R: Threads + Wait + Clock + Net + RandomSource + Sync>(
     rt: &R,
     alloc: Global,
     text: &str,

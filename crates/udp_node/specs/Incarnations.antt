@@ -4,9 +4,12 @@ use Rattle.run_book.specs.Books.{Book}
 use Rattle.site_network.specs.declared.plan.Plan.{Plan}
 
 -- the plan of each incarnation of a site that restarts so many times: the turns are shared evenly, rounded down; once the search is over in
--- one, a later one gives up at its first receive without a packet
+-- one, a later one gives up after a millisecond without a packet
 abbrev pub incarnation_plan : Plan → ℕ → Bool → Plan
-incarnation_plan plan restarts is_over = record plan { turns = plan.turns / suc restarts; quiet = if is_over then 1 else plan.quiet }
+incarnation_plan plan restarts is_over = record plan {
+  turns = plan.turns / suc restarts;
+  timing = record plan.timing { silence = if is_over then 1 else plan.timing.silence };
+}
 
 -- the books are those of a node's incarnations in their order: of the node, of rising numbers from `first` on, and below `next`
 abbrev pub are_incarnations : ℕ → ℕ → ℕ → List Book → Bool

@@ -53,12 +53,16 @@ impl<'a, J: Run, C: Core + Drop, N: CellName, G: Gate> Actor<'a, J, C, N, G> {
         ensures back { IfErr result (λ back. back.0 ≡ event) }
     {
         let stirs = may_stir(&event);
+        let is_again = matches!(event, Event::Again);
         let step = self.receipts.act(rt, self.shared.cell, event)?;
         let shared = self.shared;
         shared
             .gate
             .recorded(self.receipts.entries(), shared.plan.entries);
         self.signal(&step, stirs);
+        if !is_again && step.packets().iter().any(needs_answer) {
+            shared.signals.say();
+        }
         self.put_all(rt, step.packets());
         Ok(step)
     }
@@ -116,6 +120,14 @@ fn may_stir(event: &Event) -> bool {
         Event::Deliver(packet) => !matches!(packet.body, Body::Steal | Body::NoWork),
         Event::Post(_, _) | Event::Finish(_) | Event::Redo(_) => true,
     }
+}
+
+/// Whether a packet is said again until something comes of it.
+fn needs_answer(packet: &Packet) -> bool {
+    matches!(
+        packet.body,
+        Body::Give { .. } | Body::GiveMany { .. } | Body::Return { .. }
+    )
 }
 
 /// Whether a packet refuses someone who asked for work.

@@ -1,14 +1,14 @@
 ghost use Rattle.std.specs.Prelude.{◌≡◌};
 ghost use Rattle.udp_node.specs.Incarnations.{incarnation_plan};
 
-use site_network::Plan;
+use site_network::{Plan, Timing};
 
 /// How a site works in one of its incarnations. A node that restarts has several, each with an empty table.
 #[derive(Clone, Copy, Debug, PartialEq, Eq)]
 pub struct IncarnationPlan {
     /// With which limits and how many workers.
     pub plan: Plan,
-    /// No incarnation follows. Else an empty receive is one of the turns, so that this one ends in time.
+    /// No incarnation follows. Else its time is short, so that it ends soon.
     pub is_last: bool,
 }
 
@@ -28,10 +28,14 @@ impl IncarnationPlan {
     pub fn of(plan: Plan, restarts: u8, is_over: bool, is_last: bool) -> IncarnationPlan
         ensures { result.plan ≡ incarnation_plan plan restarts is_over }
     {
+        // (the registry may be gone by then, so a later incarnation doesn't wait for packets that nobody sends)
+        let silence = if is_over { 1 } else { plan.timing.silence };
         let plan = Plan {
             turns: plan.turns / (u64::from(restarts) + 1),
-            // (the registry may be gone by then, so a later incarnation doesn't wait for packets that nobody sends)
-            quiet: if is_over { 1 } else { plan.quiet },
+            timing: Timing {
+                silence,
+                ..plan.timing
+            },
             ..plan
         };
         IncarnationPlan { plan, is_last }

@@ -7,12 +7,17 @@ mod entered_gifts;
 mod exchange;
 mod few_visits;
 mod hand;
+mod idleness;
 mod incarnation_plan;
+mod looks;
 mod node;
 mod node_end;
+mod own_time;
 mod receiver;
 mod run;
 mod run_plan;
+mod savings;
+mod schedule;
 mod seat_receipts;
 mod sender;
 mod shared;
@@ -21,12 +26,17 @@ mod site_context;
 mod site_run;
 mod worker;
 
+pub use idleness::{IdleTurn, Idleness};
 pub use node::{run_node, run_root};
 pub use node_end::NodeEnd;
+pub use own_time::OwnTime;
 pub use run::{RunEnd, run_sites};
 pub use run_plan::RunPlan;
+pub use savings::{Savings, Shown};
+pub use schedule::Schedule;
 pub use seat_receipts::SeatReceipts;
 pub use site_network::{
-    EndCause, Gate, Link, LinkFault, MemoryLink, Open, Pace, Plan, Quota, SiteEnd, Sockets, Taken,
+    EndCause, Gate, Link, LinkFault, MemoryLink, Open, Pace, Plan, Quota, SiteEnd, Sockets, Timing,
     UdpLink, Wires, bound,
 };
+pub use worker::room_for;

@@ -9,6 +9,7 @@ use crate::exchange::Exchange;
 use crate::incarnation_plan::IncarnationPlan;
 use crate::node_end::NodeEnd;
 use crate::receiver::Receiver;
+use crate::schedule::Schedule;
 use crate::seat_receipts::SeatReceipts;
 use crate::sender::{Sender, Sent, send_all};
 use crate::shared::Shared;
@@ -19,17 +20,11 @@ use brancher::Tables;
 use cover_problem::Problem;
 use node_core::Core;
 use run_book::{CellName, Outbox, Run, SiteCell};
-use site_network::{EndCause, Ending, Gate, Limits, Link, Open, Plan, Taken, Turn};
+use site_network::{EndCause, Ending, Gate, Limits, Link, Open, Plan, Turn};
 use std::alloc::{AllocError, Global};
 use std::sync::Wait;
 use std::thread::{self, Threads};
 use std::time::{Clock, Duration};
-
-/// How many turns without work a worker has for each of its turns.
-const REST: u64 = 1_000;
-
-/// How many receives that bring nothing there are for each turn of the thread that receives: by default they last for months.
-const SILENCE: u64 = 1_000;
 
 /// How long a thread waits where memory ran out, in milliseconds.
 const SHORTAGE: u64 = 1;
@@ -44,16 +39,6 @@ enum Task<L: Link> {
 }
 
 impl<L: Link> Task<L> {
-    /// How many turns it may take, and in how many more it may wait. In an incarnation that another follows, the one that
-    /// receives waits in none more: else it would last for hours.
-    fn limits(&self, turns: u64, is_last: bool) -> Limits {
-        match self {
-            Task::Work(_) => Limits::new(turns, REST),
-            Task::Receive(_) if is_last => Limits::new(turns, SILENCE),
-            Task::Receive(_) => Limits::in_all(turns),
-        }
-    }
-
     /// Whether the site ends where the thread ended by this cause. Without the one that receives, nothing gets there any more; a
     /// worker whose turns are over leaves the rest to the others.
     fn ends_site(&self, cause: EndCause) -> bool {
@@ -69,7 +54,7 @@ impl<L: Link> Task<L> {
 struct ActingThread<'a, J: Run, C: Core + Drop, N: CellName, L: Link, G: Gate> {
     task: Task<L>,
     actor: Actor<'a, J, C, N, G>,
-    taken: Taken,
+    turns: u64,
     cause: EndCause,
 }
 
@@ -79,7 +64,7 @@ impl<'a, J: Run, C: Core + Drop, N: CellName, L: Link, G: Gate> ActingThread<'a,
         ActingThread {
             task,
             actor,
-            taken: Taken::NONE,
+            turns: 0,
             cause: EndCause::Turns,
         }
     }
@@ -87,12 +72,12 @@ impl<'a, J: Run, C: Core + Drop, N: CellName, L: Link, G: Gate> ActingThread<'a,
     /// Runs the thread to its end.
     fn run<R: Wait + Clock>(&mut self, rt: &R) {
         let shared = self.actor.shared;
-        let mut left = self.task.limits(shared.plan.turns, shared.is_last);
+        let mut left = Limits::new(shared.plan.turns);
         self.cause = match &mut self.task {
             Task::Work(number) => work(rt, &mut self.actor, *number, &mut left),
             Task::Receive(receiver) => receive(rt, &mut self.actor, receiver, &mut left),
         };
-        self.taken = left.taken();
+        self.turns = left.taken();
         if self.task.ends_site(self.cause) {
             shared.signals.end();
         }
@@ -118,7 +103,7 @@ fn work<J: Run, C: Core + Drop, N: CellName, G: Gate, R: Wait + Clock>(
     let shared = actor.shared;
     // (a thread that is only started once the others have ended must not count as begun, or the site would seem manned)
     if shared.is_over(rt) {
-        return EndCause::Turns;
+        return shared.ending.cause(rt);
     }
     shared.signals.begin_working();
     shared.muster(rt);
@@ -163,15 +148,15 @@ fn receive<J: Run, C: Core + Drop, N: CellName, L: Link, G: Gate, R: Wait + Cloc
 ) -> EndCause {
     let shared = actor.shared;
     if shared.is_over(rt) {
-        return EndCause::Turns;
+        return shared.ending.cause(rt);
     }
     shared.signals.begin_receiving();
     shared.muster(rt);
-    for number in 0..u64::MAX {
+    for _turn in 0..u64::MAX {
         if left.is_spent() {
             break;
         }
-        let turn = receiver.turn(rt, actor, number);
+        let turn = receiver.turn(rt, actor);
         if let Some(cause) = noted(rt, left, turn) {
             return cause;
         }
@@ -200,7 +185,7 @@ pub fn run_node<
     requires { problem.now ≡ J.run.problem }
     ensures all { (vec_len result.seats ≡ plan.workers + 1) ⊎ (result.cause ≡ Memory) }
     ensures none { (vec_len result.seats ≡ plan.workers + 1)
-        ⊎ ((vec_len result.seats ≡ 0) × (result.taken.turns ≡ 0) × (result.taken.waits ≡ 0)) }
+        ⊎ ((vec_len result.seats ≡ 0) × (result.turns ≡ 0)) }
 {
     let Ok(tables) = Tables::build(alloc, problem) else {
         return NodeEnd::starved(alloc);
@@ -234,7 +219,7 @@ pub fn run_root<
     requires { problem.now ≡ J.run.problem }
     ensures all { (vec_len result.seats ≡ 1) ⊎ (result.cause ≡ Memory) }
     ensures none { (vec_len result.seats ≡ 1)
-        ⊎ ((vec_len result.seats ≡ 0) × (result.taken.turns ≡ 0) × (result.taken.waits ≡ 0)) }
+        ⊎ ((vec_len result.seats ≡ 0) × (result.turns ≡ 0)) }
 {
     let plan = Plan { workers: 0, ..plan };
     let tables = Tables::of_links(problem);
@@ -267,7 +252,7 @@ pub(crate) fn run_threads<
     requires { context.tables.now ≡ J.run.problem }
     ensures all { (vec_len result.seats ≡ incarnation_plan.plan.workers + 1) ⊎ (result.cause ≡ Memory) }
     ensures none { (vec_len result.seats ≡ incarnation_plan.plan.workers + 1)
-        ⊎ ((vec_len result.seats ≡ 0) × (result.taken.turns ≡ 0) × (result.taken.waits ≡ 0)) }
+        ⊎ ((vec_len result.seats ≡ 0) × (result.turns ≡ 0)) }
 {
     let IncarnationPlan { plan, is_last } = incarnation_plan;
     let SiteContext {
@@ -305,7 +290,6 @@ pub(crate) fn run_threads<
         drain,
         link,
         signals: &signals,
-        turns: plan.turns,
     };
     let (sent, crew) = thread::join(rt, move || send_all(rt, sender), move || crew.run(rt));
     end_of(crew, sent, signals.is_manned())
@@ -403,12 +387,9 @@ fn threads_for<'a, J: Run, C: Core + Drop, N: CellName, L: Link, G: Gate, R: Wai
     ensures { IfOk result (λ threads. vec_len threads ≡ workers + 1) }
 {
     let mut threads = Vec::with_capacity(shared.alloc, usize::from(workers) + 1)?;
-    add_thread(
-        rt,
-        shared,
-        &mut threads,
-        Task::Receive(Receiver::new(shared.alloc, twin)),
-    )?;
+    let schedule = Schedule::new(shared.plan.timing, shared.plan.turns, shared.is_last);
+    let receiver = Receiver::new(shared.alloc, twin, schedule);
+    add_thread(rt, shared, &mut threads, Task::Receive(receiver))?;
     for worker in 0..workers {
         add_thread(rt, shared, &mut threads, Task::Work(worker))?;
     }
@@ -447,7 +428,7 @@ fn end_of<J: Run, C: Core + Drop, N: CellName, L: Link, G: Gate>(
         losses: sent.losses,
         dropped: 0,
         failures: sent.failures,
-        taken: sent.taken,
+        turns: 0,
         is_manned,
         cause: EndCause::Turns,
     };
@@ -469,7 +450,7 @@ fn with_thread<J: Run, C: Core + Drop, N: CellName, L: Link, G: Gate>(
     let ActingThread {
         task,
         actor,
-        taken,
+        turns,
         cause,
     } = acting_thread;
     let (dropped, failures) = match &task {
@@ -480,7 +461,7 @@ fn with_thread<J: Run, C: Core + Drop, N: CellName, L: Link, G: Gate>(
     end.losses = end.losses.saturating_add(actor.losses);
     end.dropped = end.dropped.saturating_add(dropped);
     end.failures = end.failures.saturating_add(failures);
-    end.taken = end.taken.max(taken);
+    end.turns = end.turns.max(turns);
     end.cause = end.cause.min(cause);
     end.seats.push_reserved(actor.into_receipts());
     end

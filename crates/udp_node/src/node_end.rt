@@ -4,7 +4,7 @@ ghost use Rattle.site_network.specs.declared.end_cause.EndCause.TheVariants.{Mem
 
 use crate::seat_receipts::SeatReceipts;
 use run_book::{CellName, ReceiptToken, Seat};
-use site_network::{EndCause, Taken};
+use site_network::EndCause;
 use std::alloc::Global;
 
 /// How the threads of a site ended. Counts stop at the greatest number.
@@ -18,9 +18,8 @@ pub struct NodeEnd<N: CellName> {
     pub dropped: u64,
     /// How many calls of the link failed.
     pub failures: u64,
-    /// How many turns that one of its threads took which took the most, and in how many one waited which waited in the most. The
-    /// thread that sends waits in each look into the outbox, whether it finds something to send or not.
-    pub taken: Taken,
+    /// How many turns that one of its threads took which took the most.
+    pub turns: u64,
     /// A thread of each kind has begun while the site was to go on. Else the site took part in no search.
     pub is_manned: bool,
     /// Why they ended: the first of all causes in the order of that type.
@@ -32,14 +31,14 @@ impl<N: CellName> NodeEnd<N> {
     pub(crate) fn starved(alloc: Global) -> NodeEnd<N>
         ensures cause { result.cause ≡ Memory }
         ensures seats { vec_len result.seats ≡ 0 }
-        ensures taken { (result.taken.turns ≡ 0) × (result.taken.waits ≡ 0) }
+        ensures turns { result.turns ≡ 0 }
     {
         NodeEnd {
             seats: Vec::new(alloc),
             losses: 0,
             dropped: 0,
             failures: 0,
-            taken: Taken::NONE,
+            turns: 0,
             is_manned: false,
             cause: EndCause::Memory,
         }

@@ -4,12 +4,9 @@ ghost use Rattle.std.specs.Prelude.{◌≡◌};
 
 use crate::signals::Signals;
 use run_book::{Drain, Outbox};
-use site_network::{Limits, Link, Taken};
+use site_network::Link;
 use std::sync::Wait;
 use std::time::Clock;
-
-/// How many looks into the outbox there are for each turn: by default they last for days.
-const LOOKS: u64 = 1_000;
 
 /// How many parcels a look sends at most, so that the looks of a thread come to an end.
 const BURST: u64 = 1_024;
@@ -21,8 +18,6 @@ pub struct Sent {
     pub losses: u64,
     /// How many calls of the link failed.
     pub failures: u64,
-    /// How many looks into the outbox there were, as waits.
-    pub taken: Taken,
 }
 
 /// What the thread that sends is given.
@@ -36,19 +31,16 @@ pub struct Sender<'a, L: Link> {
     pub link: L,
     /// Where it reads that the other threads of the site are done.
     pub signals: &'a Signals,
-    /// A thousandth of the looks that it makes at most.
-    pub turns: u64,
     pub ghost same: { drain.outbox ≡ outbox.now },
 }
 
-/// Sends what is in the outbox, in its order, until no other thread of the site is at work and the outbox is empty, or it has looked
-/// a thousand times as often as it has turns. Then the site ends. Where that is to end already, nothing is sent.
+/// Sends what is in the outbox, in its order, until no other thread of the site is at work and the outbox is empty. Where the site is to end
+/// already, nothing is sent.
 pub fn send_all<L: Link, R: Wait + Clock>(rt: &R, sender: Sender<'_, L>) -> Sent {
     if sender.signals.is_over() {
         return Sent {
             losses: 0,
             failures: sender.link.failures(),
-            taken: Taken::NONE,
         };
     }
     sender.signals.begin_sending();
@@ -57,26 +49,20 @@ pub fn send_all<L: Link, R: Wait + Clock>(rt: &R, sender: Sender<'_, L>) -> Sent
 }
 
 /// Sends what is in the outbox, as `send_all` does, once the site has begun.
-fn send_each<L: Link, R: Wait + Clock>(rt: &R, sender: Sender<'_, L>) -> Sent {
+fn send_each<L: Link, R: Wait>(rt: &R, sender: Sender<'_, L>) -> Sent {
     let Sender {
         outbox,
         mut drain,
         mut link,
         signals,
-        turns,
     } = sender;
-    let mut left = Limits::new(turns, LOOKS);
     let mut losses = 0u64;
+    // (a range in place of a loop without end, so that the prover sees it end; the other threads end it long before)
     for _look in 0..u64::MAX {
-        if left.is_spent() {
-            break;
-        }
         // (read before the look: a thread leaves after its last put, so this look finds whatever it put in)
         let is_last = signals.is_left();
         let found = send_waiting(rt, outbox, &mut drain, &mut link);
         losses = losses.saturating_add(found.losses);
-        // (no turn, whatever it finds: what is said again would use up the turns in a day)
-        left.wait();
         // (while it sent, more may have come in, so it looks again before it dozes or ends)
         if found.parcels > 0 {
             continue;
@@ -91,7 +77,6 @@ fn send_each<L: Link, R: Wait + Clock>(rt: &R, sender: Sender<'_, L>) -> Sent {
     Sent {
         losses,
         failures: link.failures(),
-        taken: left.taken(),
     }
 }
 

@@ -9,8 +9,11 @@ const LOOKS: u32 = 10_000;
 /// How long it waits between two looks, in microseconds.
 const NAP: u64 = 100;
 
-/// How long the thread that sends waits at most, in microseconds, where nobody rouses it.
-const DOZE: u64 = 1_000;
+/// How long a thread that waits to be roused waits at most, in seconds. Nobody relies on it, since each rousing leaves a token.
+const DOZE: u64 = 60;
+
+/// How many workers a node has at most.
+const WORKERS: usize = 8;
 
 /// What the threads of a site signal to one another without the lock of the core. No answer depends on it: it says when a look at the
 /// core is worth its entry in the book, how small a worker's job should be, which worker works alone, which threads have begun, and that
@@ -31,10 +34,14 @@ pub struct Signals {
     hunger: AtomicU64,
     /// The worker, counted from 1, to which the others leave all jobs; 0 for none.
     sole: AtomicU64,
+    /// How often something was said that may be lost on its way.
+    said: AtomicU64,
     /// The site is to end.
     over: AtomicBool,
     /// Where the thread that sends waits.
     sender: Parker,
+    /// Where each worker waits that leaves all jobs to another.
+    spared: [Parker; WORKERS],
 }
 
 impl Signals {
@@ -48,8 +55,19 @@ impl Signals {
             stirs: AtomicU64::new(0),
             hunger: AtomicU64::new(0),
             sole: AtomicU64::new(0),
+            said: AtomicU64::new(0),
             over: AtomicBool::new(false),
             sender: Parker::new(),
+            spared: [
+                Parker::new(),
+                Parker::new(),
+                Parker::new(),
+                Parker::new(),
+                Parker::new(),
+                Parker::new(),
+                Parker::new(),
+                Parker::new(),
+            ],
         }
     }
 
@@ -100,10 +118,20 @@ impl Signals {
         self.sender.unpark();
     }
 
-    /// Waits, in the thread that sends, until it is roused, a millisecond at most. A parcel that came since its last look has left a token
-    /// at the parker, so that it doesn't wait at all.
+    /// Waits, in the thread that sends, until it is roused. A parcel that came since its last look has left a token at the parker, so that
+    /// it doesn't wait at all.
     pub fn doze<R: Wait>(&self, rt: &R) {
-        self.sender.park_timeout(rt, Duration::from_micros(DOZE));
+        self.sender.park_timeout(rt, Duration::from_secs(DOZE));
+    }
+
+    /// Something was said that may be lost on its way, for the first time.
+    pub fn say(&self) {
+        self.said.fetch_add(1, Ordering::SeqCst);
+    }
+
+    /// Returns how often that was so: while it stays the same, whatever may be lost was said again each time.
+    pub fn said(&self) -> u64 {
+        self.said.load(Ordering::SeqCst)
     }
 
     /// Whether no thread puts parcels into the outbox any more.
@@ -145,27 +173,45 @@ impl Signals {
 
     /// The states that this worker keeps save so much that the others only found them once more: they leave it all jobs.
     pub fn work_alone(&self, worker: u8) {
-        self.sole.store(u64::from(worker) + 1, Ordering::Relaxed);
+        self.sole.store(u64::from(worker) + 1, Ordering::SeqCst);
     }
 
     /// This worker leaves the others work again, if they left it all.
     pub fn work_together(&self, worker: u8) {
         let own = u64::from(worker) + 1;
-        // (where this fails, the others are at work already or have left all jobs to another worker)
-        let _ = self
+        let left = self
             .sole
-            .compare_exchange(own, 0, Ordering::Relaxed, Ordering::Relaxed);
+            .compare_exchange(own, 0, Ordering::SeqCst, Ordering::SeqCst);
+        // (where it fails, the others are at work already or have left all jobs to another worker)
+        if left.is_ok() {
+            self.rouse_workers();
+        }
     }
 
     /// Whether this worker leaves all jobs to another.
     pub fn is_spared(&self, worker: u8) -> bool {
-        let sole = self.sole.load(Ordering::Relaxed);
+        let sole = self.sole.load(Ordering::SeqCst);
         sole != 0 && sole != u64::from(worker) + 1
+    }
+
+    /// Waits, in a worker that leaves all jobs to another, until it is roused: there is work for it again, or the site is to end.
+    pub fn spare<R: Wait>(&self, rt: &R, worker: u8) {
+        if let Some(parker) = self.spared.get(usize::from(worker)) {
+            parker.park_timeout(rt, Duration::from_secs(DOZE));
+        }
+    }
+
+    /// Rouses the workers that wait.
+    fn rouse_workers(&self) {
+        for parker in &self.spared {
+            parker.unpark();
+        }
     }
 
     /// Ends the site: its searches are stopped, and no thread of it goes on.
     pub fn end(&self) {
         self.over.store(true, Ordering::SeqCst);
+        self.rouse_workers();
     }
 
     /// Whether that is so.

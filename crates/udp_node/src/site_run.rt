@@ -120,6 +120,7 @@ impl<J: Run, L: Link> SiteRun<J, L> {
         ensures { self.new.node ≡ self.old.node }
     {
         if self.node != 0 && !context.ending.await_registry(rt) {
+            self.end.cause = context.ending.cause(rt);
             context.end(self.node, &self.end);
             return;
         }
@@ -367,7 +368,7 @@ fn closed<J: Run, C: Core + Drop, N: CellName>(
         losses: end.losses,
         dropped: end.dropped,
         failures: end.failures,
-        taken: end.taken,
+        turns: end.turns,
         is_manned: end.is_manned,
     };
     let Ok((seats, tokens)) = end.into_lists(alloc) else {

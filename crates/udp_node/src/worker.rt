@@ -8,6 +8,9 @@ use crate::actor::Actor;
 use crate::exchange::{Exchange, INBOX};
 use crate::few_visits::FewVisits;
 use crate::hand::{Hand, SearchJob, Searched};
+use crate::idleness::{IdleTurn, Idleness};
+use crate::looks::Looks;
+use crate::savings::{Savings, Shown};
 use crate::seat_receipts::Refused;
 use crate::signals::Signals;
 use brancher::{Finding, Outcome, ROOM, Searcher, Tables};
@@ -21,27 +24,14 @@ use spawn_frame::Job;
 use std::alloc::{AllocError, Global};
 use std::marker::PhantomData;
 use std::sync::Wait;
-use std::time::{Clock, Duration};
+use std::time::Clock;
 use std::{mem, thread};
-
-/// In so many idle turns in a row only every 32nd waits, then in as many more every sixteenth, and so on down to each: work is near
-/// as long as others have some, and who asks sooner gets it sooner.
-const EAGER: u32 = 1_024;
-
-/// Where kept states save so many visits for each that is made, one worker of a node is as fast as several.
-const SOLE: u64 = 1_000;
-
-/// So many visits of a search that saves less show that they don't.
-const TELLING: u64 = 30_000;
 
 /// A prefix without a cover is worth telling of if a search of it takes so many visits.
 const TOLD: u64 = 4_096;
 
 /// So many visits show whether there is no cover below a prefix of which all children are known.
 const CLIMB: u64 = 256;
-
-/// How long a worker waits that leaves all jobs to another, in microseconds.
-const SPARED: u64 = 200;
 
 /// A worker of a node, between its turns.
 #[derive(Drop)]
@@ -50,10 +40,9 @@ pub struct Worker<'a, J: Run> {
     hand: Hand<J>,
     pace: Pace,
     rng: Pcg32,
-    /// How many turns in a row found nothing to do.
-    idle: u32,
-    /// What the site's count of stirs was when a look at the core found nothing to do last.
-    looked_at: Option<u64>,
+    idleness: Idleness,
+    looks: Looks,
+    savings: Savings,
     /// How many visits the last search might make.
     limit: u64,
     number: u8,
@@ -82,8 +71,9 @@ impl<'a, J: Run> Worker<'a, J> {
             // (each option of a prefix covers a primary item, so no prefix has more options than these)
             pace: Pace::new(alloc, plan.fuel, alone, tables.problem().primary() + 1)?,
             rng: Pcg32::new(plan.seed, stream),
-            idle: 0,
-            looked_at: None,
+            idleness: Idleness::new(),
+            looks: Looks::new(),
+            savings: Savings::new(),
             limit: 1,
             number,
             node,
@@ -102,7 +92,10 @@ impl<'a, J: Run> Worker<'a, J> {
         }
         match mem::replace(&mut self.hand, Hand::Nothing) {
             // (only with nothing in hand: a job that was taken up is known to no other worker)
-            Hand::Nothing if actor.shared.signals.is_spared(self.number) => spared(rt),
+            Hand::Nothing if actor.shared.signals.is_spared(self.number) => {
+                actor.shared.signals.spare(rt, self.number);
+                Turn::Waited
+            }
             Hand::Nothing => self.take(rt, actor),
             Hand::Search(search_job) => self.search(rt, actor, search_job),
             Hand::Post(searched) => self.post(rt, actor, searched),
@@ -115,10 +108,8 @@ impl<'a, J: Run> Worker<'a, J> {
         rt: &R,
         actor: &mut Actor<'_, J, C, N, G>,
     ) -> Turn {
-        // (read before the look, so that an event between the two brings one look more, and is never missed)
-        let stirs = actor.shared.signals.stirs();
         // (a Take that is answered Idle is an entry, too, and idle workers would soon fill the book)
-        if self.looked_at == Some(stirs) {
+        if !self.looks.is_begun(actor.shared.signals) {
             return self.rest(rt, actor);
         }
         let taken = match actor.act(rt, Event::Take) {
@@ -127,18 +118,18 @@ impl<'a, J: Run> Worker<'a, J> {
         };
         match taken {
             Reply::Taken(job, prefix) => {
-                self.idle = 0;
+                self.idleness.end();
                 let fuel = self
                     .pace
                     .fuel(prefix.as_slice().len(), actor.shared.signals.is_hungry());
                 self.search(rt, actor, SearchJob::new(job, prefix, fuel))
             }
             Reply::Ripe(unit) => {
-                self.idle = 0;
+                self.idleness.end();
                 after(actor.act(rt, Event::Finish(unit)))
             }
             Reply::Idle | Reply::Moved | Reply::Ignored => {
-                self.looked_at = Some(stirs);
+                self.looks.note_nothing();
                 // (it has nothing to do itself, so the others have no reason to leave it all jobs)
                 actor.shared.signals.work_together(self.number);
                 self.rest(rt, actor)
@@ -146,23 +137,24 @@ impl<'a, J: Run> Worker<'a, J> {
         }
     }
 
-    /// There is nothing to do: at the first such turn in a row, and each 64th, another site is asked for work.
+    /// There is nothing to do: another site is asked for work now and then.
     fn rest<C: Core + Drop, N: CellName, G: Gate, R: Wait + Clock>(
         &mut self,
         rt: &R,
         actor: &mut Actor<'_, J, C, N, G>,
     ) -> Turn {
-        let idle = self.idle;
-        self.idle = idle.saturating_add(1);
-        if idle % 64 == 0 {
-            let victim = self.victim(actor.shared.plan.nodes);
-            return after(actor.act(rt, Event::Ask(victim)));
+        let plan = actor.shared.plan;
+        match self.idleness.next(workers_of(plan)) {
+            IdleTurn::Asks => {
+                let victim = self.victim(plan.nodes);
+                after(actor.act(rt, Event::Ask(victim)))
+            }
+            IdleTurn::Waits(nap) => {
+                thread::sleep(rt, nap);
+                Turn::Waited
+            }
+            IdleTurn::Passes => Turn::Waited,
         }
-        if idle % stride(idle) == 0 {
-            let workers = u64::from(actor.shared.plan.nodes) * u64::from(actor.shared.plan.workers);
-            thread::sleep(rt, Duration::from_micros(nap(idle, workers)));
-        }
-        Turn::Waited
     }
 
     /// Another site, picked at random: in place of the own node the registry.
@@ -267,13 +259,13 @@ impl<'a, J: Run> Worker<'a, J> {
         }
     }
 
-    /// Leaves the node's other workers something to do or not, by what the states saved in a search: where they save very much, each
-    /// other worker would find the same states once more, and all would take longer than one does.
-    fn share<G: Gate>(&self, signals: &Signals, watch: &SearchWatch<'_, G>) {
-        if watch.savings() >= SOLE {
-            signals.work_alone(self.number);
-        } else if watch.visits() >= TELLING {
-            signals.work_together(self.number);
+    /// Leaves the node's other workers something to do or not, by what the states saved: where they save very much, each other worker
+    /// would find the same states once more, and all would take longer than one does.
+    fn share<G: Gate>(&mut self, signals: &Signals, watch: &SearchWatch<'_, G>) {
+        match self.savings.note(watch.visits(), watch.gone()) {
+            Shown::Much => signals.work_alone(self.number),
+            Shown::Little => signals.work_together(self.number),
+            Shown::Nothing => {}
         }
     }
 
@@ -351,40 +343,14 @@ fn search_fuel(keeps: bool, limit: u64) -> u64
     if keeps { u64::MAX } else { limit }
 }
 
-/// A turn of a worker that leaves all jobs to another.
-fn spared<R: Wait + Clock>(rt: &R) -> Turn {
-    thread::sleep(rt, Duration::from_micros(SPARED));
-    Turn::Waited
+/// How many workers there are in a run of this plan.
+fn workers_of(plan: Plan) -> u64 {
+    u64::from(plan.nodes) * u64::from(plan.workers)
 }
 
 /// The room for states that one searcher of the run has: all of them together have what four searches by one thread have.
-fn room_for(plan: Plan) -> u64 {
-    let searchers = u64::from(plan.nodes) * u64::from(plan.workers);
-    (4 * ROOM / searchers.max(1)).min(ROOM)
-}
-
-/// Of how many idle turns one waits, after so many in a row.
-fn stride(idle: u32) -> u32
-    ensures { 1 ≤ result }
-{
-    match idle / EAGER {
-        0 => 32,
-        1 => 16,
-        2 => 8,
-        3 => 4,
-        4 => 2,
-        _ => 1,
-    }
-}
-
-/// How long an idle turn waits, in microseconds, after so many in a row: from 20 on, and at most a thousand, or 125 for each worker
-/// that there is in all where that is more: so those of a run ask at most some 125 times a second together, however many they are.
-/// After each 64, when it asked again, it waits one longer for each of these workers: so many that ask at once leave those at work
-/// alone.
-fn nap(idle: u32, workers: u64) -> u64 {
-    let longest = workers.saturating_mul(125).max(1_000);
-    let more = u64::from(idle / 64).saturating_mul(workers);
-    more.saturating_add(20).min(longest)
+pub fn room_for(plan: Plan) -> u64 {
+    (4 * ROOM / workers_of(plan).max(1)).min(ROOM)
 }
 
 /// Whether a thread ends whose event was refused, and why.

@@ -1,11 +1,17 @@
 //! The books of a run: one of thousands of entries, and that a gate hears of each entry.
 //!
-//! Of the bugs of `udp_node` that are kept outside the gate, `a_book_has_room_for_thousands` finds `a_book_of_2000_entries`, and
-//! `a_gate_hears_of_each_entry` finds `nobody_hears_of_the_registry`.
+//! Of the bugs of `udp_node` that are kept outside the gate, `a_book_has_room_for_thousands` finds `a_book_of_2000_entries`,
+//! `the_registrys_book_has_room_for_thousands` finds `the_registrys_book_of_2000_entries`, and `a_gate_hears_of_each_entry` finds
+//! `nobody_hears_of_the_registry`.
 
+use super::crowded::crowded_registry;
 use super::ends::wires;
+use super::lone::{HERE, REGISTRY};
 use super::runs::{COVERED, Came, Row, Told, run, run_whole};
+use super::timings::SOON;
+use packet_wire::{Body, Packet, is_well_formed, write_packet};
 use spawn_frame::Job;
+use std::alloc::Global;
 use std::sync::atomic::{AtomicUsize, Ordering};
 use std::test::Fail;
 use udp_node::{Gate, Open, Plan};
@@ -26,7 +32,7 @@ const PLAN: Plan = Plan {
     fuel: 1,
     seed: 1,
     turns: 1_000_000,
-    quiet: 600_000,
+    timing: SOON,
     entries: 1_000_000,
 };
 
@@ -34,6 +40,35 @@ const PLAN: Plan = Plan {
 fn a_book_has_room_for_thousands(rt: HostRuntime) -> Result<(), Fail> {
     let links = wires(rt.alloc(), PLAN.nodes)?;
     let came = run(&rt, rt.alloc(), &PAIRS, PLAN, links, &Open);
+    let (told, books) = (Told::Right, 2);
+    assert_eq!(rt; came, Some(Came { told, books }));
+    Ok(())
+}
+
+/// The packet by which node 1 asks the registry for work; none where memory runs out.
+fn steal(alloc: Global) -> Option<Vec<u8>> {
+    let packet = Packet {
+        from: HERE,
+        to: REGISTRY,
+        body: Body::Steal,
+    };
+    if !is_well_formed(&packet) {
+        return None;
+    }
+    let mut bytes = Vec::new(alloc);
+    write_packet(alloc, &packet, &mut bytes).ok()?;
+    Some(bytes)
+}
+
+/// A node asks 2,500 times, before it does anything else.
+#[test]
+fn the_registrys_book_has_room_for_thousands(rt: HostRuntime) -> Result<(), Fail> {
+    let alloc = rt.alloc();
+    let Some(steal) = steal(alloc) else {
+        return Err(Fail::new("memory ran out"));
+    };
+    let links = crowded_registry(alloc, PLAN.nodes, steal, 2_500)?;
+    let came = run(&rt, alloc, &COVERED, PLAN, links, &Open);
     let (told, books) = (Told::Right, 2);
     assert_eq!(rt; came, Some(Came { told, books }));
     Ok(())

@@ -3,8 +3,10 @@
 ghost use Rattle.std.specs.Prelude.{◌≡◌, ◌+◌, ◌≤◌, vec_len, IfOk};
 
 use super::wild::Wild;
+use run_key::RunKey;
 use std::alloc::{AllocError, Global};
 use std::net::Net;
+use std::random::RandomSource;
 use std::sync::Arc;
 use std::test::Fail;
 use udp_node::{Link, MemoryLink, Sockets, UdpLink, Wires, bound};
@@ -23,14 +25,18 @@ pub fn wires(alloc: Global, nodes: u8) -> Result<Vec<MemoryLink>, AllocError>
 }
 
 /// The sockets of so many nodes and the registry.
-pub fn bound_sockets<R: Net>(rt: &R, alloc: Global, nodes: u8) -> Result<Arc<Sockets, Global>, Fail>
+pub fn bound_sockets<R: Net + RandomSource>(
+    rt: &R,
+    alloc: Global,
+    nodes: u8,
+) -> Result<Arc<Sockets, Global>, Fail>
     requires { nodes ≤ 16 }
 {
     let mut sockets = Vec::new(alloc);
     for _site in 0..nodes + 1 {
         sockets.push(bound(rt)?)?;
     }
-    Ok(Arc::new(alloc, Sockets::new(alloc, sockets)?)?)
+    Ok(Arc::new(alloc, Sockets::new(alloc, sockets, RunKey::draw(rt)?)?)?)
 }
 
 /// Links over these sockets, for so many nodes and the registry.
@@ -50,7 +56,11 @@ pub fn links_over(
 }
 
 /// Links over sockets of their own, for so many nodes and the registry.
-pub fn sockets<R: Net>(rt: &R, alloc: Global, nodes: u8) -> Result<Vec<UdpLink>, Fail>
+pub fn sockets<R: Net + RandomSource>(
+    rt: &R,
+    alloc: Global,
+    nodes: u8,
+) -> Result<Vec<UdpLink>, Fail>
     requires { nodes ≤ 16 }
     ensures { IfOk result (λ links. vec_len links ≡ nodes + 1) }
 {

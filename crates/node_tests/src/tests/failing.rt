@@ -8,13 +8,14 @@
 use super::broken::{Defect, links_with};
 use super::fails_once::{AfterFault, Fault, links_that_fail};
 use super::runs::{COVERED, Told, run, run_whole};
+use super::timings::{SOON, SOON_SILENT};
 use std::alloc::Global;
 use std::sync::atomic::{AtomicU64, Ordering};
 use std::sync::{Arc, Wait};
 use std::test::Fail;
 use std::thread::Threads;
 use std::time::Clock;
-use udp_node::{EndCause, Open, Plan};
+use udp_node::{EndCause, Open, Plan, Timing};
 
 /// Three nodes of two workers each, which never end since they hear nothing.
 const PLAN: Plan = Plan {
@@ -23,7 +24,7 @@ const PLAN: Plan = Plan {
     fuel: 1,
     seed: 1,
     turns: 1_000_000,
-    quiet: u64::MAX,
+    timing: SOON,
     entries: 1_000_000,
 };
 
@@ -45,7 +46,7 @@ fn a_site_that_fails_ends_the_run(rt: HostRuntime) -> Result<(), Fail> {
 #[test]
 fn nodes_that_do_not_hear_the_registry_end(rt: HostRuntime) -> Result<(), Fail> {
     let plan = Plan {
-        quiet: 6_000,
+        timing: SOON_SILENT,
         ..PLAN
     };
     let links = links_with(rt.alloc(), plan.nodes, 0, Defect::Mute)?;
@@ -76,16 +77,15 @@ static NUMBERS: [(usize, Defect, Numbers); 6] = [
     (0, Defect::Noisy(7), (EndCause::Over, 0, 7, 0)),
 ];
 
-/// The numbers of this site at the end of a run where its link has this defect; none where memory ran out. Sites give up after so
-/// many receives that brought nothing.
+/// The numbers of this site at the end of a run where its link has this defect; none where memory ran out.
 fn numbers<R: Threads + Wait + Clock + Sync>(
     rt: &R,
     alloc: Global,
-    quiet: u64,
+    timing: Timing,
     site: usize,
     defect: Defect,
 ) -> Option<Numbers> {
-    let plan = Plan { quiet, ..SMALL };
+    let plan = Plan { timing, ..SMALL };
     let links = links_with(alloc, plan.nodes, site, defect).ok()?;
     let ran = run_whole(rt, alloc, &COVERED, plan, links, &Open)?;
     let end = ran.sites.get(site)?;
@@ -95,7 +95,7 @@ fn numbers<R: Threads + Wait + Clock + Sync>(
 #[test]
 fn numbers_of_a_site_with_a_defect(rt: HostRuntime) -> Result<(), Fail> {
     for (site, defect, expected) in NUMBERS {
-        let came = numbers(&rt, rt.alloc(), u64::MAX, site, defect);
+        let came = numbers(&rt, rt.alloc(), SOON, site, defect);
         assert_eq!(rt; came, Some(expected), "site {site}");
     }
     Ok(())
@@ -103,8 +103,7 @@ fn numbers_of_a_site_with_a_defect(rt: HostRuntime) -> Result<(), Fail> {
 
 #[test]
 fn a_send_that_fails_is_a_loss(rt: HostRuntime) -> Result<(), Fail> {
-    // (long enough for the node to send, however busy the machine is)
-    let came = numbers(&rt, rt.alloc(), 6_000, 1, Defect::Stuck);
+    let came = numbers(&rt, rt.alloc(), SOON_SILENT, 1, Defect::Stuck);
     let Some((cause, losses, dropped, failures)) = came else {
         return Err(Fail::new("memory ran out"));
     };
@@ -126,7 +125,6 @@ fn goes_on<R: Threads + Wait + Clock + Sync>(
     let plan = Plan {
         workers,
         nodes: 1,
-        quiet: 600_000,
         ..PLAN
     };
     let failed = Arc::new(alloc, AtomicU64::new(0))?;

@@ -6,6 +6,7 @@ ghost use Rattle.std.specs.Prelude.{◌≡◌, ◌≤◌, ℕ, length, vec_len, 
 
 use super::ends::wires;
 use super::runs::{COVERED, Told, run_whole};
+use super::timings::SOON;
 use spawn_frame::Job;
 use std::alloc::{AllocError, Global};
 use std::sync::atomic::{AtomicBool, Ordering};
@@ -21,7 +22,7 @@ const PLAN: Plan = Plan {
     fuel: 1_000,
     seed: 1,
     turns: 1_000_000,
-    quiet: 600_000,
+    timing: SOON,
     entries: 1_000_000,
 };
 

@@ -3,6 +3,7 @@
 ghost use Rattle.std.specs.Prelude.{◌≡◌};
 
 use super::ends::wires;
+use super::timings::SOON;
 use cover_problem::Problem;
 use dlx_reader::read_problem;
 use run_book::Run;
@@ -34,7 +35,7 @@ const PLAN: Plan = Plan {
     fuel: 1,
     seed: 1,
     turns: u64::MAX,
-    quiet: u64::MAX,
+    timing: SOON,
     entries: 1_000_000,
 };
 

@@ -5,12 +5,13 @@ ghost use Rattle.packet_wire.specs.WellFormed.{is_well_formed};
 ghost use Rattle.run_book.specs.Sites.{opening_of, IsRun, MayBeginIn};
 ghost use Rattle.site_network.specs.Links.{failed_once};
 
-use super::runs::COVERED;
+use super::runs::{COVERED, Row};
+use super::timings::SOON;
 use brancher::Finding;
 use cover_problem::Problem;
 use dlx_reader::read_problem;
 use node_core::{Event, NodeCore};
-use packet_wire::{Packet, write_packet};
+use packet_wire::{Body, Packet, write_packet};
 use run_book::{CellName, CellParts, Entry, Run, SiteCell, cores_step_as_their_sites};
 use spawn_frame::{Job, Site};
 use std::alloc::{AllocError, Global};
@@ -20,7 +21,7 @@ use std::sync::{Arc, Wait};
 use std::test::Fail;
 use std::thread::{self, Threads};
 use std::time::Clock;
-use udp_node::{EndCause, Gate, Link, LinkFault, Plan, run_node};
+use udp_node::{EndCause, Gate, Link, LinkFault, Plan, Timing, run_node};
 
 /// How many turns a send waits at most.
 const TURNS: u64 = 100_000_000;
@@ -57,6 +58,12 @@ impl Script {
         write_packet(alloc, packet, &mut bytes)?;
         self.datagrams.push(bytes)?;
         Ok(())
+    }
+
+    /// The registry says behind all others that the search is over, so that the node ends.
+    pub fn end(&mut self, alloc: Global) -> Result<(), AllocError> {
+        let (from, to, body) = (REGISTRY, HERE, Body::Over);
+        self.add(alloc, &Packet { from, to, body })
     }
 
     /// The datagram that comes at this receive.
@@ -144,14 +151,14 @@ pub const OTHER: Site = Site {
     incarnation: 1,
 };
 
-/// One worker, whose searches make one visit, and one node beside this one, which is not there. The node ends soon, since nobody answers.
+/// One worker, whose searches make one visit, and one node beside this one, which is not there.
 const PLAN: Plan = Plan {
     workers: 1,
     nodes: 2,
     fuel: 1,
     seed: 1,
     turns: 100_000,
-    quiet: 6_000,
+    timing: SOON,
     entries: 1_000_000,
 };
 
@@ -162,6 +169,12 @@ pub struct Room {
     pub turns: u64,
     /// How many entries its book may have.
     pub entries: u64,
+    /// When it acts although nothing came.
+    pub timing: Timing,
+    /// How many children it may name.
+    pub names: u32,
+    /// How many visits a search has at first.
+    pub fuel: u64,
 }
 
 /// What a node came to.
@@ -217,7 +230,7 @@ pub fn delivered(entries: &[Entry]) -> usize {
 }
 
 /// In how many entries it is said again what may be lost.
-fn agains(entries: &[Entry]) -> usize {
+pub fn agains(entries: &[Entry]) -> usize {
     entries
         .iter()
         .filter(|entry| matches!(entry.event(), Event::Again))
@@ -253,6 +266,8 @@ fn play<J: Run + Send + Sync, N: CellName + Send + Sync, R: Threads + Wait + Clo
     let cell: SiteCell<J, NodeCore, N> = SiteCell::new(cell_parts, core, room.entries);
     let plan = Plan {
         turns: room.turns,
+        fuel: room.fuel,
+        timing: room.timing,
         ..PLAN
     };
     let gate = Counting {
@@ -277,7 +292,7 @@ fn play<J: Run + Send + Sync, N: CellName + Send + Sync, R: Threads + Wait + Clo
     })
 }
 
-/// What a node comes to in a run of this problem. It may name one child.
+/// What a node comes to in a run of this problem.
 fn run_at<R: Threads + Wait + Clock + Sync>(
     rt: &R,
     alloc: Global,
@@ -289,7 +304,7 @@ fn run_at<R: Threads + Wait + Clock + Sync>(
     let link = ScriptLink::new(alloc, script)?;
     let surroundings = Surroundings { link, room };
     let cell_parts = CellParts::new(alloc)?;
-    let core = NodeCore::start(alloc, problem, HERE, 2, 1)?;
+    let core = NodeCore::start(alloc, problem, HERE, 2, room.names)?;
     let ended = play::<Brand, Brand, _>(rt, alloc, cell_parts, core, problem, surroundings);
     Ok(ended)
 }
@@ -301,7 +316,18 @@ pub fn run_alone<R: Threads + Wait + Clock + Sync>(
     script: Script,
     room: Room,
 ) -> Result<Ended, Fail> {
-    let read = read_problem(alloc, COVERED.0.as_bytes())?;
+    run_alone_on(rt, alloc, &COVERED, script, room)
+}
+
+/// The same of this problem.
+pub fn run_alone_on<R: Threads + Wait + Clock + Sync>(
+    rt: &R,
+    alloc: Global,
+    row: &Row,
+    script: Script,
+    room: Room,
+) -> Result<Ended, Fail> {
+    let read = read_problem(alloc, row.0.as_bytes())?;
     match run_at(rt, alloc, &read.problem, script, room)? {
         Some(ended) => Ok(ended),
         None => Err(Fail::new("memory ran out")),

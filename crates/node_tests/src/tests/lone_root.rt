@@ -1,15 +1,19 @@
 //! The registry by itself.
+//!
+//! Of the bugs of `udp_node` that are kept outside the gate, `the_end_is_announced_again` finds `the_end_is_said_once`.
 
 ghost use Rattle.std.specs.Prelude.{◌≡◌};
 ghost use Rattle.run_book.specs.Sites.{opening_of, IsRun, MayBeginIn};
 
-use super::lone::{HERE, REGISTRY, Script, ScriptLink, delivered};
-use super::runs::COVERED;
+use super::lone::{HERE, REGISTRY, Script, ScriptLink, agains, delivered};
+use super::runs::{BARE, COVERED};
+use super::timings::SOON_SILENT;
 use cover_problem::Problem;
 use dlx_reader::read_problem;
 use packet_wire::{Body, Packet};
 use root_registry::Registry;
 use run_book::{CellName, CellParts, Run, SiteCell, cores_step_as_their_sites};
+use spawn_frame::ChildResult;
 use std::alloc::Global;
 use std::marker::Brand;
 use std::sync::Wait;
@@ -25,7 +29,7 @@ const PLAN: Plan = Plan {
     fuel: 1,
     seed: 1,
     turns: 100,
-    quiet: 50,
+    timing: SOON_SILENT,
     entries: 1_000,
 };
 
@@ -36,6 +40,8 @@ struct Ended {
     seats: usize,
     /// In how many entries of its book a packet is delivered.
     delivered: usize,
+    /// In how many it says again what may be lost.
+    agains: usize,
 }
 
 /// Runs the registry at a cell, and closes that.
@@ -64,6 +70,7 @@ fn play<J: Run + Send + Sync, N: CellName + Send + Sync, R: Threads + Wait + Clo
     Some(Ended {
         seats: many,
         delivered: delivered(book.entries()),
+        agains: agains(book.entries()),
     })
 }
 
@@ -98,10 +105,39 @@ fn the_registry_hears_a_node_and_gives_its_seat_back(rt: HostRuntime) -> Result<
     }
     let read = read_problem(alloc, COVERED.0.as_bytes())?;
     let ended = run_at(&rt, alloc, &read.problem, script)?;
+    let Some(ended) = ended else {
+        return Err(Fail::new("memory ran out"));
+    };
     // (the plan's workers are a node's: the registry has the one thread that receives)
+    assert_eq!(rt; (ended.seats, ended.delivered), (1, 2));
+    Ok(())
+}
+
+/// A node steals the root and returns that it has no cover: the search is over, and the registry announces it twenty times more, since the first
+/// announcement may be lost.
+#[test]
+fn the_end_is_announced_again(rt: HostRuntime) -> Result<(), Fail> {
+    let alloc = rt.alloc();
+    let mut script = Script::new(alloc);
+    let (serial, attempt, result) = (0, 1, ChildResult::Empty);
+    let empty = Body::Return {
+        serial,
+        attempt,
+        result,
+    };
+    for body in [Body::Steal, empty] {
+        let (from, to) = (HERE, REGISTRY);
+        let packet = Packet { from, to, body };
+        if packet_wire::is_well_formed(&packet) {
+            script.add(alloc, &packet)?;
+        }
+    }
+    let read = read_problem(alloc, BARE.0.as_bytes())?;
+    let ended = run_at(&rt, alloc, &read.problem, script)?;
     let expected = Ended {
         seats: 1,
         delivered: 2,
+        agains: 20,
     };
     assert_eq!(rt; ended, Some(expected));
     Ok(())

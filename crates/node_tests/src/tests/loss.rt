@@ -2,6 +2,7 @@
 
 use super::ends::{sockets, wild, wires};
 use super::runs::{BARE, COVERED, Came, Row, Told, run};
+use super::timings::SOON;
 use std::test::Fail;
 use udp_node::{Link, Open, Plan};
 
@@ -18,7 +19,7 @@ const PLAN: Plan = Plan {
     fuel: 1,
     seed: 1,
     turns: 1_000_000,
-    quiet: 600_000,
+    timing: SOON,
     entries: 1_000_000,
 };
 

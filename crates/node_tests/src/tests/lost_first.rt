@@ -5,6 +5,7 @@ ghost use Rattle.std.specs.Prelude.{◌≡◌, ◌+◌, ◌≤◌, ℕ, length, 
 
 use super::ends::wires;
 use super::runs::{BARE, COVERED, Told, run_incarnations, run_plan};
+use super::timings::SOON;
 use packet_wire::{Body, read_packet};
 use std::alloc::{AllocError, Global};
 use std::sync::atomic::{AtomicU64, Ordering};
@@ -139,7 +140,7 @@ const PLAN: Plan = Plan {
     fuel: 1,
     seed: 1,
     turns: 1_000_000,
-    quiet: 600_000,
+    timing: SOON,
     entries: 1_000_000,
 };
 

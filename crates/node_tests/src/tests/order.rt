@@ -5,6 +5,7 @@
 
 use super::ends::wires;
 use super::runs::{COVERED, Came, Told, run};
+use super::timings::SOON;
 use run_probes::{Awaited, HeldGate};
 use std::test::Fail;
 use udp_node::Plan;
@@ -16,7 +17,7 @@ const ONE_NODE: Plan = Plan {
     fuel: 1,
     seed: 1,
     turns: 1_000_000,
-    quiet: 600_000,
+    timing: SOON,
     entries: 1_000_000,
 };
 

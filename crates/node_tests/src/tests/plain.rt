@@ -1,11 +1,14 @@
 //! Runs over links that lose nothing.
+//!
+//! Of the bugs of `udp_node` that are kept outside the gate, `packets_leave_at_once` finds `the_sender_is_not_roused`.
 
 ghost use Rattle.std.specs.Prelude.{◌≤◌};
 
 use super::ends::wires;
 use super::runs::{BARE, COVERED, Came, Told, run};
+use super::timings::SOON;
 use std::test::Fail;
-use udp_node::{Open, Plan};
+use udp_node::{Open, Plan, Timing};
 
 /// The plan of this number: one to four nodes with one to three workers each, which search little or much at a time.
 fn plan_of(number: u8) -> Plan
@@ -18,7 +21,7 @@ fn plan_of(number: u8) -> Plan
         fuel: if number < 12 { 1 } else { 1024 },
         seed: u64::from(number),
         turns: 1_000_000,
-        quiet: 600_000,
+        timing: SOON,
         entries: 1_000_000,
     }
 }
@@ -34,6 +37,23 @@ fn any_number_of_nodes_and_workers(rt: HostRuntime) -> Result<(), Fail> {
             assert_eq!(rt; came, Some(Came { told, books }), "plan {number}");
         }
     }
+    Ok(())
+}
+
+/// Each packet leaves as soon as it is put out: one that waits until somebody looks for it comes later than sites wait for one another.
+#[test]
+fn packets_leave_at_once(rt: HostRuntime) -> Result<(), Fail> {
+    let plan = Plan {
+        timing: Timing {
+            silence: 10_000,
+            ..SOON
+        },
+        ..plan_of(5)
+    };
+    let links = wires(rt.alloc(), plan.nodes)?;
+    let came = run(&rt, rt.alloc(), &COVERED, plan, links, &Open);
+    let (told, books) = (Told::Right, 3);
+    assert_eq!(rt; came, Some(Came { told, books }));
     Ok(())
 }
 

@@ -7,12 +7,13 @@
 use super::broken::{Defect, links_with};
 use super::ends::wires;
 use super::runs::{COVERED, Came, Told, run_incarnations, run_plan};
+use super::timings::SOON;
 use packet_wire::{Body, Packet};
 use run_probes::recorded;
 use spawn_frame::{Job, Site, Unit};
 use std::sync::{Arc, Mutex};
 use std::test::Fail;
-use udp_node::{Gate, Open, Plan};
+use udp_node::{Gate, Open, Plan, Timing};
 
 /// A gate that lets no first attempt at a guest pass: who takes the root in that attempt never posts it.
 struct HeldRoot;
@@ -32,7 +33,7 @@ const PLAN: Plan = Plan {
     fuel: 1,
     seed: 1,
     turns: 20_000,
-    quiet: 6_000,
+    timing: SOON,
     entries: 1_000_000,
 };
 
@@ -102,14 +103,18 @@ fn greetings(sent: &[Packet], incarnation: u32) -> usize {
         .count()
 }
 
-/// A node greets at its first receive, and at each thousandth after that: so an incarnation of 900 turns greets once, and the last one, whose
-/// waits are no turns, more often, until it has heard nothing for 3,000 receives.
+/// A node greets at first, and each 300 milliseconds after that: so an incarnation of 250 turns, each of a millisecond, greets once, and the
+/// last one, which lasts a thousand times longer, more often, until it has heard nothing for 1,500 milliseconds.
 #[test]
 fn an_incarnation_that_hears_nothing_ends_after_its_turns(rt: HostRuntime) -> Result<(), Fail> {
     let alloc = rt.alloc();
     let plan = Plan {
-        turns: 1_800,
-        quiet: 3_000,
+        turns: 500,
+        timing: Timing {
+            greeting: 300,
+            silence: 1_500,
+            ..SOON
+        },
         ..PLAN
     };
     let sent = Arc::new(alloc, Mutex::new(Vec::new(alloc)))?;

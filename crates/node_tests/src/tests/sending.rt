@@ -5,6 +5,7 @@
 ghost use Rattle.std.specs.Prelude.{◌≡◌, ◌≤◌, ℕ, IfOk};
 ghost use Rattle.run_book.specs.Sites.{opening_of, IsRun, MayBeginIn};
 
+use super::timings::SOON;
 use cover_problem::Problem;
 use dlx_reader::read_problem;
 use node_core::{Core, Event, NodeCore};
@@ -17,7 +18,7 @@ use std::sync::{Arc, Wait};
 use std::test::Fail;
 use std::thread::{self, Threads};
 use std::time::Clock;
-use udp_node::{Link, LinkFault, MemoryLink, Open, Plan, SeatReceipts, Wires, run_node};
+use udp_node::{Link, LinkFault, MemoryLink, Open, Plan, SeatReceipts, Timing, Wires, run_node};
 
 /// How many turns a send waits at most.
 const TURNS: u64 = 1_000_000;
@@ -29,7 +30,10 @@ const PLAN: Plan = Plan {
     fuel: 1,
     seed: 1,
     turns: 500,
-    quiet: 2_000,
+    timing: Timing {
+        silence: 2_000,
+        ..SOON
+    },
     entries: 1_000_000,
 };
 

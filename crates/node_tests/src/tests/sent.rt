@@ -7,6 +7,7 @@ ghost use Rattle.std.specs.Prelude.{◌≡◌, ◌+◌, ◌≤◌, vec_len};
 
 use super::ends::wires;
 use super::runs::{COVERED, Came, Told, run};
+use super::timings::SOON;
 use packet_wire::{Body, Packet};
 use run_probes::{Expected, Sent, SentGate, first_victim, recorded};
 use std::alloc::Global;
@@ -23,7 +24,7 @@ const PLAN: Plan = Plan {
     fuel: 1,
     seed: 1,
     turns: 10_000_000,
-    quiet: u64::MAX,
+    timing: SOON,
     entries: 1_000_000,
 };
 

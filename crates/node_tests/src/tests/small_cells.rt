@@ -4,20 +4,31 @@
 //! `nodes_never_say_again`, `a_node_of_a_small_book` finds `a_full_book_is_the_end_of_its_turns`, `an_idle_worker_stays` finds
 //! `idle_workers_leave_soon`, `each_packet_is_delivered` finds `aborts_and_refusals_are_dropped` and
 //! `packets_for_an_earlier_incarnation_are_taken`, and `a_full_outbox_loses_parcels` finds
-//! `a_full_outbox_is_no_loss`.
+//! `a_full_outbox_is_no_loss`, and `jobs_grow` finds `jobs_never_grow`.
 
-use super::lone::{HERE, OTHER, REGISTRY, Room, Script, run_alone};
+use super::lone::{HERE, OTHER, REGISTRY, Room, Script, run_alone, run_alone_on};
+use super::runs::Row;
+use super::timings::{SOON, SOON_SILENT};
 use cover_problem::Numbers;
 use packet_wire::{Body, Packet};
 use spawn_frame::{Cause as Refusal, Site};
 use std::alloc::{AllocError, Global};
 use std::test::Fail;
-use udp_node::EndCause;
+use udp_node::{EndCause, Timing};
 
-/// More turns and entries than a short run takes.
+/// More turns and entries than a short run takes, and no end before the registry says so.
 const ROOM: Room = Room {
     turns: 100_000,
-    entries: 10_000,
+    entries: 100_000,
+    timing: SOON,
+    names: 1,
+    fuel: 1,
+};
+
+/// The same of a node that gives up after a second.
+const SILENT: Room = Room {
+    timing: SOON_SILENT,
+    ..ROOM
 };
 
 /// The registry gives the node the root, after so many receives.
@@ -47,12 +58,57 @@ fn root_after(alloc: Global, late: u64) -> Result<Script, AllocError> {
 #[test]
 fn a_node_of_few_names(rt: HostRuntime) -> Result<(), Fail> {
     let script = root_after(rt.alloc(), 0)?;
-    let ended = run_alone(&rt, rt.alloc(), script, ROOM)?;
+    let ended = run_alone(&rt, rt.alloc(), script, SILENT)?;
     assert_eq!(rt;
         (ended.cause, ended.threads, ended.searches, ended.visits),
         (EndCause::Silence, 2, 2, 5)
     );
     assert!(rt; ended.agains > 0);
+    Ok(())
+}
+
+/// The pairs of thirteen items, those with the first item twice: no pairs cover thirteen items. A search visits some 125,000 prefixes.
+static PAIRS: Row = (
+    "a b c d e f g h i j k l m\n\
+    a b\na c\na d\na e\na f\na g\na h\na i\na j\na k\na l\na m\n\
+    a b\na c\na d\na e\na f\na g\na h\na i\na j\na k\na l\na m\n\
+    b c\nb d\nb e\nb f\nb g\nb h\nb i\nb j\nb k\nb l\nb m\n\
+    c d\nc e\nc f\nc g\nc h\nc i\nc j\nc k\nc l\nc m\n\
+    d e\nd f\nd g\nd h\nd i\nd j\nd k\nd l\nd m\n\
+    e f\ne g\ne h\ne i\ne j\ne k\ne l\ne m\n\
+    f g\nf h\nf i\nf j\nf k\nf l\nf m\n\
+    g h\ng i\ng j\ng k\ng l\ng m\n\
+    h i\nh j\nh k\nh l\nh m\n\
+    i j\ni k\ni l\ni m\n\
+    j k\nj l\nj m\n\
+    k l\nk m\n\
+    l m\n\
+    ",
+    None,
+);
+
+/// Of a search of 125,000 visits the first jobs are small, since nothing is known of how long they take: with 200 visits each there would be
+/// more than 600.
+#[test]
+fn jobs_grow(rt: HostRuntime) -> Result<(), Fail> {
+    let script = root_after(rt.alloc(), 0)?;
+    let room = Room {
+        timing: Timing {
+            silence: 4_000,
+            ..SOON
+        },
+        names: 1_000_000,
+        fuel: 1_000,
+        ..ROOM
+    };
+    let ended = run_alone_on(&rt, rt.alloc(), &PAIRS, script, room)?;
+    assert_eq!(rt; ended.cause, EndCause::Silence);
+    assert!(rt;
+        ended.searches < 300 && ended.visits > 1_000,
+        "{} searches, of {} visits at most",
+        ended.searches,
+        ended.visits
+    );
     Ok(())
 }
 
@@ -68,12 +124,16 @@ fn a_node_of_a_small_book(rt: HostRuntime) -> Result<(), Fail> {
     Ok(())
 }
 
-/// A worker waits a thousand times as often as it has turns: the root comes when it has waited more often than that.
+/// The root comes when the worker has had nothing to do more often than it has turns: it looks some 32 times between two of its naps.
 #[test]
 fn an_idle_worker_stays(rt: HostRuntime) -> Result<(), Fail> {
-    let script = root_after(rt.alloc(), 3_000)?;
+    let script = root_after(rt.alloc(), 200)?;
     let room = Room {
         turns: 1_000,
+        timing: Timing {
+            silence: 3_000,
+            ..SOON
+        },
         ..ROOM
     };
     let ended = run_alone(&rt, rt.alloc(), script, room)?;
@@ -106,13 +166,14 @@ fn packets(alloc: Global) -> Result<Script, AllocError> {
             body: Body::NoWork,
         },
     )?;
+    script.end(alloc)?;
     Ok(script)
 }
 
 #[test]
 fn each_packet_is_delivered(rt: HostRuntime) -> Result<(), Fail> {
     let ended = run_alone(&rt, rt.alloc(), packets(rt.alloc())?, ROOM)?;
-    assert_eq!(rt; ended.delivered, 3);
+    assert_eq!(rt; ended.delivered, 4);
     Ok(())
 }
 
@@ -128,6 +189,7 @@ fn a_full_outbox_loses_parcels(rt: HostRuntime) -> Result<(), Fail> {
         let (from, to, body) = (OTHER, HERE, Body::Steal);
         script.add(alloc, &Packet { from, to, body })?;
     }
+    script.end(alloc)?;
     let ended = run_alone(&rt, alloc, script, ROOM)?;
     assert!(rt; ended.losses >= 1_200 - 1_025, "{} losses", ended.losses);
     Ok(())

@@ -1,10 +1,13 @@
-//! A stranger's packets, which are well formed and name sites of the run, are not heard.
+//! A stranger's packets, which are well formed and name sites of the run, are not heard, however many there are.
 //!
-//! No contract says who sent a datagram. Of the bugs of `site_network` that are kept outside the gate, `a_strangers_result_is_not_taken`
-//! finds `hears_any_address`, as `network_tests` does.
+//! No contract says that a link asks for the key. Of the bugs of `site_network` that are kept outside the gate,
+//! `a_strangers_result_is_not_taken` finds `opens_nothing`, as `network_tests` does; of those of `udp_node` that are,
+//! `a_flood_is_no_packet` finds `strangers_use_up_turns`.
 
+use super::crowded::crowded_registry;
 use super::ends::{bound_sockets, links_over};
-use super::runs::{COVERED, Came, Told, run};
+use super::runs::{COVERED, Came, Told, run, run_whole};
+use super::timings::SOON;
 use packet_wire::{Body, Packet, write_packet};
 use spawn_frame::{ChildResult, Site};
 use std::alloc::Global;
@@ -19,7 +22,7 @@ const PLAN: Plan = Plan {
     fuel: 1000,
     seed: 1,
     turns: 1_000_000,
-    quiet: 6_000,
+    timing: SOON,
     entries: 1_000_000,
 };
 
@@ -60,5 +63,25 @@ fn a_strangers_result_is_not_taken(rt: HostRuntime) -> Result<(), Fail> {
     let came = run(&rt, alloc, &COVERED, PLAN, links, &Open);
     let (told, books) = (Told::Right, 3);
     assert_eq!(rt; came, Some(Came { told, books }));
+    Ok(())
+}
+
+/// More datagrams than the registry has turns.
+static FLOOD: u32 = 5_000;
+
+#[test]
+fn a_flood_is_no_packet(rt: HostRuntime) -> Result<(), Fail> {
+    let alloc = rt.alloc();
+    let plan = Plan {
+        turns: 1_000,
+        ..PLAN
+    };
+    let links = crowded_registry(alloc, PLAN.nodes, Vec::new(alloc), FLOOD)?;
+    let Some(ran) = run_whole(&rt, alloc, &COVERED, plan, links, &Open) else {
+        return Err(Fail::new("memory ran out"));
+    };
+    assert_eq!(rt; ran.came.told, Told::Right);
+    let dropped = ran.sites.first().map(|end| end.dropped);
+    assert_eq!(rt; dropped, Some(u64::from(FLOOD)));
     Ok(())
 }

@@ -1,8 +1,8 @@
 //! A node by itself that is told again what it has heard.
 //!
 //! Of the bugs of `udp_node` that are kept outside the gate, `what_was_entered_is_heard_once` finds `each_gift_is_heard_again`,
-//! `a_later_attempt_is_lost`, `siblings_of_an_entered_one_are_lost` and `all_that_is_said_again_is_lost`, and
-//! `repeats_are_no_silence` finds `repeats_are_silence` and `repeats_are_turns`.
+//! `a_later_attempt_is_lost`, `siblings_of_an_entered_one_are_lost`, `all_that_is_said_again_is_lost`, `gifts_are_lost_after_1024` and
+//! `four_gifts_are_kept`, and `repeats_are_no_turns` finds `repeats_are_turns`.
 
 use super::lone::{HERE, OTHER, REGISTRY, Room, Script, run_alone};
 use cover_problem::Numbers;
@@ -10,12 +10,15 @@ use packet_wire::{Body, Incarnations, Packet};
 use spawn_frame::{Cause as Refusal, ChildResult, Sibling, Siblings};
 use std::alloc::{AllocError, Global};
 use std::test::Fail;
-use udp_node::EndCause;
+use udp_node::{EndCause, Timing};
 
-/// More turns and entries than a short run takes.
+/// More turns and entries than a short run takes, no end before the registry says so, and repeats so late that it says so first.
 const ROOM: Room = Room {
     turns: 100_000,
-    entries: 10_000,
+    entries: 1_000_000,
+    timing: Timing::USUAL,
+    names: 1,
+    fuel: 1,
 };
 
 /// How often each packet comes.
@@ -131,31 +134,46 @@ fn members(alloc: Global) -> Result<Script, AllocError> {
     Ok(script)
 }
 
+/// 1,100 children, and then the first and the last of them once more: 1,024 are kept, so the first is heard again, and another in its place.
+fn many_gifts(alloc: Global) -> Result<Script, AllocError> {
+    let mut script = Script::new(alloc);
+    let (from, to) = (OTHER, HERE);
+    for serial in (0..1_100).chain([0, 1_099, 76]) {
+        let body = gift(alloc, serial, 1);
+        let packet = Packet { from, to, body };
+        if packet_wire::is_well_formed(&packet) {
+            script.add(alloc, &packet)?;
+        }
+    }
+    Ok(script)
+}
+
 #[test]
 fn what_was_entered_is_heard_once(rt: HostRuntime) -> Result<(), Fail> {
     let alloc = rt.alloc();
-    for (script, heard) in [
+    for (mut script, heard) in [
         (gifts(alloc)?, 5),
         (others(alloc)?, 6 * TIMES),
         (members(alloc)?, 3),
+        (many_gifts(alloc)?, 1_102),
     ] {
+        script.end(alloc)?;
         let ended = run_alone(&rt, alloc, script, ROOM)?;
-        assert_eq!(rt; ended.delivered, heard);
+        // (the end is delivered, too)
+        assert_eq!(rt; (ended.cause, ended.delivered), (EndCause::Over, heard + 1));
     }
     Ok(())
 }
 
-/// The other node's gift comes more often than a node waits for the registry, and than it has turns; then the registry says that the
-/// search is over.
+/// The other node's gift comes more often than the node has turns; then the registry says that the search is over.
 #[test]
-fn repeats_are_no_silence(rt: HostRuntime) -> Result<(), Fail> {
+fn repeats_are_no_turns(rt: HostRuntime) -> Result<(), Fail> {
     let alloc = rt.alloc();
     let mut script = Script::new(alloc);
     for _ in 0..3_000 {
         say(&mut script, alloc, gift(alloc, 7, 1))?;
     }
-    let (from, to, body) = (REGISTRY, HERE, Body::Over);
-    script.add(alloc, &Packet { from, to, body })?;
+    script.end(alloc)?;
     let room = Room {
         turns: 1_000,
         ..ROOM

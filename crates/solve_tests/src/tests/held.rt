@@ -12,11 +12,13 @@ use cover_engines::{links, solve_engine};
 use cover_problem::Problem;
 use dlx_reader::read_problem;
 use run_book::Run;
+use run_key::RunKey;
 use run_settings::Settings;
 use spawn_frame::Job;
 use std::alloc::Global;
 use std::marker::Brand;
 use std::net::Net;
+use std::random::RandomSource;
 use std::sync::Wait;
 use std::sync::atomic::{AtomicU64, Ordering};
 use std::test::Fail;
@@ -69,23 +71,21 @@ impl<R: Clock> Gate for Slow<'_, R> {
 }
 
 /// Whether a run of a problem publishes an answer.
-fn is_answered<J: Run + Send + Sync, G: Gate + Sync, R: Threads + Wait + Clock + Net + Sync>(
-    rt: &R,
-    alloc: Global,
-    settings: &Settings<'_>,
-    problem: &Problem,
-    gate: &G,
-) -> Result<bool, Fail>
+fn is_answered<
+    J: Run + Send + Sync,
+    G: Gate + Sync,
+    R: Threads + Wait + Clock + Net + RandomSource + Sync,
+>(rt: &R, alloc: Global, settings: &Settings<'_>, problem: &Problem, gate: &G) -> Result<bool, Fail>
     requires problem { problem.now ≡ J.run.problem }
     requires nodes { settings.now.nodes ≡ J.run.nodes }
 {
-    let links = links(rt, alloc, settings.nodes)?;
+    let links = links(rt, alloc, settings.nodes, RunKey::draw(rt)?)?;
     let end = solve_engine::<J, _, G, R>(rt, alloc, settings, problem, links, gate)?;
     Ok(end.answer.is_some())
 }
 
 /// The same in a run with a name.
-pub fn answers<G: Gate + Sync, R: Threads + Wait + Clock + Net + Sync>(
+pub fn answers<G: Gate + Sync, R: Threads + Wait + Clock + Net + RandomSource + Sync>(
     rt: &R,
     alloc: Global,
     text: &str,
@@ -105,7 +105,7 @@ fn a_run_waits_for_a_slow_search(rt: HostRuntime) -> Result<(), Fail> {
 }
 
 /// How many visits the longest search makes in a run of the second row's problem, whose root takes three, with so much fuel.
-fn longest<R: Threads + Wait + Clock + Net + Sync>(
+fn longest<R: Threads + Wait + Clock + Net + RandomSource + Sync>(
     rt: &R,
     alloc: Global,
     fuel: u64,

@@ -3,17 +3,19 @@
 //! Of the bugs of `cover_engines` that are kept outside the gate, `a_limit_is_counted_in_seconds` finds `no_limit` and
 //! `seconds_are_milliseconds`.
 
-ghost use Rattle.std.specs.Prelude.{◌≡◌, ◌+◌, ◌≤◌, ℕ, length, vec_len, IfOk, IfSome};
+ghost use Rattle.std.specs.Prelude.{◌≡◌, ◌+◌, ◌≤◌, ℕ, length, vec_len, IfErr, IfOk, IfSome};
 ghost use Rattle.site_network.specs.Links.{failed_once};
 
 use super::{NOTHING, ROWS, settings, solve_over};
-use cover_engines::{Loopback, Network, links};
+use cover_engines::{Loopback, Network, NetworkFault, links};
 use packet_wire::{Body, Packet, is_well_formed, write_packet};
+use run_key::RunKey;
 use run_settings::Request;
 use spawn_frame::Site;
 use std::alloc::{AllocError, Global};
 use std::io::{self, ErrorKind};
 use std::net::Net;
+use std::random::RandomSource;
 use std::sync::Wait;
 use std::test::Fail;
 use std::thread::Threads;
@@ -119,9 +121,11 @@ struct OddNetwork<'a, R: Net> {
 impl<R: Net> Network for OddNetwork<'_, R> {
     type End = Odd;
 
-    fn links(&self, alloc: Global, nodes: u8) -> io::Result<Vec<Odd>> {
+    ghost has_refused = { λ _ _ _. Unit {0} };
+
+    fn links(&self, alloc: Global, nodes: u8) -> Result<Vec<Odd>, NetworkFault> {
         let mut all = Vec::new(alloc);
-        for inner in links(self.rt, alloc, nodes)? {
+        for inner in links(self.rt, alloc, nodes, RunKey::new([7; 64]))? {
             let node = all.len().min(16) as u8;
             all.push(Odd {
                 inner,
@@ -137,13 +141,25 @@ impl<R: Net> Network for OddNetwork<'_, R> {
 
 /// No links, for this reason.
 #[derive(Drop)]
-struct NoNetwork(ErrorKind);
+struct NoNetwork(NetworkFault);
 
 impl Network for NoNetwork {
+    ghost has_refused = { λ _ _ _. Unit {0} };
+
     type End = UdpLink;
 
-    fn links(&self, _alloc: Global, _nodes: u8) -> io::Result<Vec<UdpLink>> {
-        Err(io::Error::from(self.0))
+    fn links(&self, _alloc: Global, _nodes: u8) -> Result<Vec<UdpLink>, NetworkFault> {
+        Err(self.0)
+    }
+}
+
+/// A source that has no random bytes.
+#[derive(Drop)]
+struct NoRandom;
+
+impl RandomSource for NoRandom {
+    fn fill_bytes(&self, _buf: &mut [u8]) -> io::Result<()> {
+        Err(io::Error::from(ErrorKind::Unsupported))
     }
 }
 
@@ -203,30 +219,36 @@ fn a_limit_is_counted_in_seconds(rt: HostRuntime) -> Result<(), Fail> {
     Ok(())
 }
 
-/// Whether no links for this reason end with this status and line.
-fn is_unlinked<R: Threads + Wait + Clock + Sync>(
-    rt: &R,
-    alloc: Global,
-    reason: ErrorKind,
-    status: u8,
-    line: &str,
-) -> bool {
-    let solved = solve_over(rt, alloc, NoNetwork(reason), ROWS[0].0, &request(false));
-    solved.status == status && solved.out.is_empty() && solved.errors.as_slice() == line.as_bytes()
-}
+/// Why there are no links, and the status and line.
+static UNLINKED: [(NetworkFault, u8, &str); 3] = [
+    (NetworkFault::NoSockets, 3, "cannot bind\n"),
+    (
+        NetworkFault::NoKey,
+        3,
+        "cannot draw a key: the system gives no random bytes\n",
+    ),
+    (NetworkFault::Memory, 5, "out of memory\n"),
+];
 
 #[test]
 fn no_links_and_no_run(rt: HostRuntime) {
-    assert!(rt; is_unlinked(&rt, rt.alloc(), ErrorKind::AddrInUse, 3, "cannot bind\n"));
-    assert!(rt;
-        is_unlinked(
-            &rt,
-            rt.alloc(),
-            ErrorKind::OutOfMemory,
-            5,
-            "out of memory\n"
-        )
-    );
+    for (fault, status, line) in UNLINKED {
+        let network = NoNetwork(fault);
+        let solved = solve_over(&rt, rt.alloc(), network, ROWS[0].0, &request(false));
+        assert!(rt; solved.status == status && solved.out.is_empty(), "{line}");
+        assert!(rt; solved.errors.as_slice() == line.as_bytes(), "{line}");
+    }
+}
+
+#[test]
+fn no_key_and_no_run(rt: HostRuntime) {
+    let network = Loopback {
+        rt: &rt,
+        random: &NoRandom,
+    };
+    let solved = solve_over(&rt, rt.alloc(), network, ROWS[0].0, &request(false));
+    assert!(rt; solved.status == 3 && solved.out.is_empty());
+    assert!(rt; solved.errors.as_slice() == UNLINKED[1].2.as_bytes());
 }
 
 /// Texts, with what is written to the output, what to the errors, and the status.
@@ -238,7 +260,10 @@ static TEXTS: [(&str, &str, &str, u8); 2] = [
 #[test]
 fn what_is_told_beside_the_answer(rt: HostRuntime) {
     for (text, out, errors, status) in TEXTS.iter() {
-        let network = Loopback { rt: &rt };
+        let network = Loopback {
+            rt: &rt,
+            random: &rt,
+        };
         let solved = solve_over(&rt, rt.alloc(), network, text, &request(false));
         assert!(rt; solved.out.as_slice() == out.as_bytes(), "{text}");
         assert!(rt; solved.errors.as_slice() == errors.as_bytes(), "{text}");

@@ -12,11 +12,13 @@ use cover_problem::{Answer, Problem};
 use dlx_reader::read_problem;
 use packet_wire::{Body, Packet};
 use run_book::Run;
+use run_key::RunKey;
 use run_probes::{Awaited, Expected, HeldGate, Sent, SentGate, first_victim, recorded};
 use run_settings::Settings;
 use std::alloc::Global;
 use std::marker::Brand;
 use std::net::Net;
+use std::random::RandomSource;
 use std::sync::{Arc, Mutex, Wait};
 use std::test::Fail;
 use std::thread::Threads;
@@ -62,7 +64,7 @@ fn covers<J: Run + Send + Sync, L: Link + Send, G: Gate + Sync, R: Threads + Wai
 }
 
 /// The same over sockets of their own, with a list of what is sent.
-fn covers_recorded<G: Gate + Sync, R: Threads + Wait + Clock + Net + Sync>(
+fn covers_recorded<G: Gate + Sync, R: Threads + Wait + Clock + Net + RandomSource + Sync>(
     rt: &R,
     alloc: Global,
     settings: &Settings<'_>,
@@ -70,7 +72,11 @@ fn covers_recorded<G: Gate + Sync, R: Threads + Wait + Clock + Net + Sync>(
     sent: &Sent,
 ) -> Result<bool, Fail> {
     let read = read_problem(alloc, ROWS[0].0.as_bytes())?;
-    let links = recorded(alloc, links(rt, alloc, settings.nodes)?, sent)?;
+    let links = recorded(
+        alloc,
+        links(rt, alloc, settings.nodes, RunKey::draw(rt)?)?,
+        sent,
+    )?;
     covers::<Brand, _, _, _>(rt, alloc, settings, &read.problem, links, gate)
 }
 
@@ -99,7 +105,7 @@ fn gate_two_workers(rt: HostRuntime) -> Result<(), Fail> {
 }
 
 /// Whom each of four nodes asked first in a run of this seed.
-fn first_victims<R: Threads + Wait + Clock + Net + Sync>(
+fn first_victims<R: Threads + Wait + Clock + Net + RandomSource + Sync>(
     rt: &R,
     alloc: Global,
     seed: u64,

@@ -10,10 +10,12 @@ use cover_engines::{EngineFault, links, solve_engine};
 use cover_problem::Problem;
 use dlx_reader::read_problem;
 use run_book::Run;
+use run_key::RunKey;
 use run_settings::Settings;
 use std::alloc::{AllocError, Global};
 use std::marker::Brand;
 use std::net::Net;
+use std::random::RandomSource;
 use std::sync::Wait;
 use std::test::Fail;
 use std::thread::Threads;
@@ -58,7 +60,7 @@ fn without_twins(alloc: Global, links: Vec<UdpLink>) -> Result<Vec<Single>, Allo
 }
 
 /// Whether a run of sites that can't start ends because memory ran out.
-fn is_starved<J: Run + Send + Sync, R: Threads + Wait + Clock + Net + Sync>(
+fn is_starved<J: Run + Send + Sync, R: Threads + Wait + Clock + Net + RandomSource + Sync>(
     rt: &R,
     alloc: Global,
     settings: &Settings<'_>,
@@ -67,7 +69,7 @@ fn is_starved<J: Run + Send + Sync, R: Threads + Wait + Clock + Net + Sync>(
     requires problem { problem.now ≡ J.run.problem }
     requires nodes { settings.now.nodes ≡ J.run.nodes }
 {
-    let links = without_twins(alloc, links(rt, alloc, settings.nodes)?)?;
+    let links = without_twins(alloc, links(rt, alloc, settings.nodes, RunKey::draw(rt)?)?)?;
     let end = solve_engine::<J, _, _, R>(rt, alloc, settings, problem, links, &Open);
     Ok(matches!(end, Err(EngineFault::Memory)))
 }

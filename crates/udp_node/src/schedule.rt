@@ -1,0 +1,136 @@
+use site_network::Timing;
+
+/// How many microseconds a millisecond has.
+const MILLI: u64 = 1_000;
+
+/// How many times longer a site lasts that no incarnation follows.
+const LAST: u64 = 1_000;
+
+/// How long after one another the registry announces the end, once the search is over, in microseconds.
+const END_PAUSE: u64 = 100;
+
+/// How often it announces it again before it ends.
+const END_AGAINS: u64 = 20;
+
+/// For how long a site goes on that is to end while packets still come, in microseconds: the registry's announcement may be among them.
+const GRACE: u64 = 1_000_000;
+
+/// When the thread that receives at a site acts although nothing came. All times are in microseconds of the thread's own
+/// [time](crate::own_time::OwnTime).
+#[derive(Clone, Copy, Debug, PartialEq, Eq)]
+pub struct Schedule {
+    timing: Timing,
+    /// When the site's time is over.
+    lasts: u64,
+    /// When the registry is greeted next.
+    greeting: u64,
+    /// When a packet came last that shows the run going on.
+    heard: u64,
+    /// When what may be lost is said again next.
+    again: u64,
+    /// How long after that the next time is.
+    pause: u64,
+    /// How much that may be lost was said by the last look.
+    said: u64,
+    /// How often the end is announced yet, once the search is over.
+    announcements: Option<u64>,
+    /// When the site was seen to be about to end first.
+    ending: Option<u64>,
+}
+
+impl Schedule {
+    /// That of a thread which begins now, at a site whose threads have so many turns, and which another incarnation follows or not.
+    pub fn new(timing: Timing, turns: u64, is_last: bool) -> Schedule {
+        let lasts = turns.saturating_mul(timing.turn.saturating_mul(MILLI));
+        let pause = timing.again.saturating_mul(MILLI);
+        Schedule {
+            timing,
+            lasts: if is_last {
+                lasts.saturating_mul(LAST)
+            } else {
+                lasts
+            },
+            greeting: 0,
+            heard: 0,
+            again: pause,
+            pause,
+            said: 0,
+            announcements: None,
+            ending: None,
+        }
+    }
+
+    /// Whether the site's time is over.
+    pub fn is_spent(&self, now: u64) -> bool {
+        now >= self.lasts
+    }
+
+    /// Whether the registry is to be greeted. It counts as greeted then.
+    pub fn greets(&mut self, now: u64) -> bool {
+        if now < self.greeting {
+            return false;
+        }
+        self.greeting = now.saturating_add(self.timing.greeting.saturating_mul(MILLI));
+        true
+    }
+
+    /// A packet came that shows the run going on.
+    pub fn hear(&mut self, now: u64) {
+        self.heard = now;
+    }
+
+    /// Whether none came for long.
+    pub fn is_silent(&self, now: u64) -> bool {
+        now.saturating_sub(self.heard) >= self.timing.silence.saturating_mul(MILLI)
+    }
+
+    /// Whether what may be lost is to be said again, where so much was said in all. It counts as said again then.
+    ///
+    /// After something new was said it is said again soon, and then each time after twice as long, since what was not lost
+    /// needs it no more. Once the search is over it is the end that is announced.
+    pub fn repeats(&mut self, now: u64, said: u64) -> bool {
+        if said != self.said {
+            self.said = said;
+            self.pause = self.timing.again.saturating_mul(MILLI);
+            self.again = self.again.min(now.saturating_add(self.pause));
+        }
+        if now < self.again {
+            return false;
+        }
+        self.pause = self.next_pause();
+        self.again = now.saturating_add(self.pause);
+        self.announcements = self.announcements.map(|left| left.saturating_sub(1));
+        true
+    }
+
+    /// How long after this time the next one is.
+    fn next_pause(&self) -> u64 {
+        if self.is_over() {
+            return END_PAUSE;
+        }
+        let latest = self.timing.latest_again.saturating_mul(MILLI);
+        self.pause.saturating_mul(2).min(latest)
+    }
+
+    /// The search is over: from now on the end is announced.
+    pub fn end(&mut self, now: u64) {
+        self.announcements = Some(END_AGAINS);
+        self.again = now.saturating_add(END_PAUSE);
+    }
+
+    /// Whether that is so.
+    pub fn is_over(&self) -> bool {
+        self.announcements.is_some()
+    }
+
+    /// Whether the end was announced often enough.
+    pub fn has_announced(&self) -> bool {
+        self.announcements == Some(0)
+    }
+
+    /// Whether a site that is to end ends now: where its receive was empty, or packets came for long since that was seen first.
+    pub fn ends(&mut self, now: u64, is_empty: bool) -> bool {
+        let seen = *self.ending.get_or_insert(now);
+        is_empty || now.saturating_sub(seen) >= GRACE
+    }
+}
