@@ -1,17 +1,29 @@
 #!/bin/bash
-# Runs all tests: the gate, then each scripts/try_*.py in a short form, scripts/check_pages.py, and scripts/draw_layers.py --check.
+# What a merge has to pass: the gate, then each scripts/try_*.py in a short form, mypy, check_pages.py, and draw_layers.py --check.
 #
-#     scripts/test.sh
+#     scripts/test.sh [--trials]
 #
-# Where all went well the last line is the gate's own, 'N passed, M failed', and the status is 0. Else the last line names what failed, and
-# the status is 1, or 2 where it is given words. It wants the toolchain's command rt, cc and Python; the gate builds the programs.
+# With --trials the gate is left out: they run the programs and tests that it left in this clone. They take up to five minutes.
+# Where all went well the last line is the gate's own, 'N passed, M failed', or 'test.sh: all trials passed', and the status is 0.
+# Else the last line names what failed, and the status is 1; it is 2 where a word isn't known or a command is missing. It wants the
+# toolchain's command rt, cc, Python and mypy; the gate builds the programs.
 set -o pipefail
 unset CDPATH
-if [ $# -gt 0 ]; then
-    echo "usage: scripts/test.sh" >&2
+case "$*" in
+"" | --trials) ;;
+*)
+    echo "usage: scripts/test.sh [--trials]" >&2
     exit 2
-fi
+    ;;
+esac
 cd "$(dirname "$0")/.." || exit 2
+# (before the hour that the gate takes)
+for command in rt cc python3 mypy; do
+    if ! command -v "$command" > /dev/null; then
+        echo "test.sh: there is no command $command on the path" >&2
+        exit 2
+    fi
+done
 
 # The words of a script's short form; none where it takes seconds anyway.
 short_form() {
@@ -28,24 +40,36 @@ short_form() {
     esac
 }
 
+# Runs a trial by its words, says how long it took, and notes its name where it fails.
+failed=
+try() {
+    local begun=$SECONDS name
+    name=$(basename "$1")
+    echo "== $name ${*:2}"
+    case "$1" in
+    *.py) python3 "$@" ;;
+    *) "$@" ;;
+    esac || failed="$failed $name"
+    echo "== $name: $((SECONDS - begun)) s"
+}
+
 log=$(mktemp) || exit 2
 trap 'rm -f "$log"' EXIT
-if ! rt ci 2>&1 | tee "$log"; then
+echo "test.sh: all trials passed" > "$log"
+if [ $# -eq 0 ] && ! rt ci 2>&1 | tee "$log"; then
     echo "test.sh: the gate failed"
     exit 1
 fi
-failed=
+begun=$SECONDS
 for path in scripts/try_*.py; do
-    script=$(basename "$path")
-    echo "== $script $(short_form "$script")"
     # (the words are several)
     # shellcheck disable=SC2046
-    python3 "$path" $(short_form "$script") || failed="$failed $script"
+    try "$path" $(short_form "$(basename "$path")")
 done
-echo "== check_pages.py"
-python3 scripts/check_pages.py || failed="$failed check_pages.py"
-echo "== draw_layers.py --check"
-python3 scripts/draw_layers.py --check || failed="$failed draw_layers.py"
+try mypy
+try scripts/check_pages.py
+try scripts/draw_layers.py --check
+echo "test.sh: the trials took $((SECONDS - begun)) s"
 if [ -n "$failed" ]; then
     echo "test.sh: failed:$failed"
     exit 1
