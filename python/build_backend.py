@@ -9,9 +9,13 @@ import hashlib
 import io
 import os
 import re
+import sys
 import tarfile
 import zipfile
-from typing import Any, Optional
+from typing import Any, Dict, Optional
+
+if sys.version_info < (3, 9):
+    sys.exit("zarfepoch needs Python 3.9 or a later one, and this is %d.%d" % sys.version_info[:2])
 
 HERE = os.path.dirname(os.path.abspath(__file__))
 PACKAGE = os.path.join(HERE, "zarfepoch")
@@ -19,7 +23,7 @@ PACKAGE = os.path.join(HERE, "zarfepoch")
 MADE = (1980, 1, 1, 0, 0, 0)
 
 # what pip hands to a hook
-Settings = Optional[dict[str, Any]]
+Settings = Optional[Dict[str, Any]]
 
 
 def content(*path: str) -> bytes:

@@ -327,8 +327,8 @@ def puzzles(trial: Drawing) -> None:
     table = trial.path("odd", 'lesson;teacher;class;rooms;periods\nart;bob;5a;"hall\t,";\u00b2,3\n'.encode())
     odd = [line.split() for line in trial.made("timetable", table)]
     trial.expect("commas and tabs", odd[0] == ["period", "bob", "5a", "hall"] and [row[0] for row in odd[2:]] == ["\u00b2", "3"])
-    late = trial.path("late", b"lesson,teacher,class,rooms,periods\n\nart,bob,5a,,1\n")
-    trial.expect("the line in a table", b", line 3: rooms is missing" in trial.python("examples/generate.py", "timetable", late).stderr)
+    late = trial.path("late", b"lesson,teacher,class,rooms,periods\n\nart,,5a,hall,1\n")
+    trial.expect("the line in a table", b", line 3: teacher is missing" in trial.python("examples/generate.py", "timetable", late).stderr)
 
 
 def written(trial: Drawing) -> None:

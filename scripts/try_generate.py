@@ -204,7 +204,9 @@ def wrong_tables(trial: Generating) -> None:
             ("a day and a range", 3, "2", ["a,ann,5a,r,Mon 1-6"]),
             ("periods with and without a day", 3, "3", ["a,ann,5a,r,Mon1", "b,bob,5a,r,Tue1 2"]),
             ("a range over the week", 3, "2", ["a,ann,5a,r,Mon1-Fri6"]),
-            ("a word between rooms", 3, "2", ["a,ann,5a,r or s,1"]),
+            ("a word between rooms", 3, "2", ["a,ann,5a,r and s,1"]),
+            ("a sign between rooms of which one is known", 3, "3", ["a,ann,5a,r,1", "b,bob,5b,r&s,2"]),
+            ("a room booked twice beside another", 1, "2, 3", ["a,ann,5a,r+s,1", "b,bob,5b,r,1"]),
             ("a slash between rooms", 3, "4", ["a,ann,5a,r,1", "b,ann,5b,s,2", "c,ann,5c,r/s,3"]),
             ("a day written in two ways", 3, "3", ["a,ann,5a,r,Mon1", "b,bob,5b,s,Monday1"]),
             ("a period with a nought", 3, "3", ["a,ann,5a,r,Mon1", "b,ann,5b,s,Mon01"]),
@@ -235,7 +237,49 @@ def wrong_tables(trial: Generating) -> None:
     days = trial.made("timetable", trial.path("days.csv", HEAD + "\na,ann,5a,r,M1 T1 W1 Th1 F1\nb,ann,5b,s,Mo1 MoN1 Do1 DoN1\n"))
     trial.expect("days that begin alike are several", len(trial.drawn(days)) > 1)
     ended = trial.python("examples/generate.py", "timetable", trial.path("many.csv", HEAD + ",hours\na,ann,5a,r,1-3,2\nb,bob,5a,s,1-3,3\n"))
-    trial.expect(f"all lessons of a full class are counted: {ended.stderr}", "5a has 5 periods of lessons (a, b)" in ended.stderr)
+    trial.expect(f"all lessons of a full class are counted: {ended.stderr}", "5a has 5 periods of lessons (a 2, b 3)" in ended.stderr)
+
+
+def rooms_at_once(trial: Generating) -> None:
+    """A lesson with R1+R2 takes both rooms, as joint lessons take both classes; blanks, `;` and `or` part rooms of which it takes one."""
+    file = trial.made("timetable", trial.path("rooms.csv", HEAD + "\nsport,ann,5a,R1+R2,1\ndance,bob,5b,R1,1-2\nart,cy,5c,R1 or R2,1-3\n"))
+    with open(file, encoding="utf-8") as opened:
+        lines = opened.read().split("\n")
+    trial.expect(f"both rooms: {lines}", [line for line in lines if line.startswith("sport ")] == ["sport ann-1 5a-1 R1-1 R2-1"])
+    plan = trial.drawn(file, "--plan", "R1")
+    trial.expect(f"a room isn't booked twice: {plan}", [line.split()[1:2] for line in plan[2:]][:2] == [["sport"], ["dance"]])
+    periods = trial.made("timetable", trial.path("week.csv", HEAD + "\na,ann,5a,r,Mon-Fri1-6\nb,bob,5b,s,Mon1\n"))
+    with open(periods, encoding="utf-8") as opened:
+        trial.expect("five days of six", sum(line.startswith("a ann") for line in opened) == 30)
+
+
+def names_in_lines(trial: Generating) -> None:
+    """Blanks, commas and semicolons part names alike, in each kind whose lines have names."""
+    texts = {"coloring": "a b\nb c\nc a\nc d\n", "matching": "a b\nb c\nc d\n", "cubes": "one r g b w r g\ntwo g b w r b b\n", "word-square": "ab ba\n",
+             "nonogram": "1 1\n3\n\n2\n1\n2\n"}
+    for kind, text in texts.items():
+        wanted = [line for line in lines_made(trial, kind, text) if not line.startswith("|")]
+        for what, other in (("commas", text.replace(" ", ", ")), ("semicolons", text.replace(" ", ";")), ("tabs", text.replace(" ", "\t")),
+                            ("commas alone", text.replace(" ", ",")), ("a comma at the end", text.replace("\n", ",\n").replace("\n,", "\n"))):
+            found = [line for line in lines_made(trial, kind, other) if not line.startswith("|")]
+            trial.expect(f"{kind} with {what}: {found}", found == wanted)
+    quoted = lines_made(trial, "coloring", '"a";"b"\nb;c\n')
+    trial.expect(f"names in quotation marks: {quoted}", quoted[1].startswith("a b c | "))
+    triangle = trial.made("coloring", trial.path("triangle.txt", "Salzburg, Tirol\nTirol, K\u00e4rnten\nK\u00e4rnten Salzburg\n"), "--colors", "red,green")
+    trial.expect("a triangle has no two colours", trial.drawn(triangle)[0].startswith("none"))
+    squares = trial.path("squares.txt", "A,r,g,b,r\nB, r, r, b, g\n")
+    trial.expect("squares with commas", trial.made("squares", "1x2", squares))
+    grid, words = trial.path("grid.txt", "..\n..\n"), trial.path("words.txt", "ab, ba; bb\nba\n")
+    trial.expect("words with commas", trial.solved("crossword", grid, words, "--repeat")[0] in ("a b", "b a", "b b"))
+    for kind, text in (("coloring", "a b\nA c\n"), ("coloring", "a b\nb. c\n"), ("coloring", "New York, Ohio\nOhio, Iowa\n"), ("matching", "a b\na\u200b c\n"),
+                       ("coloring", 'a "b c"\n'), ("coloring", 'a b"\n'), ("cubes", "one r g b w r g\ntwo R g b w r b\n")):
+        trial.refused(f"{kind} {text!r}", 3, None, kind, trial.path("wrong.txt", text))
+
+
+def lines_made(trial: Generating, kind: str, text: str) -> list[str]:
+    """The lines of the problem that generate.py makes of a text."""
+    with open(trial.made(kind, trial.path("names.txt", text)), encoding="utf-8") as opened:
+        return opened.read().split("\n")
 
 
 def no_texts(trial: Generating) -> None:
@@ -415,7 +459,7 @@ def wrong_boards(trial: Generating) -> None:
     trial.expect(f"what would fit: {told.stderr}", told.returncode == 3 and "with --repeat" in told.stderr)
 
 
-TESTS = (schools, same_covers, joint_lessons, spellings, long_names, plans_in_order, rules_are_tested, wrong_tables, no_texts, puzzles,
+TESTS = (schools, same_covers, joint_lessons, rooms_at_once, names_in_lines, spellings, long_names, plans_in_order, rules_are_tested, wrong_tables, no_texts, puzzles,
          other_answers, words_from_input, solids, all_covers, no_answers, wrong_boards)
 
 

@@ -6,7 +6,7 @@
 The examples of the package and those of python/README.md are run as they stand. Of random problems, with items that aren't texts, secondary items
 and colours, each answer is compared with a plain search. Problems are written and read again. Then the package is installed into an environment of
 its own, without a network and as an archive too, and the examples are run there: from another folder, without HOME, with the program on the path
-alone. A killed Python leaves no file behind, and its program ends. A line says how long a call takes, over 200 calls.
+alone. A killed Python leaves no file behind, and its program ends with it. A line says how long a call takes, over 200 calls.
 
 It wants the program: (cd crates/solve_cli && rt run -- --version) builds it. The last line is 'N passed, M failed'. The exit status is 0 where all
 passed, 1 where something failed, 2 for a mistake on the command line or where there is no program.
@@ -25,7 +25,7 @@ import subprocess
 import sys
 import tempfile
 import time
-from typing import Callable, Optional, TypeVar
+from typing import Callable, Optional, TypeVar, Union
 
 from built import SOLVE_CLI, TOP, parser_of, want_program, path_of
 from expected import Trial
@@ -105,7 +105,8 @@ def errors() -> None:
         (zarfepoch.RepeatedItem, lambda: Problem(["a"], ["x", "a"]), None, "a"),
         (zarfepoch.ColoredPrimary, lambda: Problem(["a"], options=[[Colored("a", 1)]]), 0, "a"),
         (zarfepoch.ProblemError, lambda: Problem(["a"], ["x"], [["a", Colored("x", None)]]), 0, "x"),
-        (zarfepoch.ProblemError, lambda: Problem([]), None, None),
+        (zarfepoch.ProblemError, lambda: Problem([]), None, None), (zarfepoch.ProblemError, lambda: Problem(), None, None),
+        (zarfepoch.ColoredPrimary, lambda: Problem(options=[["a"], ["b", Colored("x", 1)]]), 1, "x"),
         (zarfepoch.ProblemError, lambda: Problem(["a b"]).text(), None, "a b"),
         (zarfepoch.ProblemError, lambda: Problem(["a"], ["x"], [["a", Colored("x", "1:2")]]).text(), 0, "1:2"),
         (zarfepoch.ProblemError, lambda: Problem([3]).text(), None, 3),
@@ -116,8 +117,22 @@ def errors() -> None:
     for kind, call, option, item in cases:
         why = raised(kind, call)
         expect(f"{kind.__name__}: {why!r}", isinstance(why, ValueError) and why and (why.option, why.item) == (option, item))
-    why = raised(zarfepoch.ProblemError, lambda: Problem.parse(b"a b\na c\n"))
-    expect(f"the line: {why!r}", why and (why.line, why.item) == (2, "c"))
+    refused: tuple[tuple[type[zarfepoch.ProblemError], Union[bytes, str], int, str], ...] = (
+        (zarfepoch.UnknownItem, b"a b\na c\n", 2, "c"), (zarfepoch.UnknownItem, "a b\na c\n", 2, "c"), (zarfepoch.RepeatedItem, "a\na a\n", 2, "a"),
+        (zarfepoch.RepeatedItem, "a a\n", 1, "a"), (zarfepoch.ColoredPrimary, "a\n\na:red\n", 3, "a:red"), (zarfepoch.ProblemError, "a:b\n", 1, "a:b"))
+    for kind, text, line, item in refused:
+        why = raised(kind, lambda: Problem.parse(text))
+        expect(f"the line and the item of {text!r}: {why!r}", why and (why.line, why.item) == (line, item) and f"'{item}'" in str(why))
+    raised(zarfepoch.TooLarge, lambda: Problem.parse(" ".join(f"i{k}" for k in range(1001)) + "\n"))
+    numbers: tuple[dict[str, object], ...] = (
+        {"nodes": 0}, {"nodes": 17}, {"nodes": 2.5}, {"nodes": True}, {"workers": 9}, {"seconds": 0}, {"seconds": -1}, {"seconds": float("nan")},
+        {"seconds": "3"}, {"seconds": True})
+    for wrong in numbers:
+        number = raised(zarfepoch.WrongNumber, lambda: zarfepoch.solve([["a"]], **wrong))  # type: ignore[arg-type]
+        expect(f"the words on {wrong}: {number}", isinstance(number, ValueError) and str(number).split(" is a ")[0] in wrong)
+    raised(zarfepoch.WrongNumber, lambda: zarfepoch.reasons([["a"]], seconds=0))
+    place = raised(zarfepoch.ProblemError, lambda: Problem(["a"], options=[["a"]]).is_cover([1]))
+    expect(f"a place without an option: {place}", place and place.option == 1)
     raised(FileNotFoundError, lambda: Problem.read(os.path.join(TOP, "nothing")))
     nowhere = os.path.join(TOP, "nothing", "problem.dlx")
     lost = raised(FileNotFoundError, lambda: Problem(["a"]).write(nowhere))
@@ -127,10 +142,22 @@ def errors() -> None:
         begun = time.monotonic()
         raised(late, lambda: hard.solve(seconds=0.3))
         expect("ended in time", time.monotonic() - begun < 5)
-    raised(zarfepoch.TimeIsUp, lambda: hard.solve(0))
     for program, failed in (("/bin/true", zarfepoch.ProgramError), ("/bin/false", zarfepoch.ProgramError), ("/dev/null", zarfepoch.NoProgram),
                             (os.path.join(TOP, "nothing"), zarfepoch.NoProgram)):
         with_program(program, lambda: raised(failed, lambda: Problem(["a"], options=[["a"]]).solve()))
+
+
+def words_left_out() -> None:
+    """Primary items are all that aren't secondary, an option may be a list, and the options of a cover may be had themselves."""
+    options: list[list[zarfepoch.Word]] = [["a", Colored("x", 1)], ["b", Colored("x", 2)], ["b", Colored("x", 1)], ["c"]]
+    expect("all items are primary", zarfepoch.solve([["a", "b"], ["c"], ["b", "c"]]) == [0, 1] and zarfepoch.solve([["a"], ["a", "b"]]) == [1])
+    expect("all but secondary ones", zarfepoch.solve(options, secondary=["x"]) == [0, 2, 3])
+    expect("the options themselves", zarfepoch.chosen(options, secondary=["x"]) == [options[0], options[2], options[3]])
+    expect("no options", zarfepoch.chosen([["a", "b"], ["b", "c"]]) is None and zarfepoch.reasons([["a", "b"], ["b", "c"]]) is not None)
+    problem = Problem(["a", "b", ("c", 1)])
+    places = [problem.add(["a", "b"]), problem.add("a"), problem.add({"b"}), problem.add([("c", 1)]), problem.add(("c", 1))]
+    expect("options as lists", places == [0, 1, 2, 3, 4] and problem[0] == ("a", "b") and problem[3] == problem[4] == (("c", 1),))
+    expect("the options of a problem", problem.chosen(seconds=10) == [problem[place] for place in problem.solve() or []])
 
 
 def stub_answers(folder: str) -> None:
@@ -237,23 +264,42 @@ def is_alone(group: int) -> bool:
 
 
 def killed(folder: str) -> None:
-    """A Python that is killed while the program searches leaves no file behind, and no program for longer than a second more than it had."""
-    code = "import sys; sys.path.insert(0, sys.argv[1]); import try_python; print(flush=True); try_python.long_search().solve(2)"
+    """A Python that is killed while the program searches leaves no file behind, and no program."""
+    code = "import sys; sys.path.insert(0, sys.argv[1]); import try_python; print(flush=True); try_python.long_search().solve()"
     words, environment = [sys.executable, "-c", code, os.path.join(TOP, "scripts")], {**os.environ, "TMPDIR": folder}
-    with subprocess.Popen(words, stdout=subprocess.PIPE, env=environment, cwd=folder, start_new_session=True) as run:
-        assert run.stdout
-        run.stdout.readline()
-        time.sleep(0.5)
-        run.send_signal(signal.SIGKILL)
-        run.wait()
-        expect("no file is left", os.listdir(folder) == [])
-        expect("the program searches", not is_alone(run.pid))
-        until = time.monotonic() + 30
-        while not is_alone(run.pid) and time.monotonic() < until:
-            time.sleep(0.1)
-        expect("the program has ended", is_alone(run.pid))
-        with contextlib.suppress(ProcessLookupError):
-            os.killpg(run.pid, signal.SIGKILL)
+    for number in (signal.SIGKILL, signal.SIGTERM):
+        with subprocess.Popen(words, stdout=subprocess.PIPE, env=environment, cwd=folder, start_new_session=True) as run:
+            assert run.stdout
+            run.stdout.readline()
+            until = time.monotonic() + 30
+            while processes_of(run.pid) < 2 and time.monotonic() < until:
+                time.sleep(0.05)
+            expect("the program searches", processes_of(run.pid) == 2)
+            run.send_signal(number)
+            run.wait()
+            expect("no file is left", os.listdir(folder) == [])
+            while not is_alone(run.pid) and time.monotonic() < until:
+                time.sleep(0.05)
+            expect(f"the program has ended after signal {number}", is_alone(run.pid))
+            with contextlib.suppress(ProcessLookupError):
+                os.killpg(run.pid, signal.SIGKILL)
+
+
+def processes_of(group: int) -> int:
+    """How many processes of a group there are."""
+    count = 0
+    for name in filter(str.isdecimal, os.listdir("/proc")):
+        with contextlib.suppress(OSError), open(f"/proc/{name}/stat", encoding="ascii", errors="replace") as file:
+            count += file.read().rpartition(")")[2].split()[2] == str(group)
+    return count
+
+
+def old_python() -> None:
+    """A Python that is too old is told so by pip's own hook."""
+    old = (shutil.which(name) for name in ("python3.8", os.path.expanduser("~/.pyenv/versions/3.8.18/bin/python")))
+    for python in (one for one in old if one and subprocess.run([one, "--version"], capture_output=True).returncode == 0):
+        ended = subprocess.run([python, "-c", "import build_backend"], cwd=os.path.join(TOP, "python"), capture_output=True, text=True)
+        expect(f"an old Python: {ended.stderr}", ended.returncode == 1 and ended.stderr.startswith("zarfepoch needs Python 3.9"))
 
 
 def a_board() -> None:
@@ -281,9 +327,11 @@ def main() -> int:
     examples()
     random_answers()
     errors()
+    words_left_out()
     for trials in (stub_answers, files, installed, killed):
         with tempfile.TemporaryDirectory() as folder:
             trials(folder)
+    old_python()
     a_board()
     a_call()
     return trial.end()

@@ -1,13 +1,17 @@
 """Exact covers, by the program of Zarfepoch, whose search is proved.
 
-    solve(options, primary, secondary=(), seconds=None, *, nodes=None, workers=None, audit=False)
-    reasons(options, primary, secondary=(), seconds=None)
+    solve(options, primary=None, secondary=(), seconds=None, *, nodes=None, workers=None, audit=False)
+    chosen(options, primary=None, secondary=(), seconds=None, *, nodes=None, workers=None, audit=False)
+    reasons(options, primary=None, secondary=(), seconds=None)
 
 An option is a list of items. Items are whatever can be a key of a dict; a secondary item may stand in an option with a colour, as
-Colored(item, colour). The answer of `solve` is the list of the chosen options' places in `options`, or None where there is no cover:
+Colored(item, colour). Where `primary` isn't told, it is all items that aren't secondary. The answer of `solve` is the list of the chosen options'
+places in `options`, that of `chosen` has these options themselves, and both are None where there is no cover:
 
-    >>> solve([["a", "b"], ["c"], ["b", "c"]], primary=["a", "b", "c"])
+    >>> solve([["a", "b"], ["c"], ["b", "c"]])
     [0, 1]
+    >>> chosen([["a", "b"], ["c"], ["b", "c"]])
+    [['a', 'b'], ['c']]
     >>> solve([["a", "b"], ["b", "c"]], primary=["a", "b", "c"]) is None
     True
 
@@ -30,33 +34,45 @@ A `Problem` keeps items and options together, reads and writes files, and is ite
     >>> problem.solve(), [" ".join(option) for option in problem]
     ([0, 2], ['a', 'a b', 'b'])
 
-What is raised is an `Error`: a `ProblemError`, which is a ValueError with `option`, `item` and `line`; `TimeIsUp`, a TimeoutError, where there is
-no answer after so many seconds; `OutOfMemory`, a MemoryError; or a `ProgramError`, a RuntimeError, where there is no program, or it fails. The
+What is raised is an `Error`: a `ProblemError`, which is a ValueError with `option`, `item` and `line`; a `WrongNumber`, a ValueError, for seconds or
+threads that can't be; `TimeIsUp`, a TimeoutError, where there is no answer after so many seconds; `OutOfMemory`, a MemoryError; or a `ProgramError`, a
+RuntimeError, where there is no program, or it fails. The
 program is what ZARFEPOCH names in the environment, else solve_cli on the path, else, for a package in a clone, what was built there.
 """
 from __future__ import annotations
 
 from collections.abc import Hashable, Iterable
-from typing import Optional
+from typing import Optional, TypeVar
 
 from .errors import (
-    ColoredPrimary, Error, NoAnswer, NoProgram, OutOfMemory, ProblemError, ProgramError, RepeatedItem, TimeIsUp, TooLarge, UncleanAudit, UnknownItem)
+    ColoredPrimary, Error, NoAnswer, NoProgram, OutOfMemory, ProblemError, ProgramError, RepeatedItem, TimeIsUp, TooLarge, UncleanAudit, UnknownItem,
+    WrongNumber)
 from .problems import Colored, Problem, Reason, Word
 from .programs import find_program
 
 __version__ = "1.0.0"
 __all__ = [
     "Colored", "ColoredPrimary", "Error", "NoAnswer", "NoProgram", "OutOfMemory", "Problem", "ProblemError", "ProgramError", "Reason", "RepeatedItem",
-    "TimeIsUp", "TooLarge", "UncleanAudit", "UnknownItem", "Word", "__version__", "find_program", "reasons", "solve"]
+    "TimeIsUp", "TooLarge", "UncleanAudit", "UnknownItem", "Word", "WrongNumber", "__version__", "chosen", "find_program", "reasons", "solve"]
+
+Option = TypeVar("Option", bound=Iterable[Word])
 
 
-def solve(options: Iterable[Iterable[Word]], primary: Iterable[Hashable], secondary: Iterable[Hashable] = (), seconds: Optional[float] = None, *,
-          nodes: Optional[int] = None, workers: Optional[int] = None, audit: bool = False) -> Optional[list[int]]:
+def solve(options: Iterable[Iterable[Word]], primary: Optional[Iterable[Hashable]] = None, secondary: Iterable[Hashable] = (),
+          seconds: Optional[float] = None, *, nodes: Optional[int] = None, workers: Optional[int] = None, audit: bool = False) -> Optional[list[int]]:
     """The places of the options of one exact cover, in rising order, or None where there is none: `Problem.solve`."""
     return Problem(primary, secondary, options).solve(seconds, nodes=nodes, workers=workers, audit=audit)
 
 
-def reasons(options: Iterable[Iterable[Word]], primary: Iterable[Hashable], secondary: Iterable[Hashable] = (),
+def chosen(options: Iterable[Option], primary: Optional[Iterable[Hashable]] = None, secondary: Iterable[Hashable] = (),
+           seconds: Optional[float] = None, *, nodes: Optional[int] = None, workers: Optional[int] = None, audit: bool = False) -> Optional[list[Option]]:
+    """The options of one exact cover, as they were given and in their order, or None where there is none: `Problem.chosen`."""
+    given = list(options)
+    places = solve(given, primary, secondary, seconds, nodes=nodes, workers=workers, audit=audit)
+    return None if places is None else [given[place] for place in places]
+
+
+def reasons(options: Iterable[Iterable[Word]], primary: Optional[Iterable[Hashable]] = None, secondary: Iterable[Hashable] = (),
             seconds: Optional[float] = None) -> Optional[Reason]:
     """Why there is no cover, if the program finds a reason without a search; None says nothing: `Problem.reason`."""
     return Problem(primary, secondary, options).reason(seconds)

@@ -2,7 +2,7 @@
 
     python3 -m zarfepoch --json FILE [--seconds N]
 
-FILE has an object with "options", "primary" and "secondary", in whose options a list of two is an item with its colour; the answer is printed as a
+FILE has an object with "options", and perhaps "primary", all other items where it isn't there, and "secondary", in whose options a list of two is an item with its colour; the answer is printed as a
 list of places, or null. Items and colours are texts or numbers. FILE may be -, the standard input. The exit status is 0 where there is a cover, 1
 where there is none, 2 for a mistake on the command line, and 3 where the problem is refused or there is no answer.
 """
@@ -38,14 +38,14 @@ def solve_json(text: bytes, seconds: Optional[float] = None) -> Optional[list[in
         given = json.loads(text)
     except ValueError as why:
         raise ValueError(f"this is no JSON: {why}") from None
-    parts: dict[str, Any] = {"secondary": [], **given} if isinstance(given, dict) else {}
+    parts: dict[str, Any] = {"secondary": [], "primary": None, **given} if isinstance(given, dict) else {}
     options, primary, secondary = (parts.get(what) for what in ("options", "primary", "secondary"))
-    if not (isinstance(options, list) and isinstance(primary, list) and isinstance(secondary, list)):
-        raise ValueError('an object with the lists "options" and "primary", and perhaps "secondary", is expected')
+    if not (isinstance(options, list) and isinstance(primary, (list, type(None))) and isinstance(secondary, list)):
+        raise ValueError('an object with the list "options", and perhaps the lists "primary" and "secondary", is expected')
     for place, option in enumerate(options):
         if not isinstance(option, list):
             raise ValueError(f"option {place} is no list")
-    if not all(map(is_name, primary + secondary)):
+    if not all(map(is_name, (primary or []) + secondary)):
         raise ValueError("an item is a text or a number")
     return solve([[item_of(word, place) for word in option] for place, option in enumerate(options)], primary, secondary, seconds)
 

@@ -11,6 +11,8 @@ from typing import Optional
 def as_called(text: str) -> str:
     """A text that names scripts of a clone, with modules or installed commands in their place if the command was called as one."""
     scripts = r"(?:python3 )?\b(?:scripts|examples)/(\w+)\.py\b"
+    is_installed = os.path.basename(sys.argv[0]).startswith("zarfepoch")
+    text = text.replace("crates/solve_cli/out/solve_cli", "solve_cli") if is_installed else text
     if getattr(sys.modules["__main__"], "__spec__", None) is not None:
         return re.sub(scripts, r"python3 -m zarfepoch.\1", text)
     if os.path.basename(sys.argv[0]).startswith("zarfepoch-"):

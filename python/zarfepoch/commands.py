@@ -17,6 +17,10 @@ def command_of(module: str) -> Callable[[], NoReturn]:
     return command
 
 
+# the commands by their names on the path, each with that of its function here
+COMMANDS = {"zarfepoch": "zarfepoch", **{"zarfepoch-" + name.replace("_", "-"): name for name in (
+    "another", "check_reason", "draw", "explain", "generate", "join", "split", "why_none")}}
+
 zarfepoch = command_of("__main__")
 another = command_of("another")
 check_reason = command_of("check_reason")

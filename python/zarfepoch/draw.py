@@ -1,6 +1,6 @@
 """Draws an answer to a problem file: as text in the terminal, and as a picture in SVG.
 
-    python3 scripts/draw.py FILE ANSWER [--svg OUT] [--plan NAME ..]
+    python3 scripts/draw.py FILE ANSWER [--svg OUT] [--plan NAME ..] [--csv OUT]
     crates/solve_cli/out/solve_cli alone FILE | python3 scripts/draw.py FILE -
 
 The kind of picture follows from the names of the items: tilings (cells are named by row and column, as 07, 0011 or 3-12) and solids (by layer,
@@ -12,13 +12,14 @@ empty board is drawn where there is one; the line of an audit behind it is passe
 Where OUT is `-` the SVG is written in place of the text.
 
 Of a timetable whose periods have their days (Mon1) a plan is drawn for each class, or for those whom --plan names: names of classes, teachers
-or rooms, or classes, teachers, rooms or all. A week begins with Monday, and a sheet is at most 1,200 pixels wide.
+or rooms, or classes, teachers, rooms or all. A week begins with Monday, and a sheet is at most 1,200 pixels wide. --csv writes the plan as a
+table, a row for each time that a lesson is given, for a spreadsheet and for generate.py timetable --keep; where its OUT is `-`, in place of the text.
 
 Comments of the file that generate.py writes say what items can't: the given digits of a sudoku, its regions and the marks for its digits
 (`| given: 4.3. ..`, `| regions: 1122 ..`, `| digits: 0123..`), the grid of a crossword (`| grid: ..#.. ..`), the size of a kakuro, the
 shapes of pieces that have no item (`| piece L: xxx/x..`), who is a teacher, a class or a room (`| teachers: ann bob`), the order of
-periods, who takes part in a lesson without an item (`| also maths: hall`), and the names that numbers mean (`| name 7: Mathematics for
-beginners`). Where a comment contradicts the items it is passed over.
+periods, who takes part in a lesson without an item (`| also maths: hall`), the lesson that another follows (`| follows lab: chemistry`), their lengths
+and titles, and the names that numbers mean (`| name 7: Mathematics for beginners`). Where a comment contradicts the items it is passed over.
 
 The picture shows what the answer says; whether that is right is for the program to say (solve_cli check FILE ANSWER). The
 exit status is 0, 2 for a mistake on the command line, 3 for a file or an answer that can't be read, or a picture that can't be written.
@@ -71,12 +72,13 @@ def read_files(given: Namespace) -> tuple[Problem, str, Answer]:
     return problem, title_of(text, given.file), answer
 
 
-def write_svg(path: str, svg: str) -> None:
+def write_out(path: str, text: str) -> None:
+    """Writes a picture or a table into a file, or on the standard output."""
     if path == "-":
-        sys.stdout.buffer.write(svg.encode("utf-8"))
+        sys.stdout.buffer.write(text.encode("utf-8"))
         return
     try:
-        put(path, svg)
+        put(path, text)
     except OSError as why:
         stop(f"{path} can't be written: {why.strerror}", 3)
 
@@ -94,6 +96,15 @@ def planned(picture: Kind, words: list[str]) -> Kind:
     return picture
 
 
+def table_of(picture: Kind) -> str:
+    """The plan of a timetable as CSV; ends the script where the answer has none."""
+    if not isinstance(picture, Timetable):
+        stop("--csv is for timetables, and this is none")
+    if picture.is_none:
+        stop("there is no plan, so --csv writes none", 3)
+    return picture.table()
+
+
 def main() -> int:
     parser = parser_of(__doc__)
     parser.add_argument("file", metavar="FILE", help="the problem's file, or - for the standard input")
@@ -101,17 +112,22 @@ def main() -> int:
     parser.add_argument("--svg", metavar="OUT", help="where the picture is written, - for the standard output")
     parser.add_argument("--plan", metavar="NAME", nargs="+", action="extend", default=[],
                         help="of a timetable, whose plans are drawn: names, or classes, teachers, rooms or all")
+    parser.add_argument("--csv", metavar="OUT", help="of a timetable, where the plan is written as a table, - for the standard output")
     given = parser.parse_args()
     if given.file == given.answer == "-":
         parser.error("- is the standard input, which can be read once")
+    if given.svg == given.csv == "-":
+        parser.error("- is the standard output, which takes one of picture and table")
     problem, title, answer = read_files(given)
     chosen = [problem.options[place] for _, place in answer.chosen]
     picture = planned(picture_of(problem, chosen, answer.kind == "none"), given.plan)
     if given.svg:
         paper = Paper(title)
         picture.draw(paper)
-        write_svg(given.svg, paper.svg())
-    if given.svg != "-":
+        write_out(given.svg, paper.svg())
+    if given.csv:
+        write_out(given.csv, table_of(picture))
+    if "-" not in (given.svg, given.csv):
         print("\n".join(picture.text()))
     if answer.kind == "cover" and (answer.uncovered(problem) or answer.covered_twice(problem)):
         complain(f"this is no exact cover; scripts/explain.py {given.file} {given.answer} tells why")

@@ -36,6 +36,10 @@ class TooLarge(ProblemError):
     """There are more items, options, colours or items in options than the program reads."""
 
 
+class WrongNumber(Error, ValueError):
+    """A number of seconds, nodes or workers that can't be."""
+
+
 class ProgramError(Error, RuntimeError):
     """The program failed, or ended without an answer; its `status` is None where it wasn't run."""
 

@@ -22,10 +22,8 @@
     triples 7                      lines of three points, any two of 7 points on one line
     coloring FILE                  a map's borders, two names a line; --colors red,green,blue
     matching FILE                  a graph's edges, two names a line
-    timetable FILE.csv             lesson,teacher,class,rooms,periods; several rooms or periods with spaces, ; or , between, several teachers or
-                                   classes that share a lesson with ; or +, and - for none. Periods are numbered (1-30) or have their day
-                                   (Mon1-6). A column hours, if there is one, says how often in a week a lesson is given, a column length in
-                                   how many periods running on one day; the table's own separator may be , or ; or a tab
+    timetable FILE.csv             a row for each lesson: lesson,teacher,class,rooms,periods, and what else is wanted of times,length,a_day,apart,
+                                   fixed,after (below); --rules FILE.csv, --keep PLAN.csv
     squares 3x3 FILE               squares with coloured sides, of which one lies in each cell, turned as one likes, so that sides that
                                    meet have one colour: in each line a name and four colours, from the top on clockwise;
                                    --border grey wants this colour all round
@@ -35,6 +33,20 @@
                                    numbers for each column, with blanks or commas between; a line without black cells is 0
     cubes FILE                     cubes in a row, turned so that no side of the row shows a colour twice (instant insanity): in each line a
                                    name and six colours, front right back left top bottom
+
+Blanks, commas and semicolons part the names of a line. In a table of lessons, whose columns may be parted by , or ; or tabs,
+
+    teacher, class     + or ; between those who share the lesson, `or` between teachers of whom one gives it; - for nobody
+    rooms              blanks, ; or `or` between rooms of which it has one, + between those that it wants at once; empty for none
+    periods            Mon1-6 Tue1-4, Mon-Fri1-6, or numbers alone (1-30), of which it has one; empty for all of the week
+    times, length      how often in a week it is given (or hours), and in how many periods running on one day; 1 where they are empty
+    a_day              at most so often on a day; apart: lessons with the same word here are never on one day
+    fixed              the first periods of some of its times; after: the lesson right behind which it is given, as often as that
+
+The table of --rules has the columns who,periods,away,a_day,holes, with a row for a teacher, a class or a room, for teachers, classes, rooms or all, or
+for lessons (a_day alone): when they can be had, or when not; at most so many periods on a day; and at most so many holes in the week, free
+periods between two lessons of a day. An empty cell says nothing. --keep tries the places of a plan first, which draw.py --csv writes. A timetable beyond
+what the program reads goes into several files, FILE-1.dlx and on, where some lessons share nobody and no room with others.
 
 FILE may be -, the standard input. The first line of each problem is a comment that tells what it is and how it was made. A problem beyond
 1,000 items, 20,000 options, 200,000 occurrences of items in them or 10,000 colours is refused, since the program reads no such file. It
@@ -59,10 +71,13 @@ from . import grids
 from . import puzzles
 from . import sudokus
 from . import timetables
-from .cover_files import MAX_COLOURS, MAX_ITEMS, MAX_NAME, MAX_OCCURRENCES, MAX_OPTIONS, put, run, shown, stop
+from .cover_files import complain, MAX_COLOURS, MAX_ITEMS, MAX_NAME, MAX_OCCURRENCES, MAX_OPTIONS, put_bytes, run, shown, stop
 from .fault_words import plural
+from .name_texts import as_seen, in_one_case, names_in, want_one_spelling, words_of
 from .pieces import filled, named_pieces, read_board, read_pieces
-from .puzzle_texts import Puzzle, blocks_of, no_cover, read_text, refuse, rows_of, UNREADABLE, words_of
+from .puzzle_texts import Puzzle, blocks_of, no_cover, read_text, refuse, rows_of, UNREADABLE
+from .timetable_plans import read_plan
+from .timetable_rules import read_school
 
 # a cell by row and column; two names; pieces by their names, as rows of x and dots or as words
 Cell = tuple[int, int]
@@ -105,15 +120,13 @@ def check_range(names: list[str], options: list[list[str]]) -> None:
 def write(name: str, note: str, primary: list[str], secondary: list[str], options: list[list[str]], comments: Iterable[str] = ()) -> None:
     """Writes a problem into a file of this folder, or where the command line wants it if the name is `-`."""
     check_range(primary + secondary, options)
-    line = " ".join(primary) + (" | " + " ".join(secondary) if secondary else "")
-    told = "".join(f"| {comment}\n" for comment in [note, *comments])
-    text = "".join([f"{told}{line}\n"] + [" ".join(option) + "\n" for option in options])
+    text = Puzzle(primary, secondary, options, [note, *comments]).text()
     if name == "-" and not OUT:
-        sys.stdout.buffer.write(text.encode("utf-8"))
+        sys.stdout.buffer.write(text)
         return
     path = OUT[0] if name == "-" else os.path.join(HERE, name)
     try:
-        put(path, text)
+        put_bytes(path, text)
     except OSError as why:
         stop(f"{path} can't be written: {why.strerror}")
 
@@ -331,19 +344,24 @@ def read_pairs(path: str, of_places: bool = False) -> list[Pair]:
     lines = some_words(path)
     for number, words in lines:
         if len(words) != 2 or words[0] == words[1]:
-            refuse(path, number, "two different names are expected")
+            several = "; a blank, a comma or a semicolon parts names, so write New_York for one name" if len(words) > 2 else ""
+            refuse(path, number, f"two different names are expected, and here are {', '.join(words)}{several}")
         wrong = next((word for word in words if of_places and re.search("[-=]", word)), None)
         if wrong:
             refuse(path, number, f"'{wrong}' can't be a place here: '-' and '=' are in the names of borders")
+    named = [(number, word) for number, words in lines for word in words]
+    want_one_spelling(path, *(("place", named, in_one_case) if of_places else ("name", named, as_seen)))
     return list(dict.fromkeys((words[0], words[1]) for _, words in lines))
 
 
 def read_squares(path: str) -> Pieces:
     """Squares by their names, each with its four colours."""
     found: Pieces = {}
-    for number, (name, *colours) in some_words(path):
+    lines = some_words(path)
+    want_one_spelling(path, "colour", [(number, word) for number, words in lines for word in words[1:]], in_one_case)
+    for number, (name, *colours) in lines:
         if len(colours) != 4:
-            refuse(path, number, "a name and four colours are expected")
+            refuse(path, number, f"a name and four colours are expected, and here are {', '.join([name, *colours])}")
         if name in found or re.fullmatch(r"\d+", name):
             refuse(path, number, f"'{name}' " + ("would stand for two squares" if name in found else "would be the name of a cell"))
         found[name] = colours
@@ -354,7 +372,7 @@ def read_word_list(path: str) -> dict[str, int]:
     """Different words, each with the number of its first line."""
     words: dict[str, int] = {}
     for number, line in rows_of(path):
-        for word in line.split():
+        for word in names_in(path, number, line):
             if re.search(r"[\d:|\0]", word):
                 refuse(path, number, f"'{word}' has a digit, ':' or '|', which no word may have here")
             words.setdefault(word, number)
@@ -375,8 +393,8 @@ def read_grid(path: str) -> tuple[list[str], list[int]]:
     """The rows of a crossword's grid, and the numbers of their lines."""
     lines = rows_of(path)
     for number, row in lines:
-        if len(row) != len(lines[0][1]) or re.search(r"[\s\d:|\0]", row):
-            refuse(path, number, "rows of one length are expected, of dots, letters and # for black cells")
+        if len(row) != len(lines[0][1]) or re.search(r"[\s\d:|\0,;\"]", row):
+            refuse(path, number, "rows of one length are expected, of dots, letters and # for black cells, with nothing between")
     if not lines:
         refuse(path, None, "there are no rows")
     return [row for _, row in lines], [number for number, _ in lines]
@@ -410,8 +428,8 @@ def crossword(given: Namespace, note: str) -> None:
 
 def numbers_of(path: str, number: int, line: str, width: int) -> list[int]:
     """The lengths of a line's blocks, which fit into so many cells."""
-    if not re.fullmatch(r"\s*\d{1,4}([\s,]+\d{1,4})*,?", line):
-        refuse(path, number, "numbers are expected, with blanks or commas between")
+    if not re.fullmatch(r"[\s,;]*\d{1,4}([\s,;]+\d{1,4})*[\s,;]*", line):
+        refuse(path, number, "numbers are expected, with blanks, commas or semicolons between")
     blocks = [int(word) for word in re.findall(r"\d+", line) if int(word)]
     if sum(blocks) + max(0, len(blocks) - 1) > width:
         no_cover(f"{path}, line {number}: blocks of {', '.join(map(str, blocks))} need {sum(blocks) + len(blocks) - 1} cells, and there are {width}")
@@ -436,9 +454,10 @@ def read_nonogram(path: str) -> tuple[list[list[int]], list[list[int]]]:
 def read_cubes(path: str) -> Pieces:
     """Cubes by their names, each with its six colours."""
     lines = some_words(path)
+    want_one_spelling(path, "colour", [(number, word) for number, words in lines for word in words[1:]], in_one_case)
     for number, words in lines:
         if len(words) != 7 or [other[0] for _, other in lines].count(words[0]) > 1 or re.match(r"(front|right|back|left)-", words[0]):
-            refuse(path, number, f"a cube's own name and six colours are expected")
+            refuse(path, number, f"a cube's own name and six colours are expected, and here are {', '.join(words)}")
     return {words[0]: words[1:] for _, words in lines}
 
 
@@ -494,6 +513,24 @@ def squares_on_board(given: Namespace, note: Note) -> None:
     squares("-", note("squares with coloured sides: where two meet, their sides have one colour"), cells, found, given.border)
 
 
+def timetable(given: Namespace, note: str) -> None:
+    """Writes the problem of a timetable, or several where one would be too large and some lessons share nothing."""
+    school = read_school(given.file, given.rules)
+    found = timetables.timetables(school, read_plan(given.keep, school) if given.keep else None, given.seed)
+    if len(found) == 1:
+        timetables.note_size(found[0])
+        put_down(note, found[0])
+        return
+    if not OUT:
+        refuse(given.file, None, f"this timetable is too large for one file, and is parted into {len(found)} that share nobody and no room: "
+               "--out FILE says where they go")
+    base, ending = os.path.splitext(OUT[0])
+    for number, puzzle in enumerate(found, 1):
+        OUT[:] = [f"{base}-{number}{ending}"]
+        put_down(f"{note}; part {number} of {len(found)}", puzzle)
+    complain(f"the timetable is parted into {len(found)} files that share nobody and no room: {base}-1{ending} to {base}-{len(found)}{ending}")
+
+
 def polyominoes(given: Namespace, note: Note) -> None:
     what, shapes = given.kind, PENTOMINOES if given.kind == "pentominoes" else TETROMINOES
     pieces_on_board(given, shapes, note(f"{what}, each at most once, fill a board"))
@@ -530,8 +567,7 @@ KINDS: dict[str, Callable[[Namespace, Note], None]] = {
         grids.star_battle(given.file, given.stars)),
     "coloring": lambda given, note: colored_map(given, note("a colour for each place, and no two neighbours alike")),
     "matching": lambda given, note: matching("-", note("a perfect matching: items are vertices, options edges"), read_pairs(given.file)),
-    "timetable": lambda given, note: put_down(
-        note("each lesson once, and no teacher, class or room twice at a time"), timetables.timetable(given.file, given.seed)),
+    "timetable": lambda given, note: timetable(given, note("each lesson once, and no teacher, class or room twice at a time")),
     "squares": squares_on_board,
     "word-square": lambda given, note: word_squares(
         "-", note(f"{'' if given.repeat else 'different '}words in a square, across and down"), read_words(given.file), repeat=given.repeat),
@@ -591,6 +627,8 @@ def command_line() -> argparse.ArgumentParser:
     kinds.choices["coloring"].add_argument("--colors", default="red,green,blue", help="the colours, with commas (default red,green,blue)")
     kinds.choices["squares"].add_argument("file", metavar="FILE", help="a name and four colours a line")
     kinds.choices["squares"].add_argument("--border", metavar="COLOUR", help="the colour of all sides that look outwards")
+    kinds.choices["timetable"].add_argument("--rules", metavar="FILE.csv", help="who can be had when, and how many periods and holes they may have")
+    kinds.choices["timetable"].add_argument("--keep", metavar="PLAN.csv", help="a plan whose places are tried first, as draw.py --csv writes one")
     kinds.choices["timetable"].add_argument("--seed", metavar="N", type=whole_number,
                                             help="draws the order of the options by lot: where a search doesn't end, another N may help")
     for words in dict.fromkeys(kinds.choices.values()):

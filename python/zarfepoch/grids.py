@@ -8,6 +8,7 @@ from typing import Optional
 
 from .cover_files import MAX_OCCURRENCES, MAX_OPTIONS
 from .fault_words import plural
+from .name_texts import names_in
 from .puzzle_texts import blocks_of, no_cover, Puzzle, refuse
 from .puzzles import cell_names
 from .sudokus import cells_by_letter, letters_of, sums_of_digits, want_whole
@@ -49,7 +50,7 @@ def clue_of(path: str, number: int, word: str) -> Clue | None:
 def read_kakuro(path: str) -> tuple[list[list[Clue | None]], list[int]]:
     """The clues of black cells by row and column, None for white ones, and the numbers of the lines."""
     lines = [line for block in blocks_of(path) for line in block] if blocks_of(path) else refuse(path, None, "there are no rows")
-    rows = [[clue_of(path, number, word) for word in line.split()] for number, line in lines]
+    rows = [[clue_of(path, number, word) for word in names_in(path, number, line)] for number, line in lines]
     for (number, _), row in zip(lines, rows):
         if len(row) != len(rows[0]):
             refuse(path, number, f"{len(rows[0])} cells are expected, as in the first row, and here are {len(row)}")

@@ -4,6 +4,7 @@ from __future__ import annotations
 import functools
 import re
 from collections.abc import Iterable
+from typing import Optional
 
 from .cover_files import Option, Problem, shown
 from .svg_paper import folded, MARGIN, Paper, WIDEST
@@ -27,6 +28,12 @@ def without_order(option: Iterable[str]) -> Names:
     return tuple(name for name in option if not re.fullmatch(r".+<\d+", name))
 
 
+def without_rules(option: Iterable[str]) -> Names:
+    """An option of a timetable without the items that only see to its rules, as maths<apart.Mon; nothing where it only keeps somebody free."""
+    names = tuple(option)
+    return () if "<" in names[0] else tuple(name for name in names if "<" not in name)
+
+
 def colours_of(option: Option) -> dict[str, str]:
     """The colour of each name that has one."""
     return {shown(name): shown(colour) for name, colour in zip(option.names, option.colours) if colour}
@@ -38,8 +45,8 @@ class Kind:
     Options are tuples of names; `option_colours` and `chosen_colours` have beside each option the colours that it gives.
     """
 
-    # whether the kind is one of problems with colours, or else of those without
-    with_colours = False
+    # whether the kind is one of problems with colours, or else of those without; None where it may be either
+    with_colours: Optional[bool] = False
 
     def __init__(self, problem: Problem, chosen: list[Option], is_none: bool) -> None:
         self.items = [shown(name) for name in problem.items]

@@ -350,6 +350,6 @@ KINDS: list[type[Kind]] = [Sudoku, Queens, Langford, Kakuro, Triples, Cubes, Lay
 
 def picture_of(problem: Problem, chosen: list[Option], is_none: bool) -> Kind:
     """The answer with these options as the first kind that knows the problem's names."""
-    kinds = (kind(problem, chosen, is_none) for kind in KINDS if kind.with_colours == bool(problem.colours))
+    kinds = (kind(problem, chosen, is_none) for kind in KINDS if kind.with_colours in (None, bool(problem.colours)))
     known = next((kind for kind in kinds if kind.is_known()), None)
     return known or Plain(problem, chosen, is_none)

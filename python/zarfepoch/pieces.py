@@ -12,6 +12,7 @@ from collections.abc import Iterable, Sequence
 
 from .cover_files import MAX_ITEMS
 from .fault_words import plural
+from .name_texts import names_in
 from .puzzle_texts import blocks_of, no_cover, Puzzle, refuse
 
 # a cell by layer, row and column
@@ -115,7 +116,7 @@ def read_pieces(path: str) -> list[Piece]:
     pieces: list[Piece] = []
     for block in blocks_of(path):
         number, line = block[0]
-        head = [] if is_rows(line) else line.split()
+        head = [] if is_rows(line) else names_in(path, number, line)
         name, count = counted(path, number, head) if head else (f"piece{len(pieces) + 1}", 1)
         rows = block[1:] if head else block
         for row_number, row in rows:

@@ -5,18 +5,27 @@ import math
 import os
 import subprocess
 from collections.abc import Hashable, Iterable, Iterator
-from typing import NamedTuple, Optional, Union
+from typing import cast, NamedTuple, Optional, Union
 
 from . import cover_files, cover_reason
 from .cover_files import MAX_COLOURS, MAX_ITEMS, MAX_NAME, MAX_OCCURRENCES, MAX_OPTIONS
 from .errors import (
-    ColoredPrimary, NoAnswer, OutOfMemory, ProblemError, ProgramError, RepeatedItem, TimeIsUp, TooLarge, UncleanAudit, UnknownItem)
-from .programs import find_program
+    ColoredPrimary, NoAnswer, OutOfMemory, ProblemError, ProgramError, RepeatedItem, TimeIsUp, TooLarge, UncleanAudit, UnknownItem, WrongNumber)
+from .fault_words import fault_words
+from .programs import find_program, tied
 
 # the program takes a limit of at most a million seconds
 MOST_SECONDS = 999_999
+# how many nodes, and workers of each, the program takes
+MOST_NODES, MOST_WORKERS = 16, 8
 # a limit of so many seconds is none: Python waits for a program 24 days at most
 LONGEST = 2_000_000
+
+
+# what is raised for a fault of a file
+FAULT_KINDS: dict[str, type[ProblemError]] = {
+    "UnknownItem": UnknownItem, "DuplicateItem": RepeatedItem, "DuplicateInOption": RepeatedItem, "ColourOnPrimary": ColoredPrimary,
+    "TooManyItems": TooLarge, "TooManyOptions": TooLarge, "TooManyNodes": TooLarge, "TooManyColours": TooLarge}
 
 
 class Colored(NamedTuple):
@@ -52,15 +61,39 @@ class Reason(NamedTuple):
         return f"too little room: {sum(self.needs.values())} needed, {sum(self.rooms.values())} there"
 
 
+def number_in(value: Optional[int], name: str, most: int) -> list[str]:
+    """The words of the command line for a number of threads; `WrongNumber` where it is none."""
+    if value is None:
+        return []
+    if isinstance(value, bool) or not isinstance(value, int) or not 1 <= value <= most:
+        raise WrongNumber(f"{name} is a whole number from 1 to {most}, and not {value!r}")
+    return [f"--{name}", str(value)]
+
+
+def checked_seconds(seconds: Optional[float]) -> Optional[float]:
+    """A limit of time, None where there is none; `WrongNumber` where it is no number above 0."""
+    if seconds is None:
+        return None
+    if isinstance(seconds, bool) or not isinstance(seconds, (int, float)) or not seconds > 0:
+        raise WrongNumber(f"seconds is a number above 0, or None for no limit, and not {seconds!r}")
+    return None if seconds >= LONGEST else seconds
+
+
 class Problem:
     """Primary and secondary items, and options, which are lists of them.
 
-    Items are whatever can be a key of a dict. `problem[place]` is an option, `len(problem)` how many there are, and a loop goes over all of
-    them. Each option is checked as it is added.
+    Items are whatever can be a key of a dict; where `primary` isn't told, it is all items of the options that aren't secondary. `problem[place]` is an
+    option, `len(problem)` how many there are, and a loop goes over all of them. Each option is checked as it is added.
     """
 
-    def __init__(self, primary: Iterable[Hashable], secondary: Iterable[Hashable] = (), options: Iterable[Iterable[Word]] = ()) -> None:
-        self.primary, self.secondary = tuple(primary), tuple(secondary)
+    def __init__(self, primary: Optional[Iterable[Hashable]] = None, secondary: Iterable[Hashable] = (),
+                 options: Iterable[Iterable[Word]] = ()) -> None:
+        self.secondary = tuple(secondary)
+        if primary is None:
+            options = [tuple(option) for option in options]
+            others = set(self.secondary)
+            primary = dict.fromkeys(item for option in options for item, _ in map(parts_of, option) if item not in others)
+        self.primary = tuple(primary)
         self._places: dict[Hashable, int] = {}
         self._options: list[tuple[Word, ...]] = []
         if not self.primary:
@@ -70,10 +103,16 @@ class Problem:
                 raise RepeatedItem(f"{item!r} stands twice among the items", item=item)
             self._places[item] = len(self._places)
         for option in options:
-            self.add(*option)
+            self._add(tuple(option))
 
-    def add(self, *words: Word) -> int:
-        """Adds an option, and answers its place."""
+    def add(self, *words: Union[Word, Iterable[Word]]) -> int:
+        """Adds an option, given as its items or as one list of them, and answers its place."""
+        only = words[0] if len(words) == 1 else None
+        if isinstance(only, Iterable) and not isinstance(only, Hashable):
+            return self._add(tuple(only))
+        return self._add(cast("tuple[Word, ...]", words))
+
+    def _add(self, words: tuple[Word, ...]) -> int:
         place, seen = len(self._options), set()
         for word in words:
             item, colour = parts_of(word)
@@ -111,11 +150,11 @@ class Problem:
               audit: bool = False) -> Optional[list[int]]:
         """The places of the options of one exact cover, in rising order, or None where there is none.
 
-        One thread searches until it is decided, and looks for a reason for None, or with `nodes` and `workers` several threads search, as
-        `solve_cli solve` does; with `audit` their run is audited, so that None is right whatever the network did. Raises `TimeIsUp` after so many
-        seconds, `OutOfMemory`, or a `ProgramError`.
+        One thread searches until it is decided, and looks for a reason for None, or with `nodes` (1 to 16) and `workers` (1 to 8) several threads
+        search, as `solve_cli solve` does; with `audit` their run is audited, so that None is right whatever the network did. Raises `TimeIsUp` after
+        so many seconds, `OutOfMemory`, or a `ProgramError`; `WrongNumber` for a number that can't be.
         """
-        threads = [word for name, number in (("--nodes", nodes), ("--workers", workers)) if number is not None for word in (name, str(number))]
+        threads = number_in(nodes, "nodes", MOST_NODES) + number_in(workers, "workers", MOST_WORKERS)
         words = ["solve", "-", *threads, *["--audit"] * audit] if threads or audit else ["alone", "-", "--unlimited"]
         lines = self._numbered_lines()
         status, answer, why = self._ask(words, lines, seconds)
@@ -125,6 +164,12 @@ class Problem:
         if (status, answer) == (1, ["none"]):
             return None
         raise failure(status, found.partition(": ")[2] if status == 6 else why)
+
+    def chosen(self, seconds: Optional[float] = None, *, nodes: Optional[int] = None, workers: Optional[int] = None,
+               audit: bool = False) -> Optional[list[tuple[Word, ...]]]:
+        """The options themselves of one exact cover, in place of their places: `solve`."""
+        places = self.solve(seconds, nodes=nodes, workers=workers, audit=audit)
+        return None if places is None else [self[place] for place in places]
 
     def covers(self, seconds: Optional[float] = None) -> Iterator[list[int]]:
         """Each exact cover once, as the places of its options. Each is found by a search of its own, which may take so many seconds, in a problem
@@ -161,7 +206,11 @@ class Problem:
         return Reason(found.modulus or None, weights, needs, rooms)
 
     def is_cover(self, places: Iterable[int]) -> bool:
-        """Whether the options at these places are an exact cover, by counting."""
+        """Whether the options at these places are an exact cover, by counting; `ProblemError` where there is no option at one."""
+        places = list(places)
+        for place in places:
+            if not 0 <= place < len(self):
+                raise ProblemError(f"there is no option {place}: the places are 0 to {len(self) - 1}", option=place)
         uses: dict[Hashable, list[Optional[Hashable]]] = {}
         for item, colour in (parts_of(word) for place in places for word in self[place]):
             uses.setdefault(item, []).append(colour)
@@ -195,14 +244,12 @@ class Problem:
     def _ask(self, words: list[str], lines: list[str], seconds: Optional[float]) -> tuple[int, list[str], str]:
         """The program's exit status, the lines that it writes, and what it says on standard error. It reads its standard input, so that no file
         is left behind, whatever ends Python."""
-        limit = None if seconds is None or seconds >= LONGEST else seconds
-        if limit is not None and not limit > 0:
-            raise TimeIsUp(f"no answer after {seconds} seconds")
+        limit = checked_seconds(seconds)
         text = self._numbered_text(lines)
-        # (a program whose Python was killed ends by itself, a second after it should have)
+        # (where the system can't end a program whose Python was killed, it ends by itself, a second after it should have)
         own = ["--seconds", str(math.ceil(limit) + 1)] if limit is not None and limit < MOST_SECONDS and words[0] != "why" else []
         try:
-            ran = subprocess.run([find_program(), *words, *own], input=text, capture_output=True, timeout=limit)
+            ran = subprocess.run(tied([find_program(), *words, *own]), input=text, capture_output=True, timeout=limit)
         except subprocess.TimeoutExpired:
             raise TimeIsUp(f"no answer after {seconds} seconds") from None
         except OSError as why:
@@ -212,13 +259,16 @@ class Problem:
     # ---- files
 
     @classmethod
-    def parse(cls, text: bytes) -> Problem:
-        """The problem that the text of a file says. Items and colours are texts; options without a primary item are kept too."""
-        read = cover_files.read_problem(text)
+    def parse(cls, text: Union[bytes, str]) -> Problem:
+        """The problem that the text of a file says. Items and colours are texts; options without a primary item are kept too. A text that is refused
+        raises the error of the first cause, with its line."""
+        read = cover_files.read_problem(text.encode("utf-8", "surrogateescape") if isinstance(text, str) else text)
         if read.faults:
             first = read.faults[0]
-            raise ProblemError(f"the file is refused: {cover_files.refusal(read.faults)}", line=first.line,
-                               item=first.word and named(first.word.text))
+            word = f" '{named(first.word.text)}'" if first.word else ""
+            raise FAULT_KINDS.get(first.name, ProblemError)(
+                f"the file is refused: {cover_files.refusal(read.faults)}{word}: {fault_words(read, first)}", line=first.line,
+                item=first.word and named(first.word.text))
         names = [named(name) for name in read.items]
         options = sorted([*read.options, *read.ignored], key=lambda option: option.line)
         words = ([named(name) if colour is None else Colored(named(name), named(colour)) for name, colour in zip(option.names, option.colours)]
@@ -284,6 +334,6 @@ def failure(status: int, why: str) -> Exception:
     """What is raised where the program has ended so."""
     if status == 5:
         return OutOfMemory("the program ran out of memory")
-    kind, what = {4: (NoAnswer, "no answer"), 6: (UncleanAudit, "the audit is unclean")}.get(
-        status, (ProgramError, f"the program ended with status {status}"))
+    other = f"the program {find_program()} ended with status {status}" + (", and wrote no answer: is it solve_cli?" if status in (0, 1) else "")
+    kind, what = {4: (NoAnswer, "no answer"), 6: (UncleanAudit, "the audit is unclean")}.get(status, (ProgramError, other))
     return kind(f"{what}: {why}" if why else what, status)

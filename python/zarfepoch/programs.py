@@ -22,6 +22,12 @@ def known_program() -> Optional[str]:
     return os.path.abspath(path) if is_program(path) else None
 
 
+def tied(words: list[str]) -> list[str]:
+    """The words of a command that ends with the process that starts it, however that ends; where the system has no means for it, as they are."""
+    setpriv = shutil.which("setpriv")
+    return [setpriv, "--pdeathsig", "KILL", "--", *words] if setpriv else words
+
+
 def missing_program(named: Optional[str]) -> str:
     """What is said where there is no program, at the place that is named, if one is."""
     where = named or "solve_cli, neither named by ZARFEPOCH nor on the path"

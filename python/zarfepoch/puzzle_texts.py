@@ -24,6 +24,12 @@ class Puzzle:
     options: list[list[str]]
     comments: list[str] = field(default_factory=list)
 
+    def text(self) -> bytes:
+        """The text of the problem's file."""
+        told = "".join(f"| {comment}\n" for comment in self.comments)
+        head = " ".join(self.primary) + (" | " + " ".join(self.secondary) if self.secondary else "")
+        return "".join([f"{told}{head}\n"] + [" ".join(option) + "\n" for option in self.options]).encode("utf-8")
+
 
 def called(path: str) -> str:
     return "the standard input" if path == "-" else path
@@ -80,12 +86,6 @@ def rows_of(path: str) -> list[tuple[int, str]]:
     rows = [(number, line.rstrip()) for number, line in enumerate(read_text(path).splitlines(), 1)]
     some = [place for place, (_, line) in enumerate(rows) if line]
     return rows[some[0]:some[-1] + 1] if some else []
-
-
-def words_of(path: str) -> list[tuple[int, list[str]]]:
-    """The words of each line that has any and isn't a comment, with the line's number."""
-    lines = [(number, line.split()) for number, line in rows_of(path)]
-    return [(number, words) for number, words in lines if words and not words[0].startswith(("|", "#"))]
 
 
 def blocks_of(path: str) -> list[list[tuple[int, str]]]:

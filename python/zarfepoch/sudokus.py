@@ -14,6 +14,7 @@ from collections.abc import Iterator, Sequence
 from typing import NoReturn, Optional
 
 from .fault_words import plural
+from .name_texts import names_in
 from .picture_base import is_connected
 from .puzzle_texts import blocks_of, no_cover, Puzzle, read_text, refuse, TYPED
 from .sudoku_pictures import BOXES, MARKS
@@ -207,8 +208,8 @@ def read_sudoku(given: str, is_text: bool, diagonals: bool = False) -> Sudoku:
 
 
 def letters_of(path: str, block: Block) -> list[str]:
-    """A square of letters, one for each cell."""
-    rows = ["".join(line.split()) for _, line in block]
+    """A square of letters, one for each cell; blanks, commas and semicolons between are none."""
+    rows = [re.sub(r"[\s,;]", "", line) for _, line in block]
     for (number, _), row in zip(block, rows):
         if len(row) != len(rows):
             refuse(path, number, f"{len(rows)} letters are expected, as there are rows, and here are {len(row)}")
@@ -264,15 +265,15 @@ def sums_of(path: str, block: Block) -> dict[str, int]:
     """The sums of cages by their letters, as a=12 or a 12, several in a line."""
     found = {}
     for number, line in block:
-        told = re.sub(r"\s*[=:]\s*", "=", line)
-        words = told.split() if "=" in told else [f"{one}={other}" for one, other in zip(told.split()[::2], told.split()[1::2])]
+        told = names_in(path, number, re.sub(r"\s*[=:]\s*", "=", line))
+        words = told if any("=" in word for word in told) else ["=".join(told[k:k + 2]) for k in range(0, len(told), 2)]
         for word in words:
             letter, sign, total = word.partition("=")
-            if len(letter) != 1 or not re.fullmatch(r"[1-9]\d{0,2},?", total):
+            if len(letter) != 1 or not re.fullmatch(r"[1-9]\d{0,2}", total):
                 refuse(path, number, f"'{word}' is no sum of a cage, as a=12")
             if letter in found:
                 refuse(path, number, f"the cage {letter} has a sum already")
-            found[letter] = int(total.rstrip(","))
+            found[letter] = int(total)
     return found
 
 

@@ -1,57 +1,73 @@
 """Tables of lessons as people write them, in CSV: who gives which lesson to whom, where and when it may be.
 
-A cell may name several: teachers or classes that share a lesson, rooms of which it has one, periods of which it has one. What can be meant
-in two ways is refused with its line.
+A cell may name several: teachers or classes that share a lesson, rooms of which it has one or that it wants at once, periods of which it has
+one. What can be meant in two ways is refused with its line.
 """
 from __future__ import annotations
 
 import csv
 import io
 import re
-import unicodedata
 from collections import Counter
-from collections.abc import Iterator
-from dataclasses import dataclass
+from collections.abc import Callable, Iterator
+from dataclasses import dataclass, field
+from typing import Optional
 
 from .cover_files import shown
+from .name_texts import as_seen, want_one_spelling
 from .puzzle_texts import read_text, refuse
+from .weeks import bare, day_of, Periods, want_joined, WEEKDAYS
 
-WANTED = ("lesson", "teacher", "class", "rooms", "periods")
-OTHER = {"hours", "length", "note"}
+WANTED, NEEDED = ("lesson", "teacher", "class", "rooms", "periods"), ("lesson", "teacher", "class")
+OTHER = ("times", "length", "a_day", "apart", "fixed", "after", "note")
+# (without blanks and underscores)
 ALIASES = {"lessons": "lesson", "subject": "lesson", "teachers": "teacher", "classes": "class", "group": "class", "groups": "class", "room": "rooms",
-           "period": "periods", "times": "hours", "notes": "note", "remark": "note", "remarks": "note"}
+           "period": "periods", "hours": "times", "aday": "a_day", "perday": "a_day", "follows": "after", "notes": "note", "remark": "note",
+           "remarks": "note"}
 NOBODY = "-"
-# days of the week in some languages, by which a day that is written in two ways is found
-WEEKDAYS = ("monday tuesday wednesday thursday friday saturday sunday montag dienstag mittwoch donnerstag freitag samstag sonntag "
-            "lundi mardi mercredi jeudi vendredi samedi dimanche lunes martes mi\u00e9rcoles jueves viernes s\u00e1bado domingo "
-            "luned\u00ec marted\u00ec mercoled\u00ec gioved\u00ec venerd\u00ec sabato domenica "
-            "maandag dinsdag woensdag donderdag vrijdag zaterdag zondag").split()
+# people or rooms that are together in a lesson
+Together = tuple[str, ...]
 
 
 @dataclass
 class Lesson:
-    """A lesson of the table: who gives it to whom, the rooms and periods that it may have, how often in the week, and in how many periods
-    one after another."""
+    """A lesson of the table: of several teachers, or of several rooms, those that have it together, one choice of which it has; how often in the
+    week it is given, in how many periods one after another, and at most how often on a day. `title` is its name as the table has it."""
     line: int
+    title: str
     name: str
-    teachers: list[str]
+    teachers: list[Together]
     classes: list[str]
-    rooms: list[str]
+    rooms: list[Together]
     periods: list[str]
-    hours: int
+    times: int
     length: int
+    a_day: Optional[int] = None
+    apart: list[str] = field(default_factory=list)
+    fixed: list[str] = field(default_factory=list)
+    after: str = ""
+
+    def people(self) -> list[str]:
+        """Everybody who has it or may have it, and its rooms, in the order of the roles."""
+        return list(dict.fromkeys([*(one for some in self.teachers for one in some), *self.classes, *(one for some in self.rooms for one in some)]))
+
+    def surely(self) -> list[str]:
+        """Those who have it, whatever is chosen."""
+        chosen = [one for choices in (self.teachers, self.rooms) for one in choices[0] if all(one in some for some in choices)]
+        return list(dict.fromkeys([*chosen, *self.classes]))
 
 
-def head_of(path: str, line: int, names: list[str]) -> list[str]:
-    """The columns of the table by the names that they have here."""
-    columns = [re.sub(r"\s+", "", name or "").lower() for name in names]
-    columns = [ALIASES.get(column, column) for column in columns]
-    unknown = [name for name, column in zip(names, columns) if column and column not in WANTED and column not in OTHER]
+def columns_of(path: str, line: int, names: list[str], wanted: tuple[str, ...], needed: tuple[str, ...], aliases: dict[str, str]) -> list[str]:
+    """The columns of a table by the names that they have here."""
+    columns = [re.sub(r"[\s_]+", "", name or "").lower() for name in names]
+    columns = [aliases.get(column, column) for column in columns]
+    told = f"the columns are {','.join(needed)}, and if they are wanted {', '.join(other for other in wanted if other not in needed)}"
+    unknown = [name for name, column in zip(names, columns) if column and column not in wanted]
     if unknown:
-        refuse(path, line, f"there is no column '{unknown[0]}'; the columns are {','.join(WANTED)}, and if they are wanted hours, length and note")
-    lacking = [column for column in WANTED if column not in columns]
+        refuse(path, line, f"there is no column '{unknown[0]}'; {told}")
+    lacking = [column for column in needed if column not in columns]
     if lacking:
-        refuse(path, line, f"the column {lacking[0]} is missing; the columns are {','.join(WANTED)}, and if they are wanted hours, length and note")
+        refuse(path, line, f"the column {lacking[0]} is missing; {told}")
     twice = [column for column in columns if column and columns.count(column) > 1]
     if twice:
         refuse(path, line, f"the column {twice[0]} stands there twice")
@@ -81,14 +97,14 @@ def rows_in(path: str, text: str) -> Iterator[tuple[int, list[str]]]:
         refuse(path, line, "no quotation mark ends the cell that one begins here" if is_open else f"it can't be read as a table: {why}")
 
 
-def read_table(path: str) -> Iterator[tuple[int, dict[str, str]]]:
+def read_table(path: str, wanted: tuple[str, ...], needed: tuple[str, ...], aliases: dict[str, str]) -> Iterator[tuple[int, dict[str, str]]]:
     """The rows of a table by its head, each with the number of its line."""
     # (some spreadsheets end lines by a carriage return, with or without a line feed)
     text = re.sub("\r\n?", "\n", read_text(path))
     lines = list(rows_in(path, text))
     if not lines:
         refuse(path, None, "the table has no head")
-    columns = head_of(path, *lines[0])
+    columns = columns_of(path, *lines[0], wanted, needed, aliases)
     for number, row in lines[1:]:
         want_parted(path, number, row, separator_of(text))
         if len(row) > len(columns) and any(map(str.strip, row[len(columns):])):
@@ -111,68 +127,66 @@ def named(separator: str) -> str:
 
 # ---- cells
 
-def number_in(path: str, line: int, row: dict[str, str], column: str, most: int) -> int:
-    """A number from 1 in a column that may be missing."""
-    text = row.get(column) or "1"
-    if not re.fullmatch(r"[1-9]\d?", text) or int(text) > most:
-        refuse(path, line, f"{column} is a number from 1 to {most}, and not '{text}'")
-    return int(text)
+def number_in(path: str, line: int, row: dict[str, str], column: str, least: int, most: int) -> Optional[int]:
+    """A number in a column that may be missing or empty."""
+    text = row.get(column) or ""
+    if text and (not re.fullmatch(r"0|[1-9]\d?", text) or not least <= int(text) <= most):
+        refuse(path, line, f"{column} is a number from {least} to {most}, and not '{text}'")
+    return int(text) if text else None
 
 
-def between(path: str, line: int, word: str) -> list[str]:
-    """The periods of a range on one day, as Mon1-4 or 1-30."""
-    found = re.fullmatch(r"(\D*)(\d{1,3})-(\D*)(\d{1,3})", word)
-    if not found or found[3] not in ("", found[1]) or int(found[2]) > int(found[4]):
-        refuse(path, line, f"'{word}' is no range of periods on one day, as Mon1-4 or 1-30; several days are written as Mon1-6 Tue1-6, and a "
-               "period's name has no '-'")
-    return [f"{found[1]}{number}" for number in range(int(found[2]), int(found[4]) + 1)]
-
-
-def want_joined(path: str, line: int, column: str, cell: str, alone: set[str]) -> None:
-    """Refuses a name and a number with a blank between, as in `room 12` or `Mon 1`, which would be two, unless one of them stands alone elsewhere."""
-    for word, number in re.findall(r"(?<![^\s;,])([^\s;,\d]+)\s+(\d+(?:-\d+)?)(?![^\s;,])", cell):
-        if alone.isdisjoint((word, number)):
-            one = f"{word}{number}" if column == "periods" else f"{word}_{number}"
-            refuse(path, line, f"{column} '{cell}': a blank parts {column}, so write {one} for one, and {word};{number} for two")
+def alternatives(cell: str) -> list[str]:
+    """The parts of a cell of which a lesson has one, with `or` between them."""
+    return [part.strip() for part in re.split(r"\s(?:or|oder)(?=\s)", cell)]
 
 
 def want_names(path: str, line: int, row: dict[str, str]) -> None:
     """Refuses cells in which a word would be a name that only joins two."""
     for column in WANTED[1:]:
-        found = re.search(r"\s(and|or|und|oder)\s", row[column])
+        found = re.search(r"\s(and|und)\s" if column in ("teacher", "rooms") else r"\s(and|or|und|oder)\s", row.get(column, ""))
         if found:
-            refuse(path, line, f"{column} '{row[column]}': '{found[1]}' would be a name; several have ';' between")
+            refuse(path, line, f"{column} '{row[column]}': '{found[1]}' would be a name; several have ';' between" +
+                   (", and rooms that are wanted at once '+'" if column == "rooms" else ""))
 
 
-def periods_in(path: str, line: int, cell: str) -> list[str]:
-    want_joined(path, line, "periods", cell, set())
-    # (text programs write long dashes)
-    words = re.findall(r"[^\s;,]+", re.sub("[\u2010-\u2015]", "-", cell))
-    periods = [period for word in words for period in (between(path, line, word) if "-" in word else [word])]
-    twice = [period for period, count in Counter(periods).items() if count > 1]
-    if twice:
-        refuse(path, line, f"the period {twice[0]} stands there twice")
-    wrong = next((period for period in periods if re.search(r"[:|\0]", period)), None)
-    if wrong:
-        refuse(path, line, f"'{wrong}' can't be a period's name, which has no ':' and no '|'; number the periods of a day, as Mon1")
-    return periods
+class Rooms:
+    """The rooms of cells: blanks, `;`, `,` and `or` part those of which a lesson has one, `+` those that it wants at once."""
 
+    def __init__(self, path: str, cells: list[str]) -> None:
+        self.path = path
+        self.whole = set(cells)
+        self.known = {word for cell in cells for word in re.split(r"[\s;,+]+", cell)}
 
-def rooms_in(path: str, line: int, cell: str, alone: set[str]) -> list[str]:
-    """The rooms of a cell."""
-    want_joined(path, line, "rooms", cell, alone)
-    for word in re.findall(r"[^\s;,]+", cell):
-        parts = re.split("[/&+]", word)
-        if len(parts) > 1 and alone.issuperset(parts):
-            refuse(path, line, f"rooms '{word}': {' and '.join(parts)} are rooms elsewhere; several have ';' between, and the lesson has one of them")
-    return [] if cell == NOBODY else list(dict.fromkeys(re.findall(r"[^\s;,]+", cell)))
+    def read(self, line: int, cell: str) -> list[Together]:
+        """The choices of a cell, each of one room or of several; one of none where the cell is empty."""
+        if cell in ("", NOBODY):
+            return [()]
+        want_joined(self.path, line, "rooms", cell, self.whole)
+        words = [word for word in re.split(r"[\s;,]+", re.sub(r"\s*\+\s*", "+", " ".join(alternatives(cell)))) if word]
+        if not words:
+            refuse(self.path, line, f"rooms '{cell}': a room is missing; where there is none, the cell is empty")
+        return list(dict.fromkeys(self.together(line, cell, word) for word in words))
+
+    def together(self, line: int, cell: str, word: str) -> Together:
+        """The rooms of a word, which has `+` between those that are wanted at once."""
+        rooms = tuple(word.split("+"))
+        if "" in rooms or len(set(rooms)) < len(rooms):
+            refuse(self.path, line, f"rooms '{cell}': " + ("a room is missing beside '+'" if "" in rooms else f"'{word}' names a room twice"))
+        for room in rooms:
+            parts = [part for part in re.split("[/&]", room) if part]
+            if len(parts) > 1 and not self.known.isdisjoint(parts):
+                refuse(self.path, line, f"rooms '{room}': {' and '.join(part for part in parts if part in self.known)} stands elsewhere as a room; "
+                       f"one of several has ';' between ({';'.join(parts)}), and several at once have '+' ({'+'.join(parts)})")
+        return rooms
 
 
 class People:
-    """Who the cells of a column name. `;`, `,` and `+` part names; a blank, `/` or `&` does where what it parts are names elsewhere."""
+    """Who the cells of a column name. `or` parts those of whom a lesson has one; `;`, `,` and `+` part names of those who share it, and a
+    blank, `/` or `&` does where what it parts are names elsewhere."""
 
     def __init__(self, path: str, column: str, cells: list[str]) -> None:
         self.path, self.column = path, column
+        cells = [part for cell in cells for part in alternatives(cell)]
         self.certain = {name.strip() for cell in cells if "," not in cell for name in re.split(r"[;+]", cell)}
         whole = {name.strip() for cell in cells for name in re.split(r"[;,+]", cell)}
         self.alone = {name for name in whole if not re.search(r"[\s/&]", name)} - {""}
@@ -182,6 +196,13 @@ class People:
     @staticmethod
     def words(name: str) -> list[str]:
         return [word for word in re.split(r"[\s/&]+", name) if word]
+
+    def choices(self, line: int, cell: str) -> list[Together]:
+        """Those of whom a lesson has one: each a name, or several that share it."""
+        found = [tuple(self.read(line, part)) for part in alternatives(cell)]
+        if len(found) > 1 and (() in found or len({frozenset(some) for some in found}) < len(found)):
+            refuse(self.path, line, f"{self.column} '{cell}': different names are expected beside 'or'")
+        return found
 
     def read(self, line: int, cell: str) -> list[str]:
         """The names in a cell."""
@@ -218,66 +239,68 @@ class People:
 
 def numbered_names(lessons: list[Lesson]) -> None:
     """Lessons with the name of another are called after their classes too."""
-    counts = Counter(lesson.name for lesson in lessons)
+    counts = Counter(lesson.title for lesson in lessons)
     for lesson in lessons:
-        if counts[lesson.name] > 1:
-            lesson.name = f"{lesson.name}({'+'.join(lesson.classes)})"
+        if counts[lesson.title] > 1:
+            lesson.name = f"{lesson.title}({'+'.join(lesson.classes)})"
 
 
 def want_different(path: str, lessons: list[Lesson]) -> None:
     """Refuses two lessons of one name."""
-    seen: dict[str, int] = {}
+    seen: dict[str, Lesson] = {}
     for lesson in lessons:
-        for name in {lesson.name, *(f"{lesson.name}.{k}" for k in range(1, lesson.hours + 1) if lesson.hours > 1)}:
-            if name in seen:
-                refuse(path, lesson.line, f"the lesson {name} stands there twice, in line {seen[name]} too; a column hours says how often "
-                       "a lesson is given, and two lessons of one class have two names")
-            seen[name] = lesson.line
+        for name in {lesson.name, *(f"{lesson.name}.{k}" for k in range(1, lesson.times + 1) if lesson.times > 1)}:
+            before = seen.get(name)
+            if before and before.name == lesson.name:
+                of = f" of {'+'.join(lesson.classes)}" if lesson.classes else ""
+                refuse(path, lesson.line, f"the lesson {lesson.title}{of} stands there twice, in line {before.line} too; a column times says how "
+                       "often a lesson is given, and two lessons of one class have two names")
+            if before:
+                refuse(path, lesson.line, f"the lesson {lesson.title} would be called as a time of the lesson {before.title} in line {before.line} "
+                       "is; give it another name")
+            seen[name] = lesson
 
 
 def want_no_periods(path: str, lessons: list[Lesson]) -> None:
     """Refuses a lesson that is called as somebody or a room with a period is, as ann-Mon1, since that is an item too."""
     periods = {period for lesson in lessons for period in lesson.periods}
-    busy = {f"{who}-{period}" for lesson in lessons for who in lesson.teachers + lesson.classes + lesson.rooms for period in periods}
+    busy = {f"{who}-{period}" for who in {who for lesson in lessons for who in lesson.people()} for period in periods}
     for lesson in lessons:
         if lesson.name in busy:
             refuse(path, lesson.line, f"the lesson {lesson.name} is called as {' in the period '.join(lesson.name.rsplit('-', 1))} is; give it "
                    "another name")
 
 
-def want_roles(path: str, lessons: list[Lesson]) -> None:
-    """Refuses a name of a teacher that is one of a class or a room too, and so on."""
+def roles_of(lesson: Lesson) -> list[tuple[str, list[str]]]:
+    """Who and what a lesson names, by roles."""
+    teachers, rooms = ([one for some in choices for one in some] for choices in (lesson.teachers, lesson.rooms))
+    return [("teacher", teachers), ("class", lesson.classes), ("room", rooms)]
+
+
+def want_roles(path: str, lessons: list[Lesson], cells: dict[int, str]) -> None:
+    """Refuses a name of a teacher that is one of a class or a room too, and so on. `cells` are those of rooms, by lines."""
     roles: dict[str, str] = {}
     for lesson in lessons:
-        for role, names in (("teacher", lesson.teachers), ("class", lesson.classes), ("room", lesson.rooms)):
+        for role, names in roles_of(lesson):
             for who in names:
                 if roles.setdefault(who, role) != role:
-                    refuse(path, lesson.line, f"{who} would be a {roles[who]} and a {role}: these have names of their own")
+                    cell = cells.get(lesson.line, "")
+                    hint = f"; in rooms '{cell}' a blank parts rooms: write {cell.replace(' ', '_')} for one" if role == "room" and " " in cell else ""
+                    refuse(path, lesson.line, f"{who} would be a {roles[who]} and a {role}: these have names of their own{hint}")
 
 
-def as_seen(name: str) -> str:
-    """A name without characters that nobody sees, and with usual letters in place of full-width and half-width ones."""
-    letters = (letter for letter in name if unicodedata.category(letter) != "Cf")
-    usual = (unicodedata.normalize("NFKC", letter) if unicodedata.east_asian_width(letter) in "FH" else letter for letter in letters)
-    return unicodedata.normalize("NFC", "".join(usual))
+def without_noughts(name: str) -> str:
+    """What two spellings of a period share: Mon01 is MON1."""
+    return re.sub(r"(?<!\d)0+(?=\d)", "", as_seen(name).casefold())
 
 
-def spelled(what: str, name: str) -> str:
-    """What two spellings of one name share: a class 5A is 5a, and a period Mon01 is MON1."""
-    name = as_seen(name).casefold()
-    return re.sub(r"(?<!\d)0+(?=\d)", "", name) if what == "period" else name
-
-
-def want_one_spelling(path: str, lessons: list[Lesson]) -> None:
+def want_one_way(path: str, lessons: list[Lesson]) -> None:
     """Refuses two spellings of a name, which would be two names: a teacher of both could be in two places at a time."""
-    seen: dict[tuple[str, str], tuple[str, int]] = {}
-    for lesson in lessons:
-        roles = (("teacher", lesson.teachers), ("class", lesson.classes), ("room", lesson.rooms), ("period", lesson.periods))
-        for what, name in ((what, name) for what, names in roles for name in names):
-            before, line = seen.setdefault((what, spelled(what, name)), (name, lesson.line))
-            if before != name:
-                refuse(path, lesson.line, f"the {what} {shown(name.encode())} and the {what} {shown(before.encode())} of line {line} would be two: "
-                       f"write one {what} in one way")
+    spelled: dict[str, Callable[[str], str]] = {"period": without_noughts}
+    for what in ("teacher", "class", "room", "period"):
+        found = ((lesson.line, name) for lesson in lessons for role, names in [*roles_of(lesson), ("period", lesson.periods)]
+                 if role == what for name in names)
+        want_one_spelling(path, what, found, spelled.get(what, lambda name: as_seen(name).casefold()))
 
 
 def want_one_week(path: str, lessons: list[Lesson]) -> None:
@@ -292,29 +315,49 @@ def want_one_week(path: str, lessons: list[Lesson]) -> None:
                 refuse(path, line, f"the day {day} and the day {before} of line {first} would be two: write one day in one way")
 
 
-def read_lessons(path: str) -> list[Lesson]:
-    """All lessons of a table."""
-    rows = list(read_table(path))
-    people = {column: People(path, column, [row[column] for _, row in rows]) for column in ("teacher", "class")}
-    alone = {row["rooms"] for _, row in rows}
-    lessons = []
-    for line, row in rows:
-        lacking = [column for column in WANTED if not re.search(r"[^\s;,]", row[column])]
-        if lacking:
-            refuse(path, line, f"{lacking[0]} is missing; where there is none, - says so")
-        want_names(path, line, row)
-        if all(row[column] == NOBODY for column in ("teacher", "class", "rooms")):
-            refuse(path, line, "it has no teacher, no class and no room, so it can always be given, and is in no plan; leave it out")
-        lessons.append(Lesson(
-            line, row["lesson"], people["teacher"].read(line, row["teacher"]), people["class"].read(line, row["class"]),
-            rooms_in(path, line, row["rooms"], alone), periods_in(path, line, row["periods"]),
-            number_in(path, line, row, "hours", 99), number_in(path, line, row, "length", 9)))
-    if not lessons:
-        refuse(path, None, "the table has a head and no lessons")
-    numbered_names(lessons)
-    want_different(path, lessons)
-    want_no_periods(path, lessons)
-    want_roles(path, lessons)
-    want_one_spelling(path, lessons)
-    want_one_week(path, lessons)
-    return lessons
+class Table:
+    """The rows of a table of lessons, and what its cells name."""
+
+    def __init__(self, path: str, further_periods: list[str]) -> None:
+        self.path = path
+        self.rows = list(read_table(path, WANTED + OTHER, NEEDED, ALIASES))
+        self.separator = separator_of(read_text(path))
+        for line, row in self.rows:
+            lacking = [column for column in NEEDED if not re.search(r"[^\s;,]", row[column])]
+            if lacking:
+                refuse(path, line, f"{lacking[0]} is missing; where there is none, - says so")
+            want_names(path, line, row)
+        if not self.rows:
+            refuse(path, None, "the table has a head and no lessons")
+        self.people = {column: People(path, column, self.cells(column)) for column in ("teacher", "class")}
+        self.rooms = Rooms(path, self.cells("rooms"))
+        self.periods = Periods(path, [*self.cells("periods"), *self.cells("fixed"), *further_periods])
+
+    def cells(self, column: str) -> list[str]:
+        return [row.get(column, "") for _, row in self.rows]
+
+    def lesson(self, line: int, row: dict[str, str]) -> Lesson:
+        """The lesson of a row; one whose cell of periods is empty has none as yet."""
+        teachers, rooms = self.people["teacher"].choices(line, row["teacher"]), self.rooms.read(line, row.get("rooms", ""))
+        classes = self.people["class"].read(line, row["class"])
+        if teachers == rooms == [()] and not classes:
+            refuse(self.path, line, "it has no teacher, no class and no room, so it can always be given, and is in no plan; leave it out")
+        return Lesson(
+            line, row["lesson"], row["lesson"], teachers, classes, rooms, self.periods.read(line, row.get("periods", "")),
+            number_in(self.path, line, row, "times", 1, 99) or 1, number_in(self.path, line, row, "length", 1, 9) or 1,
+            number_in(self.path, line, row, "a_day", 1, 9), re.findall(r"[^\s;,+]+", row.get("apart", "")),
+            self.periods.read(line, row.get("fixed", "")), row.get("after", ""))
+
+    def lessons(self) -> list[Lesson]:
+        """All lessons of the table."""
+        lessons = [self.lesson(line, row) for line, row in self.rows]
+        numbered_names(lessons)
+        return lessons
+
+    def check(self, lessons: list[Lesson]) -> None:
+        """Refuses names that can't be meant, once all lessons have their periods."""
+        want_different(self.path, lessons)
+        want_no_periods(self.path, lessons)
+        want_roles(self.path, lessons, {line: row.get("rooms", "") for line, row in self.rows})
+        want_one_way(self.path, lessons)
+        want_one_week(self.path, lessons)

@@ -1,7 +1,9 @@
 """Pictures of timetables: a plan of the week for each class, teacher or room, with days as columns, or one table of who is busy when."""
 from __future__ import annotations
 
+import csv
 import functools
+import io
 import itertools
 import re
 import unicodedata
@@ -9,87 +11,114 @@ from collections.abc import Callable, Iterator, Sequence
 
 from .cover_files import Option, Problem
 from .full_names import full_names
-from .picture_base import Kind, Names, without_order
+from .picture_base import Kind, Names, without_rules
 from .svg_paper import BACKGROUND, draw_table, FAINT, FILLS, folded, INK, MARGIN, Paper, table_text, text_width, WIDEST
+from .weeks import day_and_number, in_week, natural
 
 # rows of cells, each a lesson and who else is busy with it
 Rows = list[list[tuple[str, str]]]
 GAP = 28
 ROLES = ("teachers", "classes", "rooms", "")
-# the days of the week by the first letters of their names, in some languages; a week begins with Monday
-WEEKS = ["mon tue wed thu fri sat sun", "mo di mi do fr sa so", "lun mar mer jeu ven sam dim", "lun mar mi jue vie s\u00e1b dom",
-         "lun mar mer gio ven sab dom",
-         "ma di wo do vr za zo", "pon wto \u015bro czw pi\u0105 sob nie",
-         "\u043f\u043d \u0432\u0442 \u0441\u0440 \u0447\u0442 \u043f\u0442 \u0441\u0431 \u0432\u0441",
-         "seg ter qua qui sex s\u00e1b dom",
-         "\u4e00 \u4e8c \u4e09 \u56db \u4e94 \u516d \u65e5", "\u6708 \u706b \u6c34 \u6728 \u91d1 \u571f \u65e5"]
 
 
-def day_and_number(period: str) -> tuple[str, int] | None:
+def with_day(period: str) -> tuple[str, int] | None:
     """The day of a period and its number there, as of Mon1; None where it tells no day."""
-    found = re.fullmatch(r"(.*\D)(\d{1,4})", period)
-    return (found[1], int(found[2])) if found else None
-
-
-def in_week(days: list[str]) -> list[str]:
-    """Days in the order of the week, if they are days of one in some language; else as they come."""
-    for week in WEEKS:
-        bare = {day: re.sub("^(\u5468|\u661f\u671f|\u9031)", "", day.strip(" .:_").lower()) for day in days}
-        places = {day: [k for k, name in enumerate(week.split()) if bare[day].startswith(name)] for day in days}
-        if all(places.values()):
-            return sorted(days, key=lambda day: places[day][0])
-    return sorted(days, key=lambda day: [int(part) if part.isdecimal() else part for part in re.split(r"(\d+)", day)]) \
-        if all(re.match(r"\d", day) for day in days) else days
-
-
-def natural(name: str) -> list[str | int]:
-    """What sorts names as people do: 9b comes before 10a."""
-    return [int(part) if k % 2 else part for k, part in enumerate(re.split(r"(\d+)", name))]
+    found = day_and_number(period)
+    return found if found and found[0] else None
 
 
 class Given:
-    """A lesson as the answer has it: its name, who is busy with it, and in which periods."""
+    """A lesson as the answer has it: its item, its name, who is busy with it, and in which periods."""
 
-    def __init__(self, name: str, who: list[str], periods: list[str]) -> None:
-        self.name, self.who, self.periods = name, who, periods
+    def __init__(self, item: str, name: str, who: list[str], periods: list[str]) -> None:
+        self.item, self.name, self.who, self.periods = item, name, who, periods
 
 
 class Timetable(Kind):
     """Lessons, each with people, classes and rooms in some periods."""
 
+    with_colours = None
     plans: Sequence[str] = ()
 
     def __init__(self, problem: Problem, chosen: list[Option], is_none: bool) -> None:
         super().__init__(problem, chosen, is_none)
-        self.items = list(without_order(self.items))
-        self.options, self.chosen = (list(map(without_order, options)) for options in (self.options, self.chosen))
+        self.items = [item for item in self.items if "<" not in item]
+        self.options, self.chosen = (list(filter(None, map(without_rules, options))) for options in (self.options, self.chosen))
+        self.coloured = {name for colours in self.option_colours for name in colours}
 
     def is_known(self) -> bool:
-        lessons = {option[0] for option in self.options}
+        lessons = self.lessons()
         busy = [item for item in self.items if item not in lessons]
-        return bool(self.options and busy) and self.all_match(r".+-[^-=]+", busy) and all(
-            option[0] in self.primary and lessons.isdisjoint(option[1:]) and self.is_given(option) for option in self.options)
+        return bool(self.options and busy) and self.all_match(r".+-[^-=]+", busy) and all("<" in name for name in self.coloured) and all(
+            lesson in self.primary and lessons.keys().isdisjoint(names) and self.is_given(names)
+            for option in self.options for lesson, names in self.parted(option))
 
     @staticmethod
-    def is_given(option: Names) -> bool:
-        """Whether an option is a lesson and everybody who is busy with it in each of its periods."""
-        pairs = [name.rsplit("-", 1) for name in option[1:]]
+    def is_given(names: Names) -> bool:
+        """Whether names are those of everybody who is busy with a lesson in each of its periods."""
+        pairs = [name.rsplit("-", 1) for name in names]
         who, periods = ({pair[k] for pair in pairs} for k in (0, 1))
         return bool(pairs) and len(pairs) == len(who) * len(periods)
+
+    def parted(self, option: Names) -> list[tuple[str, Names]]:
+        """The lessons of an option, mostly one, each with who is busy with it when. Comments tell which follow one another, and of these the
+        lengths that aren't one period."""
+        count = 1 + len(list(itertools.takewhile(self.is_follower, option[1:])))
+        names = option[count:]
+        periods = list(dict.fromkeys(name.rsplit("-", 1)[-1] for name in names))
+        found = []
+        for lesson in option[:count - 1]:
+            own, periods = periods[:self.length(lesson)], periods[self.length(lesson):]
+            found.append((lesson, tuple(name for name in names if name.rsplit("-", 1)[-1] in own)))
+        return [*found, (option[count - 1], names if count == 1 else tuple(name for name in names if name.rsplit("-", 1)[-1] in periods))]
+
+    def told(self, key: str) -> dict[str, str]:
+        """What comments say of names behind this key."""
+        found = (re.fullmatch(rf"\|\s*{key} (\S+): (.+)", comment) for comment in self.comments)
+        return {told[1]: told[2] for told in found if told}
+
+    @functools.cached_property
+    def followers(self) -> dict[str, str]:
+        return self.told("follows")
+
+    @functools.cached_property
+    def lengths(self) -> dict[str, str]:
+        return self.told("length")
+
+    def is_follower(self, name: str) -> bool:
+        """Whether a name is one of a lesson that follows another."""
+        return name in self.followers or name.rpartition(".")[0] in self.followers
+
+    def length(self, lesson: str) -> int:
+        """In how many periods one after another a lesson is given, where a comment tells it; else one."""
+        told = self.lengths.get(lesson) or self.lengths.get(lesson.rpartition(".")[0]) or "1"
+        return int(told) if told.isdecimal() else 1
 
     # ---- what the problem and the answer tell
 
     def full(self, name: str) -> str:
         """A name as the table had it, also of one of the times that a lesson is given."""
-        names, lessons = full_names(self.comments), self.lessons()
-        base = base_of(name)
-        name = base if base != name and f"{base}.1" in lessons and f"{base}.2" in lessons else name
-        return names.get(name, name)
+        names = full_names(self.comments)
+        return names.get(self.base(name), self.base(name))
+
+    def base(self, name: str) -> str:
+        """A lesson's name without the number or the day of the time, if it is one of several."""
+        base = name.rpartition(".")[0]
+        return base if base in self.given_often else name
+
+    @functools.cached_property
+    def given_often(self) -> set[str]:
+        """The names of lessons that have several times: their items end in numbers from 1, or in days."""
+        behind: dict[str, set[str]] = {}
+        for lesson in self.lessons():
+            base, dot, label = lesson.rpartition(".")
+            behind.setdefault(base, set()).update([label] if dot else [])
+        days = {found[0] for found in map(with_day, self.periods()) if found}
+        return {base for base, labels in behind.items() if {"1", "2"} <= labels or len(labels) > 1 and labels <= days}
 
     def also(self) -> dict[str, list[str]]:
         """Who is busy with a lesson beside those that its options name, by the lesson."""
-        found = (re.fullmatch(r"\|\s*also (\S+): (.+)", comment) for comment in self.comments)
-        return {told[1]: told[2].split() for told in found if told}
+        return {lesson: names.split() for lesson, names in self.told("also").items()}
 
     @functools.lru_cache(maxsize=None)
     def everybody(self) -> dict[str, str]:
@@ -103,11 +132,11 @@ class Timetable(Kind):
 
     @functools.lru_cache(maxsize=None)
     def lessons(self) -> dict[str, None]:
-        return dict.fromkeys(option[0] for option in self.options)
+        return dict.fromkeys(lesson for option in self.options for lesson, _ in self.parted(option))
 
     def periods(self) -> list[str]:
         """All periods, by their numbers where these are numbers, else as a comment tells them."""
-        periods = list(dict.fromkeys(name.rsplit("-", 1)[1] for option in self.options for name in option[1:]))
+        periods = list(dict.fromkeys(name.rsplit("-", 1)[1] for option in self.options for _, names in self.parted(option) for name in names))
         if all(map(str.isdecimal, periods)):
             return sorted(periods, key=int)
         told: list[str] = next((comment.partition(":")[2].split() for comment in self.comments if re.match(r"\|\s*periods: ", comment)), [])
@@ -117,12 +146,11 @@ class Timetable(Kind):
     def given(self) -> Iterator[Given]:
         """All lessons of the answer."""
         also = self.also()
-        for option in self.chosen:
-            pairs = [name.rsplit("-", 1) for name in option[1:]]
+        for lesson, names in (part for option in self.chosen for part in self.parted(option)):
+            pairs = [name.rsplit("-", 1) for name in names]
             who = list(dict.fromkeys(name for name, _ in pairs))
-            base = base_of(option[0])
-            lost = also.get(option[0]) or also.get(base) or []
-            yield Given(self.full(option[0]), who + lost, list(dict.fromkeys(period for _, period in pairs)))
+            lost = also.get(lesson) or also.get(self.base(lesson)) or []
+            yield Given(lesson, self.full(lesson), who + lost, list(dict.fromkeys(period for _, period in pairs)))
 
     # ---- plans
 
@@ -130,7 +158,7 @@ class Timetable(Kind):
         """Of whom a plan is drawn; nothing where one table of all is."""
         if self.plans:
             return list(dict.fromkeys(one for word in self.plans for one in self.called(word)))
-        days = all(map(day_and_number, self.periods()))
+        days = all(map(with_day, self.periods()))
         if days:
             return self.called("classes") or self.called("all")
         return [] if self.table_width() <= WIDEST else self.called("all")
@@ -158,10 +186,10 @@ class Timetable(Kind):
     def plan(self, who: str) -> Rows:
         """The rows of a plan, the first with days, each cell a pair of texts; without days one column has them all."""
         entries, periods = self.entries(who), self.periods()
-        at = {day_and_number(period) or ("", period): period for period in periods}
+        at = {with_day(period) or ("", period): period for period in periods}
         days = in_week(list(dict.fromkeys(day for day, _ in at)))
         numbers = list(dict.fromkeys(number for _, number in at))
-        numbers = sorted(numbers) if all(map(day_and_number, periods)) else numbers
+        numbers = sorted(numbers) if all(map(with_day, periods)) else numbers
         rows = [[(self.full(who), "")] + [(day.strip(" .:_") or "lesson", "") for day in days]]
         return rows + [[(str(number), "")] + [entries.get(at.get((day, number), ""), ("", "")) for day in days] for number in numbers]
 
@@ -174,6 +202,25 @@ class Timetable(Kind):
             order = [*FILLS[k % len(FILLS):], *FILLS[:k % len(FILLS)]]
             found[name] = next((fill for fill in order if fill not in taken), order[0])
         return found
+
+    # ---- the plan as a table
+
+    def table(self) -> str:
+        """The plan as CSV: a row for each time that a lesson is given, of a class those of a day together."""
+        separator = next((comment.partition(": ")[2] for comment in self.comments if re.match(r"\|\s*separator: [,;]$", comment)), ",")
+        written = io.StringIO()
+        rows = csv.writer(written, delimiter=separator, lineterminator="\n")
+        rows.writerow(["lesson", "teacher", "class", "rooms", "periods", "length"])
+        rows.writerows(row for _, row in sorted(map(self.row_of, self.given()), key=lambda pair: pair[0]))
+        return written.getvalue()
+
+    def row_of(self, given: Given) -> tuple[tuple[list[tuple[int, int, str]], int], list[str]]:
+        """A lesson as a row, and what sorts it."""
+        roles, order = self.everybody(), self.periods()
+        cells = ["+".join(self.full(one) for one in given.who if roles.get(one) == role) or "-" for role in ("teachers", "classes", "rooms")]
+        titles = self.told("title")
+        title = titles.get(given.item) or titles.get(self.base(given.item)) or given.name
+        return ((natural(cells[1]), order.index(given.periods[0])), [title, *cells, " ".join(given.periods), str(len(given.periods))])
 
     # ---- one table of all
 
@@ -215,11 +262,6 @@ class Timetable(Kind):
 def composed(name: str) -> str:
     """A name in which a letter with a mark is one character, wherever there is one for both."""
     return unicodedata.normalize("NFC", name)
-
-
-def base_of(name: str) -> str:
-    """A lesson's name without the number of the time."""
-    return re.sub(r"\.\d+$", "", name)
 
 
 class Plan:

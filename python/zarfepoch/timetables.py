@@ -1,315 +1,487 @@
-"""Timetables as exact covers: a table of lessons becomes a problem's items and options.
+"""Timetables as exact covers: a table of lessons, and perhaps one of rules, becomes a problem's items and options.
 
 Each lesson is given as often as it should be, and nobody and no room is in two places at a time. Who is busy in every period, whatever the
-timetable, has primary items for its periods: the search then looks at them first, and covers stay the same. A lesson that nobody could
-attend because there are too few periods is found by counting, before any search.
+timetable, has primary items for its periods: the search then looks at them first, and covers stay the same. What can't be because there are
+too few periods is found by counting, before any search.
 
-The times of a lesson that is given several times are alike, and a search that tells them apart tries each of them in the place of each. So
-they keep an order as far as the program's items suffice: the week has some parts, and maths.1 is given in no later part than maths.2. Of two
-times in the wrong order both name an item, as `maths.1<2`.
+All that is more than lessons and busy periods has items with a `<` in their names:
+
+- The times of a lesson that is given several times are alike, and a search that tells them apart tries each of them in the place of each. Where the
+  lesson is at most once on a day, it has an item for each day, as `maths.Mon`, and `maths<days` chooses the days on which it isn't given: its
+  options cover the items of these. Or, where that needs fewer items, its times keep an order, and their days rise: with d days for h times the k-th
+  is on one of the days k to d - h + k. Of two times in the wrong order, or on one day, both name an item, as `maths.1<2`. Where days needn't
+  differ, the week has some parts, as far as the program's items suffice, and maths.1 is given in no later part than maths.2.
+- At most n times on a day, n > 1: the day has n items, as `maths<Mon.1`, and each time on it takes one of them.
+- Lessons that are never on one day share an item for each day, `word<apart.Mon`.
+- At most n of the p periods of a day: p - n items, as `ann<free.Mon.1`, each of which takes a period of the day away.
+- Holes: for each day an item `5a<week.Mon`, whose options take away all periods of the day but those of one pattern with few enough holes; all
+  these periods are primary, so somebody is busy in those that are left. With holes allowed, each hole of a pattern takes one of the items
+  `ann<hole.1` and on. Where few periods of the week are free, and it is known how many, one item `5a<week` does for all days.
+- One of several teachers: all times of the lesson give the item `maths<teacher` one colour.
 """
 from __future__ import annotations
 
+import itertools
 import random
 import re
-from collections.abc import Iterable
-from dataclasses import dataclass
+from collections.abc import Collection, Iterable, Iterator
+from dataclasses import dataclass, field, replace
+from typing import NamedTuple, Optional
 
-from .always_busy import Shortage, always_busy
-from .cover_files import MAX_ITEMS, MAX_NAME, MAX_OPTIONS
-from .fault_words import plural
-from .puzzle_texts import no_cover, Puzzle, refuse
-from .timetable_files import Lesson, read_lessons
+from .cover_files import complain, MAX_ITEMS, MAX_NAME, MAX_OPTIONS
+from .puzzle_texts import Puzzle, refuse
+from .timetable_files import Lesson
+from .timetable_plans import MOVED, Plan, preference
+from .timetable_rules import Rule, School
+from .timetable_steps import all_periods, always, Block, blocks_of, by_days, Days, followers, Hour, hours_by_name, seats_of, Step, want_days
+from .weeks import day_of, in_week
 
-ROLES = ("teachers", "classes", "rooms")
 # from so many options on their order is drawn by lot: a search that tries each lesson at Monday's first period first seldom ends
 MANY = 100
 # into so many parts the week is divided at most for the order of the times of a lesson
 PARTS = 4
-
-
-@dataclass
-class Hour:
-    """One time that a lesson is given in the week: its item, and the runs of periods that it may have."""
-    name: str
-    lesson: Lesson
-    number: int
-    runs: list[tuple[str, ...]]
-
-    def periods(self) -> list[str]:
-        return list(dict.fromkeys(period for run in self.runs for period in run))
-
-
-# ---- periods
-
-def day_and_number(period: str) -> tuple[str, int] | None:
-    """The day of a period and its number there, as of Mon1 or 2.1; a number alone is of no day, and None what ends with no number."""
-    found = re.fullmatch(r"(.*\D)?(\d{1,4})", period)
-    return (found[1] or "", int(found[2])) if found else None
-
-
-def runs_of(lesson: Lesson) -> list[tuple[str, ...]]:
-    """The runs of so many periods, one after another on one day, that a lesson may have."""
-    if lesson.length == 1:
-        return [(period,) for period in lesson.periods]
-    at = {day_and_number(period): period for period in lesson.periods}
-    runs = []
-    for day, number in filter(None, at):
-        run = [at[day, number + k] for k in range(lesson.length) if (day, number + k) in at]
-        if len(run) == lesson.length:
-            runs.append(tuple(run))
-    return runs
-
-
-def all_periods(lessons: list[Lesson]) -> list[str]:
-    """All periods in the order of their first mention, or by their numbers where they are numbers."""
-    periods = list(dict.fromkeys(period for lesson in lessons for period in lesson.periods))
-    return sorted(periods, key=int) if all(map(str.isdecimal, periods)) else periods
-
-
-def want_days(path: str, lessons: list[Lesson]) -> None:
-    """Refuses lessons of several periods where nobody can tell which periods run on one day."""
-    periods = all_periods(lessons)
-    numbers = [int(period) for period in periods if period.isdecimal()]
-    with_day = next((period for period in periods if day_and_number(period) and not period.isdecimal()), None)
-    for lesson in lessons:
-        bare = next(filter(str.isdecimal, lesson.periods), None)
-        if bare and with_day:
-            refuse(path, lesson.line, f"the period {bare} has no day, and {with_day} has one: either all have their day, or none")
-        if lesson.length > 1 and numbers and max(numbers) > 12:
-            refuse(path, lesson.line, f"a lesson of {lesson.length} periods wants periods that tell their day, as Mon1: nobody knows on which "
-                   f"day {max(numbers)} is")
-        if not runs_of(lesson):
-            refuse(path, lesson.line, f"of the periods of {lesson.name} no {lesson.length} run one after another on one day, as Mon1 and Mon2 do")
-
-
-def most_runs(lesson: Lesson) -> int:
-    """How many runs of its length, none of which share a period, a lesson's periods have room for."""
-    free, count = set(lesson.periods), 0
-    for run in sorted(runs_of(lesson), key=lambda run: day_and_number(run[0]) or ("", 0)):
-        if free.issuperset(run):
-            free, count = free.difference(run), count + 1
-    return count
-
-
-def want_runs(path: str, lessons: list[Lesson]) -> None:
-    """Ends the script where a lesson of several periods is given more often than its periods have room for."""
-    for lesson in lessons:
-        if lesson.hours > most_runs(lesson) > 0 and lesson.length > 1:
-            no_cover(f"{path}, line {lesson.line}: there is no timetable: {lesson.name} is given {lesson.hours} times, each in {lesson.length} "
-                     f"periods running on one day, and its periods have room for {most_runs(lesson)}")
-
-
-# ---- who is busy when
-
-def hours_of(lessons: list[Lesson]) -> list[Hour]:
-    """All times that lessons are given."""
-    hours = []
-    for lesson in lessons:
-        runs = runs_of(lesson)
-        names = [lesson.name] if lesson.hours == 1 else [f"{lesson.name}.{k}" for k in range(1, lesson.hours + 1)]
-        hours += [Hour(name, lesson, number, runs) for number, name in enumerate(names, 1)]
-    return hours
-
-
-def seats_of(hours: list[Hour]) -> list[Hour]:
-    """The times that an hour takes one place: as often as it has periods."""
-    return [hour for hour in hours for _ in range(hour.lesson.length)]
-
-
-def named_some(hours: list[Hour]) -> str:
-    names = list(dict.fromkeys(hour.lesson.name for hour in hours))
-    return ", ".join(names[:6]) + (f" and {len(names) - 6} more" if len(names) > 6 else "")
-
-
-def told_lines(hours: list[Hour]) -> str:
-    lines = sorted({hour.lesson.line for hour in hours})
-    return ("line " if len(lines) == 1 else "lines ") + ", ".join(map(str, lines[:8])) + (" .." if len(lines) > 8 else "")
-
-
-def busy_of(path: str, who: str, hours: list[Hour]) -> set[str]:
-    """The periods in which somebody is always busy; where there are too few, the script ends."""
-    seats = seats_of(hours)
-    try:
-        return always_busy([hour.periods() for hour in seats])
-    except Shortage as short:
-        wanting = [seats[k] for k in short.wanting]
-        return no_cover(f"{path}, {told_lines(wanting)}: there is no timetable: {who} has {len(wanting)} periods of lessons "
-                        f"({named_some(wanting)}), and of the week only {plural(len(short.places), 'period')} for them: {' '.join(short.places[:12])}"
-                        + (" .." if len(short.places) > 12 else ""))
-
-
-def busy_rooms(path: str, hours: list[Hour]) -> set[tuple[str, str]]:
-    """The rooms and periods that are always taken; where there are too few, the script ends."""
-    seats = [hour for hour in seats_of(hours) if hour.lesson.rooms]
-    try:
-        return always_busy([[(room, period) for room in hour.lesson.rooms for period in hour.periods()] for hour in seats])
-    except Shortage as short:
-        wanting = [seats[k] for k in short.wanting]
-        rooms = list(dict.fromkeys(room for room, _ in short.places))
-        return no_cover(f"{path}, {told_lines(wanting)}: there is no timetable: {len(wanting)} periods of lessons ({named_some(wanting)}) want "
-                        f"the {'rooms' if len(rooms) > 1 else 'room'} {', '.join(rooms[:8])}, free for them in {plural(len(short.places), 'period')}"
-                        + (" together" if len(rooms) > 1 else ""))
-
-
-def hours_by_person(hours: list[Hour]) -> dict[str, list[Hour]]:
-    """The hours of each teacher and each class."""
-    found: dict[str, list[Hour]] = {}
-    for hour in hours:
-        for who in hour.lesson.teachers + hour.lesson.classes:
-            found.setdefault(who, []).append(hour)
-    return found
-
-
-def always(path: str, hours: list[Hour]) -> set[tuple[str, str]]:
-    """All pairs of somebody or a room and a period in which they are busy in every timetable."""
-    people = hours_by_person(hours).items()
-    pairs = {(who, period) for who, its_hours in people for period in busy_of(path, who, its_hours)}
-    return pairs | busy_rooms(path, hours)
+# one item chooses the free periods of a whole week where they can be chosen in at most so many ways
+MOST_WEEKS = 300
+# where a file has more of its items than this, a note says so
+NEAR = 0.9
 
 
 # ---- names
 
-def short_names(lessons: list[Lesson], periods: list[str]) -> dict[str, str]:
-    """For each name that can't be an item's, with a period behind it, a number that is no other name."""
-    who = {one: len(f"-{max(periods, key=lambda period: len(period.encode()))}".encode()) for lesson in lessons
-           for one in lesson.teachers + lesson.classes + lesson.rooms}
-    who.update((lesson.name, len(str(lesson.hours)) + (3 if lesson.hours > 1 else 1)) for lesson in lessons)
-    # (a number's items have a dot or a hyphen behind it, and other names may begin so too)
-    numbers, taken = {}, {*who, *(re.split("[.-]", name)[0] for name in who)}
-    for name, behind in who.items():
-        if len(name.encode()) + behind > MAX_NAME or re.search(r"[\s:|\0]|<\d+$", name):
-            number = next(str(k) for k in range(1, 10 ** 6) if str(k) not in taken)
-            taken.add(number)
-            numbers[name] = number
-    return numbers
+class Names:
+    """The names of items: those of the table, or numbers for what can't be a name."""
+
+    def __init__(self, school: School, days: list[str]) -> None:
+        long_day, long_period = (max((len(word.encode()) for word in words), default=0) for words in (days, all_periods(school)))
+        behind = {who: max(1 + long_period, 10 + long_day) for who in school.roles}
+        behind.update((lesson.name, max(8, 3 + long_day, 4 + len(str(lesson.times)))) for lesson in school.lessons)
+        behind.update((word, 7 + long_day) for lesson in school.lessons for word in lesson.apart if word not in behind)
+        # (a number's items have a dot or a hyphen behind it, and other names may begin so too)
+        taken = {*behind, *(re.split("[.-]", name)[0] for name in behind)}
+        self.numbers: dict[str, str] = {}
+        for name, more in behind.items():
+            if len(name.encode()) + more > MAX_NAME or re.search(r"[\s:|<\0]", name):
+                number = next(str(k) for k in range(1, 10 ** 6) if str(k) not in taken)
+                taken.add(number)
+                self.numbers[name] = number
+
+    def of(self, name: str) -> str:
+        return self.numbers.get(name, name)
+
+    def of_hour(self, hour: Hour) -> str:
+        return self.of(hour.lesson.name) + (f".{hour.label}" if hour.lesson.times > 1 else "")
+
+    def busy(self, who: str, period: str) -> str:
+        return f"{self.of(who)}-{period}"
 
 
-def renamed(lessons: list[Lesson], numbers: dict[str, str]) -> None:
-    """Gives the lessons the names that the file has."""
-    def named(names: Iterable[str]) -> list[str]:
-        return [numbers.get(name, name) for name in names]
+# ---- the order of the times of a lesson, and how often it is given on a day
 
-    for lesson in lessons:
-        lesson.name, lesson.teachers, lesson.classes, lesson.rooms = (
-            numbers.get(lesson.name, lesson.name), named(lesson.teachers), named(lesson.classes), named(lesson.rooms))
+class Ordered:
+    """The times of a lesson that are alike: which items a time names beside the people, if it is on this day or in this part of the week."""
+
+    def __init__(self, name: str, hours: list[Hour], days: list[str]) -> None:
+        self.name, self.hours = name, hours
+        self.first, self.last = (hours[0].number(), hours[-1].number()) if hours else (1, 0)
+        self.days = [day for day in days if any(day in hour.days() for hour in hours)]
+        self.spread = bool(hours) and hours[0].lesson.a_day == 1 and len(hours) > 1
+        self.parts, self.part_of = 1, dict[str, int]()
+
+    def divide(self, periods: list[str], parts: int) -> None:
+        """Divides the periods of the week into parts, where days don't keep the order."""
+        self.parts, self.part_of = parts, {period: k * parts // len(periods) for k, period in enumerate(periods)}
+
+    def items(self) -> list[str]:
+        """The items that may keep the order."""
+        return [f"{self.name}.{hour.number()}<{t}" for hour in self.hours for t in range(1, max(self.parts, len(self.days)))]
+
+    def can_be(self, number: int, day: str) -> bool:
+        """Whether the time with this number can be on this day, if the days of all times rise."""
+        spare, place = len(self.days) - len(self.hours), self.days.index(day)
+        return not self.spread or number - self.first <= place <= number - self.first + spare
+
+    def named(self, number: int, period: str) -> list[str]:
+        """The items of a time that begins in this period: of two times in the wrong order both name one."""
+        if not self.first <= number <= self.last:
+            return []
+        if self.spread:
+            place = self.days.index(day_of(period))
+            low, spare = number - self.first + 1, len(self.days) - len(self.hours)
+            # the places at which this one and the next, or the one before and this one, may both be
+            mine = [f"{self.name}.{number}<{t}" for t in range(low, low + spare) if number < self.last and place >= t]
+            return mine + [f"{self.name}.{number - 1}<{t}" for t in range(low - 1, low - 1 + spare) if number > self.first and place <= t]
+        part = self.part_of.get(period, 0)
+        mine = [f"{self.name}.{number}<{t}" for t in range(1, self.parts) if number < self.last and part >= t]
+        return mine + [f"{self.name}.{number - 1}<{t}" for t in range(1, self.parts) if number > self.first and part < t]
 
 
-# ---- the problem
-
-def option_of(hour: Hour, run: tuple[str, ...], room: list[str]) -> list[str]:
-    who = hour.lesson.teachers + hour.lesson.classes + room
-    return [hour.name] + [f"{one}-{period}" for period in run for one in who]
-
-
-def options_of(hours: list[Hour]) -> list[list[str]]:
-    return [option_of(hour, run, room) for hour in hours for room in ([[room] for room in hour.lesson.rooms] or [[]]) for run in hour.runs]
+def want_parts(orders: Iterable[Ordered], room: int, periods: list[str]) -> None:
+    """Divides the week for the lessons whose days needn't differ, into as many parts as the items suffice for."""
+    some = [order for order in orders if not order.spread]
+    pairs = sum(max(0, len(order.hours) - 1) for order in some)
+    for order in some:
+        order.divide(periods, max(1, min(PARTS, room // pairs + 1)) if pairs else 1)
 
 
-def ordered(hour: Hour, part: int, parts: int) -> list[str]:
-    """The items that an hour in this part of the week shares with hours of its lesson that would be in the wrong order."""
-    base = hour.lesson.name
-    behind = [f"{base}.{hour.number}<{t}" for t in range(1, parts) if hour.number < hour.lesson.hours and part >= t]
-    return behind + [f"{base}.{hour.number - 1}<{t}" for t in range(1, parts) if hour.number > 1 and part < t]
+# ---- who is free when
+
+@dataclass
+class Free:
+    """What keeps somebody's day in a pattern: primary items, secondary ones, options, and the busy items that become primary."""
+    primary: list[str] = field(default_factory=list)
+    secondary: list[str] = field(default_factory=list)
+    options: list[list[str]] = field(default_factory=list)
+    exact: list[str] = field(default_factory=list)
 
 
-def in_parts(options: list[list[str]], hours: list[Hour], periods: list[str], parts: int) -> list[list[str]]:
-    """The options with the items that keep the times of a lesson in order."""
-    hour_of = {hour.name: hour for hour in hours}
-    part_of = {period: k * parts // len(periods) for k, period in enumerate(periods)}
-    return [option + ordered(hour_of[option[0]], part_of[option[1].rsplit("-", 1)[1]], parts) if len(option) > 1 else option for option in options]
+def holes_in(busy: Iterable[str], there: list[str]) -> int:
+    """How many of the periods in which somebody can be had are free between two busy ones."""
+    places = [there.index(period) for period in busy]
+    return max(places) - min(places) + 1 - len(places) if places else 0
 
+
+def patterns(candidates: list[str], there: list[str], rule: Rule) -> Iterator[tuple[list[str], int]]:
+    """The free periods and the number of holes of each way to be busy on a day that a rule allows."""
+    for count in range(min(len(candidates), rule.a_day or len(candidates)) + 1):
+        for busy in itertools.combinations(candidates, count):
+            holes = holes_in(busy, there)
+            if holes <= (rule.holes or 0):
+                yield [period for period in candidates if period not in busy], holes
+
+
+def in_patterns(school: School, names: Names, who: str, days: dict[str, list[str]], periods: list[str]) -> Free:
+    """Somebody whose days have at most so many holes."""
+    rule, own = school.rules[who], names.of(who)
+    holes = [f"{own}<hole.{k}" for k in range(1, (rule.holes or 0) + 1)]
+    free = Free(secondary=holes)
+    for day, candidates in days.items():
+        if len(candidates) > 12:
+            refuse(school.path, None, f"{who} has {len(candidates)} periods on {day}: holes can be counted where a day has at most 12")
+        there = [period for period in periods if day_of(period) == day and school.can_have(who, period)]
+        free.primary.append(f"{own}<week.{day}")
+        free.exact += [names.busy(who, period) for period in candidates]
+        for left, count in patterns(candidates, there, rule):
+            free.options += [[free.primary[-1], *(names.busy(who, period) for period in left), *some] for some in itertools.combinations(holes, count)]
+    return free
+
+
+def kept_free(school: School, names: Names, who: str, days: dict[str, list[str]]) -> Free:
+    """Somebody who has at most so many periods a day: the others are taken away, the first of them from the first ones of the day."""
+    most, free = school.rules[who].a_day or 0, Free()
+    for day, candidates in days.items():
+        spare = len(candidates) - most
+        for k in range(1, spare + 1):
+            free.primary.append(f"{names.of(who)}<free.{day}.{k}")
+            free.options += [[free.primary[-1], names.busy(who, period)] for period in candidates[k - 1:k + most]]
+    return free
+
+
+def days_free(school: School, names: Names, blocks: list[Block], busy: set[tuple[str, str]], hours: dict[str, list[Hour]]) -> dict[str, Free]:
+    """For each of whom a rule counts periods or holes, what keeps their days so. `hours` are the times that surely busy each."""
+    periods, found = all_periods(school), {}
+    at: dict[str, set[str]] = {}
+    for step in (step for block in blocks for way in block.ways for step, hour in zip(way, block.hours)):
+        for who in (*step.teachers, *step.rooms):
+            at.setdefault(who, set()).update(step.run)
+    for hour in (hour for block in blocks for hour in block.hours):
+        for who in hour.lesson.classes:
+            at.setdefault(who, set()).update(hour.periods())
+    for who, rule in school.rules.items():
+        days: dict[str, list[str]] = {}
+        for period in (period for period in periods if period in at.get(who, ())):
+            days.setdefault(day_of(period), []).append(period)
+        # (who is busy all day in any case has no hole there)
+        there = [period for period in periods if school.can_have(who, period)]
+        full = {day for day, some in days.items() if len(some) <= (rule.a_day or len(some)) and all((who, period) in busy for period in some)
+                and some == [period for period in there if day_of(period) == day]}
+        open_days = {day: some for day, some in days.items() if day not in full}
+        lessons = {id(hour.lesson): hour.lesson for block in blocks for hour in block.hours if who in hour.lesson.people()}.values()
+        if rule.holes is not None and open_days:
+            sure = len(seats_of(hours.get(who, []))) if all(who in lesson.surely() for lesson in lessons) else None
+            week = week_patterns(school, who, days, periods, sure) if sure is not None and not rule.holes else []
+            found[who] = in_weeks(names, who, days, week) if week else in_patterns(school, names, who, open_days, periods)
+        elif rule.holes is None and rule.a_day is not None and most_a_day(lessons) > rule.a_day:
+            found[who] = kept_free(school, names, who, days)
+    return found
+
+
+def most_a_day(lessons: Iterable[Lesson]) -> int:
+    """How many periods these lessons can have together on a day, by how often a day each may be given."""
+    return sum(min(lesson.a_day or lesson.times, lesson.times) * lesson.length for lesson in lessons)
+
+
+def week_patterns(school: School, who: str, days: dict[str, list[str]], periods: list[str], busy: int) -> list[list[str]]:
+    """The free periods of each week without a hole in which somebody is busy so often; none where they are too many for one item."""
+    rule = school.rules[who]
+    weeks: list[list[str]] = [[]]
+    left = sum(map(len, days.values())) - busy
+    for day, candidates in days.items():
+        there = [period for period in periods if day_of(period) == day and school.can_have(who, period)]
+        choices = [free for free, _ in patterns(candidates, there, rule) if len(free) <= left] if len(candidates) <= 12 else []
+        weeks = [week + free for week in weeks for free in choices if len(week) + len(free) <= left]
+        if len(weeks) > 20 * MOST_WEEKS:
+            return []
+    weeks = [week for week in weeks if len(week) == left]
+    return weeks if len(weeks) <= MOST_WEEKS else []
+
+
+def in_weeks(names: Names, who: str, days: dict[str, list[str]], weeks: list[list[str]]) -> Free:
+    """Somebody whose week is one of some, by their free periods."""
+    item = f"{names.of(who)}<week"
+    return Free([item], [], [[item, *(names.busy(who, period) for period in week)] for week in weeks],
+                [names.busy(who, period) for some in days.values() for period in some])
+
+
+# ---- items that aren't needed
 
 def lessons_with(lessons: list[Lesson]) -> tuple[dict[str, set[int]], dict[str, set[int]]]:
-    """For each name the numbers of the lessons that surely busy it, and of those that perhaps do, by their rooms."""
+    """For each name the numbers of the lessons that surely busy it, and of those that perhaps do."""
     surely: dict[str, set[int]] = {}
     perhaps: dict[str, set[int]] = {}
     for k, lesson in enumerate(lessons):
-        sure = lesson.teachers + lesson.classes + (lesson.rooms if len(lesson.rooms) == 1 else [])
-        for who in sure:
+        for who in lesson.surely():
             surely.setdefault(who, set()).add(k)
-        for who in sure + lesson.rooms:
+        for who in lesson.people():
             perhaps.setdefault(who, set()).add(k)
     return surely, perhaps
 
 
-def implied(lessons: list[Lesson]) -> list[str]:
+def implied(school: School, lessons: list[Lesson]) -> list[str]:
     """Names whose lessons are all lessons of one other that stays: who isn't twice at a time by this one's items."""
     surely, perhaps = lessons_with(lessons)
-    rooms, dropped = {room for lesson in lessons for room in lesson.rooms}, []
-    for who in sorted(perhaps, key=lambda one: (one not in rooms, len(perhaps[one]))):
-        is_sure = perhaps[who] == surely.get(who)
+    dropped: list[str] = []
+    counted = {who for who, rule in school.rules.items() if rule.a_day is not None or rule.holes is not None}
+    for who in sorted(perhaps, key=lambda one: (school.roles[one] != "room", len(perhaps[one]))):
+        is_sure = perhaps[who] == surely.get(who) and who not in counted
         if is_sure and any(perhaps[who] <= surely[other] for other in surely if other != who and other not in dropped):
             dropped.append(who)
     return dropped
 
 
-def without(lessons: list[Lesson], dropped: list[str]) -> dict[str, list[str]]:
-    """Takes names from the lessons; for each of these that loses some, the names that it lost."""
-    lost = {}
-    for lesson in lessons:
-        gone = [who for who in lesson.teachers + lesson.classes + lesson.rooms if who in dropped]
-        if gone:
-            lost[lesson.name] = gone
-            lesson.teachers, lesson.classes, lesson.rooms = (
-                [who for who in some if who not in dropped] for some in (lesson.teachers, lesson.classes, lesson.rooms))
-    return lost
+# ---- the problem
+
+class Ranked(NamedTuple):
+    """An option with the lessons that it gives, and how far it is from where they were in a plan that is to be kept: 0 is the same."""
+    lessons: tuple[str, ...]
+    rank: int
+    option: list[str]
 
 
-def in_order(names: Iterable[str], lessons: list[Lesson], periods: list[str]) -> list[str]:
-    """Names of somebody at a period, by who it is and by the period."""
-    who = [one for role in ROLES for lesson in lessons for one in getattr(lesson, role)]
-    order = {f"{one}-{period}": k for k, (one, period) in enumerate((one, period) for one in dict.fromkeys(who) for period in periods)}
-    return sorted(names, key=lambda name: order.get(name, -1))
+@dataclass
+class Timetable(Puzzle):
+    """The problem of a timetable, with the lessons of its options."""
+    ranked: list[Ranked] = field(default_factory=list)
+    lessons: dict[str, Lesson] = field(default_factory=dict)
+
+    def in_order(self, seed: int) -> Timetable:
+        """The problem with its options in an order by lot; those nearer to the plan stay before others."""
+        ranked = list(self.ranked)
+        random.Random(seed).shuffle(ranked)
+        ranked.sort(key=lambda one: one.rank)
+        return replace(self, options=[one.option for one in ranked], ranked=ranked)
+
+    def kept(self, released: Collection[str]) -> Timetable:
+        """The problem in which all lessons but these have to stay in the periods that they have in the plan."""
+        ranked = [one for one in self.ranked if one.rank < MOVED or any(lesson in released for lesson in one.lessons)]
+        return replace(self, options=[one.option for one in ranked], ranked=ranked)
+
+    def unfit(self) -> set[str]:
+        """The lessons that can't stay where they are in the plan: some of their times have no option there."""
+        counts = {name: len({one.option[0] for one in self.ranked if name in one.lessons and one.rank < MOVED}) for name in self.lessons}
+        return {name for name, lesson in self.lessons.items() if counts[name] < lesson.times}
 
 
-def items_of(lessons: list[Lesson], hours: list[Hour], busy: set[str]) -> tuple[list[str], list[str]]:
-    """The primary items, those that are busy in any case first, since the search takes the first of equals; and the secondary ones."""
-    used = dict.fromkeys(name for option in options_of(hours) for name in option[1:])
-    names = in_order(used, lessons, all_periods(lessons))
-    return [name for name in names if name in busy] + [hour.name for hour in hours], [name for name in names if name not in busy]
+class Problem:
+    """The items and options of a school's timetable."""
+
+    def __init__(self, school: School, blocks: list[Block], busy: set[tuple[str, str]], fewest: bool) -> None:
+        self.school, self.busy = school, busy
+        self.blocks, self.chosen_days = self.in_days(blocks)
+        self.lessons = list({id(hour.lesson): hour.lesson for block in blocks for hour in block.hours}.values())
+        self.hours = hours_by_name(school, blocks)
+        self.days = in_week(dict.fromkeys(day_of(period) for period in all_periods(school)))
+        self.names = Names(school, self.days)
+        self.dropped = set(implied(school, self.lessons) if fewest else [])
+        self.orders = {lesson.name: self.ordered(lesson) for lesson in self.lessons}
+        self.apart = self.words_apart()
+        self.free = {who: free for who, free in days_free(school, self.names, self.blocks, busy, self.hours).items()}
+
+    @staticmethod
+    def in_days(blocks: list[Block]) -> tuple[list[Block], list[Days]]:
+        """The blocks, with days in place of times where that is better; and these days."""
+        alike: dict[str, list[Block]] = {}
+        for block in blocks:
+            first = block.hours[0]
+            alike.setdefault(f"{first.lesson.name} {first.label if first.is_fixed else ''}", []).append(block)
+        found = [(some, by_days(some)) for some in alike.values()]
+        return [block for some, days in found for block in (days.blocks if days else some)], [days for _, days in found if days]
+
+    def days_off(self) -> tuple[list[str], list[list[str]]]:
+        """The items that choose the days of lessons, and their options, each of which covers the items of the other days."""
+        items, options = [], []
+        for days in (days for days in self.chosen_days if len(days.blocks) > days.count):
+            items.append(f"{self.names.of(days.blocks[0].hours[0].lesson.name)}<days")
+            for off in itertools.combinations(days.blocks, len(days.blocks) - days.count):
+                options.append([items[-1], *(self.names.of_hour(hour) for block in off for hour in block.hours)])
+        return items, options
+
+    def ordered(self, lesson: Lesson) -> Ordered:
+        """The times of a lesson that keep an order; a lesson that follows another keeps that one's."""
+        hours = [] if lesson.after else [hour for block in self.blocks for hour in block.hours
+                                         if hour.lesson is lesson and not hour.is_fixed and hour.number()]
+        return Ordered(self.names.of(lesson.name), hours, self.days)
+
+    def words_apart(self) -> set[str]:
+        """The words by which several times of lessons are kept on different days."""
+        words = [word for block in self.blocks for hour in block.hours for word in hour.lesson.apart]
+        return {word for word in words if words.count(word) > 1}
+
+    def busy_items(self, hour: Hour, step: Step) -> list[str]:
+        who = [*step.teachers, *hour.lesson.classes, *step.rooms]
+        return [self.names.busy(one, period) for period in step.run for one in who if one not in self.dropped]
+
+    def further_items(self, hour: Hour, step: Step) -> list[str]:
+        """What a time names beside itself and who is busy."""
+        lesson, day = hour.lesson, day_of(step.run[0])
+        found = self.orders[lesson.name].named(hour.number(), step.run[0])
+        found += [f"{self.names.of(word)}<apart.{day}" for word in lesson.apart if word in self.apart]
+        if len(lesson.teachers) > 1 and lesson.times > 1:
+            found.append(f"{self.names.of(lesson.name)}<teacher:{lesson.teachers.index(step.teachers) + 1}")
+        return found
+
+    def slots(self, hour: Hour, step: Step) -> list[list[str]]:
+        """The choices of a place of a day on which a lesson is given at most so many times, more than one."""
+        most = hour.lesson.a_day or 0
+        if most < 2 or hour.lesson.times <= most:
+            return [[]]
+        return [[f"{self.names.of(hour.lesson.name)}<{day_of(step.run[0])}.{k}"] for k in range(1, most + 1)]
+
+    def options_of(self, block: Block, way: tuple[Step, ...]) -> list[list[str]]:
+        """The options of times that follow one another, given in one way."""
+        pairs = list(zip(block.hours, way))
+        if not all(self.orders[hour.lesson.name].can_be(hour.number(), day_of(step.run[0])) for hour, step in pairs
+                   if hour.number() and not hour.is_fixed and not hour.lesson.after):
+            return []
+        option = [self.names.of_hour(hour) for hour in block.hours]
+        for some in (self.busy_items, self.further_items):
+            option += [name for hour, step in pairs for name in some(hour, step)]
+        slots = itertools.product(*(self.slots(hour, step) for hour, step in pairs))
+        return [option + [name for names in some for name in names] for some in slots]
+
+    def ranked(self, plan: Optional[Plan]) -> list[Ranked]:
+        """All options, each with what it is of and how far from the plan."""
+        found = [Ranked(tuple(hour.lesson.name for hour in block.hours), preference(plan, block, way), option)
+                 for block in self.blocks for way in block.ways for option in self.options_of(block, way)]
+        return found + [Ranked((), 0, option) for free in self.free.values() for option in free.options] + [
+            Ranked((), 0, option) for option in self.days_off()[1]]
+
+    def puzzle(self, plan: Optional[Plan], seed: Optional[int]) -> Timetable:
+        """The items and options, with comments that tell of names. Many options are in an order by lot, those of the plan before others."""
+        needed = self.sorted_items([ranked.option for ranked in self.ranked(None)])
+        want_parts(self.orders.values(), MAX_ITEMS - sum(map(len, needed)), all_periods(self.school))
+        ranked = self.ranked(plan)
+        if seed is not None or len(ranked) > MANY:
+            random.Random(seed or 1).shuffle(ranked)
+        ranked.sort(key=lambda one: one.rank)
+        options = [one.option for one in ranked]
+        primary, secondary = self.sorted_items(options)
+        return Timetable(primary, secondary, options, self.told(), ranked, {lesson.name: lesson for lesson in self.lessons})
+
+    def sorted_items(self, options: list[list[str]]) -> tuple[list[str], list[str]]:
+        """The primary items, those that are busy in any case first, since the search takes the first of equals; and the secondary ones."""
+        used = dict.fromkeys(word.partition(":")[0] for option in options for word in option)
+        hours = dict.fromkeys(self.names.of_hour(hour) for block in self.blocks for hour in block.hours)
+        busy = {self.names.busy(who, period) for who, period in self.busy}
+        exact = {name for free in self.free.values() for name in free.exact}
+        frames = [name for free in self.free.values() for name in free.primary] + self.days_off()[0]
+        places = (self.names.busy(who, period) for who in self.school.roles for period in all_periods(self.school))
+        names = [name for name in places if name in used]
+        first = [name for name in names if name in busy or name in exact]
+        others = used.keys() - {*names, *hours, *frames}
+        ordering = [name for order in self.orders.values() for name in order.items() if name in others]
+        return first + list(hours) + frames, [name for name in names if name not in busy and name not in exact] + ordering + sorted(
+            others.difference(ordering))
+
+    def told(self) -> list[str]:
+        """What the file says of its names in comments: who is what, in which order periods are, and the names that numbers stand for."""
+        here = {who for lesson in self.lessons for who in lesson.people()}
+        groups = {"teachers": "teacher", "classes": "class", "rooms": "room"}
+        found = {words: [self.names.of(who) for who, role in self.school.roles.items() if role == one and who in here] for words, one in groups.items()}
+        periods = all_periods(self.school)
+        found["periods"] = [] if all(map(str.isdecimal, periods)) else periods
+        lines = [f"{role}: {' '.join(names)}" for role, names in found.items() if names]
+        lines += ["separator: ;"] if self.school.separator == ";" else []
+        lines += [f"name {number}: {name}" for name, number in self.names.numbers.items()]
+        lines += [f"title {self.names.of(lesson.name)}: {lesson.title}" for lesson in self.lessons if lesson.name != lesson.title]
+        behind = followers(self.school)
+        lines += [f"follows {self.names.of(other.name)}: {self.names.of(name)}" for name, other in behind.items()]
+        lines += [f"length {self.names.of(one.name)}: {one.length}" for one in self.lessons if one.length > 1 and (one.after or one.name in behind)]
+        for lesson in self.lessons:
+            lost = [self.names.of(who) for who in lesson.people() if who in self.dropped]
+            lines += [f"also {self.names.of(lesson.name)}: {' '.join(lost)}"] if lost else []
+        return lines
 
 
-def told(lessons: list[Lesson], numbers: dict[str, str]) -> list[str]:
-    """What the file says of its names in comments: who is what, in which order periods are, and the names that numbers stand for."""
-    found = {role: list(dict.fromkeys(one for lesson in lessons for one in getattr(lesson, role))) for role in ROLES}
-    periods = all_periods(lessons)
-    found["periods"] = [] if all(map(str.isdecimal, periods)) else periods
-    return [f"{role}: {' '.join(names)}" for role, names in found.items() if names] + [f"name {number}: {name}" for name, number in numbers.items()]
+def size_of(puzzle: Puzzle) -> int:
+    return len(puzzle.primary) + len(puzzle.secondary)
 
 
-def want_size(path: str, items: int, options: int) -> None:
+def components(blocks: list[Block]) -> list[list[Block]]:
+    """Blocks in groups that share nobody, no room and no word that keeps lessons apart."""
+    groups: list[tuple[set[str], list[Block]]] = []
+    for block in blocks:
+        names = {name for hour in block.hours for name in (f"lesson {hour.lesson.name}", *hour.lesson.people(), *(f"word {w}" for w in hour.lesson.apart))}
+        touched = [group for group in groups if not names.isdisjoint(group[0])]
+        groups = [group for group in groups if group not in touched]
+        groups.append((names.union(*(group[0] for group in touched)), [one for group in touched for one in group[1]] + [block]))
+    return [group[1] for group in groups]
+
+
+def want_size(path: str, puzzle: Puzzle) -> None:
     """Refuses a timetable beyond what the program reads, and says what would make it smaller."""
+    items, options = size_of(puzzle), len(puzzle.options)
     if items > MAX_ITEMS:
         refuse(path, None, f"this timetable would have {items:,} items, and the program reads at most {MAX_ITEMS:,}; make one for some of the "
                "classes, and then one for the others, without the periods in which the first busies their teachers and rooms")
     if options > MAX_OPTIONS:
         refuse(path, None, f"this timetable would have {options:,} options, and the program reads at most {MAX_OPTIONS:,}; give lessons fewer "
-               "rooms or fewer periods")
+               "rooms or fewer periods, and fewer people holes")
 
 
-def timetable(path: str, seed: int | None = None) -> Puzzle:
-    """The problem of a table of lessons; with a seed the order of its options is drawn by lot."""
-    lessons = read_lessons(path)
-    want_days(path, lessons)
-    want_runs(path, lessons)
-    pairs = always(path, hours_of(lessons))
-    numbers = short_names(lessons, all_periods(lessons))
-    busy = {f"{numbers.get(who, who)}-{period}" for who, period in pairs}
-    renamed(lessons, numbers)
-    comments = told(lessons, numbers)
-    primary, secondary = items_of(lessons, hours_of(lessons), busy)
-    if len(primary) + len(secondary) > MAX_ITEMS:
-        lost = without(lessons, implied(lessons))
-        comments += [f"also {name}: {' '.join(gone)}" for name, gone in lost.items()]
-        primary, secondary = items_of(lessons, hours_of(lessons), busy)
-    hours = hours_of(lessons)
-    want_size(path, len(primary) + len(secondary), len(options_of(hours)))
-    pairs_of_hours = sum(lesson.hours - 1 for lesson in lessons)
-    room = MAX_ITEMS - len(primary) - len(secondary)
-    parts = max(1, min(PARTS, room // pairs_of_hours + 1)) if pairs_of_hours else 1
-    options = in_parts(options_of(hours), hours, all_periods(lessons), parts)
-    secondary += [f"{hour.lesson.name}.{hour.number}<{t}" for hour in hours if hour.number < hour.lesson.hours for t in range(1, parts)]
-    if seed is not None or len(options) > MANY:
-        random.Random(seed or 1).shuffle(options)
-    return Puzzle(primary, secondary, options, comments)
+def parted(school: School, blocks: list[Block], busy: set[tuple[str, str]], plan: Optional[Plan], seed: Optional[int]) -> list[Timetable]:
+    """Problems of lessons that share nothing, as many together as the program reads."""
+    found: list[Timetable] = []
+    taken: list[Block] = []
+    for group in components(blocks):
+        puzzle = Problem(school, taken + group, busy, True).puzzle(plan, seed)
+        if taken and size_of(puzzle) > MAX_ITEMS:
+            found.append(Problem(school, taken, busy, True).puzzle(plan, seed))
+            taken = []
+        taken = taken + group
+    return found + [Problem(school, taken, busy, True).puzzle(plan, seed)]
+
+
+def timetables(school: School, plan: Optional[Plan] = None, seed: Optional[int] = None) -> list[Timetable]:
+    """The problem of a school's timetable, or several where one is too large and some lessons share nothing with others. With a seed the order of
+    options is drawn by lot; with a plan its places come first."""
+    want_days(school)
+    blocks = blocks_of(school)
+    busy = always(school, blocks)
+    puzzles = [Problem(school, blocks, busy, False).puzzle(plan, seed)]
+    if size_of(puzzles[0]) > MAX_ITEMS:
+        puzzles = parted(school, blocks, busy, plan, seed)
+    for puzzle in puzzles:
+        want_size(school.path, puzzle)
+    return puzzles
+
+
+def needed_items(puzzle: Puzzle) -> int:
+    """How many items a problem needs, without those that only keep times of lessons in order."""
+    return len(puzzle.primary) + sum(not re.search(r"\.\d+<\d+$", name) for name in puzzle.secondary)
+
+
+def note_size(puzzle: Puzzle) -> None:
+    """Tells where a problem is near what the program reads."""
+    if needed_items(puzzle) > NEAR * MAX_ITEMS:
+        complain(f"note: this timetable needs {needed_items(puzzle):,} items, and the program reads at most {MAX_ITEMS:,}")
+

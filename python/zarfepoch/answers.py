@@ -1,0 +1,88 @@
+"""How commands ask the program for an answer."""
+from __future__ import annotations
+
+import itertools
+import random
+import subprocess
+import time
+from collections.abc import Iterator
+from typing import NamedTuple, Optional
+
+from .timetables import Timetable
+
+# a search with options in an order by lot gets so many visits before the next one begins with another order
+TRY_VISITS = 2_000
+# for so many seconds orders are tried where no time is told, before one search decides
+TRY_SECONDS = 20.0
+# so many choices of lessons that may move are tried before more of them may
+CHOICES = 30
+
+
+class Answered(NamedTuple):
+    """The program's exit status, what it wrote, and what it said on standard error."""
+    status: int
+    text: bytes
+    why: str
+
+
+def asked(program: str, words: list[str], text: bytes) -> Answered:
+    """What the program answers to a problem on its standard input; an OSError where it can't be run."""
+    ran = subprocess.run([program, *words], input=text, capture_output=True)
+    return Answered(ran.returncode, ran.stdout, ran.stderr.decode(errors="replace").strip())
+
+
+def answered(program: str, text: bytes, seconds: Optional[float] = None) -> Answered:
+    """The answer to a problem, within so many seconds if they are told."""
+    limit = ["--seconds", str(max(1, round(seconds)))] if seconds else []
+    return asked(program, ["alone", "-", "--unlimited", *limit], text)
+
+
+def shortly(program: str, timetable: Timetable) -> Answered:
+    """What a short search answers."""
+    return asked(program, ["alone", "-", "--fuel", str(TRY_VISITS)], timetable.text())
+
+
+def near_first(timetable: Timetable, released: set[str]) -> list[list[str]]:
+    """The lessons that share people or rooms with these, then those that share some with these, and so on."""
+    rings, left = [], set(timetable.lessons) - released
+    touched = {who for name in released for who in timetable.lessons[name].people()}
+    while left:
+        ring = {name for name in left if not touched.isdisjoint(timetable.lessons[name].people())} or left
+        rings.append(sorted(ring))
+        left -= ring
+        touched |= {who for name in ring for who in timetable.lessons[name].people()}
+    return rings
+
+
+def movable(timetable: Timetable, draw: random.Random) -> Iterator[set[str]]:
+    """Choices of lessons that may move where a plan is kept: those that can't stay, and ever more of those that have to do with them."""
+    unfit = timetable.unfit()
+    yield unfit
+    near = near_first(timetable, unfit)
+    for size in itertools.accumulate(itertools.repeat(2), lambda size, _: size * 3 // 2):
+        if size > len(timetable.lessons):
+            return
+        for _ in range(CHOICES):
+            order = [name for ring in near for name in draw.sample(ring, len(ring))]
+            yield unfit | set(order[:size])
+
+
+def tries(timetable: Timetable, is_kept: bool) -> Iterator[Timetable]:
+    """The problem in ever other forms, each for a short search: with all but some lessons kept in place, and then with options in other orders."""
+    if is_kept:
+        yield from (timetable.kept(released) for released in movable(timetable, random.Random(1)))
+    yield timetable
+    yield from (timetable.in_order(seed) for seed in itertools.count(2))
+
+
+def planned(program: str, timetable: Timetable, is_kept: bool, seconds: Optional[float] = None) -> Answered:
+    """The answer to the problem of a timetable. A search seldom ends once its first choices are wrong, so short searches come first, for half of the
+    time, and then one that decides. A `none` counts only for the problem as it is."""
+    began = time.monotonic()
+    limit = began + (seconds / 2 if seconds else TRY_SECONDS)
+    whole = len(timetable.options)
+    for attempt in itertools.takewhile(lambda _: time.monotonic() < limit, tries(timetable, is_kept)):
+        found = shortly(program, attempt)
+        if found.status not in (1, 4) or found.status == 1 and len(attempt.options) == whole:
+            return found
+    return answered(program, timetable.text(), seconds and max(1.0, seconds - (time.monotonic() - began)))

@@ -1,0 +1,51 @@
+"""Names in texts: how the words of a line are parted, in each kind alike, and which spellings of a name are one."""
+from __future__ import annotations
+
+import re
+import unicodedata
+from collections.abc import Callable, Iterable
+
+from .cover_files import shown
+from .puzzle_texts import refuse, rows_of
+
+# a name in quotation marks, or a run of what parts none
+WORD = re.compile(r'"([^"]*)"(?=[\s,;]|$)|([^\s,;]+)')
+
+
+def names_in(path: str, number: int, line: str) -> list[str]:
+    """The names of a line. Blanks, commas and semicolons part them; a pair of quotation marks round a name is none of it."""
+    names = []
+    for found in WORD.finditer(line):
+        name = found[2] if found[1] is None else found[1].strip()
+        if '"' in name or not name or re.search(r"[\s,;]", name):
+            refuse(path, number, f"{found[0]} is no name: a name has no blank, comma, semicolon or quotation mark")
+        names.append(name)
+    return names
+
+
+def words_of(path: str) -> list[tuple[int, list[str]]]:
+    """The names of each line that has any and isn't a comment, with the line's number."""
+    lines = [(number, line) for number, line in rows_of(path) if not line.lstrip().startswith(("|", "#"))]
+    return [(number, names) for number, names in ((number, names_in(path, number, line)) for number, line in lines) if names]
+
+
+def as_seen(name: str) -> str:
+    """A name without characters that nobody sees, and with usual letters in place of full-width and half-width ones."""
+    letters = (letter for letter in name if unicodedata.category(letter) != "Cf")
+    usual = (unicodedata.normalize("NFKC", letter) if unicodedata.east_asian_width(letter) in "FH" else letter for letter in letters)
+    return unicodedata.normalize("NFC", "".join(usual))
+
+
+def in_one_case(name: str) -> str:
+    """What two spellings of a proper name share: capital and small letters are alike, and a full stop at its end isn't seen."""
+    return as_seen(name).casefold().rstrip(".")
+
+
+def want_one_spelling(path: str, what: str, names: Iterable[tuple[int, str]], spelled: Callable[[str], str]) -> None:
+    """Refuses two spellings of a name, which would be two names; each comes with its line."""
+    seen: dict[str, tuple[str, int]] = {}
+    for number, name in names:
+        before, line = seen.setdefault(spelled(name), (name, number))
+        if before != name:
+            refuse(path, number, f"the {what} {shown(name.encode())} and the {what} {shown(before.encode())} of line {line} would be two: "
+                   f"write one {what} in one way")

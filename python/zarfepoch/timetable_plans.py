@@ -1,0 +1,78 @@
+"""Plans of a school as tables: a row for each time that a lesson is given. A plan that is to be kept puts its places before others."""
+from __future__ import annotations
+
+import re
+from dataclasses import dataclass
+from typing import Optional
+
+from .puzzle_texts import refuse
+from .timetable_files import read_table
+from .timetable_rules import School
+from .timetable_steps import Block, Hour, Step
+from .weeks import day_of, in_order, Periods
+
+COLUMNS, NEEDED = ("lesson", "teacher", "class", "rooms", "periods", "length", "note"), ("lesson", "class", "periods")
+ALIASES = {"lessons": "lesson", "teachers": "teacher", "classes": "class", "room": "rooms", "period": "periods"}
+
+
+# how far a lesson is from a plan in which it has other periods
+MOVED = 2
+
+
+@dataclass
+class Place:
+    """Where one time of a lesson was: its first period, and who had it there."""
+    period: str
+    teachers: frozenset[str]
+    rooms: frozenset[str]
+
+
+# for each lesson, by its title and its classes, its places in the order of the week
+Plan = dict[tuple[str, frozenset[str]], list[Place]]
+
+
+def names_of(cell: str) -> frozenset[str]:
+    """The names of a cell of a plan, which has `+` or `;` between several."""
+    return frozenset(name.strip() for name in re.split("[+;]", cell) if name.strip() not in ("", "-"))
+
+
+def read_plan(path: str, school: School) -> Plan:
+    """The plan of a table; lessons that the school hasn't are passed over."""
+    rows = list(read_table(path, COLUMNS, NEEDED, ALIASES))
+    periods = Periods(path, [row["periods"] for _, row in rows])
+    plan: Plan = {}
+    for line, row in rows:
+        if not row["periods"]:
+            refuse(path, line, "a row of a plan has the periods of one time of a lesson")
+        run = in_order(periods.read(line, row["periods"]))
+        place = Place(run[0], names_of(row.get("teacher", "")), names_of(row.get("rooms", "")))
+        plan.setdefault((row["lesson"], names_of(row["class"])), []).append(place)
+    order = in_order([place.period for places in plan.values() for place in places])
+    for places in plan.values():
+        places.sort(key=lambda place: order.index(place.period))
+    return plan
+
+
+def place_of(plan: Plan, hour: Hour) -> Optional[Place]:
+    """Where a time of a lesson was in a plan: the first times in the week are those with the first numbers."""
+    places = plan.get((hour.lesson.title, frozenset(hour.lesson.classes)), [])
+    fixed = [place for period in hour.lesson.fixed for place in places if place.period == period]
+    if hour.is_fixed:
+        return next((place for place in fixed if place.period == hour.steps[0].run[0]), None)
+    left = [place for place in places if place not in fixed]
+    if not hour.number():
+        return next((place for place in left if day_of(place.period) == hour.label), None)
+    number = hour.number() - 1 - len(hour.lesson.fixed)
+    return left[number] if number < len(left) else None
+
+
+def difference(place: Optional[Place], step: Step) -> int:
+    """How far a way to give a lesson is from where it was: 0 the same, 1 with other people or rooms, `MOVED` in other periods."""
+    if place is None or place.period != step.run[0]:
+        return MOVED
+    return 0 if (place.teachers, place.rooms) == (frozenset(step.teachers), frozenset(step.rooms)) else 1
+
+
+def preference(plan: Optional[Plan], block: Block, way: tuple[Step, ...]) -> int:
+    """The place of a way among others of its times: what a plan has comes first."""
+    return max(difference(place_of(plan, hour), step) for hour, step in zip(block.hours, way)) if plan else 0
