@@ -221,14 +221,26 @@ fn most_runs_answer(rt: HostRuntime) -> Result<(), Fail> {
     most_answer(&rt, rt.alloc(), 0, false)
 }
 
-/// Workers that visit each state again that they meet would fill any book: a run that keeps states takes some 700 entries.
+/// The settings of a run of two workers at one node, whose book has 20,000 entries.
+const BOUNDED: Settings<'static> = Settings {
+    mode: Mode::Solve,
+    file: "a.dlx",
+    answer: None,
+    fuel: 1_000,
+    nodes: 1,
+    seed: 1,
+    workers: 2,
+    turns: 10_000_000,
+    entries: 20_000,
+    restarts: 0,
+    audit: false,
+};
+
+/// Workers that visit each state again that they meet would fill any book.
 #[test]
 fn a_run_in_which_states_repeat_ends(rt: HostRuntime) {
     let request = Request {
-        settings: Settings {
-            entries: 20_000,
-            ..sized(1, 2, 1_000, 1)
-        },
+        settings: BOUNDED,
         seconds: None,
         progress: false,
         unlimited: false,

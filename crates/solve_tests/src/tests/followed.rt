@@ -27,7 +27,7 @@ fn ended(cause: EndCause, is_manned: bool) -> SiteEnd {
 type Ended = (u8, EndCause, bool);
 
 /// Sites in the order in which they ended, and the line.
-static REASONS: [(&[Ended], &str); 9] = [
+static REASONS: [(&[Ended], &str); 10] = [
     (&[], "ended: nothing was published: try again, or alone\n"),
     (
         &[(0, EndCause::Over, true)],
@@ -58,30 +58,33 @@ static REASONS: [(&[Ended], &str); 9] = [
         "ended: a site heard nothing for long: try again, or alone\n",
     ),
     (
+        &[(2, EndCause::Time, true), (0, EndCause::Silence, true)],
+        "ended: the time is over: try more --seconds\n",
+    ),
+    (
         &[(3, EndCause::Faults, true), (0, EndCause::BookFull, true)],
         "ended: a socket failed: try again, or alone\n",
     ),
 ];
 
-/// What is written where these sites ended and there is an answer or not, within a limit of time.
+/// What is written where these sites ended and there is an answer or not.
 fn told<R: Wait + Clock>(
     rt: &R,
     alloc: Global,
     sites: &[Ended],
     is_answered: bool,
-    limit: Option<Duration>,
 ) -> Result<Vec<u8>, Fail> {
     let read = read_problem(alloc, b"a\na\n")?;
     let mut told = Vec::new(alloc);
     let mut errors = CountedWriter::new(&mut told);
     let log = ProgressLog::new(&mut errors, LineStyle::Listed);
-    let run = FollowedRun::new(rt, alloc, &read.problem, limit, log)?;
+    let run = FollowedRun::new(rt, alloc, &read.problem, log)?;
     for (node, cause, is_manned) in sites {
         run.ended(*node, &ended(*cause, *is_manned));
     }
     run.finished(is_answered);
     drop(run);
-    let quiet = told_quietly(rt, alloc, sites, is_answered, limit);
+    let quiet = told_quietly(rt, alloc, sites, is_answered);
     if quiet.as_slice() != told.as_slice() {
         return Err(Fail::new("a quiet run tells something else"));
     }
@@ -94,10 +97,9 @@ fn told_quietly<R: Wait + Clock>(
     alloc: Global,
     sites: &[Ended],
     is_answered: bool,
-    limit: Option<Duration>,
 ) -> Vec<u8> {
     let mut told = Vec::new(alloc);
-    let run = QuietRun::new(rt, limit);
+    let run = QuietRun::new(rt);
     for (node, cause, is_manned) in sites {
         run.ended(*node, &ended(*cause, *is_manned));
     }
@@ -109,34 +111,15 @@ fn told_quietly<R: Wait + Clock>(
 #[test]
 fn a_run_without_an_answer_tells_the_first_reason(rt: HostRuntime) -> Result<(), Fail> {
     for (sites, line) in REASONS.iter() {
-        let told = told(&rt, rt.alloc(), sites, false, None)?;
+        let told = told(&rt, rt.alloc(), sites, false)?;
         assert!(rt; told.as_slice() == line.as_bytes(), "{line}");
     }
     Ok(())
 }
 
 #[test]
-fn the_limit_comes_before_all_others(rt: HostRuntime) -> Result<(), Fail> {
-    let sites = [(1, EndCause::Silence, true)];
-    let late = told(&rt, rt.alloc(), &sites, false, Some(Duration::from_secs(0)))?;
-    assert!(rt; late.as_slice() == b"ended: the time is over: try more --seconds\n".as_slice());
-    let early = told(
-        &rt,
-        rt.alloc(),
-        &sites,
-        false,
-        Some(Duration::from_secs(1_000_000)),
-    )?;
-    assert!(rt;
-        early.as_slice()
-            == b"ended: a site heard nothing for long: try again, or alone\n".as_slice()
-    );
-    Ok(())
-}
-
-#[test]
 fn a_run_with_an_answer_tells_none(rt: HostRuntime) -> Result<(), Fail> {
-    let told = told(&rt, rt.alloc(), &[(1, EndCause::Faults, true)], true, None)?;
+    let told = told(&rt, rt.alloc(), &[(1, EndCause::Faults, true)], true)?;
     assert!(rt; told.is_empty());
     Ok(())
 }
@@ -164,7 +147,7 @@ fn told_of_searches<R: Wait + Clock>(rt: &R, alloc: Global) -> Result<Vec<u8>, F
     let mut told = Vec::new(alloc);
     let mut errors = CountedWriter::new(&mut told);
     let log = ProgressLog::new(&mut errors, LineStyle::Listed);
-    let run = FollowedRun::new(rt, alloc, &read.problem, None, log)?;
+    let run = FollowedRun::new(rt, alloc, &read.problem, log)?;
     for child in 0..2u16 {
         run.begun();
         run.searched(&search(alloc, &read.problem, child)?, 1_000);

@@ -127,13 +127,16 @@ impl<R: Net> Network for OddNetwork<'_, R> {
         let mut all = Vec::new(alloc);
         for inner in links(self.rt, alloc, nodes, RunKey::new([7; 64]))? {
             let node = all.len().min(16) as u8;
-            all.push(Odd {
+            let odd = Odd {
                 inner,
                 alloc,
                 node,
                 wrong: self.wrong,
                 has_received: false,
-            })?;
+            };
+            if all.push(odd).is_err() {
+                return Err(NetworkFault::Memory);
+            }
         }
         Ok(all)
     }
