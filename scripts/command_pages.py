@@ -22,7 +22,7 @@ from zarfepoch.commands import COMMANDS
 from zarfepoch.generate import KINDS
 
 # the words that may come first behind a command
-KINDS_OF = {"zarfepoch-generate": KINDS}
+KINDS_OF = {"zarfepoch": KINDS, "zarfepoch-generate": KINDS}
 SECTIONS = {"positional arguments:": "arguments", "options:": "options", "optional arguments:": "options"}
 
 
@@ -45,7 +45,7 @@ class Help:
 
 def printed(name: str, words: list[str]) -> str:
     """What a command prints for these words and `--help`."""
-    code = f"import sys; sys.argv[0] = {name!r}; from zarfepoch.commands import {COMMANDS[name]} as command; command()"
+    code = f"import sys; sys.argv[0] = {name!r}; from zarfepoch.commands import command_of; command_of({COMMANDS[name]!r})()"
     ran = subprocess.run([sys.executable, "-c", code, *words, "--help"], capture_output=True, text=True,
                          env={**os.environ, "PYTHONPATH": os.path.join(TOP, "python"), "COLUMNS": "10000"})
     if ran.returncode != 0:

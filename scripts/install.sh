@@ -1,9 +1,10 @@
 #!/bin/sh
-# Installs the built program, its man page, completions for bash and zsh, and the scripts that work on files of problems, or removes all again.
+# Installs the built program and the commands for puzzles and files of problems, with man pages and completions for bash and zsh, or removes all
+# again.
 #
 #     scripts/install.sh [--remove] [PREFIX]
 #
-# PREFIX is /usr/local if it is not given; DESTDIR, if it is set, stands before it. The scripts are the commands zarfepoch-explain, -why-none
+# PREFIX is /usr/local if it is not given; DESTDIR, if it is set, stands before it. The commands are zarfepoch, zarfepoch-explain, -why-none
 # and so on; they run the program that ZARFEPOCH names, else solve_cli on the path, else the one beside them. Their package is in
 # PREFIX/share/zarfepoch, beside a file VERSION, which has the version of the program, the commit of the clone and the toolchain. All that is
 # written is made before the first file is. With --remove these files go, and the folders of PREFIX that are empty then. Each file that comes
@@ -31,16 +32,17 @@ for word in "$@"; do
 done
 prefix=${given:-/usr/local}
 prefix=${DESTDIR-}$prefix
-page=share/man/man1/solve_cli.1
-bash=share/bash-completion/completions/solve_cli
-zsh=share/zsh/site-functions/_solve_cli
+man=share/man/man1
+bash=share/bash-completion/completions
+zsh=share/zsh/site-functions
 share=share/zarfepoch
-commands="another check-reason draw explain generate join split why-none"
+commands="zarfepoch zarfepoch-another zarfepoch-check-reason zarfepoch-draw zarfepoch-explain zarfepoch-generate zarfepoch-join zarfepoch-split
+zarfepoch-why-none"
 
 if [ "$remove" ]; then
-    files="bin/solve_cli $page $bash $zsh $share/VERSION"
-    for name in $commands; do
-        files="$files bin/zarfepoch-$name"
+    files="$share/VERSION"
+    for name in solve_cli $commands; do
+        files="$files bin/$name $man/$name.1 $bash/$name $zsh/_$name"
     done
     for file in $files; do
         [ -e "$prefix/$file" ] || continue
@@ -52,7 +54,7 @@ if [ "$remove" ]; then
         echo "$prefix/$share/zarfepoch"
     fi
     # (deepest first; one that has other files stays)
-    for folder in "$page" "$bash" "$zsh" "$share/VERSION" bin/solve_cli; do
+    for folder in "$man/file" "$bash/file" "$zsh/file" "$share/VERSION" bin/solve_cli; do
         while folder=$(dirname "$folder") && [ "$folder" != . ]; do
             rmdir "$prefix/$folder" 2>/dev/null || break
         done
@@ -68,10 +70,11 @@ fi
 
 # The commit that the program was built from, if that is known: the sources are those of a commit, and none is newer than the program.
 commit() {
-    id=$(git -C "$top" rev-parse HEAD 2>/dev/null) || id=
+    # (git reads a clone of somebody else only where it is told to)
+    id=$(git -c safe.directory="$top" -C "$top" rev-parse HEAD 2>/dev/null) || id=
     if [ -z "$id" ]; then
         echo "unknown: this is no clone"
-    elif [ -n "$(git -C "$top" status --porcelain -- crates crates.txt)" ]; then
+    elif [ -n "$(git -c safe.directory="$top" -C "$top" status --porcelain -- crates crates.txt)" ]; then
         echo "unknown: $id, but the sources are changed"
     elif [ -n "$(find "$top/crates" -name out -prune -o \( -name '*.rt' -o -name '*.antt' \) -newer "$program" -print)" ]; then
         echo "unknown: $id, but some sources are newer than the program"
@@ -84,13 +87,14 @@ pages=$(mktemp -d)
 trap 'rm -rf "$pages"' EXIT
 trap 'exit 1' HUP INT TERM
 python3 "$top/scripts/help_pages.py" "$pages"
+python3 "$top/scripts/command_pages.py" "$pages"
 {
     "$program" --version
     echo "commit $(commit)"
     echo "toolchain $(rt version 2>/dev/null || echo unknown)"
 } >"$pages/VERSION"
 for name in $commands; do
-    cat >"$pages/zarfepoch-$name" <<END
+    cat >"$pages/$name" <<END
 #!/usr/bin/env python3
 import os
 import sys
@@ -99,9 +103,9 @@ here = os.path.dirname(os.path.realpath(__file__))
 sys.path.insert(0, os.path.join(here, "..", "$share"))
 # (the program beside this command, where no other is on the path)
 os.environ["PATH"] = os.environ.get("PATH", os.defpath) + os.pathsep + here
-from zarfepoch.commands import $(echo "$name" | tr - _) as command
+from zarfepoch.commands import command_of, COMMANDS
 
-command()
+command_of(COMMANDS["$name"])()
 END
 done
 
@@ -117,13 +121,13 @@ shown() {
     echo "$prefix/$3"
 }
 
-shown 755 "$program" bin/solve_cli
-shown 644 "$pages/solve_cli.1" "$page"
-shown 644 "$pages/solve_cli.bash" "$bash"
-shown 644 "$pages/_solve_cli" "$zsh"
 shown 644 "$pages/VERSION" "$share/VERSION"
-for name in $commands; do
-    shown 755 "$pages/zarfepoch-$name" "bin/zarfepoch-$name"
+cp "$program" "$pages/solve_cli"
+for name in solve_cli $commands; do
+    shown 755 "$pages/$name" "bin/$name"
+    shown 644 "$pages/$name.1" "$man/$name.1"
+    shown 644 "$pages/$name.bash" "$bash/$name"
+    shown 644 "$pages/_$name" "$zsh/_$name"
 done
 rm -rf -- "$prefix/$share/zarfepoch"
 for file in "$top"/python/zarfepoch/*.py "$top"/python/zarfepoch/py.typed; do

@@ -37,8 +37,10 @@ HEADER = struct.Struct(">2sBBBIBI")
 STEAL = 3
 # the commands of the package that install.sh installs, and all that it writes
 TOOLS = ("another", "check-reason", "draw", "explain", "generate", "join", "split", "why-none")
-INSTALLED = ("bin/solve_cli", "share/man/man1/solve_cli.1", "share/bash-completion/completions/solve_cli", "share/zsh/site-functions/_solve_cli",
-             "share/zarfepoch/VERSION", *(f"bin/zarfepoch-{tool}" for tool in TOOLS), "share/zarfepoch/zarfepoch")
+COMMANDS = ("solve_cli", "zarfepoch", *(f"zarfepoch-{tool}" for tool in TOOLS))
+INSTALLED = ("share/zarfepoch/VERSION", *(path for name in COMMANDS for path in (
+    f"bin/{name}", f"share/man/man1/{name}.1", f"share/bash-completion/completions/{name}", f"share/zsh/site-functions/_{name}")),
+             "share/zarfepoch/zarfepoch")
 # the examples without a cover
 NONE = {"langford-5.dlx", "tetrominoes-4x5.dlx", "mutilated-chessboard.dlx"}
 trial = Trial()
@@ -316,9 +318,11 @@ def installing(folder: str) -> None:
 
 def installed_tools(prefix: str) -> None:
     """The commands that are installed: from another folder, and with the program beside them."""
-    for tool in TOOLS:
-        ended = subprocess.run([f"{prefix}/bin/zarfepoch-{tool}", "--help"], cwd="/", capture_output=True, text=True)
-        expect(f"zarfepoch-{tool}: {ended.stderr}", ended.returncode == 0 and ended.stdout.startswith(f"usage: zarfepoch-{tool} "))
+    for name in COMMANDS[1:]:
+        ended = subprocess.run([f"{prefix}/bin/{name}", "--help"], cwd="/", capture_output=True, text=True)
+        expect(f"{name}: {ended.stderr}", ended.returncode == 0 and ended.stdout.startswith(f"usage: {name} "))
+    ended = subprocess.run([f"{prefix}/bin/zarfepoch", "queens", "1"], cwd="/", capture_output=True, text=True)
+    expect(f"zarfepoch queens: {ended}", ended.returncode == 0 and ended.stdout.endswith("It is the only solution.\n"))
     unnamed = {name: text for name, text in os.environ.items() if name != "ZARFEPOCH"}
     board = os.path.join(TOP, "examples", "mutilated-chessboard.dlx")
     ended = subprocess.run([f"{prefix}/bin/zarfepoch-why-none", board], cwd="/", env=unnamed, capture_output=True, text=True)

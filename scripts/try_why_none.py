@@ -105,8 +105,8 @@ REASONS = [
     ("a b c d\na b c\na b d\na c d\nb c d\n", ["each option names a multiple of 3 of these items, and there are 4:", "  a, b, c and d"],
      ["4 weigh +1 each"]),
     ("00 01 02 10 11 12 20 21 22\n" + "".join(f"{r}{c} {r}{c + 1}\n{c}{r} {c + 1}{r}\n" for r in range(3) for c in range(2)),
-     ["too little room: 5 places needed, and there are 4", "  each of these needs one: 00, 02, 11, 20 and 22",
-      "  each of these has room for one: 01, 10, 12 and 21"], ["5 need 1 each", "4 have room for 1 each"]),
+     ["too little room: 5 places needed, and there are 4", "  each of these needs one: row 1 column 1, row 1 column 3, row 2 column 2, row 3 column 1 and row 3 column 3",
+      "  each of these has room for one: row 1 column 2, row 2 column 1, row 2 column 3 and row 3 column 2"], ["5 need 1 each", "4 have room for 1 each"]),
 ]
 
 

@@ -1,11 +1,4 @@
-"""Solves a problem that is given as JSON.
-
-    python3 -m zarfepoch --json FILE [--seconds N]
-
-FILE has an object with "options", and perhaps "primary", all other items where it isn't there, and "secondary", in whose options a list of two is an item with its colour; the answer is printed as a
-list of places, or null. Items and colours are texts or numbers. FILE may be -, the standard input. The exit status is 0 where there is a cover, 1
-where there is none, 2 for a mistake on the command line, and 3 where the problem is refused or there is no answer.
-"""
+"""The command zarfepoch: answers a puzzle of a kind, or a problem that is given as JSON. `zarfepoch --help` describes it (`solved`)."""
 from __future__ import annotations
 
 import json
@@ -14,8 +7,8 @@ from collections.abc import Hashable
 from typing import Any, Optional
 
 from . import Colored, Word, solve
-from .command_words import parser_of
 from .cover_files import Unreadable, read_bytes, run, stop
+from .solved import command_line, kind_missing, solve_kind
 
 
 def is_name(value: object) -> bool:
@@ -50,19 +43,12 @@ def solve_json(text: bytes, seconds: Optional[float] = None) -> Optional[list[in
     return solve([[item_of(word, place) for word in option] for place, option in enumerate(options)], primary, secondary, seconds)
 
 
-def positive(text: str) -> float:
-    """A number above 0 on the command line."""
-    number = float(text)
-    if not number > 0:
-        raise ValueError
-    return number
-
-
 def main() -> int:
-    words = parser_of(__doc__)
-    words.add_argument("--json", metavar="FILE", required=True, help="the problem in JSON, or - for the standard input")
-    words.add_argument("--seconds", metavar="N", type=positive, help="how long it may search (no limit where it isn't given)")
-    given = words.parse_args()
+    given = command_line().parse_args()
+    if given.kind:
+        return solve_kind(given, sys.argv[1:])
+    if not given.json:
+        stop(kind_missing())
     try:
         answer = solve_json(read_bytes(given.json), given.seconds)
     except (Unreadable, OSError, ValueError, RuntimeError, MemoryError) as why:

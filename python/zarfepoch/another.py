@@ -3,7 +3,8 @@
     python3 examples/another.py FILE ANSWER .. > OTHER
 
 A cover that isn't a given one lacks some option of it. So there is a primary item more for each answer, and for each option of the answer one
-that names this item and bars the option: it gives an item of the option's own another colour than the option does. An answer to OTHER may be
+that names this item and bars the option: it gives an item of the option's own another colour than the option does. Where that would be more than the
+program reads, only options are barred from which the others of the answer follow, one by one, so each other cover lacks one of them. An answer to OTHER may be
 an ANSWER too; its further items are passed over. Of options that stand several times in a file all count as one. The exit status is 0, 2 for a
 mistake on the command line, 3 for a file or an answer that can't be read, an answer that is no exact cover, a problem that would be too large, or
 where the standard output can't be written.
@@ -13,10 +14,12 @@ from __future__ import annotations
 import re
 import sys
 from collections.abc import Iterator
+from typing import Optional
 
 from .command_words import parser_of
 from .cover_files import lines_of, MAX_COLOURS, MAX_ITEMS, MAX_OCCURRENCES, MAX_OPTIONS, Problem, read_audited, read_bytes, read_problem, refusal
 from .cover_files import run, stop, Unreadable
+from .search_parts import places_in, size_of, Tree
 
 # the words of an option
 Words = tuple[bytes, ...]
@@ -64,6 +67,44 @@ def other_lines(problem: Problem, answers: list[list[Words]], other: bytes) -> I
             yield b"%s %s:barred" % (item, bars[words])
 
 
+def beyond(lines: list[bytes]) -> Optional[str]:
+    """What is more in a problem of these lines than the program reads; None where nothing is."""
+    words = [word for line in lines[2:] for word in line.split()]
+    colours = {word.partition(b":")[2] for word in words if b":" in word}
+    for count, most, what in ((len(lines[1].split()) - 1, MAX_ITEMS, "items"), (len(lines) - 2, MAX_OPTIONS, "options"),
+                              (len(words), MAX_OCCURRENCES, "occurrences of items in options"), (len(colours), MAX_COLOURS, "colours")):
+        if count > most:
+            return f"{count:,} {what}, and the program reads at most {most:,}"
+    return None
+
+
+def is_settled(tree: Tree, places: list[int]) -> bool:
+    """Whether so many options of a cover leave no choice: always some item has one option left, until all are covered."""
+    live, uncovered = (1 << len(tree.problem.options)) - 1, set(tree.problem.primary_names())
+    chosen = list(places)
+    while chosen:
+        for place in chosen:
+            uncovered.difference_update(tree.problem.options[place].names)
+            live &= ~tree.barred_by(place)
+        forced = {live & tree.naming[item] for item in uncovered if size_of(live & tree.naming[item]) == 1}
+        chosen = [place for bit in forced for place in places_in(bit)]
+    return not uncovered
+
+
+def enough(problem: Problem, chosen: list[Words]) -> list[Words]:
+    """Some options of a cover without which there is no other cover that has them all: what is left follows from them, one by one. So each other
+    cover lacks one of these."""
+    tree, places = Tree(problem), {option.words: place for place, option in enumerate(problem.options)}
+    kept = [places[words] for words in chosen]
+    if len({option.words for option in problem.options}) < len(problem.options):
+        return chosen
+    for place in list(kept):
+        fewer = [other for other in kept if other != place]
+        if is_settled(tree, fewer):
+            kept = fewer
+    return [problem.options[place].words for place in kept]
+
+
 def main() -> int:
     parser = parser_of(__doc__)
     parser.add_argument("file", metavar="FILE", help="the problem's file")
@@ -78,12 +119,11 @@ def main() -> int:
     except Unreadable as why:
         stop(why, 3)
     lines = list(other_lines(problem, answers, other))
-    words = [word for line in lines[2:] for word in line.split()]
-    colours = {word.partition(b":")[2] for word in words if b":" in word}
-    for count, most, what in ((len(lines[1].split()) - 1, MAX_ITEMS, "items"), (len(lines) - 2, MAX_OPTIONS, "options"),
-                              (len(words), MAX_OCCURRENCES, "occurrences of items in options"), (len(colours), MAX_COLOURS, "colours")):
-        if count > most:
-            stop(f"this would have {count:,} {what}, and the program reads at most {most:,}", 3)
+    if beyond(lines):
+        lines = list(other_lines(problem, [enough(problem, chosen) for chosen in answers], other))
+    too_large = beyond(lines)
+    if too_large:
+        stop(f"this would have {too_large}", 3)
     sys.stdout.buffer.write(b"".join(line + b"\n" for line in lines))
     return 0
 

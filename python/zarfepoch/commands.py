@@ -17,8 +17,8 @@ def command_of(module: str) -> Callable[[], NoReturn]:
     return command
 
 
-# the commands by their names on the path, each with that of its function here
-COMMANDS = {"zarfepoch": "zarfepoch", **{"zarfepoch-" + name.replace("_", "-"): name for name in (
+# the commands by their names on the path, each with the module of its main function
+COMMANDS = {"zarfepoch": "__main__", **{"zarfepoch-" + name.replace("_", "-"): name for name in (
     "another", "check_reason", "draw", "explain", "generate", "join", "split", "why_none")}}
 
 zarfepoch = command_of("__main__")

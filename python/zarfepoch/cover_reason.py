@@ -7,15 +7,16 @@ from __future__ import annotations
 
 import re
 import subprocess
-from collections.abc import Iterable, Iterator
+from collections.abc import Callable, Iterable, Iterator
 from math import gcd
 from typing import Optional
 
 from .cover_files import Problem, shown
 from .fault_words import listed, plural, quoted
 
-# numbers by the names of their items
+# numbers by the names of their items; what items are called
 Amounts = dict[bytes, int]
+Named = Callable[[bytes], str]
 
 SHOWN = 12
 LINE = re.compile(rb"(weigh|need|room) ([0-9]+) (\S+)")
@@ -50,9 +51,9 @@ class Reason:
         return (coloured.isdisjoint(self.rooms) and sum(self.rooms.values()) < sum(self.needs.values())
                 and all(added(self.needs, option.names) <= added(self.rooms, option.names) for option in problem.options))
 
-    def words(self, problem: Problem) -> list[str]:
-        """Lines that say why there is no cover."""
-        return list(weight_words(self, problem) if self.modulus else room_words(self, problem))
+    def words(self, problem: Problem, named: Named = shown) -> list[str]:
+        """Lines that say why there is no cover, in which items are named so."""
+        return list(weight_words(self, problem, named) if self.modulus else room_words(self, named))
 
     def line(self, problem: Problem) -> str:
         """The same in one line."""
@@ -71,15 +72,16 @@ def added(amounts: Amounts, names: Iterable[bytes]) -> int:
     return sum(amounts.get(name, 0) for name in names)
 
 
-def names_line(names: Iterable[bytes], most: int = SHOWN) -> str:
-    return f"  {listed([shown(name) for name in names], most)}"
+def names_line(names: Iterable[bytes], named: Named) -> str:
+    return f"  {listed([named(name) for name in names], SHOWN)}"
 
 
 # ---- too little room
 
-def room_words(reason: Reason, problem: Problem) -> Iterator[str]:
+def room_words(reason: Reason, named: Named) -> Iterator[str]:
     if len(reason.needs) == 1 and not reason.rooms:
-        yield f"no option names {quoted(*reason.needs)}"
+        name = next(iter(reason.needs))
+        yield f"no option names {quoted(name)}" if named is shown else f"nothing is possible for {named(name)}"
         return
     needs, rooms = sum(reason.needs.values()), sum(reason.rooms.values())
     yield f"too little room: {plural(needs, 'place')} needed, and there {'is' if rooms == 1 else 'are'} {rooms:,}"
@@ -87,7 +89,7 @@ def room_words(reason: Reason, problem: Problem) -> Iterator[str]:
         for amount in sorted(set(amounts.values())):
             names = [name for name, own in amounts.items() if own == amount]
             many = "each of these" if len(names) > 1 else "this one"
-            yield f"  {many} {what} {amount if amount != 1 else 'one'}: {listed([shown(name) for name in names], SHOWN)}"
+            yield f"  {many} {what} {amount if amount != 1 else 'one'}: {listed([named(name) for name in names], SHOWN)}"
 
 
 # ---- weights
@@ -97,7 +99,7 @@ def is_exact(weights: Amounts, problem: Problem) -> bool:
     return all(added(weights, option.names) == 0 for option in problem.options)
 
 
-def weight_words(reason: Reason, problem: Problem) -> Iterator[str]:
+def weight_words(reason: Reason, problem: Problem, named: Named) -> Iterator[str]:
     weights = reason.signed()
     groups: dict[int, list[bytes]] = {}
     for name, weight in weights.items():
@@ -105,23 +107,23 @@ def weight_words(reason: Reason, problem: Problem) -> Iterator[str]:
     groups = dict(sorted(groups.items(), reverse=True))
     exact = is_exact(weights, problem)
     if len(groups) == 1:
-        yield from one_group(reason.modulus, *groups.items())
+        yield from one_group(reason.modulus, named, *groups.items())
     elif exact and list(groups) == [1, -1]:
         yield f"each option names as many of the first items as of the second, and there are {len(groups[1]):,} and {len(groups[-1]):,}:"
-        yield from map(names_line, groups.values())
+        yield from (names_line(group, named) for group in groups.values())
     else:
         zero = "0" if exact else f"a multiple of {reason.modulus}"
         yield f"with these weights each option weighs {zero}, and all primary items together weigh {sum(weights.values()):,}:"
         for weight, group in groups.items():
-            yield f"  {weight:+d} each: {listed([shown(name) for name in group], SHOWN)}"
+            yield f"  {weight:+d} each: {listed([named(name) for name in group], SHOWN)}"
 
 
-def one_group(modulus: int, group: tuple[int, list[bytes]]) -> Iterator[str]:
+def one_group(modulus: int, named: Named, group: tuple[int, list[bytes]]) -> Iterator[str]:
     """Where all that weigh something weigh the same."""
     weight, names = group
     step = modulus // gcd(modulus, weight)
     yield f"each option names {'an even number' if step == 2 else f'a multiple of {step}'} of these items, and there are {len(names):,}:"
-    yield names_line(names)
+    yield names_line(names, named)
 
 
 # ---- from the program

@@ -12,9 +12,9 @@
     board BOARD --pieces FILE      a board of x and dots, or of a size as 5x12 or 3x3x3, filled by pieces; layers stand side by side, or with
                                    empty lines between. A piece is a line with its name and perhaps the number of copies, and rows of x and
                                    dots; in place of FILE names, as 'F 3*L4', pentominoes or soma. --no-flips: turned, but not turned over
-    sudoku FILE or 8........ ..    digits and dots of 4, 6, 8, 9, 10, 12, 15, 16 or 25 rows, with or without frames; _ and 0 are dots too, and
-                                   in nine lines of nine blanks in place of them; above nine 1-9 and A-G, or numbers with blanks between.
-                                   --diagonals
+    sudoku FILE or 8........ ..    digits and dots of 4, 6, 8, 9, 10, 12, 15, 16 or 25 rows, with or without frames and titles; _ - * x ? and 0 are
+                                   dots too, blanks in nine lines of nine, and empty cells where , ; or tabs part cells; above nine 1-9 and A-G,
+                                   or numbers with blanks between. --diagonals; --boxes 4x3: boxes of 4 rows and 3 columns (12 rows: else 3x4)
     jigsaw FILE                    the same with regions: digits and dots, an empty line, a letter for each cell
     killer FILE                    cages with sums: a letter for each cell, an empty line, sums as a=12 b=7; perhaps given digits behind
     kakuro FILE                    rows of . for white cells, # for black ones, and 16\\24 for a black one with the sum 16 below, 24 on its right
@@ -28,7 +28,8 @@
                                    meet have one colour: in each line a name and four colours, from the top on clockwise;
                                    --border grey wants this colour all round
     word-square FILE               different words of one length, in a square to be read across and down; --repeat lets words come again
-    crossword GRID WORDS           words of a list in a grid of rows of dots, given letters, and # for black cells; --repeat as above
+    crossword GRID WORDS           words of a list in a grid of rows of dots, given letters, and # for black cells; --repeat as above; with
+                                   --ignore-case capital and small letters are alike
     nonogram FILE                  black cells by the lengths of their blocks: a line of numbers for each row, an empty line, a line of
                                    numbers for each column, with blanks or commas between; a line without black cells is 0
     cubes FILE                     cubes in a row, turned so that no side of the row shows a colour twice (instant insanity): in each line a
@@ -64,6 +65,7 @@ import re
 import sys
 from argparse import Namespace
 from collections.abc import Iterable, Iterator, Sequence
+from dataclasses import replace
 from typing import Any, Callable, Optional
 
 from .command_words import parser_of
@@ -75,7 +77,7 @@ from .cover_files import complain, MAX_COLOURS, MAX_ITEMS, MAX_NAME, MAX_OCCURRE
 from .fault_words import plural
 from .name_texts import as_seen, in_one_case, names_in, want_one_spelling, words_of
 from .pieces import filled, named_pieces, read_board, read_pieces
-from .puzzle_texts import Puzzle, blocks_of, no_cover, read_text, refuse, rows_of, UNREADABLE
+from .puzzle_texts import Puzzle, blocks_of, called, no_cover, read_text, refuse, rows_of, UNREADABLE
 from .timetable_plans import read_plan
 from .timetable_rules import read_school
 
@@ -92,6 +94,8 @@ HERE = TEXTS = os.path.join(os.path.dirname(os.path.abspath(__file__)), "..", ".
 OUT: list[str] = []
 # the exit status for a problem that is refused: 3 where it was made of a file
 STATUS = [2]
+# the problems that were made, for a command that goes on with them, in place of files
+TAKEN: list[list[Puzzle]] = []
 
 
 def check_count(count: int, most: int, what: str) -> None:
@@ -119,8 +123,16 @@ def check_range(names: list[str], options: list[list[str]]) -> None:
 
 def write(name: str, note: str, primary: list[str], secondary: list[str], options: list[list[str]], comments: Iterable[str] = ()) -> None:
     """Writes a problem into a file of this folder, or where the command line wants it if the name is `-`."""
-    check_range(primary + secondary, options)
-    text = Puzzle(primary, secondary, options, [note, *comments]).text()
+    give(name, Puzzle(primary, secondary, options, [note, *comments]))
+
+
+def give(name: str, puzzle: Puzzle) -> None:
+    """Writes a problem, or hands it to the command that goes on with it."""
+    check_range(puzzle.primary + puzzle.secondary, puzzle.options)
+    if TAKEN:
+        TAKEN[0].append(puzzle)
+        return
+    text = puzzle.text()
     if name == "-" and not OUT:
         sys.stdout.buffer.write(text)
         return
@@ -373,15 +385,21 @@ def read_word_list(path: str) -> dict[str, int]:
     words: dict[str, int] = {}
     for number, line in rows_of(path):
         for word in names_in(path, number, line):
-            if re.search(r"[\d:|\0]", word):
-                refuse(path, number, f"'{word}' has a digit, ':' or '|', which no word may have here")
             words.setdefault(word, number)
     return words or refuse(path, None, "there are no words")
+
+
+def want_words(path: str, words: dict[str, int]) -> None:
+    """Refuses words with what no word may have here."""
+    for word, number in words.items():
+        if re.search(r"[\d:|\0]", word):
+            refuse(path, number, f"'{word}' has a digit, ':' or '|', which no word may have here")
 
 
 def read_words(path: str) -> list[str]:
     """Different words of one length."""
     words = read_word_list(path)
+    want_words(path, words)
     first = next(iter(words))
     for word, number in words.items():
         if len(word) != len(first):
@@ -407,15 +425,30 @@ def want_letters(path: str, words: dict[str, int]) -> None:
     for word, number in words.items():
         mixed = next((letter for letter in word if letter != letter.lower() and letter.lower() in letters), None)
         if mixed:
-            refuse(path, number, f"'{word}' has a capital {mixed}, and the list has a small one too, which differ here; write all words alike")
+            refuse(path, number, f"'{word}' has a capital {mixed}, and the list has a small one too, which differ here; write all words alike, or take "
+                   "--ignore-case")
         if re.search("[.#]", word):
             refuse(path, number, f"'{word}' has '.' or '#', which are no letters in a grid")
+
+
+def words_that_fit(path: str, words: dict[str, int], rows: list[str]) -> dict[str, int]:
+    """The words that are as long as some place for a word in a grid; a note says how many others there are."""
+    lengths = {len(run) for run in puzzles.slots_of(rows).values()}
+    kept = {word: number for word, number in words.items() if len(word) in lengths}
+    if kept and len(kept) < len(words):
+        left = len(words) - len(kept)
+        complain(f"note: {called(path)}: {plural(left, 'word')} of {len(words):,} {'is' if left == 1 else 'are'} as long as no place, and left out")
+    return kept or words
 
 
 def crossword(given: Namespace, note: str) -> None:
     if given.grid == given.file == "-":
         stop("- is the standard input, which can be read once")
     (rows, numbers), words = read_grid(given.grid), read_word_list(given.file)
+    if given.ignore_case:
+        rows, words = [row.lower() for row in rows], {word.lower(): number for word, number in words.items()}
+    words = words_that_fit(given.file, words, rows)
+    want_words(given.file, words)
     want_letters(given.file, words)
     try:
         problem = puzzles.crossword(rows, list(words), given.repeat)
@@ -462,7 +495,7 @@ def read_cubes(path: str) -> Pieces:
 
 
 def put_down(note: str, puzzle: Puzzle, name: str = "-") -> None:
-    write(name, note, puzzle.primary, puzzle.secondary, puzzle.options, puzzle.comments)
+    give(name, replace(puzzle, comments=[note, *puzzle.comments]))
 
 
 def made_by(kind: Callable[..., puzzles.Lists], *given: Any) -> puzzles.Lists:
@@ -517,9 +550,10 @@ def timetable(given: Namespace, note: str) -> None:
     """Writes the problem of a timetable, or several where one would be too large and some lessons share nothing."""
     school = read_school(given.file, given.rules)
     found = timetables.timetables(school, read_plan(given.keep, school) if given.keep else None, given.seed)
-    if len(found) == 1:
+    if len(found) == 1 or TAKEN:
         timetables.note_size(found[0])
-        put_down(note, found[0])
+        for puzzle in found:
+            put_down(note, puzzle)
         return
     if not OUT:
         refuse(given.file, None, f"this timetable is too large for one file, and is parted into {len(found)} that share nobody and no room: "
@@ -538,7 +572,7 @@ def polyominoes(given: Namespace, note: Note) -> None:
 
 def is_typed(given: str) -> bool:
     """Whether a sudoku is on the command line itself, and not in a file."""
-    return bool(re.fullmatch(r"[0-9._\s]+|[0-9A-Pa-p._\s]{16,}", given)) and given != "-" and not os.path.exists(given)
+    return bool(re.fullmatch(r"[0-9._*?\s-]{4,}|[0-9._\s]+|[0-9A-Pa-p._\s]{16,}", given)) and not os.path.exists(given)
 
 
 # how each kind is written, from what the command line gives and a note on what it is
@@ -553,13 +587,13 @@ KINDS: dict[str, Callable[[Namespace, Note], None]] = {
     "dominoes": lambda given, note: dominoes("-", note("dominoes fill a board"), board(given)),
     "sudoku": lambda given, note: put_down(
         note("a sudoku: its empty cells, and what rows, columns and boxes still lack"),
-        sudokus.read_sudoku(given.given, is_typed(given.given), given.diagonals).puzzle()),
+        sudokus.read_sudoku(given.given, is_typed(given.given), given.diagonals, given.boxes).puzzle()),
     "jigsaw": lambda given, note: put_down(
         note("a jigsaw sudoku: its empty cells, and what rows, columns and regions still lack"),
         sudokus.read_jigsaw(given.file, given.diagonals).puzzle()),
     "killer": lambda given, note: put_down(
         note("a killer sudoku: cells, rows, columns and boxes, and of each cage its digits"),
-        sudokus.read_killer(given.file, given.diagonals).puzzle()),
+        sudokus.read_killer(given.file, given.diagonals, given.boxes).puzzle()),
     "kakuro": lambda given, note: put_down(
         note("a kakuro: a digit in each white cell, and in each run different ones with its sum"), grids.kakuro(given.file)),
     "stars": lambda given, note: put_down(
@@ -586,6 +620,14 @@ def told_word(word: str) -> str:
     return "".join(parts) if is_typed(word) else f"'{' '.join(parts)}'" if len(parts) > 1 else "".join(parts)
 
 
+def problems_of(given: Namespace, given_words: list[str]) -> list[Puzzle]:
+    """The problems that these words of a command line ask for, mostly one, for a command that goes on with them."""
+    TAKEN[:] = [[]]
+    STATUS[0] = UNREADABLE if hasattr(given, "file") or given.kind == "sudoku" else 2
+    make(given, given_words)
+    return TAKEN.pop()
+
+
 def make(given: Namespace, given_words: list[str]) -> None:
     """Writes the problem that these words of a command line ask for; its comment tells how it was made."""
     told = [word for before, word in zip(["", *given_words], given_words) if "--out" not in (before, word.partition("=")[0])]
@@ -596,6 +638,13 @@ def make(given: Namespace, given_words: list[str]) -> None:
 
 def command_line() -> argparse.ArgumentParser:
     parser = parser_of(__doc__)
+    for words in kinds_of(parser):
+        words.add_argument("--out", metavar="FILE", help="where the problem is written, in place of the standard output")
+    return parser
+
+
+def kinds_of(parser: argparse.ArgumentParser) -> list[argparse.ArgumentParser]:
+    """Adds the kinds to a command line; the command lines of all kinds."""
     kinds = parser.add_subparsers(dest="kind", metavar="KIND")
     for kind, what in (("queens", "rows and columns"), ("langford", "the greatest number"), ("triples", "the number of points")):
         kinds.add_parser(kind).add_argument("n", metavar="N", type=whole_number, help=what)
@@ -621,9 +670,12 @@ def command_line() -> argparse.ArgumentParser:
     crossword.add_argument("file", metavar="WORDS", help="words of any length")
     for kind in ("sudoku", "jigsaw", "killer"):
         kinds.choices[kind].add_argument("--diagonals", action="store_true", help="both diagonals have each digit too")
+    for kind in ("sudoku", "killer"):
+        kinds.choices[kind].add_argument("--boxes", metavar="ROWSxCOLUMNS", type=size, help="how many rows and columns a box has, as 4x3")
     kinds.choices["stars"].add_argument("--stars", metavar="N", type=whole_number, default=1, help="how many in each row (default 1)")
     for kind in ("word-square", "crossword"):
         kinds.choices[kind].add_argument("--repeat", action="store_true", help="a word may come more than once")
+    kinds.choices["crossword"].add_argument("--ignore-case", action="store_true", help="capital and small letters are alike")
     kinds.choices["coloring"].add_argument("--colors", default="red,green,blue", help="the colours, with commas (default red,green,blue)")
     kinds.choices["squares"].add_argument("file", metavar="FILE", help="a name and four colours a line")
     kinds.choices["squares"].add_argument("--border", metavar="COLOUR", help="the colour of all sides that look outwards")
@@ -631,9 +683,7 @@ def command_line() -> argparse.ArgumentParser:
     kinds.choices["timetable"].add_argument("--keep", metavar="PLAN.csv", help="a plan whose places are tried first, as draw.py --csv writes one")
     kinds.choices["timetable"].add_argument("--seed", metavar="N", type=whole_number,
                                             help="draws the order of the options by lot: where a search doesn't end, another N may help")
-    for words in dict.fromkeys(kinds.choices.values()):
-        words.add_argument("--out", metavar="FILE", help="where the problem is written, in place of the standard output")
-    return parser
+    return list(dict.fromkeys(kinds.choices.values()))
 
 
 def examples() -> None:

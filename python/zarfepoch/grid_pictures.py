@@ -29,6 +29,16 @@ class Kakuro(Kind):
     def is_run(option: Names) -> bool:
         return all(re.fullmatch(rf"{option[0]}\.[1-9]", name) for name in option[1:])
 
+    def item_words(self, item: str) -> str:
+        run, dot, digit = item.partition(".")
+        if run not in self.sums():
+            return super().item_words(item)
+        total, cells = self.sums()[run]
+        way = "to the right of" if run[0] == "a" else "below"
+        r, c = min(cells)
+        at = f"row {r + 1} column {c}" if run[0] == "a" else f"row {r} column {c + 1}"
+        return (f"the digit {digit} in" if dot else "the digits of") + f" the sum {total} {way} {at}"
+
     def sums(self) -> dict[str, tuple[int, set[Cell]]]:
         """For each run its sum, and the cells that it has."""
         possible: dict[str, int] = {}
@@ -93,6 +103,12 @@ class Kakuro(Kind):
         self.caption(paper)
 
 
+def line_words(item: str) -> str | None:
+    """A row, a column or a region as people count, from 1; None for other names."""
+    found = re.fullmatch(r"(row|column|region)(\d+)", item)
+    return f"{found[1]} {int(found[2]) + 1}" if found else None
+
+
 STAR = [(0, -1), (0.24, -0.32), (0.95, -0.31), (0.38, 0.12), (0.59, 0.81), (0, 0.4), (-0.59, 0.81), (-0.38, 0.12), (-0.95, -0.31), (-0.24, -0.32)]
 
 
@@ -105,6 +121,9 @@ class Stars(Kind):
         return bool(self.options) and self.all_match(r"(row|column|region)\d+", self.primary) and bool(self.regions()) and all(
             cell_of(name) and colour in ("star", "blank") for colours in self.option_colours for name, colour in colours.items()) and max(
             max(known_cell(name)) for colours in self.option_colours for name in colours) < LARGEST
+
+    def item_words(self, item: str) -> str:
+        return line_words(item) or super().item_words(item.lstrip("s"))
 
     def regions(self) -> dict[Cell, str]:
         """The region of each cell, by its options."""
@@ -140,6 +159,9 @@ class Nonogram(Kind):
         cells = [cell for cell in map(cell_of, self.secondary()) if cell]
         return are_lines and bool(cells) and len(cells) == len(self.secondary()) and max(max(cell) for cell in cells) < LARGEST and all(
             colour in ("black", "white") for colours in self.option_colours for colour in colours.values())
+
+    def item_words(self, item: str) -> str:
+        return line_words(item) or super().item_words(item)
 
     def cells(self) -> set[Cell]:
         return {known_cell(item) for item in self.secondary()}
@@ -190,6 +212,12 @@ class Words(Kind):
         greatest = max((max(cell) for cell in map(cell_of, self.items) if cell), default=LARGEST)
         return greatest < LARGEST and all(
             cell_of(name) and len(letter) == 1 for colours in self.option_colours for name, letter in colours.items())
+
+    def item_words(self, item: str) -> str:
+        found = re.fullmatch(r"(across|down)(\d+)", item)
+        if found and not self.numbers():
+            return f"the word in {'row' if found[1] == 'across' else 'column'} {int(found[2]) + 1}"
+        return f"{found[2]} {found[1]}" if found else super().item_words(item)
 
     def cells(self) -> set[Cell]:
         return {known_cell(name) for colours in self.option_colours for name in colours}

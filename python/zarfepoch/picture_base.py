@@ -66,6 +66,11 @@ class Kind:
     def secondary(self) -> list[str]:
         return [item for item in self.items if item not in self.primary]
 
+    def item_words(self, item: str) -> str:
+        """What an item is in the words of the kind; its name where nothing better is known."""
+        cell = cell_of(item)
+        return cell_words(cell) if cell else item
+
     def lines(self) -> list[str]:
         """The answer as lines of text."""
         raise NotImplementedError
@@ -92,6 +97,11 @@ def cell_of(name: str) -> Cell | None:
         return int(name[:len(name) // 2]), int(name[len(name) // 2:])
     found = re.fullmatch(r"(\d+)-(\d+)", name)
     return (int(found[1]), int(found[2])) if found else None
+
+
+def cell_words(cell: Cell) -> str:
+    """A cell as people count, from 1."""
+    return f"row {cell[0] + 1} column {cell[1] + 1}"
 
 
 def known_cell(name: str) -> Cell:

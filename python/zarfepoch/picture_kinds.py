@@ -30,6 +30,9 @@ class Queens(Kind):
         return self.all_match(r"[rcab]\d+") and bool(self.options) and all(
             {"r", "c"} <= {name[0] for name in option} for option in self.options)
 
+    def item_words(self, item: str) -> str:
+        return {"r": "row", "c": "column"}.get(item[0], "diagonal") + f" {int(item[1:]) + 1}"
+
     def places(self) -> tuple[list[int], list[int], set[Cell]]:
         """The rows, the columns, and where queens stand."""
         rows, columns = ([int(item[1:]) for item in self.items if item[0] == kind] for kind in "rc")
@@ -93,6 +96,11 @@ class Colouring(Kind):
     def is_known(self) -> bool:
         return bool(self.secondary()) and self.all_match(r".+-.+=.+", self.secondary()) and all(
             option[0] in self.primary and self.primary.isdisjoint(option[1:]) for option in self.options)
+
+    def item_words(self, item: str) -> str:
+        border, equals, colour = item.rpartition("=")
+        names = full_names(self.comments)
+        return " and ".join(names.get(one, one) for one in border.split("-")) + f" in {colour}" if equals else names.get(item, item)
 
     def colours(self) -> dict[str, str]:
         """The colour of each place that an option gives one, by its name."""
@@ -324,6 +332,10 @@ class Cubes(Kind):
             return [name.partition("-")[0] for name in option[1:]] == list(self.SIDES)
 
         return bool(self.options) and all(map(is_turned, self.options))
+
+    def item_words(self, item: str) -> str:
+        side, dash, colour = item.partition("-")
+        return {"front": f"{colour} in front", "back": f"{colour} at the back"}.get(side, f"{colour} on the {side}") if dash else f"the cube {item}"
 
     def shown(self) -> dict[str, list[str]]:
         """For each cube the colours that it shows, in the order of the sides."""

@@ -52,7 +52,7 @@ def rows_text(cells: list[Cell]) -> str:
 
 
 def is_rows(line: str) -> bool:
-    return bool(re.fullmatch(r"[x.\s]+", line))
+    return bool(re.fullmatch(r"[xX.\s]+", line))
 
 
 def want_layers(path: str, block: list[tuple[int, str]]) -> None:
@@ -94,7 +94,7 @@ def known(path: str, number: int | None, name: str) -> list[Cell]:
     """The cells of a piece that has a name here."""
     if name not in FLAT:
         refuse(path, number, f"there is no piece '{name}' here; {' '.join(FLAT)} are, with a number of copies as 3*L4, and others have rows of x "
-               "and dots in a file")
+               "and dots in a file, right below their names")
     return layers_of(FLAT[name].split("/"))
 
 
@@ -121,7 +121,7 @@ def read_pieces(path: str) -> list[Piece]:
         rows = block[1:] if head else block
         for row_number, row in rows:
             if not is_rows(row):
-                refuse(path, row_number, f"a row of the piece {name} has an x for each cell, and dots")
+                refuse(path, row_number, f"a row of the piece {name} has an x for each cell, and dots; an empty line parts it from the next piece")
         want_layers(path, rows)
         cells = layers_of([row for _, row in rows]) if rows else known(path, number, name)
         pieces.append(Piece(name, cells or refuse(path, number, f"the piece {name} has no cell"), count, number))

@@ -61,6 +61,30 @@ class Sudoku(Kind):
         name = option[0][1:]
         return int(name[:self.width]), int(name[self.width:])
 
+    def item_words(self, item: str) -> str:
+        kind, width = item[0], self.width
+        if kind == "k":
+            return self.cage_words(item)
+        if kind == "p":
+            return f"row {int(item[1:1 + width]) + 1} column {int(item[1 + width:]) + 1}"
+        digit = self.mark_of(int(item[-width:]))
+        if kind in "xy":
+            return f"a {digit} on the diagonal from the {'left' if kind == 'x' else 'right'} above"
+        house = {"r": "row", "c": "column", "b": "box" if self.has_boxes() else "region"}[kind]
+        return f"a {digit} in {house} {int(item[1:1 + width]) + 1}"
+
+    def mark_of(self, digit: int) -> str:
+        """A digit as it is written here."""
+        marks = self.told("digits")
+        return marks[digit - 1] if 0 < digit <= len(marks) else str(digit)
+
+    def cage_words(self, item: str) -> str:
+        """A cage by its first cell, or a digit of it."""
+        cage, dot, digit = item.partition(".")
+        cells = [self.cell(option) for option in self.placing if any(name.partition(".")[0] == cage for name in option)]
+        r, c = min(cells, default=(0, 0))
+        return (f"the digit {digit} in" if dot else "the digits of") + f" the cage that begins in row {r + 1} column {c + 1}"
+
     # ---- what comments tell
 
     def told(self, key: str) -> str:

@@ -24,8 +24,18 @@ Cell = tuple[int, int]
 Cage = tuple[list[Cell], int]
 Block = list[tuple[int, str]]
 Square = tuple[list[list[str]], Optional[list[int]]]
+# what an empty cell may be, beside a 0 that is no digit
+EMPTY = {".", "_", " ", "-", "*", "x", "X", "?", "\u00b7"}
+# so many lines above or below the rows may be titles
+MOST_TITLES = 3
 # given digits, the symbols that stand for them, and the numbers of their lines
 Digits = tuple[list[list[int]], Optional[str], Optional[list[int]]]
+
+
+def boxes_of(size: int, box: Cell) -> list[list[int]]:
+    """The box of each cell, by how many rows and columns a box has."""
+    high, wide = box
+    return [[r // high * (size // wide) + c // wide for c in range(size)] for r in range(size)]
 
 
 class Sudoku:
@@ -34,8 +44,7 @@ class Sudoku:
     def __init__(self, given: list[list[int]], regions: list[list[int]] | None = None, diagonals: bool = False, cages: Sequence[Cage] = (),
                  symbols: str | None = None) -> None:
         self.given, self.size, self.diagonals, self.cages, self.symbols = given, len(given), diagonals, cages, symbols
-        high, wide = BOXES.get(self.size, (1, self.size))
-        boxes = [[r // high * (self.size // wide) + c // wide for c in range(self.size)] for r in range(self.size)]
+        boxes = boxes_of(self.size, BOXES.get(self.size, (1, self.size)))
         self.has_boxes = regions is None or regions == boxes
         self.regions = regions or boxes
         self.cage_of = {cell: k for k, (cells, _) in enumerate(cages) for cell in cells}
@@ -139,7 +148,7 @@ def symbols_of(marks: list[str], size: int) -> str | None:
 
 def digit_of(mark: str, size: int, symbols: str | None) -> int | None:
     """The number that a mark of a cell is, 0 where the cell is empty, None where it is no digit."""
-    if mark in (".", "_", " ") or mark == "0" and not (symbols or "").startswith("0"):
+    if mark in EMPTY or mark == "0" and not (symbols or "").startswith("0"):
         return 0
     if symbols and mark.upper() in symbols:
         return symbols.index(mark.upper()) + 1
@@ -150,9 +159,9 @@ def refuse_shape(path: str, text: str, numbers: Sequence[int]) -> NoReturn:
     """Refuses a text that is no square, with the first line that is shorter or longer than most, or has what no cell is."""
     lines = bare_lines(text)
     for place, line in lines:
-        strange = re.search(r"[^\w\s.|+=-]", line)
+        strange = re.search(r"[^\w\s.|+=*?\u00b7-]", line)
         if strange:
-            refuse(path, None if path == TYPED else numbers[place], f"'{strange[0]}' is no digit; an empty cell is a dot, _ or 0")
+            refuse(path, None if path == TYPED else numbers[place], f"'{strange[0]}' is no digit; an empty cell is a dot, _, -, *, x or 0")
     are_words = 2 * sum(" " in line.strip() for _, line in lines) > len(lines)
     lengths = [len(line.split()) if are_words else len("".join(line.split())) for _, line in lines]
     usual = Counter(lengths).most_common(1)[0][0] if lengths else 0
@@ -165,10 +174,49 @@ def refuse_shape(path: str, text: str, numbers: Sequence[int]) -> NoReturn:
            f"{'have' if len(lines) > 2 else 'has'} {usual}")
 
 
+def sheet_of(text: str) -> Square | None:
+    """Rows of a sheet, whose cells have commas, semicolons or tabs between, and may be empty; None for other texts."""
+    for mark in ";,\t":
+        lines = [(place, line.split(mark)) for place, line in enumerate(text.splitlines()) if mark in line]
+        size = len(lines)
+        # (a row may end with one more of what parts cells, or have lost what is empty behind its last tab)
+        rows = [[cell.strip() for cell in cells] for _, cells in lines]
+        rows = [row[:size] if not any(row[size:]) else row for row in rows]
+        rows = [row + [""] * (size - len(row)) if mark == "\t" else row for row in rows]
+        if size > 1 and all(len(row) == size for row in rows):
+            return [[cell or "." for cell in row] for row in rows], [place for place, _ in lines]
+    return None
+
+
+def has_digits(rows: list[list[str]]) -> bool:
+    """Whether all marks are digits or empty cells."""
+    symbols = symbols_of([mark for row in rows for mark in row], len(rows))
+    return all(digit_of(mark, len(rows), symbols) is not None for row in rows for mark in row)
+
+
+def shifted(square: Square, lines: int) -> Square:
+    """A square whose text stands below so many lines."""
+    rows, places = square
+    return rows, [place + lines for place in places] if places else None
+
+
+def untitled_square(text: str) -> Square | None:
+    """A square text, of which lines with letters above and below may be titles; None where it is none."""
+    lines, first = text.splitlines(), None
+    for above, below in sorted(itertools.product(range(MOST_TITLES + 1), repeat=2), key=sum):
+        titles, kept = lines[:above] + lines[len(lines) - below:], "\n".join(lines[above:len(lines) - below])
+        if above + below < max(1, len(lines)) and all(not line.strip() or re.search(r"[^\W\d_]|#", line) for line in titles):
+            square = sheet_of(kept) or blank_nine(kept) or square_of(kept)
+            if square and square[1] and has_digits(square[0]):
+                return shifted(square, above)
+            first = first if first and (has_digits(first[0]) or not square) else square
+    return first
+
+
 def digits_of(path: str, text: str, numbers: Sequence[int] | None = None) -> Digits:
     """The given digits of a text, the symbols that stand for them, and the lines of its rows; `numbers` are those of its lines in the file."""
     numbers = numbers or range(1, len(text.splitlines()) + 1)
-    square = blank_nine(text) or square_of(text)
+    square = untitled_square(text)
     if square is None:
         refuse_shape(path, text, numbers)
     rows, places = square
@@ -181,7 +229,7 @@ def digits_of(path: str, text: str, numbers: Sequence[int] | None = None) -> Dig
     for r, c in itertools.product(range(size), repeat=2):
         if digits[r][c] is None:
             refuse(path, lines[r] if lines else None, f"'{rows[r][c]}' in row {r + 1}, column {c + 1} is no digit of a sudoku of {size} by "
-                   f"{size}; an empty cell is a dot, _ or 0")
+                   f"{size}; an empty cell is a dot, _, -, *, x or 0")
     return [[digit or 0 for digit in row] for row in digits], symbols, lines
 
 
@@ -194,17 +242,28 @@ def checked(path: str, sudoku: Sudoku, lines: list[int] | None) -> Sudoku:
         number = f" {int(house[1:]) + 1}" if house[1:] else ""
         where = "" if house[0] == "r" else f", in row {rows[0] + 1} and row {rows[1] + 1}"
         line = f", line {lines[rows[1]]}" if lines else ""
+        high, wide = BOXES.get(sudoku.size, (1, 1))
+        if kind == "box" and high != wide:
+            where += f" (boxes have {high} rows and {wide} columns here; --boxes {wide}x{high} turns them)"
         no_cover(f"{path}{line}: {kind}{number} has the digit {sudoku.mark(digit)} twice{where}")
     return sudoku
 
 
-def read_sudoku(given: str, is_text: bool, diagonals: bool = False) -> Sudoku:
+def read_sudoku(given: str, is_text: bool, diagonals: bool = False, box: Cell | None = None) -> Sudoku:
     """A sudoku from characters or a file, with boxes."""
     path = TYPED if is_text else given
     digits, symbols, lines = digits_of(path, given if is_text else read_text(given))
-    if len(digits) not in BOXES:
+    regions = regions_by_boxes(path, len(digits), box)
+    if len(digits) not in BOXES and not regions:
         refuse(path, None, f"a sudoku of {len(digits)} by {len(digits)} has no boxes: the kind jigsaw takes its regions")
-    return checked(path, Sudoku(digits, None, diagonals, (), symbols), lines)
+    return checked(path, Sudoku(digits, regions, diagonals, (), symbols), lines)
+
+
+def regions_by_boxes(path: str, size: int, box: Cell | None) -> list[list[int]] | None:
+    """The regions of boxes with so many rows and columns; None where these aren't told."""
+    if box and (box[0] * box[1] != size):
+        refuse(path, None, f"boxes of {box[0]}x{box[1]} have {box[0] * box[1]} cells, and a sudoku of {size} rows wants {size}")
+    return boxes_of(size, box) if box else None
 
 
 def letters_of(path: str, block: Block) -> list[str]:
@@ -248,7 +307,7 @@ def text_of(block: Block) -> tuple[str, list[int]]:
 
 
 def is_digits(block: Block) -> bool:
-    return all(re.fullmatch(r"[0-9._\s|]+", line) for _, line in block)
+    return all(re.fullmatch(r"[0-9._\s|,;*?\u00b7-]+", line) for _, line in block)
 
 
 def read_jigsaw(path: str, diagonals: bool = False) -> Sudoku:
@@ -310,7 +369,7 @@ def cages_of(path: str, block: Block, cells: dict[str, list[Cell]], sums: dict[s
     return cages
 
 
-def read_killer(path: str, diagonals: bool = False) -> Sudoku:
+def read_killer(path: str, diagonals: bool = False, box: Cell | None = None) -> Sudoku:
     """Cages by letters, their sums, and perhaps given digits, with empty lines between."""
     blocks = blocks_of(path)
     if not 2 <= len(blocks) <= 3:
@@ -328,4 +387,4 @@ def read_killer(path: str, diagonals: bool = False) -> Sudoku:
         if letter not in cells:
             refuse(path, blocks[1][0][0], f"there is no cage {letter}")
     want_whole(path, blocks[0], cells, "cage")
-    return checked(path, Sudoku(digits, None, diagonals, cages_of(path, blocks[0], cells, sums)), lines)
+    return checked(path, Sudoku(digits, regions_by_boxes(path, size, box), diagonals, cages_of(path, blocks[0], cells, sums)), lines)

@@ -152,6 +152,18 @@ class Timetable(Kind):
             lost = also.get(lesson) or also.get(self.base(lesson)) or []
             yield Given(lesson, self.full(lesson), who + lost, list(dict.fromkeys(period for _, period in pairs)))
 
+    def item_words(self, item: str) -> str:
+        own, less, rest = item.partition("<")
+        if less:
+            days = rest.partition(".")[2]
+            what = {"week": "the free periods of", "free": "free periods of", "days": "the days of", "teacher": "the teacher of"}
+            return f"{what.get(rest.partition('.')[0], 'the order of')} {self.full(own)}" + (f" on {days}" if days and not days.isdecimal() else "")
+        if item in self.lessons():
+            label = item.rpartition(".")[2] if self.base(item) != item else ""
+            return self.full(item) + (f" on {label}" if label and not label.isdecimal() else f" (time {label})" if label else "")
+        who, dash, period = item.rpartition("-")
+        return f"{self.full(who)} in {period}" if dash else item
+
     # ---- plans
 
     def wanted(self) -> list[str]:

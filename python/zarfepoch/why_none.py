@@ -26,10 +26,11 @@ from typing import Callable, Optional
 
 from .command_words import parser_of
 from .cover_files import complain, Option, Problem, Unreadable, put, read_bytes, read_problem, refusal, run, shown, stop
-from .cover_reason import Reason, found_reason
+from .cover_reason import Named, Reason, found_reason
 from .draw_reason import reason_svg
 from .fault_words import listed, plural, quoted
 from .full_names import named_numbers
+from .picture_kinds import Matching, picture_of, Plain, Triples
 from .programs import is_program, known_program, missing_program
 
 # the exit status and the first word of each answer
@@ -94,32 +95,51 @@ def clash_always(problem: Problem, by_item: dict[bytes, list[int]], one: bytes, 
         clash(problem.options[a], problem.options[b]) for a in places[0] for b in places[1])
 
 
-def reasons(problem: Problem, kept: list[bytes]) -> Iterator[str]:
+def in_words(problem: Problem) -> Named:
+    """What items are called where the kind of the problem is known by their names; else their names."""
+    picture = picture_of(problem, [], True)
+
+    def named(name: bytes) -> str:
+        return picture.item_words(shown(name))
+
+    plain: Named = shown
+    return plain if isinstance(picture, (Matching, Plain, Triples)) else named
+
+
+def reasons(problem: Problem, kept: list[bytes], named: Named) -> Iterator[str]:
     """Lines that say in words why these items can't be covered together, where that is plain."""
-    by_item = problem.options_by_item()
+    by_item, is_bare = problem.options_by_item(), named is shown
     for name in kept:
         if not by_item[name]:
-            yield f"no option names {quoted(name)}"
+            yield f"no option names {quoted(name)}" if is_bare else f"nothing is possible for {named(name)}"
     for one, other in itertools.combinations([name for name in kept if by_item[name]], 2):
         if clash_always(problem, by_item, one, other):
-            yield f"each option that names {quoted(one)} clashes with each that names {quoted(other)}"
+            yield (f"each option that names {quoted(one)} clashes with each that names {quoted(other)}" if is_bare else
+                   f"each way for {named(one)} clashes with each for {named(other)}")
 
 
 def explain(problem: Problem, kept: list[bytes], asked: int) -> Iterator[str]:
     """All lines on the items that were found."""
     by_item = problem.options_by_item()
     searches = f"{asked:,} {'search' if asked == 1 else 'searches'}"
-    yield f"{plural(len(kept), 'primary item')} of {problem.primary:,} can't be covered together ({searches}):"
+    named = in_words(problem)
+    are = f"{plural(len(kept), 'primary item')} of {problem.primary:,} can't be covered" if named is shown else "these can't be had"
+    yield f"{are} together ({searches}):"
     for name in kept:
         lines = [problem.options[place].line for place in by_item[name]]
         where = f"in {plural(len(lines), 'option')}, line{'s' * (len(lines) != 1)} {listed(lines, SHOWN)}" if lines else "in no option"
-        yield f"  {shown(name)}: {where}"
-    yield from reasons(problem, kept)
+        yield f"  {shown(name)}: {where}" if named is shown else f"  {named(name)}, in {plural(len(lines), 'way')}"
+    yield from reasons(problem, kept, named)
+
+
+def told_lines(problem: Problem, lines: list[str]) -> list[str]:
+    """Lines for readers, and behind them what numbers in them mean."""
+    return lines + named_numbers(list(map(shown, problem.comments)), list(map(shown, problem.items)), lines)
 
 
 def put_lines(problem: Problem, lines: list[str]) -> None:
-    """Prints these lines, and behind them what numbers in them mean."""
-    print("\n".join(lines + named_numbers(list(map(shown, problem.comments)), list(map(shown, problem.items)), lines)))
+    """Prints these lines for readers."""
+    print("\n".join(told_lines(problem, lines)))
 
 
 def read(path: str) -> tuple[bytes, Problem]:
@@ -151,7 +171,7 @@ def explain_reason(problem: Problem, reason: Reason, path: Optional[str]) -> int
     if not reason.holds(problem):
         stop("the program's reason doesn't hold: added up again, its numbers don't show that there is no cover")
     if path != "-":
-        put_lines(problem, reason.words(problem))
+        put_lines(problem, reason.words(problem, in_words(problem)))
     if path:
         draw(path, problem, reason)
     return 0

@@ -1,0 +1,178 @@
+"""Solves a puzzle or plans a school at once: reads it, asks the program, draws the answer, and says whether it is the only one.
+
+    zarfepoch KIND .. [--out FILE.svg] [--seconds N]
+    zarfepoch --json FILE [--seconds N]
+
+The kinds, and what each reads, are those of examples/generate.py, whose --help describes them, as in
+
+    zarfepoch sudoku puzzle.txt                     draws the answer in the terminal
+    zarfepoch killer killer.txt --out killer.svg    draws it as a picture
+    zarfepoch timetable school.csv --rules rules.csv --csv plan.csv
+                                                    plans a school, and writes the plan as a table too; --plan NAME .. draws the plans of these alone
+
+Of each kind but timetables it is said whether the answer is the only one; --one leaves that out. Where there is no answer, it says why, if the
+program finds a reason without a search. With --seconds N each search ends after N seconds; without, the first goes on until it is decided, and
+the one for another answer for 10 seconds. A timetable is looked for by many short searches first, since one in which the first choices are
+wrong seldom ends. --problem FILE keeps the problem that the program gets.
+
+With --json FILE an object with "options", and perhaps "primary", all other items where it isn't there, and "secondary" is read, in whose options a list of
+two is an item with its colour; the answer is printed as a list of places, or null. Items and colours are texts or numbers. FILE may be -, the
+standard input.
+
+The exit status is 0 where there is an answer, 1 where there is none, 2 for a mistake on the command line or where there is no program, 3 where
+something can't be read, meant or written, and 4 where there is no answer in time; with --json 3 for that too.
+"""
+from __future__ import annotations
+
+import argparse
+import os
+import sys
+from argparse import Namespace
+from typing import Optional
+
+from . import generate
+from .another import beyond, enough, free_name, other_lines
+from .answers import Answered, answered, planned
+from .command_words import as_called, parser_of
+from .cover_files import complain, Problem, put, read_audited, read_problem, stop
+from .cover_reason import found_reason
+from .draw import planned as planned_picture, table_of, write_out
+from .errors import NoProgram
+from .picture_base import Kind
+from .picture_kinds import picture_of
+from .programs import find_program
+from .puzzle_texts import Puzzle
+from .svg_paper import Paper
+from .timetables import Timetable
+from .why_none import in_words, told_lines
+
+NO_ANSWER = 4
+# how long another answer is looked for where no time is told
+OTHER_SECONDS = 10.0
+
+
+def command_line() -> argparse.ArgumentParser:
+    parser = parser_of(__doc__)
+    parser.add_argument("--json", metavar="FILE", help="a problem in JSON, in place of a kind")
+    parser.add_argument("--seconds", metavar="N", type=positive, help="how long a search may take (no limit where it isn't given)")
+    for words in generate.kinds_of(parser):
+        words.add_argument("--out", metavar="FILE.svg", help="where the picture is written, - for the standard output")
+        words.add_argument("--one", action="store_true", help="don't ask whether the answer is the only one")
+        words.add_argument("--problem", metavar="FILE.dlx", help="where the problem is written that the program gets")
+        words.add_argument("--seconds", metavar="N", type=positive, default=argparse.SUPPRESS, help="how long a search may take")
+        if words.prog.endswith("timetable"):
+            words.add_argument("--csv", metavar="PLAN.csv", help="where the plan is written as a table, - for the standard output")
+            words.add_argument("--plan", metavar="NAME", nargs="+", action="extend", default=[], help="whose plans are drawn, as draw.py does")
+    return parser
+
+
+def positive(text: str) -> float:
+    """A number above 0 on the command line."""
+    number = float(text)
+    if not number > 0:
+        raise ValueError
+    return number
+
+
+def asked(program: str, puzzle: Puzzle, given: Namespace) -> Answered:
+    """The program's answer; ends the command where there is none in time, or the program fails."""
+    if isinstance(puzzle, Timetable):
+        found = planned(program, puzzle, bool(given.keep), given.seconds)
+    else:
+        found = answered(program, puzzle.text(), given.seconds)
+    if found.status == 4:
+        stop(f"no answer: {found.why}" if found.why else "no answer", NO_ANSWER)
+    if not (found.status == 0 and found.text.startswith(b"cover ") or (found.status, found.text) == (1, b"none\n")):
+        stop(f"the program {program} ended with status {found.status}, and wrote no answer" + (f": {found.why}" if found.why else ""), 3)
+    if found.why:
+        complain(found.why)
+    return found
+
+
+def only_words(program: str, problem: Problem, answer: bytes, seconds: Optional[float]) -> str:
+    """Whether an answer is the only one, in a sentence."""
+    chosen = [problem.options[place].words for _, place in read_audited(answer, problem).chosen]
+    other = free_name(problem, b"other")
+    lines = list(other_lines(problem, [chosen], other))
+    if beyond(lines):
+        lines = list(other_lines(problem, [enough(problem, chosen)], other))
+    too_large = beyond(lines)
+    if too_large:
+        return f"Whether it is the only solution can't be asked: that problem would have {too_large}."
+    limit = seconds or OTHER_SECONDS
+    found = answered(program, b"".join(line + b"\n" for line in lines), limit)
+    told = {0: "There is another solution.", 1: "It is the only solution."}
+    return told.get(found.status, f"Whether it is the only solution wasn't decided in {limit:g} seconds; --seconds N gives more.")
+
+
+def draw(given: Namespace, picture: Kind, title: str) -> None:
+    """Draws an answer in the terminal, or as a picture and as a table where the command line wants them."""
+    if given.out:
+        paper = Paper(title)
+        picture.draw(paper)
+        write_out(given.out, paper.svg())
+    if getattr(given, "csv", None):
+        write_out(given.csv, table_of(picture))
+    if not given.out and getattr(given, "csv", None) != "-":
+        print("\n".join(picture.text()))
+
+
+def tell_none(program: str, text: bytes, problem: Problem) -> None:
+    """Says that there is no solution, and why, where that takes no search."""
+    print("There is no solution.")
+    reason = found_reason(program, text)
+    if reason and reason.holds(problem):
+        print("\n".join(told_lines(problem, reason.words(problem, in_words(problem)))))
+
+
+def solved(program: str, puzzle: Puzzle, given: Namespace) -> int:
+    """Answers one problem and draws it; the exit status."""
+    text = puzzle.text()
+    problem = read_problem(text)
+    found = asked(program, puzzle, given)
+    if found.status == 1:
+        tell_none(program, text, problem)
+        return 1
+    answer = read_audited(found.text, problem)
+    picture = picture_of(problem, [problem.options[place] for _, place in answer.chosen], False)
+    draw(given, planned_picture(picture, getattr(given, "plan", [])), puzzle.comments[0])
+    if not given.one and not isinstance(puzzle, Timetable) and given.out != "-":
+        sys.stdout.flush()
+        print(only_words(program, problem, found.text, given.seconds))
+    return 0
+
+
+def in_parts(given: Namespace, number: int, count: int) -> Namespace:
+    """What the command line wants of one of several parts: files have its number in their names."""
+    if count == 1:
+        return given
+    own = Namespace(**vars(given))
+    for name in ("out", "csv", "problem"):
+        path = getattr(given, name, None)
+        if path and path != "-":
+            base, ending = os.path.splitext(path)
+            setattr(own, name, f"{base}-{number}{ending}")
+    return own
+
+
+def solve_kind(given: Namespace, words: list[str]) -> int:
+    """Answers what a kind and its words ask for; the exit status."""
+    try:
+        program = find_program()
+    except NoProgram as why:
+        stop(why)
+    found = generate.problems_of(given, words)
+    statuses = []
+    for number, puzzle in enumerate(found, 1):
+        own = in_parts(given, number, len(found))
+        if own.problem:
+            try:
+                put(own.problem, puzzle.text().decode())
+            except OSError as why:
+                stop(f"{own.problem} can't be written: {why.strerror}", 3)
+        statuses.append(solved(program, puzzle, own))
+    return max(statuses)
+
+
+def kind_missing() -> str:
+    return as_called("a KIND is missing, as in: zarfepoch sudoku FILE; examples/generate.py --help describes all of them")

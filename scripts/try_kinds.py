@@ -1,0 +1,206 @@
+#!/usr/bin/env python3
+"""Tries the command zarfepoch KIND: a puzzle or a school from its text to its answer, drawn, with whether it is the only one.
+
+    python3 scripts/try_kinds.py [--program PROGRAM] [--times N]
+
+Of each kind N puzzles are drawn by lot (1 where no number is given). What is drawn is tested by the kind's own rules, which know nothing of items and
+options; whether an answer is the only one is compared with puzzles of which that is known. Reasons are told in the words of the puzzle. Sudokus in
+all spellings are one, and texts that can't be meant are refused. Pages that are made of the commands' help have all their options.
+
+It wants the program: (cd crates/solve_cli && rt run -- --version) builds it. The last line is 'N passed, M failed'. The exit status is 0 where all
+passed, 1 where something failed, 2 for a mistake on the command line or where there is no program.
+"""
+from __future__ import annotations
+
+import os
+import random
+import re
+import subprocess
+import sys
+import tempfile
+from typing import Optional
+from xml.etree import ElementTree
+
+from built import number_from_one, parser_of, path_of, SOLVE_CLI, TOP, want_program
+from expected import Trial
+from plan_rules import faults
+from try_generate import PUZZLES
+
+ONLY, OTHER = "It is the only solution.", "There is another solution."
+UNIQUE = "8..........36......7..9.2...5...7.......457.....1...3...1....68..85...1..9....4.."
+
+
+class Solving(Trial):
+    def __init__(self, program: str, folder: str) -> None:
+        super().__init__()
+        self.folder, self.environment = folder, {**os.environ, "ZARFEPOCH": program}
+
+    def path(self, name: str, text: Optional[str] = None) -> str:
+        path = os.path.join(self.folder, name)
+        if text is not None:
+            with open(path, "w", encoding="utf-8") as opened:
+                opened.write(text)
+        return path
+
+    def run(self, *words: str, program: Optional[str] = None, script: str = "scripts/zarfepoch.py") -> tuple[int, list[str], str]:
+        """The exit status, the lines of the standard output, and standard error."""
+        environment = {**self.environment, **({"ZARFEPOCH": program} if program else {})}
+        ended = subprocess.run([sys.executable, os.path.join(TOP, script), *words], capture_output=True, text=True, env=environment, timeout=300)
+        return ended.returncode, ended.stdout.splitlines(), ended.stderr
+
+
+def all_kinds(trial: Solving, times: int) -> None:
+    """Each kind, from its text to the drawn answer, in one command."""
+    draw = random.Random(5)
+    for kind, (drawn, words, further) in PUZZLES.items():
+        for number in range(times):
+            text, is_right = drawn(draw)
+            paths = [trial.path(f"{kind}-{k}.txt", one) for k, one in enumerate(text if isinstance(text, tuple) else (text,))]
+            told = paths if words != ["board"] else [paths[0], "--pieces", paths[1]]
+            status, lines, errors = trial.run(*words, *told, *further, "--seconds", "60")
+            trial.expect(f"{kind} {number}: {errors} {lines}", status == 0 and is_right(lines[:-1]))
+            trial.expect(f"{kind} {number}: {lines[-1:]}", lines[-1] in (ONLY, OTHER))
+
+
+def only_ones(trial: Solving) -> None:
+    """Whether an answer is the only one."""
+    grid = trial.path("grid.txt", "..\n#.\n")
+    for words, told in ((["sudoku", UNIQUE], ONLY), (["sudoku", "." * 16], OTHER), (["langford", "3"], OTHER), (["queens", "1"], ONLY), (["queens", "6"], OTHER),
+                        (["killer", os.path.join(TOP, "examples", "killer.txt")], ONLY), (["crossword", grid, trial.path("one.txt", "ab bc\n")], ONLY),
+                        (["crossword", grid, trial.path("two.txt", "ab bc bd\n")], OTHER),
+                        (["nonogram", trial.path("cross.txt", "1\n3\n1\n\n1\n3\n1\n")], ONLY), (["nonogram", trial.path("two-by-two.txt", "1\n1\n\n1\n1\n")], OTHER)):
+        status, lines, errors = trial.run(*words)
+        trial.expect(f"{words}: {lines[-1:]} {errors}", status == 0 and lines[-1] == told)
+        trial.expect(f"{words} with --one", trial.run(*words, "--one")[1][-1] not in (ONLY, OTHER))
+    large = trial.path("large.txt", "\n".join(["30"] * 30) + "\n\n" + "\n".join(["30"] * 30) + "\n")
+    trial.expect("a board of 30 by 30", trial.run("nonogram", large)[1][-1] == ONLY)
+
+
+# what can't be, each with words that have to be told
+NONE = ((["queens", "3"], "There is no solution."), (["langford", "5"], "each option names an even number of these items"),
+        (["board", "3x3", "--pieces", "4*I2 I1"], ""),
+        (["dominoes", "4x4", "--without", "0,0", "3,3"], "each of these needs one: row 1 column 2"))
+
+
+def reasons(trial: Solving) -> None:
+    """What is told where there is no answer, in the puzzle's words."""
+    for words, told in (*NONE, (["sudoku", trial.path("four.txt", "12..\n..3.\n....\n...3\n")], "nothing is possible for a 3 in box 1")):
+        status, lines, errors = trial.run(*words)
+        trial.expect(f"{words}: {status} {lines} {errors}", status == (1 if told else 0) and told in "\n".join(lines))
+    cubes = trial.path("cubes.txt", "one r r r r r r\ntwo r r r r r b\n")
+    made = trial.path("cubes.dlx")
+    trial.run("cubes", cubes, "--out", made, script="examples/generate.py")
+    told = "\n".join(trial.run(made, script="scripts/why_none.py")[1])
+    trial.expect(f"cubes: {told}", "the cube two" in told and "b in front" in told)
+    table = trial.path("few.csv", "lesson,teacher,class,rooms,periods\na,ann,5a,r,1 2\nb,ann,5b,r,1 2\nc,bob,5a,,1 2\nd,bob,5b,,2\ne,cy,5b,r,2 3\n")
+    status, lines, errors = trial.run("timetable", table)
+    trial.expect(f"a timetable: {status} {lines} {errors}", status in (0, 1))
+
+
+def schools(trial: Solving) -> None:
+    """A school in one command: its plan as a table, and as pictures of some."""
+    table, rules = (os.path.join(TOP, "examples", name) for name in ("school.csv", "rules.csv"))
+    plan = trial.path("plan.csv")
+    status, lines, errors = trial.run("timetable", table, "--rules", rules, "--csv", plan, "--plan", "5a", "bell")
+    trial.expect(f"a plan: {status} {errors} {lines[:2]}", status == 0 and [line.split()[0] for line in lines if "Mon" in line] == ["bell", "5a"][::-1] or
+                 [line.split()[0] for line in lines if "Mon" in line] == ["bell", "5a"])
+    with open(table, encoding="utf-8") as lessons, open(rules, encoding="utf-8") as ruled, open(plan, encoding="utf-8") as planned:
+        found = faults(lessons.read().replace("hours", "times"), ruled.read(), planned.read())
+    trial.expect(f"the plan is right: {found}", not found)
+    status, lines, errors = trial.run("timetable", table, "--rules", rules, "--keep", plan, "--csv", "-")
+    with open(plan, encoding="utf-8") as planned:
+        trial.expect(f"the plan is kept: {errors}", status == 0 and lines == planned.read().splitlines())
+    rows = [f"l{k};{one}t{k % 9};{one}{k // 9};;;3;;1" for one in "ab" for k in range(54)]
+    large = trial.path("two.csv", "\n".join(["lesson;teacher;class;rooms;periods;times;length;a_day", *rows]) + "\n")
+    week = trial.path("week.csv", "who;periods\nall;Mon-Fri1-6\n")
+    status, lines, errors = trial.run("timetable", large, "--rules", week, "--csv", trial.path("parts.csv"), "--plan", "classes")
+    parts = sorted(name for name in os.listdir(trial.folder) if name.startswith("parts-"))
+    trial.expect(f"two parts: {status} {errors} {parts}", status == 0 and parts == ["parts-1.csv", "parts-2.csv"])
+
+
+def written(trial: Solving) -> None:
+    """Files that are wanted, and exit statuses."""
+    picture, problem = trial.path("picture.svg"), trial.path("problem.dlx")
+    status, lines, _ = trial.run("sudoku", UNIQUE, "--out", picture, "--problem", problem)
+    trial.expect("a picture", status == 0 and lines == [ONLY] and ElementTree.parse(picture).getroot().tag.endswith("svg"))
+    trial.expect("the problem", trial.run(problem, script="scripts/explain.py")[0] == 0)
+    status, lines, _ = trial.run("sudoku", UNIQUE, "--out", "-")
+    trial.expect("a picture on the standard output", status == 0 and ElementTree.fromstring("\n".join(lines)).tag.endswith("svg"))
+    rows: tuple[tuple[str, list[str], int], ...] = (
+        ("no kind", [], 2), ("an unknown kind", ["sudokus", "x"], 2), ("a file that isn't there", ["jigsaw", "nothing.txt"], 3),
+        ("too little time", ["langford", "60", "--seconds", "1"], 4), ("plain by counting", ["sudoku", "11" + "." * 14], 1),
+        ("a folder that isn't there", ["queens", "4", "--out", "nothing/x.svg"], 3))
+    for what, words, wanted in rows:
+        status, lines, errors = trial.run(*words)
+        trial.expect(f"{what}: {status} {errors}", status == wanted and errors.startswith("zarfepoch: ") | errors.startswith("usage: ") and "Traceback" not in errors)
+    for program, wanted in (("/dev/null", 2), ("/bin/false", 3), ("/bin/true", 3)):
+        status, _, errors = trial.run("queens", "4", program=program)
+        trial.expect(f"the program {program}: {status} {errors}", status == wanted and "Traceback" not in errors)
+
+
+SUDOKU = """5 3 . . 7 . . . .\n6 . . 1 9 5 . . .\n. 9 8 . . . . 6 .\n8 . . . 6 . . . 3\n4 . . 8 . 3 . . 1\n7 . . . 2 . . . 6
+. 6 . . . . 2 8 .\n. . . 4 1 9 . . 5\n. . . . 8 . . 7 9\n"""
+
+
+def spellings(trial: Solving) -> None:
+    """One sudoku in many spellings; boxes in both ways; words in capitals and small letters."""
+    bare = SUDOKU.replace(" ", "")
+    texts = {"commas": SUDOKU.replace(" ", ",").replace(".", ""), "semicolons": SUDOKU.replace(" ", ";").replace(".", ""),
+             "tabs": SUDOKU.replace(" ", "\t").replace(".", ""), "commas at the ends": SUDOKU.replace(" ", ",").replace(".", "").replace("\n", ",\n"),
+             "titles": f"# Monday 12 March, hard\n{SUDOKU}\nvery hard\n", "a title and blanks": "No. 123\n" + bare.replace(".", " "),
+             "a title in one line": "Sudoku 7\n\n" + bare, **{mark: bare.replace(".", mark) for mark in "-*x?0_\u00b7"}}
+    wanted = trial.run("sudoku", trial.path("sudoku.txt", SUDOKU), script="examples/generate.py")[1][1:]
+    for what, text in texts.items():
+        status, lines, errors = trial.run("sudoku", trial.path("sudoku.txt", text), script="examples/generate.py")
+        trial.expect(f"a sudoku with {what}: {errors}", status == 0 and lines[1:] == wanted)
+    six = trial.path("six.txt", "6.....\n..6...\n" + "......\n" * 4)
+    status, _, errors = trial.run("sudoku", six)
+    trial.expect(f"boxes of two rows: {errors}", status == 1 and "--boxes 3x2 turns them" in errors and "line 2" in errors)
+    status, lines, errors = trial.run("sudoku", six, "--boxes", "3x2", "--one")
+    rows = [line.replace("|", " ").split() for line in lines if re.search(r"\d", line)]
+    boxes = [{rows[r][c] for r in range(top, top + 3) for c in range(left, left + 2)} for top in (0, 3) for left in (0, 2, 4)]
+    trial.expect(f"boxes of three rows: {lines} {errors}", status == 0 and all(len(box) == 6 for box in boxes))
+    trial.expect("boxes that can't be", trial.run("sudoku", six, "--boxes", "2x2")[0] == 3)
+    grid, words = trial.path("grid.txt", "..\n#.\n"), trial.path("words.txt", "AB\nbc\nx\nx1y\n")
+    trial.expect("capitals", trial.run("crossword", grid, words)[0] == 3)
+    status, lines, errors = trial.run("crossword", grid, words, "--ignore-case")
+    trial.expect(f"capitals and small letters: {lines} {errors}", status == 0 and lines[:2] == ["a b", "  c"] and "2 words of 4" in errors)
+    pieces = trial.path("pieces.txt", "A\nxx.\n.xx\nB\nxx\n")
+    status, _, errors = trial.run("board", "2x3", "--pieces", pieces)
+    trial.expect(f"pieces without an empty line: {errors}", status == 3 and "line 4" in errors and "an empty line parts it" in errors)
+    trial.expect("pieces of capitals", trial.run("board", "2x2", "--pieces", trial.path("capital.txt", "A\nXX\nXX\n"))[0] == 0)
+
+
+def pages(trial: Solving) -> None:
+    """Man pages and completions of all commands, from their help."""
+    folder = trial.path("pages")
+    status, _, errors = trial.run(folder, script="scripts/command_pages.py")
+    trial.expect(f"the pages: {errors}", status == 0 and len(os.listdir(folder)) == 27)
+    for name, words, options in (("zarfepoch", "zarfepoch timetable --", {"--rules", "--keep", "--csv"}), ("zarfepoch", "zarfepoch sud", {"sudoku"}),
+                                 ("zarfepoch-generate", "zarfepoch-generate ", {"timetable", "--help"}), ("zarfepoch-draw", "zarfepoch-draw --", {"--svg"})):
+        function = "_" + name.replace("-", "_")
+        typed = words.strip() + (" ''" if words.endswith(" ") else "")
+        code = ('source "$0"; COMP_WORDS=(' + typed + '); COMP_CWORD=$((${#COMP_WORDS[@]} - 1)); ' + function + '; printf "%s\\n" "${COMPREPLY[@]}"')
+        ended = subprocess.run(["bash", "-c", code, os.path.join(folder, f"{name}.bash")], capture_output=True, text=True, cwd="/")
+        trial.expect(f"completion of {words}: {ended.stdout} {ended.stderr}", options <= set(ended.stdout.split()))
+    with open(os.path.join(folder, "zarfepoch-draw.1"), encoding="utf-8") as opened:
+        page = opened.read()
+    trial.expect("a man page", page.startswith('.TH ZARFEPOCH-DRAW 1 "" "zarfepoch ') and "\\-\\-csv" in page and "scripts/" not in page)
+
+
+def main() -> int:
+    parser = parser_of(__doc__)
+    parser.add_argument("--program", type=path_of, default=SOLVE_CLI, help="the built program (default crates/solve_cli/out/solve_cli)")
+    parser.add_argument("--times", type=number_from_one, default=1, metavar="N", help="how many puzzles of each kind (default 1)")
+    given = parser.parse_args()
+    want_program(given.program)
+    with tempfile.TemporaryDirectory(prefix="try-kinds-") as folder:
+        trial = Solving(given.program, folder)
+        all_kinds(trial, given.times)
+        for tests in (only_ones, reasons, schools, written, spellings, pages):
+            tests(trial)
+    return trial.end()
+
+
+if __name__ == "__main__":
+    sys.exit(main())
