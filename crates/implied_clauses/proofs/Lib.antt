@@ -1,0 +1,5 @@
+mod Adding
+pub mod Assuming
+pub mod Clashing
+mod Implying
+mod Refuting

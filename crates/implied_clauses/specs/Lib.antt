@@ -1,0 +1,4 @@
+pub mod Clauses
+pub mod Following
+pub mod Items
+pub mod Rests
