@@ -1,5 +1,5 @@
 #!/usr/bin/env python3
-"""Checks the pages: the names in them, their links, words, lengths and tables of options.
+"""Checks the pages: the names in them, their links, words and tables of options.
 
     python3 scripts/check_pages.py [PAGE ..]
 
@@ -13,8 +13,8 @@ Without a PAGE it checks every page (*.md) of the repository. Names are read in 
 Words of capitals alone are places that a reader fills in. The code is what is in crates, scripts, bench, examples and python, without pages,
 bugs and the comments of Rattle; names of files count too.
 
-The target of each link exists, and its heading. Outside of code no page uses a word of REFUSED, and none is longer than LIMITS says. No
-comment of Rattle uses a word of REFUSED_IN_COMMENTS.
+The target of each link exists, and its heading. Outside of code no page uses a word of REFUSED. No comment of Rattle uses a word of
+REFUSED_IN_COMMENTS.
 The options in the tables of README, SOLVE and SIMULATE are those of the program's help, and README has a row for each command. The
 version is the same in the program, in the package for Python, in CITATION.cff and at the top of CHANGELOG.md.
 
@@ -28,7 +28,6 @@ import os
 import re
 import sys
 from collections.abc import Iterator
-from typing import Optional
 
 from built import TOP, parser_of, stop
 
@@ -43,14 +42,6 @@ REFUSED = ("tells", "stands", "anew", "want of memory", "of which no clause spea
 REFUSED_IN_COMMENTS = ("anew", "want of", "tells whether", "tells of", "told by")
 # where a comment begins in Rattle's files
 COMMENT_MARKS = {".rt": "//", ".antt": "--"}
-# how many words a page may have, and the pages of all crates together
-LIMITS = {
-    "README.md": 1060, "CONTRIBUTING.md": 1100, "docs/MACHINES.md": 750, "python/README.md": 1000,
-    "docs/PROMISES.md": 1000, "docs/PROTOCOL.md": 2400, "docs/SOLVE.md": 2000, "docs/DEFINITIONS.md": 600, "docs/GATE.md": 450,
-    "docs/DECISIONS.md": 4300, "docs/FORMAT.md": 1300, "docs/SIMULATE.md": 800, "docs/TOUR.md": 2300,
-    "bench/README.md": 2200, "bench/REASONS.md": 900, "bench/TRIED.md": 600, "examples/README.md": 2600, "examples/DECISIONS.md": 1200,
-}
-CRATE_LIMIT, CRATES_LIMIT = 750, 8000
 # the command whose options a page's table lists, and the file that has the help
 TABLES = {"docs/SOLVE.md": "solve", "docs/SIMULATE.md": "simulate"}
 # where the version stands, each with what stands around it; it is the same in all
@@ -221,24 +212,6 @@ def refused_in(prose: str, refused: tuple[str, ...]) -> Iterator[Mistake]:
         yield number, f'"{" ".join(word.split())}" is no plain English'
 
 
-def length_of(page: str) -> int:
-    """How many words a page has."""
-    with open(page, encoding="utf-8") as file:
-        return len(file.read().split())
-
-
-def limit_of(name: str) -> Optional[int]:
-    """How many words a page may have, if there is a limit."""
-    return CRATE_LIMIT if re.fullmatch(r"crates/\w+/README\.md", name) else LIMITS.get(name)
-
-
-def lengths_in(page: str, name: str) -> Iterator[Mistake]:
-    """A page that is too long."""
-    limit, length = limit_of(name), length_of(page)
-    if limit and length > limit:
-        yield 1, f"{length} words, more than {limit}"
-
-
 def options_of(function: str, bodies: dict[str, str]) -> set[str]:
     """The options that a function of the program's help adds, with those of the functions that it calls."""
     body = bodies[function]
@@ -306,7 +279,7 @@ def mistakes_in(page: str, repository: Repository) -> tuple[list[Mistake], list[
     name = os.path.relpath(page, TOP).replace(os.sep, "/")
     prose = prose_of(page)
     names = list(missing_in(page, prose, repository))
-    others = [*refused_in(prose, REFUSED), *lengths_in(page, name), *options_wrong_in(page, name)]
+    others = [*refused_in(prose, REFUSED), *options_wrong_in(page, name)]
     return names, others
 
 
@@ -325,19 +298,12 @@ def main() -> int:
         for number, what in sorted(names + others):
             print(f"{os.path.relpath(page, TOP)}:{number}: {what}")
         missing, wrong = missing + len(names), wrong + len(others)
-    for name in () if given else sorted(LIMITS.keys() - set(repository.paths)):
-        print(f"{name}: there is no such page")
-        wrong += 1
     for what in () if given else refused_in_comments(repository.paths):
         print(what)
         wrong += 1
     said = versions()
     if len(set(said.values())) > 1 and not given:
         print("the versions differ: " + ", ".join(f"{path} {version}" for path, version in said.items()))
-        wrong += 1
-    together = sum(map(length_of, glob.glob(os.path.join(TOP, "crates", "*", "README.md"))))
-    if together > CRATES_LIMIT and not given:
-        print(f"crates/*/README.md: {together} words, more than {CRATES_LIMIT}")
         wrong += 1
     print(f"{len(pages)} pages, {missing} names that are not there, {wrong} other mistakes")
     return 1 if missing or wrong else 0
