@@ -16,6 +16,7 @@ all as it was before, and the same call, made again, has to give what the test's
 - search_tests searches prefixes, which have to come back.
 - file_tests reads problems and answers.
 - wire_tests reads packets.
+- clause_tests takes the first clauses of problems, and learns more.
 
 For each kind of call the table has how many growths it takes, the least and the most, and with two lists too, how many were refused,
 how many of these the call answered with `Memory`, and how many runs went wrong. --list only lists the calls with their
@@ -37,7 +38,7 @@ from typing import NamedTuple
 from built import parser_of, program_of, stop, TOP, want_command
 
 CRATES = ("core_tests", "table_tests", "audit_tests", "wire_tests", "file_tests", "search_tests", "engine_tests",
-          "book_tests", "world_tests")
+          "book_tests", "world_tests", "clause_tests")
 CAREFUL = "refused_memory"
 CORES = "core_tests"
 # The kinds of calls by their numbers, with the place of each; those of cores are at a node or at the registry.
@@ -47,6 +48,8 @@ KINDS = [(event, CORES) for event in (
 KINDS += [("spawn", "table"), ("spawn within a page", "table"), ("GiveMany", CORES), ("audit", "books"), ("read_problem", "file"),
           ("read_answer", "file"), ("read_packet", "bytes"), ("find", "search"), ("step", "world"), ("run", "world"), ("act", "cell"),
           ("alone_engine", "engine"), ("check_engine", "engine"), ("alone_within", "engine"), ("check_within", "engine")]
+# Two more, between the numbers of the others.
+CLAUSES = {98: "learn", 99: "first clauses"}
 SHORT = 7
 # The bugs outside the gate that no contract refuses and no test finds but where memory is refused, each with the tests that find it:
 # what was refused memory once is refused it for ever.
@@ -72,6 +75,8 @@ class Told(NamedTuple):
 def told(line: str) -> Told:
     """What a line of refuse_growth.c tells."""
     number, growths, refused, memory = map(int, line.split())
+    if number in CLAUSES:
+        return Told(CLAUSES[number], "clauses", False, growths, refused, memory == 1)
     name, place = KINDS[number // 4]
     if place == CORES:
         place = "registry" if number // 2 % 2 == 1 else "node"
