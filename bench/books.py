@@ -7,7 +7,7 @@
 Sites with threads search each instance that is named, or four of them, over links in memory. The table says how long the run
 took, how many processors it used on average from its start to its end, the visits that were made by searches which were spent
 (those are made again) as a part of the visits that a plain search makes, how many searches were posted, the entries of the
-fullest book, how many names a node used at most, how many turns a thread took that took the most, and in how many one waited.
+fullest book, how many names a node used at most, and how many turns a thread took that took the most.
 
 `--long` lets one node of four workers search Langford pairs of 13 behind choices that make the work 960 times as much, which
 takes some fifteen minutes on four processors, and prints a line each minute: how many processors were used in it.
@@ -63,8 +63,8 @@ def watch(process: subprocess.Popen[str]) -> None:
 
 
 def run(file: str, nodes: int, workers: int, is_watched: bool = False) -> Ran:
-    """The seconds of a run, those of processors, whether an answer was published, what each site tells of its end (losses, turns,
-    waits), and the entries, searches, lost visits and names of each book."""
+    """The seconds of a run, those of processors, whether an answer was published, what each site tells of its end (losses,
+    turns), and the entries, searches, lost visits and names of each book."""
     start, before = time.monotonic(), resource.getrusage(resource.RUSAGE_CHILDREN)
     words = [RUN_TALLY, file, str(nodes), str(workers), "1", "1000", "1000000"]
     with subprocess.Popen(words, stdout=subprocess.PIPE, text=True) as process:
@@ -83,9 +83,9 @@ def tell(name: str, visits: int, nodes: int, workers: int, ran: Ran) -> None:
     seconds, processors, answered, sites, books = ran
     lost = sum(book[2] for book in books) / visits
     searches, entries, names = sum(book[1] for book in books), max(book[0] for book in books), max(book[3] for book in books)
-    turns, waits = max(site[1] for site in sites), max(site[2] for site in sites)
+    turns = max(site[1] for site in sites)
     print(f"| {name} | {nodes} x {workers} | {seconds:.2f} | {processors / seconds:.2f} | {'yes' if answered else 'no'} "
-          f"| {lost:.1%} | {searches:,} | {entries:,} | {names:,} | {turns:,} | {waits:,} |", flush=True)
+          f"| {lost:.1%} | {searches:,} | {entries:,} | {names:,} | {turns:,} |", flush=True)
 
 
 def main() -> None:
@@ -101,8 +101,8 @@ def main() -> None:
         subprocess.run([sys.executable, os.path.join(HERE, "instances.py"), folder], check=True)
         behind(folder, "skewed", [], True)
         print("| Instance | Nodes x workers | Seconds | Processors | Answer | Visits made twice | Searches | Fullest book "
-              "| Most names | Most turns | Most waits |")
-        print("|---|---|---|---|---|---|---|---|---|---|---|")
+              "| Most names | Most turns |")
+        print("|---|---|---|---|---|---|---|---|---|---|")
         if given.long:
             counts = [2] * 6 + [3, 5]
             behind(folder, "long", counts)

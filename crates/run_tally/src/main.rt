@@ -58,14 +58,10 @@ fn tell_sites<R: Threads + Wait + Clock + Sync>(
     tell_tallies(rt, &end.tallies)
 }
 
-/// Prints how each site ended, with its losses, and its turns and waits.
+/// Prints how each site ended, with its losses and turns.
 fn tell_ends(rt: &HostRuntime, ends: &[SiteEnd]) -> io::Result<()> {
     for end in ends {
-        let taken = end.taken;
-        println!(rt;
-            "{:?} {} {} {}",
-            end.cause, end.losses, taken.turns, taken.waits
-        )?;
+        println!(rt; "{:?} {} {}", end.cause, end.losses, end.turns)?;
     }
     Ok(())
 }
