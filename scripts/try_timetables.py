@@ -62,7 +62,7 @@ class Planning(Trial):
         plan = kept_plan(self.path("before.csv", before), school) if before else None
         [timetable] = timetables(school, plan)
         found = answered(self.program, timetable, plan is not None, 120)
-        return plan_of(timetable.text(), found.text) if found.status == 0 else ""
+        return plan_of(timetable.text(), found.text) if found and found.status == 0 else ""
 
 
 def plan_of(text: bytes, answer: bytes) -> str:
