@@ -19,6 +19,14 @@
     killer FILE                    cages with sums: a letter for each cell, an empty line, sums as a=12 b=7; perhaps given digits behind
     kakuro FILE                    rows of . for white cells, # for black ones, and 16\\24 for a black one with the sum 16 below, 24 on its right
     stars FILE --stars 2           stars in each row, column and region, none of which touch: a letter of its region for each cell
+    dominosa FILE                  rows of numbers, under which each domino of a set lies once: where?
+    tents FILE                     rows of T for trees and dots, each with the number of its tents behind it; the last line has those of columns
+    shikaku FILE                   rows of numbers and dots, which fall into rectangles, each with one number, that of its cells
+    futoshiki FILE                 rows of digits and dots with blanks between, or < or > for which of both is less; in lines between ^ or v stand
+                                   below the cell that is less or more than the one below it
+    kenken FILE                    a letter of its cage for each cell, an empty line, and what cages make: a=12+ b=24x c=3- d=2/ e=4
+    binairo FILE                   rows of 0, 1 and dots: as many of each in each row and column, no three alike side by side, no two rows or
+                                   columns alike; --alike lets these be alike
     triples 7                      lines of three points, any two of 7 points on one line
     coloring FILE                  a map's borders, two names a line; --colors red,green,blue
     matching FILE                  a graph's edges, two names a line
@@ -70,6 +78,7 @@ from typing import Any, Callable, Optional
 
 from .command_words import parser_of
 from . import grids
+from . import number_grids
 from . import puzzles
 from . import sudokus
 from . import timetables
@@ -599,6 +608,19 @@ KINDS: dict[str, Callable[[Namespace, Note], None]] = {
     "stars": lambda given, note: put_down(
         note(f"a star battle: in each row, column and region {given.stars} of the stars, none of which touch"),
         grids.star_battle(given.file, given.stars)),
+    "dominosa": lambda given, note: put_down(
+        note("dominosa: each domino of the set lies once, and each cell is under one"), number_grids.dominosa(given.file)),
+    "tents": lambda given, note: put_down(
+        note("tents: one for each tree, beside it, none of which touch, by their numbers in rows and columns"), number_grids.tents(given.file)),
+    "shikaku": lambda given, note: put_down(
+        note("shikaku: rectangles, each with the number of its cells"), number_grids.shikaku(given.file)),
+    "futoshiki": lambda given, note: put_down(
+        note("futoshiki: each digit once in each row and column, less or more as signs say"), number_grids.futoshiki(given.file)),
+    "kenken": lambda given, note: put_down(
+        note("KenKen: each digit once in each row and column, and cages that make their numbers"), number_grids.kenken(given.file)),
+    "binairo": lambda given, note: put_down(
+        note("binairo: as many noughts as ones in each line, no three alike side by side" + ("" if given.alike else ", no two lines alike")),
+        number_grids.binairo(given.file, given.alike)),
     "coloring": lambda given, note: colored_map(given, note("a colour for each place, and no two neighbours alike")),
     "matching": lambda given, note: matching("-", note("a perfect matching: items are vertices, options edges"), read_pairs(given.file)),
     "timetable": lambda given, note: timetable(given, note("each lesson once, and no teacher, class or room twice at a time")),
@@ -663,7 +685,10 @@ def kinds_of(parser: argparse.ArgumentParser) -> list[argparse.ArgumentParser]:
                        ("timetable", "lessons, as CSV"), ("word-square", "words of one length"), ("nonogram", "lines of numbers"),
                        ("kakuro", "rows of . # and sums as 16\\24"), ("stars", "letters of regions"),
                        ("jigsaw", "digits and dots, an empty line, letters of regions"), ("killer", "letters of cages, an empty line, sums"),
-                       ("cubes", "a name and six colours a line")):
+                       ("cubes", "a name and six colours a line"), ("dominosa", "rows of numbers"),
+                       ("tents", "rows of T and dots with a number each, and a line of numbers"), ("shikaku", "rows of numbers and dots"),
+                       ("futoshiki", "rows of digits and dots with < and >, and lines of ^ and v between"),
+                       ("kenken", "letters of cages, an empty line, what they make as a=12+"), ("binairo", "rows of 0, 1 and dots")):
         kinds.add_parser(kind, aliases=["words"] if kind == "word-square" else []).add_argument("file", metavar="FILE", help=what)
     crossword = kinds.add_parser("crossword")
     crossword.add_argument("grid", metavar="GRID", help="rows of dots, letters and #")
@@ -673,6 +698,7 @@ def kinds_of(parser: argparse.ArgumentParser) -> list[argparse.ArgumentParser]:
     for kind in ("sudoku", "killer"):
         kinds.choices[kind].add_argument("--boxes", metavar="ROWSxCOLUMNS", type=size, help="how many rows and columns a box has, as 4x3")
     kinds.choices["stars"].add_argument("--stars", metavar="N", type=whole_number, default=1, help="how many in each row (default 1)")
+    kinds.choices["binairo"].add_argument("--alike", action="store_true", help="two rows, or two columns, may be alike")
     for kind in ("word-square", "crossword"):
         kinds.choices[kind].add_argument("--repeat", action="store_true", help="a word may come more than once")
     kinds.choices["crossword"].add_argument("--ignore-case", action="store_true", help="capital and small letters are alike")

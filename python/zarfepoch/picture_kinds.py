@@ -6,6 +6,7 @@ import math
 import re
 from typing import Optional
 
+from . import number_pictures
 from .board_pictures import Layers, Tiling
 from .cover_files import Option, Problem
 from .full_names import full_names
@@ -357,7 +358,7 @@ class Cubes(Kind):
         self.caption(paper)
 
 
-KINDS: list[type[Kind]] = [Sudoku, Queens, Langford, Kakuro, Triples, Cubes, Layers, Tiling, Timetable, Colouring, Matching, Squares, Nonogram, Stars, Words]
+KINDS: list[type[Kind]] = [*number_pictures.KINDS, Sudoku, Queens, Langford, Kakuro, Triples, Cubes, Layers, Tiling, Timetable, Colouring, Matching, Squares, Nonogram, Stars, Words]
 
 
 def picture_of(problem: Problem, chosen: list[Option], is_none: bool) -> Kind:
