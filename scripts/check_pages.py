@@ -49,6 +49,7 @@ LIMITS = {
     "docs/PROMISES.md": 1000, "docs/PROTOCOL.md": 2400, "docs/SOLVE.md": 2000, "docs/DEFINITIONS.md": 600, "docs/GATE.md": 450,
     "docs/DECISIONS.md": 4300, "docs/FORMAT.md": 1300, "docs/SIMULATE.md": 800, "docs/TOUR.md": 2300,
     "bench/README.md": 2200, "bench/REASONS.md": 900, "bench/TRIED.md": 600, "examples/README.md": 2600, "examples/DECISIONS.md": 1200,
+    "examples/SCHOOLS.md": 800,
 }
 CRATE_LIMIT, CRATES_LIMIT = 750, 8000
 # the command whose options a page's table lists, and the file that has the help

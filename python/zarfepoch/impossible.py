@@ -26,11 +26,12 @@ QUESTION = 1.0
 
 
 class Core(NamedTuple):
-    """Lessons that can't be together, of which none can be left out where all questions were answered; whose they are, and the people and rooms
-    whose rules matter."""
+    """Lessons that can't be together, of which none can be left out where all questions were answered; whose they are, the people and rooms whose
+    rules matter, and whether the time was over before fewer were found."""
     of: str
     lessons: list[Lesson]
     rules: list[str]
+    is_over: bool
 
 
 def some_of(school: School, lessons: Sequence[Lesson], without: Sequence[str] = ()) -> School:
@@ -101,7 +102,8 @@ def core_of(program: str, school: School, seconds: float, is_none: bool) -> Opti
     of, lessons = found or ("", school.lessons)
     lessons = fewest(questions, lessons)
     people = dict.fromkeys(who for lesson in lessons for who in lesson.people() if who in school.rules)
-    return Core(of, lessons, [who for who in people if not questions.is_over() and not questions.is_none(lessons, [who])])
+    return Core(of, lessons, [who for who in people if not questions.is_over() and not questions.is_none(lessons, [who])],
+                questions.is_over())
 
 
 def rule_words(school: School, who: str) -> str:
@@ -115,7 +117,8 @@ def rule_words(school: School, who: str) -> str:
 def core_words(school: School, core: Core) -> list[str]:
     """Lines that tell which rows of the tables can't be together."""
     count = len(core.lessons)
-    lines = [f"{f'Of {core.of}: ' if core.of else ''}{'this row' if count == 1 else f'these {count} rows'} can't be {'given' if count == 1 else 'together'}:"]
+    lines = [f"{f'Of {core.of}: ' if core.of else ''}{'this row' if count == 1 else f'these {count} rows'} can't be {'given' if count == 1 else 'together'}"
+             f"{' (the time was over before fewer were found; --seconds gives more)' if core.is_over else ''}:"]
     for lesson in core.lessons:
         who = "; ".join(filter(None, (" or ".join("+".join(some) for some in lesson.teachers), "+".join(lesson.classes),
                                       " or ".join("+".join(some) for some in lesson.rooms))))
