@@ -117,10 +117,12 @@ def rule_words(school: School, who: str) -> str:
 def core_words(school: School, core: Core) -> list[str]:
     """Lines that tell which rows of the tables can't be together."""
     count = len(core.lessons)
-    lines = [f"{f'Of {core.of}: ' if core.of else ''}{'this row' if count == 1 else f'these {count} rows'} can't be {'given' if count == 1 else 'together'}"
+    these = "this row" if count == 1 else f"these {count} rows"
+    lines = [f"{f'Of {core.of}: {these}' if core.of else these.capitalize()} can't be {'given' if count == 1 else 'together'}"
              f"{' (the time was over before fewer were found; --seconds gives more)' if core.is_over else ''}:"]
     for lesson in core.lessons:
         who = "; ".join(filter(None, (" or ".join("+".join(some) for some in lesson.teachers), "+".join(lesson.classes),
                                       " or ".join("+".join(some) for some in lesson.rooms))))
-        lines.append(f"  line {lesson.line}: {named_lesson(lesson)} ({who}), {told_periods(lesson.periods)}")
+        a_day = f", at most {lesson.a_day} a day" if lesson.a_day and lesson.times > 1 else ""
+        lines.append(f"  line {lesson.line}: {named_lesson(lesson)}{a_day} ({who}), {told_periods(lesson.periods)}")
     return lines + [f"  {rule_words(school, who)}" for who in core.rules]

@@ -156,8 +156,20 @@ def digit_of(mark: str, size: int, symbols: str | None) -> int | None:
     return int(mark) if not symbols and mark.isdecimal() and 1 <= int(mark) <= size else None
 
 
+def refuse_sheet(path: str, text: str, numbers: Sequence[int]) -> None:
+    """Refuses a sheet whose rows have different numbers of cells."""
+    lines = [(place, line) for place, line in enumerate(text.splitlines()) if line.strip()]
+    mark = next((mark for mark in ";,\t" if 2 * sum(mark in line for _, line in lines) > len(lines)), None)
+    lengths = [len(line.split(mark)) for _, line in lines] if mark else []
+    usual = Counter(lengths).most_common(1)[0][0] if lengths else 0
+    other = next((k for k, length in enumerate(lengths) if length != usual), None)
+    if other is not None and path != TYPED:
+        refuse(path, numbers[lines[other][0]], f"this row has {plural(lengths[other], 'cell')}, and most have {usual}")
+
+
 def refuse_shape(path: str, text: str, numbers: Sequence[int]) -> NoReturn:
     """Refuses a text that is no square, with the first line that is shorter or longer than most, or has what no cell is."""
+    refuse_sheet(path, text, numbers)
     lines = bare_lines(text)
     for place, line in lines:
         strange = re.search(r"[^\w\s.|+=*?\u00b7-]", line)
