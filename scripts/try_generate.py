@@ -400,7 +400,7 @@ SQUARE = "aabb\naabb\nccdd\nccdd\n"
 EMPTY = "1...\n....\n....\n....\n"
 # puzzles that nobody can mean: what they are, the exit status, the line that is told, the kind, and the text
 WRONG = (
-    ("a letter in a sudoku", 3, "1", ["sudoku"], "12x4\n....\n....\n....\n"), ("a sudoku of five rows", 3, None, ["sudoku"], "12345\n" * 5),
+    ("a letter in a sudoku", 3, "1", ["sudoku"], "12q4\n....\n....\n....\n"), ("a sudoku of five rows", 3, None, ["sudoku"], "12345\n" * 5),
     ("a digit twice in a column", 1, "2", ["sudoku"], "1...\n1...\n....\n....\n"),
     ("a sudoku with a dot too few", 3, "4", ["sudoku"], ".........\n" * 3 + "........\n" + ".........\n" * 5),
     ("a sudoku with a comma too few", 3, "2", ["sudoku"], "1,,,\n,,\n,,,\n,,,\n"), ("a sudoku with an equals sign", 3, "1", ["sudoku"], "12$$\n" + "....\n" * 3),

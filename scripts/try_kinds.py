@@ -171,6 +171,46 @@ def spellings(trial: Solving) -> None:
     trial.expect("pieces of capitals", trial.run("board", "2x2", "--pieces", trial.path("capital.txt", "A\nXX\nXX\n"))[0] == 0)
 
 
+# puzzles of numbers and signs that nobody can mean, or that plainly have no solution: what they are, the exit status, the line, the kind and the text
+WRONG = (
+    ("a grid that is no set of dominoes", 3, None, "dominosa", "0 1\n1 0\n"), ("a number too large", 3, "2", "dominosa", "0 0 1\n1 2 0\n"),
+    ("a number too often", 1, None, "dominosa", "0 0 1\n1 0 0\n"), ("a row too short", 3, "2", "dominosa", "0 0 1\n1 1\n"),
+    ("a letter in a tents puzzle", 3, "1", "tents", "Tq 1\n.. 0\n1 0\n"), ("a number too few", 3, "2", "tents", "T. 1\n..\n1 0\n"),
+    ("more trees than tents", 1, None, "tents", "TT 1\n.. 0\n1 0\n"), ("tents without room", 1, "1", "tents", "T.. 2\n..T 0\n1 1 0\n"),
+    ("numbers that don't fill a grid", 1, None, "shikaku", "2 .\n. 3\n"), ("a rectangle without room", 1, "1", "shikaku", "3 .\n1 .\n"),
+    ("a letter in a shikaku", 3, "2", "shikaku", "2 .\n. b\n"),
+    ("a sign below no cell", 3, "2", "futoshiki", ". . .\n v\n. . .\n. . .\n"), ("a sign at the end", 3, "1", "futoshiki", ". . <\n. .\n"),
+    ("a digit too large", 3, "2", "futoshiki", ". .\n. 3\n"), ("a chain too long", 1, "1", "futoshiki", ". < . < .\n. . .\n. . .\n".replace("< .\n", "< 1\n")),
+    ("a row of a futoshiki too short", 3, "2", "futoshiki", ". .\n.\n"),
+    ("a cage that makes nothing", 3, "1", "kenken", "ab\nab\n\na=3+\n"), ("a difference of three", 3, "1", "kenken", "aab\nacb\nccb\n\na=1- b=6+ c=6+\n"),
+    ("a product that can't be", 1, "1", "kenken", "aa\nbb\n\na=5* b=3+\n"), ("no operation", 3, "1", "kenken", "aa\nbb\n\na=3 b=3+\n"),
+    ("a cage in two parts", 3, "1", "kenken", "ab\nba\n\na=3+ b=3+\n"), ("two cages of one letter", 3, "4", "kenken", "aa\nbb\n\na=3+ a=3+\n"),
+    ("an odd binairo", 3, None, "binairo", "...\n...\n...\n"), ("a two", 3, "1", "binairo", "2.\n..\n"), ("three ones", 1, "2", "binairo", "....\n111.\n....\n....\n"),
+    ("a given colour of no place", 3, "2", "coloring", "a b\nc=red\n"), ("a given colour that there isn't", 3, "2", "coloring", "a b\na=pink\n"),
+    ("two given colours", 3, "3", "coloring", "a b\na=red\na=blue\n"), ("a hyper sudoku with a digit twice in a window", 1, "3", "hyper", ".........\n.1.......\n..1......\n" + ".........\n" * 6))
+
+
+def number_grids(trial: Solving) -> None:
+    """Kinds of numbers and signs: the examples have one solution each, and what can't be is told with its line."""
+    for kind in ("dominosa", "tents", "shikaku", "futoshiki", "kenken", "binairo"):
+        status, lines, errors = trial.run(kind, os.path.join(TOP, "examples", f"{kind}.txt"))
+        trial.expect(f"{kind}: {lines} {errors}", status == 0 and lines[-1] == ONLY)
+    for what, wanted, line, kind, text in WRONG:
+        words = [kind, trial.path("wrong.txt", text)] if kind != "hyper" else ["sudoku", trial.path("wrong.txt", text), "--hyper"]
+        status, lines, errors = trial.run(*words)
+        trial.expect(f"{what}: {status} {errors}", status == wanted and (line is None or f"line {line}" in errors) and "Traceback" not in errors)
+    status, lines, errors = trial.run("sudoku", os.path.join(TOP, "examples", "hyper.txt"), "--hyper")
+    rows = [re.findall(r"\d", line) for line in lines if re.search(r"\d", line)]
+    windows = [{rows[r][c] for r in range(top, top + 3) for c in range(left, left + 3)} for top in (1, 5) for left in (1, 5)]
+    trial.expect(f"windows: {lines} {errors}", status == 0 and lines[-1] == ONLY and all(len(window) == 9 for window in windows))
+    borders = trial.path("map.txt", "a b\nb c\nc a\nc d\na=rot, d=rot\n")
+    status, lines, errors = trial.run("coloring", borders, "--colors", "rot,gr\u00fcn,blau", "--one", "--out", trial.path("map.svg"))
+    with open(trial.path("map.svg"), encoding="utf-8") as opened:
+        trial.expect("red is red in German", status == 0 and "#f0a39a" in opened.read())
+    lines = trial.run("coloring", borders, "--colors", "rot,gr\u00fcn,blau", "--one")[1]
+    trial.expect(f"given colours: {lines}", lines[0].split() == ["a", "rot"] and lines[3].split() == ["d", "rot"])
+
+
 def pages(trial: Solving) -> None:
     """Man pages and completions of all commands, from their help."""
     folder = trial.path("pages")
@@ -197,7 +237,7 @@ def main() -> int:
     with tempfile.TemporaryDirectory(prefix="try-kinds-") as folder:
         trial = Solving(given.program, folder)
         all_kinds(trial, given.times)
-        for tests in (only_ones, reasons, schools, written, spellings, pages):
+        for tests in (only_ones, reasons, schools, written, spellings, number_grids, pages):
             tests(trial)
     return trial.end()
 

@@ -62,7 +62,7 @@ class Planning(Trial):
         plan = kept_plan(self.path("before.csv", before), school) if before else None
         [timetable] = timetables(school, plan)
         found = answered(self.program, timetable, plan is not None, 120)
-        return plan_of(timetable.text(), found.text) if found.status == 0 else ""
+        return plan_of(timetable.text(), found.text) if found and found.status == 0 else ""
 
 
 def plan_of(text: bytes, answer: bytes) -> str:
@@ -255,6 +255,25 @@ def refusals(trial: Planning) -> None:
     trial.expect(f"no week: {ended.stderr}", ended.returncode == 3 and "nobody knows the week" in ended.stderr)
 
 
+# tables that have no plan for a reason beyond counting, rules, and what has to be told of them
+IMPOSSIBLE = (
+    ("a double lesson and one on each day", "maths;ann;5a;;Mon-Tue1-2;2;;1;;;\nart;bob;5a;;Mon-Tue1-2;1;2;;;;\nmusic;cy;5b;;Mon1;1;;;;;\n", "",
+     "Of 5a: these 2 rows can't be together:\n  line 2: maths 2, at most 1 a day (ann; 5a), Mon1-2 Tue1-2\n  line 3: art 1 x 2 (bob; 5a), Mon1-2 Tue1-2"),
+    ("a hole that has to be", "maths;ann;5a;;Mon1-3;1;;;;;\nart;bob;5a;;Mon1-3;1;;;;;\nmusic;cy;5b;;Mon1-3;1;;;;;\n", "5a;;;;0\nann;Mon1;;;\nbob;Mon3;;;\n",
+     "  ann (line 4 of the rules): can be had in Mon1\n  5a (line 3 of the rules): no holes\n  bob (line 5 of the rules): can be had in Mon3"),
+    ("a teacher whose days are full", "a;ann;5a;;Mon-Tue1-3;2;2;;;;\nb;ann;5b;;Mon-Tue1-3;1;;;;;\nc;bob;5a;;Mon1;1;;;;;\n", "ann;;;2;\n", "line 2, 3: there is no timetable: ann has 5"))
+
+
+def impossible(trial: Planning) -> None:
+    """Of what can't be the rows that can't be together are told, and whose rules matter."""
+    for what, rows, rules, told in IMPOSSIBLE:
+        table, ruled = trial.path("none.csv", f"{HEAD}\n{rows}"), trial.path("none-rules.csv", f"who;periods;away;a_day;holes\nlessons;;;9;\n{rules}")
+        words = [sys.executable, os.path.join(TOP, "scripts", "zarfepoch.py"), "timetable", table, "--rules", ruled]
+        ended = subprocess.run(words, capture_output=True, text=True, env={**os.environ, "ZARFEPOCH": trial.program})
+        said = ended.stdout + ended.stderr
+        trial.expect(f"{what}: {ended.returncode} {said}", ended.returncode == 1 and told.replace("line 2, 3", "lines 2, 3") in said)
+
+
 def parts(trial: Planning) -> None:
     """A school that is too large for one file is parted where classes share nobody and no room, and no further."""
     rows = [f"l{k};{one}t{k % 9};{one}{k // 9};;;3;;1;;;" for one in "ab" for k in range(54)]
@@ -278,7 +297,7 @@ def main() -> int:
         trial = Planning(given.program, folder)
         same_plans(trial, given.times)
         schools(trial, given.times)
-        for tests in (wrong_plans, refusals, parts):
+        for tests in (wrong_plans, refusals, impossible, parts):
             tests(trial)
     return trial.end()
 

@@ -75,14 +75,13 @@ def tries(timetable: Timetable, is_kept: bool) -> Iterator[Timetable]:
     yield from (timetable.in_order(seed) for seed in itertools.count(2))
 
 
-def planned(program: str, timetable: Timetable, is_kept: bool, seconds: Optional[float] = None) -> Answered:
-    """The answer to the problem of a timetable. A search seldom ends once its first choices are wrong, so short searches come first, for half of the
-    time, and then one that decides. A `none` counts only for the problem as it is."""
-    began = time.monotonic()
-    limit = began + (seconds / 2 if seconds else TRY_SECONDS)
+def planned(program: str, timetable: Timetable, is_kept: bool, seconds: float) -> Optional[Answered]:
+    """The answer to the problem of a timetable, where short searches find it in so many seconds: a long one seldom ends once its first choices are
+    wrong. A `none` counts only for the problem as it is."""
+    limit = time.monotonic() + seconds
     whole = len(timetable.options)
     for attempt in itertools.takewhile(lambda _: time.monotonic() < limit, tries(timetable, is_kept)):
         found = shortly(program, attempt)
         if found.status not in (1, 4) or found.status == 1 and len(attempt.options) == whole:
             return found
-    return answered(program, timetable.text(), seconds and max(1.0, seconds - (time.monotonic() - began)))
+    return None

@@ -14,13 +14,21 @@
                                    dots; in place of FILE names, as 'F 3*L4', pentominoes or soma. --no-flips: turned, but not turned over
     sudoku FILE or 8........ ..    digits and dots of 4, 6, 8, 9, 10, 12, 15, 16 or 25 rows, with or without frames and titles; _ - * x ? and 0 are
                                    dots too, blanks in nine lines of nine, and empty cells where , ; or tabs part cells; above nine 1-9 and A-G,
-                                   or numbers with blanks between. --diagonals; --boxes 4x3: boxes of 4 rows and 3 columns (12 rows: else 3x4)
+                                   or numbers with blanks between. --diagonals; --hyper; --boxes 4x3: boxes of 4 rows and 3 columns (12 rows: else 3x4)
     jigsaw FILE                    the same with regions: digits and dots, an empty line, a letter for each cell
     killer FILE                    cages with sums: a letter for each cell, an empty line, sums as a=12 b=7; perhaps given digits behind
     kakuro FILE                    rows of . for white cells, # for black ones, and 16\\24 for a black one with the sum 16 below, 24 on its right
     stars FILE --stars 2           stars in each row, column and region, none of which touch: a letter of its region for each cell
+    dominosa FILE                  rows of numbers, under which each domino of a set lies once: where?
+    tents FILE                     rows of T for trees and dots, each with the number of its tents behind it; the last line has those of columns
+    shikaku FILE                   rows of numbers and dots, which fall into rectangles, each with one number, that of its cells
+    futoshiki FILE                 rows of digits and dots with blanks between, or < or > for which of both is less; in lines between ^ or v stand
+                                   below the cell that is less or more than the one below it
+    kenken FILE                    a letter of its cage for each cell, an empty line, and what cages make: a=12+ b=24x c=3- d=2/ e=4
+    binairo FILE                   rows of 0, 1 and dots: as many of each in each row and column, no three alike side by side, no two rows or
+                                   columns alike; --alike lets these be alike
     triples 7                      lines of three points, any two of 7 points on one line
-    coloring FILE                  a map's borders, two names a line; --colors red,green,blue
+    coloring FILE                  a map's borders, two names a line; --colors red,green,blue; a line as Tirol=red gives a place its colour
     matching FILE                  a graph's edges, two names a line
     timetable FILE.csv             a row for each lesson: lesson,teacher,class,rooms,periods, and what else is wanted of times,length,a_day,apart,
                                    fixed,after (below); --rules FILE.csv, --keep PLAN.csv
@@ -70,6 +78,7 @@ from typing import Any, Callable, Optional
 
 from .command_words import parser_of
 from . import grids
+from . import number_grids
 from . import puzzles
 from . import sudokus
 from . import timetables
@@ -184,6 +193,8 @@ FROM_TEXTS = {
     "diagonals.dlx": ["sudoku", "diagonals.txt", "--diagonals"], "sudoku-16.dlx": ["sudoku", "sudoku-16.txt"],
     "killer.dlx": ["killer", "killer.txt"], "kakuro.dlx": ["kakuro", "kakuro.txt"], "stars.dlx": ["stars", "stars.txt"],
     "board.dlx": ["board", "board.txt", "--pieces", "pieces.txt"], "soma.dlx": ["board", "3x3x3", "--pieces", "soma"],
+    "hyper.dlx": ["sudoku", "hyper.txt", "--hyper"],
+    **{f"{kind}.dlx": [kind, f"{kind}.txt"] for kind in ("dominosa", "tents", "shikaku", "futoshiki", "kenken", "binairo")},
 }
 # the blocks of nine rows and of ten columns
 NONOGRAM = ([[1], [2], [3, 1], [4, 2], [5, 3], [1], [10], [8], [6]],
@@ -254,14 +265,16 @@ def numbered(places: list[str], colors: list[str]) -> dict[str, str]:
     return dict(zip(long, free))
 
 
-def coloring(name: str, note: str, borders: list[Pair], colors: list[str]) -> None:
+def coloring(name: str, note: str, borders: list[Pair], colors: list[str], given: Optional[dict[str, str]] = None) -> None:
+    """Each place has a colour, one that is given or any; a border has each colour on one side at most."""
     numbers = numbered(sorted({place for border in borders for place in border}), colors)
     borders = [(numbers.get(one, one), numbers.get(other, other)) for one, other in borders]
     places = sorted({place for border in borders for place in border})
     edges = ["-".join(sorted(border)) for border in borders]
     options = []
+    known = {numbers.get(place, place): color for place, color in (given or {}).items()}
     for place in places:
-        for color in colors:
+        for color in [known[place]] if place in known else colors:
             options.append([place] + [f"{edge}={color}" for edge in edges if place in edge.split("-")])
     told = [f"name {number}: {place}" for place, number in numbers.items()]
     write(name, note, places, [f"{edge}={color}" for edge in edges for color in colors], options, told)
@@ -353,7 +366,9 @@ def some_words(path: str) -> list[tuple[int, list[str]]]:
 
 def read_pairs(path: str, of_places: bool = False) -> list[Pair]:
     """The two names of each line; those of places become parts of the names of borders."""
-    lines = some_words(path)
+    lines = [(number, words) for number, words in some_words(path) if not (of_places and all("=" in word for word in words))]
+    if not lines:
+        refuse(path, None, "there is no line with two names")
     for number, words in lines:
         if len(words) != 2 or words[0] == words[1]:
             several = "; a blank, a comma or a semicolon parts names, so write New_York for one name" if len(words) > 2 else ""
@@ -530,13 +545,25 @@ def filled_board(given: Namespace) -> Puzzle:
     return filled(read_board(given.file), found, not given.no_flips)
 
 
+def given_colors(path: str, borders: list[Pair], colors: list[str]) -> dict[str, str]:
+    """The colours that lines as Tirol=red give to places."""
+    places, found = {place for border in borders for place in border}, dict[str, str]()
+    for number, words in some_words(path):
+        for place, sign, color in (word.partition("=") for word in words if "=" in word):
+            if place not in places or color not in colors:
+                refuse(path, number, f"'{place}' has no border" if place not in places else f"'{color}' is none of the colours {', '.join(colors)}")
+            if found.setdefault(place, color) != color:
+                refuse(path, number, f"{place} has the colour {found[place]} already")
+    return found
+
+
 def colored_map(given: Namespace, note: str) -> None:
     borders = read_pairs(given.file, of_places=True)
     colors = [color.strip() for color in given.colors.split(",")]
     if "" in colors or len(set(colors)) < len(colors):
         stop(f"--colors takes different names with commas between, not '{given.colors}'")
     pairs = dict.fromkeys((min(pair), max(pair)) for pair in borders)
-    coloring("-", note, list(pairs), colors)
+    coloring("-", note, list(pairs), colors, given_colors(given.file, borders, colors))
 
 
 def squares_on_board(given: Namespace, note: Note) -> None:
@@ -587,7 +614,7 @@ KINDS: dict[str, Callable[[Namespace, Note], None]] = {
     "dominoes": lambda given, note: dominoes("-", note("dominoes fill a board"), board(given)),
     "sudoku": lambda given, note: put_down(
         note("a sudoku: its empty cells, and what rows, columns and boxes still lack"),
-        sudokus.read_sudoku(given.given, is_typed(given.given), given.diagonals, given.boxes).puzzle()),
+        sudokus.read_sudoku(given.given, is_typed(given.given), given.diagonals, given.boxes, given.hyper).puzzle()),
     "jigsaw": lambda given, note: put_down(
         note("a jigsaw sudoku: its empty cells, and what rows, columns and regions still lack"),
         sudokus.read_jigsaw(given.file, given.diagonals).puzzle()),
@@ -599,6 +626,19 @@ KINDS: dict[str, Callable[[Namespace, Note], None]] = {
     "stars": lambda given, note: put_down(
         note(f"a star battle: in each row, column and region {given.stars} of the stars, none of which touch"),
         grids.star_battle(given.file, given.stars)),
+    "dominosa": lambda given, note: put_down(
+        note("dominosa: each domino of the set lies once, and each cell is under one"), number_grids.dominosa(given.file)),
+    "tents": lambda given, note: put_down(
+        note("tents: one for each tree, beside it, none of which touch, by their numbers in rows and columns"), number_grids.tents(given.file)),
+    "shikaku": lambda given, note: put_down(
+        note("shikaku: rectangles, each with the number of its cells"), number_grids.shikaku(given.file)),
+    "futoshiki": lambda given, note: put_down(
+        note("futoshiki: each digit once in each row and column, less or more as signs say"), number_grids.futoshiki(given.file)),
+    "kenken": lambda given, note: put_down(
+        note("KenKen: each digit once in each row and column, and cages that make their numbers"), number_grids.kenken(given.file)),
+    "binairo": lambda given, note: put_down(
+        note("binairo: as many noughts as ones in each line, no three alike side by side" + ("" if given.alike else ", no two lines alike")),
+        number_grids.binairo(given.file, given.alike)),
     "coloring": lambda given, note: colored_map(given, note("a colour for each place, and no two neighbours alike")),
     "matching": lambda given, note: matching("-", note("a perfect matching: items are vertices, options edges"), read_pairs(given.file)),
     "timetable": lambda given, note: timetable(given, note("each lesson once, and no teacher, class or room twice at a time")),
@@ -663,16 +703,21 @@ def kinds_of(parser: argparse.ArgumentParser) -> list[argparse.ArgumentParser]:
                        ("timetable", "lessons, as CSV"), ("word-square", "words of one length"), ("nonogram", "lines of numbers"),
                        ("kakuro", "rows of . # and sums as 16\\24"), ("stars", "letters of regions"),
                        ("jigsaw", "digits and dots, an empty line, letters of regions"), ("killer", "letters of cages, an empty line, sums"),
-                       ("cubes", "a name and six colours a line")):
+                       ("cubes", "a name and six colours a line"), ("dominosa", "rows of numbers"),
+                       ("tents", "rows of T and dots with a number each, and a line of numbers"), ("shikaku", "rows of numbers and dots"),
+                       ("futoshiki", "rows of digits and dots with < and >, and lines of ^ and v between"),
+                       ("kenken", "letters of cages, an empty line, what they make as a=12+"), ("binairo", "rows of 0, 1 and dots")):
         kinds.add_parser(kind, aliases=["words"] if kind == "word-square" else []).add_argument("file", metavar="FILE", help=what)
     crossword = kinds.add_parser("crossword")
     crossword.add_argument("grid", metavar="GRID", help="rows of dots, letters and #")
     crossword.add_argument("file", metavar="WORDS", help="words of any length")
     for kind in ("sudoku", "jigsaw", "killer"):
         kinds.choices[kind].add_argument("--diagonals", action="store_true", help="both diagonals have each digit too")
+    kinds.choices["sudoku"].add_argument("--hyper", action="store_true", help="four windows of 3 by 3 cells have each digit too, one cell from the edge")
     for kind in ("sudoku", "killer"):
         kinds.choices[kind].add_argument("--boxes", metavar="ROWSxCOLUMNS", type=size, help="how many rows and columns a box has, as 4x3")
     kinds.choices["stars"].add_argument("--stars", metavar="N", type=whole_number, default=1, help="how many in each row (default 1)")
+    kinds.choices["binairo"].add_argument("--alike", action="store_true", help="two rows, or two columns, may be alike")
     for kind in ("word-square", "crossword"):
         kinds.choices[kind].add_argument("--repeat", action="store_true", help="a word may come more than once")
     kinds.choices["crossword"].add_argument("--ignore-case", action="store_true", help="capital and small letters are alike")

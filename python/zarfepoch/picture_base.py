@@ -17,6 +17,17 @@ CELL, LARGEST = 40, 1_000
 NONE = "none: the answer is that there is no cover"
 KNOWN_COLOURS = {"red": "#f0a39a", "green": "#b3d9b1", "blue": "#a5c4ee", "yellow": "#f5e08c", "orange": "#f7c08a", "purple": "#cdb3e6",
                  "white": "#ffffff", "grey": "#cccccc", "gray": "#cccccc", "brown": "#cfae8e", "pink": "#f3bfd3"}
+# the same in other languages, each a list of words for one of these
+OTHER_WORDS = {"red": "rot rouge rojo rosso rood", "green": "gr\u00fcn gruen vert verde groen", "blue": "blau bleu azul blu blauw",
+               "yellow": "gelb jaune amarillo giallo geel", "orange": "naranja arancione oranje", "purple": "lila violett violet morado viola paars",
+               "white": "wei\u00df weiss blanc blanco bianco wit", "grey": "grau gris grigio grijs", "brown": "braun brun marr\u00f3n marrone bruin",
+               "pink": "rosa rose roze"}
+KNOWN_COLOURS.update({word: KNOWN_COLOURS[name] for name, words in OTHER_WORDS.items() for word in words.split()})
+
+
+def known_colour(name: str | None) -> str | None:
+    """The colour on a sheet that a word means in some language, in capital or small letters; None for other words."""
+    return KNOWN_COLOURS.get((name or "").casefold()) or KNOWN_COLOURS.get((name or "").lower())
 
 
 def names_of(option: Option) -> Names:

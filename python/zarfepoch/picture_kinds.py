@@ -6,11 +6,12 @@ import math
 import re
 from typing import Optional
 
+from . import number_pictures
 from .board_pictures import Layers, Tiling
 from .cover_files import Option, Problem
 from .full_names import full_names
 from .grid_pictures import Kakuro, Nonogram, Stars, WHITE, Words
-from .picture_base import CELL, Cell, cell_of, draw_lines, Kind, known_cell, KNOWN_COLOURS, Names
+from .picture_base import CELL, Cell, cell_of, draw_lines, Kind, known_cell, known_colour, Names
 from .planar import places
 from .sudoku_pictures import Sudoku
 from .svg_paper import ACCENT, BACKGROUND, FAINT, FILLS, INK, on_circle, Paper, Point, table_text, text_width, WIDEST
@@ -121,7 +122,7 @@ class Colouring(Kind):
         names = sorted({item.rsplit("=", 1)[1] for item in self.secondary()})
         if colour not in names:
             return BACKGROUND
-        return KNOWN_COLOURS.get(colour) or FILLS[names.index(colour) % len(FILLS)]
+        return known_colour(colour) or FILLS[names.index(colour) % len(FILLS)]
 
     def draw(self, paper: Paper) -> None:
         names, colours, full = [item for item in self.items if item in self.primary], self.colours(), full_names(self.comments)
@@ -143,7 +144,9 @@ class Colouring(Kind):
         right, middle = max(x for x, _ in at.values()) + size + 24, sum(y for _, y in at.values()) / len(at)
         for k, (name, text, mark) in enumerate(zip(names, texts[0], marks)):
             told = f"{text}: {colours.get(name, '')}" if mark == text else f"{mark} {text}: {colours.get(name, '')}"
-            paper.text(right, middle + (k - len(names) / 2 + 0.5) * 22, told, 14, "start")
+            y = middle + (k - len(names) / 2 + 0.5) * 22
+            paper.box(right, y - 8, 16, 16, self.fill_of(colours.get(name)), INK, 0.8)
+            paper.text(right + 24, y, told, 14, "start")
         self.caption(paper)
 
     def draw_list(self, paper: Paper, names: list[str], texts: list[str]) -> None:
@@ -313,7 +316,7 @@ class Squares(Kind):
             corners = [(c * size, r * size), ((c + 1) * size, r * size), ((c + 1) * size, (r + 1) * size), (c * size, (r + 1) * size)]
             middle = ((c + 0.5) * size, (r + 0.5) * size)
             for k, colour in enumerate(sides):
-                fill = KNOWN_COLOURS.get(colour) or (FILLS[names.index(colour) % len(FILLS)] if colour else BACKGROUND)
+                fill = known_colour(colour) or (FILLS[names.index(colour) % len(FILLS)] if colour else BACKGROUND)
                 paper.shape([corners[k], corners[(k + 1) % 4], middle], fill, FAINT, 0.5)
             paper.shape(corners, "none", INK, 2.2)
             if name:
@@ -351,13 +354,13 @@ class Cubes(Kind):
         for row, (cube, colours) in enumerate(self.shown().items()):
             paper.text(CELL, (row + 0.5) * CELL, cube, 14)
             for k, colour in enumerate(colours):
-                fill = KNOWN_COLOURS.get(colour) or FILLS[names.index(colour) % len(FILLS)]
+                fill = known_colour(colour) or FILLS[names.index(colour) % len(FILLS)]
                 paper.box((k + 1) * 2 * CELL, row * CELL, 2 * CELL, CELL, fill, INK, 1.2)
                 paper.text((k + 1.5) * 2 * CELL, (row + 0.5) * CELL, colour, 13)
         self.caption(paper)
 
 
-KINDS: list[type[Kind]] = [Sudoku, Queens, Langford, Kakuro, Triples, Cubes, Layers, Tiling, Timetable, Colouring, Matching, Squares, Nonogram, Stars, Words]
+KINDS: list[type[Kind]] = [*number_pictures.KINDS, Sudoku, Queens, Langford, Kakuro, Triples, Cubes, Layers, Tiling, Timetable, Colouring, Matching, Squares, Nonogram, Stars, Words]
 
 
 def picture_of(problem: Problem, chosen: list[Option], is_none: bool) -> Kind:

@@ -1,4 +1,5 @@
-"""Where the program solve_cli is: what ZARFEPOCH names in the environment, else what is on the path, else what was built in this clone."""
+"""Where the program solve_cli is: what ZARFEPOCH names in the environment, else what is on the path, else what was built in this clone, with proofs or,
+if there is no other, without (scripts/build.sh --unproved)."""
 from __future__ import annotations
 
 import os
@@ -7,7 +8,8 @@ from typing import Optional
 
 from .errors import NoProgram
 
-BUILT_HERE = os.path.join(os.path.dirname(os.path.abspath(__file__)), "..", "..", "crates", "solve_cli", "out", "solve_cli")
+CLONE = os.path.join(os.path.dirname(os.path.abspath(__file__)), "..", "..")
+BUILT_HERE, UNPROVED_HERE = os.path.join(CLONE, "crates", "solve_cli", "out", "solve_cli"), os.path.join(CLONE, "unproved", "solve_cli")
 
 
 def is_program(path: str) -> bool:
@@ -18,8 +20,8 @@ def is_program(path: str) -> bool:
 def known_program() -> Optional[str]:
     """The program's path, or None where there is none."""
     named = os.environ.get("ZARFEPOCH")
-    path = named or shutil.which("solve_cli") or BUILT_HERE
-    return os.path.abspath(path) if is_program(path) else None
+    places: list[Optional[str]] = [named] if named else [shutil.which("solve_cli"), BUILT_HERE, UNPROVED_HERE]
+    return next((os.path.abspath(path) for path in places if path and is_program(path)), None)
 
 
 def tied(words: list[str]) -> list[str]:
@@ -32,7 +34,7 @@ def missing_program(named: Optional[str]) -> str:
     """What is said where there is no program, at the place that is named, if one is."""
     where = named or "solve_cli, neither named by ZARFEPOCH nor on the path"
     return (f"there is no program {where}; at the top of a clone (cd crates/solve_cli && rt run -- --version) builds "
-            "crates/solve_cli/out/solve_cli, and ZARFEPOCH may name that")
+            "crates/solve_cli/out/solve_cli, and ZARFEPOCH may name that; scripts/build.sh --unproved leaves one without proofs in some minutes")
 
 
 def find_program() -> str:

@@ -27,17 +27,19 @@ from __future__ import annotations
 import argparse
 import os
 import sys
+import time
 from argparse import Namespace
 from typing import Optional
 
 from . import generate
 from .another import beyond, enough, free_name, other_lines
-from .answers import Answered, answered, planned
+from .answers import Answered, answered, planned, TRY_SECONDS
 from .command_words import as_called, parser_of
 from .cover_files import complain, Problem, put, read_audited, read_problem, stop
 from .cover_reason import found_reason
 from .draw import planned as planned_picture, table_of, write_out
 from .errors import NoProgram
+from .impossible import core_of, core_words
 from .picture_base import Kind
 from .picture_kinds import picture_of
 from .programs import find_program
@@ -74,12 +76,24 @@ def positive(text: str) -> float:
     return number
 
 
+def asked_of_school(program: str, timetable: Timetable, given: Namespace) -> Answered:
+    """The program's answer to a timetable: by short searches, for a third of the time, or by a part of the school that has none, or by one search."""
+    began, limit = time.monotonic(), given.seconds or 3 * TRY_SECONDS
+    found = planned(program, timetable, bool(given.keep), limit / 3)
+    if (found is None or found.status == 1) and timetable.school:
+        core = core_of(program, timetable.school, limit / 3, found is not None)
+        if core:
+            print("There is no timetable. " + "\n".join(core_words(timetable.school, core)))
+            return Answered(1, b"none\n", "")
+    answer = found or answered(program, timetable.text(), given.seconds and max(1.0, given.seconds - (time.monotonic() - began)))
+    if answer.status == 1:
+        print("There is no timetable.")
+    return answer
+
+
 def asked(program: str, puzzle: Puzzle, given: Namespace) -> Answered:
     """The program's answer; ends the command where there is none in time, or the program fails."""
-    if isinstance(puzzle, Timetable):
-        found = planned(program, puzzle, bool(given.keep), given.seconds)
-    else:
-        found = answered(program, puzzle.text(), given.seconds)
+    found = asked_of_school(program, puzzle, given) if isinstance(puzzle, Timetable) else answered(program, puzzle.text(), given.seconds)
     if found.status == 4:
         stop(f"no answer: {found.why}" if found.why else "no answer", NO_ANSWER)
     if not (found.status == 0 and found.text.startswith(b"cover ") or (found.status, found.text) == (1, b"none\n")):
@@ -131,7 +145,8 @@ def solved(program: str, puzzle: Puzzle, given: Namespace) -> int:
     problem = read_problem(text)
     found = asked(program, puzzle, given)
     if found.status == 1:
-        tell_none(program, text, problem)
+        if not isinstance(puzzle, Timetable):
+            tell_none(program, text, problem)
         return 1
     answer = read_audited(found.text, problem)
     picture = picture_of(problem, [problem.options[place] for _, place in answer.chosen], False)

@@ -38,8 +38,8 @@ class Sudoku(Kind):
         cages = [option for option in self.options if option[0][0] == "k"]
         width = {len(option[0]) - 1 for option in digits}
         return bool(digits) and not self.secondary() and len(digits) + len(cages) == len(self.options) and width in ({2}, {4}) and self.all_match(
-            r"[prcb]\d{2}|[xy]\d|k\d+(\.\d)?" if width == {2} else r"[prcb]\d{4}|[xy]\d\d") and all(
-            [name[0] for name in option][:4] == ["p", "r", "c", "b"] and {name[0] for name in option[4:]} <= set("xyk")
+            r"[prcbh]\d{2}|[xy]\d|k\d+(\.\d)?" if width == {2} else r"[prcb]\d{4}|[xy]\d\d") and all(
+            [name[0] for name in option][:4] == ["p", "r", "c", "b"] and {name[0] for name in option[4:]} <= set("xykh")
             for option in digits) and all({name[0] for name in option} == {"k"} for option in cages) and self.has_square()
 
     def has_square(self) -> bool:
@@ -70,7 +70,7 @@ class Sudoku(Kind):
         digit = self.mark_of(int(item[-width:]))
         if kind in "xy":
             return f"a {digit} on the diagonal from the {'left' if kind == 'x' else 'right'} above"
-        house = {"r": "row", "c": "column", "b": "box" if self.has_boxes() else "region"}[kind]
+        house = {"r": "row", "c": "column", "b": "box" if self.has_boxes() else "region", "h": "window"}[kind]
         return f"a {digit} in {house} {int(item[1:1 + width]) + 1}"
 
     def mark_of(self, digit: int) -> str:
@@ -230,11 +230,11 @@ class Sudoku(Kind):
 
     def draw(self, paper: Paper) -> None:
         given, found = self.labels()
-        has_diagonals = any(item[0] in "xy" for item in self.items)
+        has_diagonals, has_windows = any(item[0] in "xy" for item in self.items), any(item[0] == "h" for item in self.items)
         board = Regions({**given, **found}, self.regions)
 
         def fill(cell: Cell) -> str:
-            on_diagonal = has_diagonals and (cell[0] == cell[1] or sum(cell) == self.size - 1)
+            on_diagonal = has_diagonals and (cell[0] == cell[1] or sum(cell) == self.size - 1) or has_windows and all(k % 4 for k in cell)
             return (DIAGONAL_GIVEN if on_diagonal else GIVEN) if cell in given else DIAGONAL if on_diagonal else EMPTY
 
         board.draw(paper, CELL, fill, CELL * 0.5, lambda cell: {"bold": True} if cell in given else {"fill": ACCENT})

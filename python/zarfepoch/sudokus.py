@@ -1,7 +1,7 @@
 """Sudokus of many sizes as exact covers: with boxes or other regions, with diagonals, and with cages that have sums (killer).
 
 The items are what is still lacking: `p12` a digit in row 1, column 2, `r13` the digit 3 in row 1, `c23` in column 2, `b43` in region 4, `x3`
-and `y3` on the two diagonals. From a size of ten on numbers have two digits. Of a cage `k5` is the choice of its digits, and `k5.3` is taken
+and `y3` on the two diagonals, `h03` in the first of the four windows of a hyper sudoku. From a size of ten on numbers have two digits. Of a cage `k5` is the choice of its digits, and `k5.3` is taken
 by a cell of the cage with a 3, or by the choice if the cage has no 3.
 """
 from __future__ import annotations
@@ -42,8 +42,8 @@ class Sudoku:
     """Given digits, regions, diagonals and cages; digits are numbers from 1, and 0 is none."""
 
     def __init__(self, given: list[list[int]], regions: list[list[int]] | None = None, diagonals: bool = False, cages: Sequence[Cage] = (),
-                 symbols: str | None = None) -> None:
-        self.given, self.size, self.diagonals, self.cages, self.symbols = given, len(given), diagonals, cages, symbols
+                 symbols: str | None = None, hyper: bool = False) -> None:
+        self.given, self.size, self.diagonals, self.cages, self.symbols, self.hyper = given, len(given), diagonals, cages, symbols, hyper
         boxes = boxes_of(self.size, BOXES.get(self.size, (1, self.size)))
         self.has_boxes = regions is None or regions == boxes
         self.regions = regions or boxes
@@ -59,7 +59,8 @@ class Sudoku:
         """The rows and so on that a cell is in, each with its mark."""
         found = ["r" + self.number(r), "c" + self.number(c), "b" + self.number(self.regions[r][c])]
         diagonals = ["x"] * (r == c) + ["y"] * (r + c == self.size - 1)
-        return found + (diagonals if self.diagonals else [])
+        windows = [f"h{(r - 1) // 4 * 2 + (c - 1) // 4}"] if r % 4 and c % 4 else []
+        return found + (diagonals if self.diagonals else []) + (windows if self.hyper else [])
 
     def option(self, r: int, c: int, digit: int) -> list[str]:
         cage = [f"k{self.cage_of[r, c]}.{digit}"] if (r, c) in self.cage_of else []
@@ -155,8 +156,20 @@ def digit_of(mark: str, size: int, symbols: str | None) -> int | None:
     return int(mark) if not symbols and mark.isdecimal() and 1 <= int(mark) <= size else None
 
 
+def refuse_sheet(path: str, text: str, numbers: Sequence[int]) -> None:
+    """Refuses a sheet whose rows have different numbers of cells."""
+    lines = [(place, line) for place, line in enumerate(text.splitlines()) if line.strip()]
+    mark = next((mark for mark in ";,\t" if 2 * sum(mark in line for _, line in lines) > len(lines)), None)
+    lengths = [len(line.split(mark)) for _, line in lines] if mark else []
+    usual = Counter(lengths).most_common(1)[0][0] if lengths else 0
+    other = next((k for k, length in enumerate(lengths) if length != usual), None)
+    if other is not None and path != TYPED:
+        refuse(path, numbers[lines[other][0]], f"this row has {plural(lengths[other], 'cell')}, and most have {usual}")
+
+
 def refuse_shape(path: str, text: str, numbers: Sequence[int]) -> NoReturn:
     """Refuses a text that is no square, with the first line that is shorter or longer than most, or has what no cell is."""
+    refuse_sheet(path, text, numbers)
     lines = bare_lines(text)
     for place, line in lines:
         strange = re.search(r"[^\w\s.|+=*?\u00b7-]", line)
@@ -238,7 +251,7 @@ def checked(path: str, sudoku: Sudoku, lines: list[int] | None) -> Sudoku:
     twice = sudoku.twice()
     if twice:
         house, digit, rows = twice
-        kind = {"r": "row", "c": "column", "b": "box" if sudoku.has_boxes else "region", "x": "diagonal", "y": "diagonal"}[house[0]]
+        kind = {"r": "row", "c": "column", "b": "box" if sudoku.has_boxes else "region", "x": "diagonal", "y": "diagonal", "h": "window"}[house[0]]
         number = f" {int(house[1:]) + 1}" if house[1:] else ""
         where = "" if house[0] == "r" else f", in row {rows[0] + 1} and row {rows[1] + 1}"
         line = f", line {lines[rows[1]]}" if lines else ""
@@ -249,14 +262,16 @@ def checked(path: str, sudoku: Sudoku, lines: list[int] | None) -> Sudoku:
     return sudoku
 
 
-def read_sudoku(given: str, is_text: bool, diagonals: bool = False, box: Cell | None = None) -> Sudoku:
+def read_sudoku(given: str, is_text: bool, diagonals: bool = False, box: Cell | None = None, hyper: bool = False) -> Sudoku:
     """A sudoku from characters or a file, with boxes."""
     path = TYPED if is_text else given
     digits, symbols, lines = digits_of(path, given if is_text else read_text(given))
     regions = regions_by_boxes(path, len(digits), box)
     if len(digits) not in BOXES and not regions:
         refuse(path, None, f"a sudoku of {len(digits)} by {len(digits)} has no boxes: the kind jigsaw takes its regions")
-    return checked(path, Sudoku(digits, regions, diagonals, (), symbols), lines)
+    if hyper and len(digits) != 9:
+        refuse(path, None, f"a hyper sudoku has 9 rows, and this one {len(digits)}")
+    return checked(path, Sudoku(digits, regions, diagonals, (), symbols, hyper), lines)
 
 
 def regions_by_boxes(path: str, size: int, box: Cell | None) -> list[list[int]] | None:

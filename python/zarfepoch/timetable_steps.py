@@ -247,12 +247,14 @@ def by_days(blocks: list[Block]) -> Optional[Days]:
 
 # ---- counting
 
+def named_lesson(lesson: Lesson) -> str:
+    """A lesson with how often it is given and in how many periods."""
+    return lesson.title + (f" {lesson.times} x {lesson.length}" if lesson.length > 1 else f" {lesson.times}" if lesson.times > 1 else "")
+
+
 def named_some(hours: list[Hour]) -> str:
-    """Lessons for a message, each with how often it is given and in how many periods."""
-    names = []
-    for lesson in {id(hour.lesson): hour.lesson for hour in hours}.values():
-        count = f" {lesson.times} x {lesson.length}" if lesson.length > 1 else f" {lesson.times}" if lesson.times > 1 else ""
-        names.append(f"{lesson.title}{count}")
+    """Lessons for a message."""
+    names = [named_lesson(lesson) for lesson in {id(hour.lesson): hour.lesson for hour in hours}.values()]
     return ", ".join(names[:6]) + (f" and {len(names) - 6} more" if len(names) > 6 else "")
 
 

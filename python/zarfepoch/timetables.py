@@ -272,6 +272,7 @@ class Timetable(Puzzle):
     """The problem of a timetable, with the lessons of its options."""
     ranked: list[Ranked] = field(default_factory=list)
     lessons: dict[str, Lesson] = field(default_factory=dict)
+    school: Optional[School] = None
 
     def in_order(self, seed: int) -> Timetable:
         """The problem with its options in an order by lot; those nearer to the plan stay before others."""
@@ -385,7 +386,7 @@ class Problem:
         ranked.sort(key=lambda one: one.rank)
         options = [one.option for one in ranked]
         primary, secondary = self.sorted_items(options)
-        return Timetable(primary, secondary, options, self.told(), ranked, {lesson.name: lesson for lesson in self.lessons})
+        return Timetable(primary, secondary, options, self.told(), ranked, {lesson.name: lesson for lesson in self.lessons}, self.school)
 
     def sorted_items(self, options: list[list[str]]) -> tuple[list[str], list[str]]:
         """The primary items, those that are busy in any case first, since the search takes the first of equals; and the secondary ones."""
