@@ -1,6 +1,6 @@
 //! A link that a crowd of equal datagrams reaches before anything else.
 
-ghost use Rattle.std.specs.Prelude.{◌≡◌, ◌≤◌, ℕ, length, vec_len, IfOk, IfSome};
+ghost use Rattle.std.specs.Prelude.{◌≡◌, ◌+◌, ◌≤◌, ℕ, length, vec_len, IfOk, IfSome};
 
 use super::ends::wires;
 use std::alloc::{AllocError, Global};

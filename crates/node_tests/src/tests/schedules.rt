@@ -86,17 +86,22 @@ static FOLLOWED: [Step; 6] = [
     Ends(101, true, true),
 ];
 
+/// So many milliseconds in microseconds.
+fn micros(millis: u64) -> u64 {
+    millis.saturating_mul(1_000)
+}
+
 /// Whether the schedule answers so.
 fn is_answered(schedule: &mut Schedule, step: Step) -> bool {
     match step {
-        Greets(now, answer) => schedule.greets(1_000 * now) == answer,
-        IsSilent(now, answer) => schedule.is_silent(1_000 * now) == answer,
-        Repeats(now, said, answer) => schedule.repeats(1_000 * now, said) == answer,
+        Greets(now, answer) => schedule.greets(micros(now)) == answer,
+        IsSilent(now, answer) => schedule.is_silent(micros(now)) == answer,
+        Repeats(now, said, answer) => schedule.repeats(micros(now), said) == answer,
         Announces(answer) => schedule.has_announced() == answer,
-        Ends(now, is_empty, answer) => schedule.ends(1_000 * now, is_empty) == answer,
-        IsSpent(now, answer) => schedule.is_spent(1_000 * now) == answer,
+        Ends(now, is_empty, answer) => schedule.ends(micros(now), is_empty) == answer,
+        IsSpent(now, answer) => schedule.is_spent(micros(now)) == answer,
         Hears(now) => {
-            schedule.hear(1_000 * now);
+            schedule.hear(micros(now));
             true
         }
     }
@@ -110,17 +115,17 @@ fn first_wrong(is_last: bool, steps: &[Step]) -> Option<usize> {
         .position(|step| !is_answered(&mut schedule, *step))
 }
 
-/// How often the end is announced after the search was over, each tenth of a millisecond; none where it goes on for ever.
-fn announcements() -> Option<u64> {
+/// How often the end is announced after the search was over, by looks a hundredth of a millisecond apart; none where it goes on for ever.
+fn announcements() -> Option<u32> {
     let mut schedule = Schedule::new(Timing::USUAL, 1_000_000, true);
     schedule.end(7_000);
-    let mut count = 0;
-    for now in 7_000..20_000 {
+    let mut count = 0u32;
+    for look in 700..2_000 {
         if schedule.has_announced() {
             return Some(count);
         }
-        if schedule.repeats(now, 9) {
-            count += 1;
+        if schedule.repeats(10 * look, 9) {
+            count = count.saturating_add(1);
         }
     }
     None
@@ -175,7 +180,7 @@ fn time_that_a_process_was_held_up(rt: HostRuntime) {
     let mut time = OwnTime::new();
     for (shown, own) in LOOKS {
         clock.millis.store(shown, Ordering::SeqCst);
-        assert_eq!(rt; time.look(&clock), 1_000 * own, "{shown}");
+        assert_eq!(rt; time.look(&clock), micros(own), "{shown}");
     }
 }
 
