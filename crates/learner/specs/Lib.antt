@@ -1,0 +1,2 @@
+pub mod Covers
+pub mod Found

@@ -1,0 +1,352 @@
+//! Conflict-driven learning over the items of a problem.
+
+ghost use Rattle.std.specs.Prelude.{◌≡◌, true, IfOk};
+ghost use Rattle.learner.specs.Covers.{HasNoCover};
+
+use crate::analysis::Analysis;
+use crate::assignment::Assignment;
+use crate::counts::Counts;
+use crate::deciding::{decide, go_back};
+use crate::figures::{Figures, LearnerWatch};
+use crate::heap::Heap;
+use crate::hints::{hint_learned, hint_settled};
+use crate::layout::Layout;
+use crate::packed::Packed;
+use crate::proof::Proof;
+use crate::propagation::propagate;
+use crate::reducing::{reduce, watch};
+use crate::restarts::Restarts;
+use crate::settings::Settings;
+use crate::store::Store;
+use crate::tables::at;
+use crate::trail::{Cause, Trail, Truth};
+use crate::watches::Watches;
+use cover_problem::Problem;
+use implied_clauses::Hint;
+use rand_core::utils::NextWord;
+use rand_pcg::Pcg32;
+use std::alloc::{AllocError, Global};
+use std::marker::Model;
+
+/// How many clauses are kept at first; the bound grows by a tenth each time that it is reached.
+const FIRST_BOUND: usize = 8000;
+
+/// How a search ended.
+#[derive(Clone, Copy)]
+pub enum End {
+    /// Each option is chosen or left.
+    Assigned,
+    /// The empty clause was learned.
+    Refuted,
+    /// The watch stopped it, there was no room for a clause, or the kernel refused one.
+    Stopped,
+}
+
+/// A search that learns from its conflicts. Contracts see its problem.
+#[derive(Drop)]
+pub struct Learner<'a> {
+    alloc: Global,
+    layout: Layout,
+    now: Assignment,
+    watches: Watches,
+    store: Store,
+    heap: Heap,
+    analysis: Analysis,
+    proof: Proof<'a>,
+    /// The hints of the clause that the kernel is to learn.
+    hints: Vec<Hint>,
+    row: Vec<Packed>,
+    restarts: Restarts,
+    figures: Figures,
+    /// How many clauses are kept.
+    bound: usize,
+    /// How many bytes the learned clauses may take.
+    memory: u64,
+    /// How many literals of the trail are settled.
+    settled: usize,
+}
+
+impl<'a> Model for Learner<'a> {
+    ghost use Rattle.cover_problem.specs.Problem.{Problem as ProblemValue};
+
+    ghost Value = { ProblemValue };
+
+    ghost view = { λ l. l.proof };
+}
+
+/// Returns the activities with which a search begins: greater for options whose items have few options, and drawn among equal ones.
+fn first_activities(alloc: Global, layout: &Layout, seed: u64) -> Result<Vec<f64>, AllocError> {
+    let mut rng = Pcg32::new(seed, 0);
+    let mut activities = Vec::with_capacity(alloc, layout.options() as usize)?;
+    for option in 0..layout.options() {
+        let drawn = f64::from(rng.next_word() >> 22) * 1e-6;
+        activities.push(weight_of(layout, option) * 1e-3 + drawn)?;
+    }
+    Ok(activities)
+}
+
+/// Returns the sum over the option's primary items of 1 divided by the number of the item's options.
+fn weight_of(layout: &Layout, option: u16) -> f64 {
+    let mut weight = 0.0;
+    for naming in layout.items_of(option) {
+        let count = layout.options_of(naming.number).len() & 0xffff;
+        if naming.number < layout.primary() {
+            weight += 1.0 / f64::from(count as u16);
+        }
+    }
+    weight
+}
+
+impl<'a> Learner<'a> {
+    /// A search of a problem that has learned nothing yet. The only error is out of memory.
+    pub fn new(
+        alloc: Global,
+        problem: &'a Problem,
+        settings: Settings,
+    ) -> Result<Learner<'a>, AllocError>
+        ensures { IfOk result (λ learner. learner ≡ problem.now) }
+    {
+        let layout = Layout::new(alloc, problem)?;
+        let activities = first_activities(alloc, &layout, settings.seed)?;
+        Ok(Learner {
+            alloc,
+            now: Assignment {
+                trail: Trail::new(alloc, problem.options())?,
+                counts: Counts::new(alloc, &layout)?,
+            },
+            watches: Watches::new(alloc, problem.options())?,
+            store: Store::new(alloc),
+            heap: Heap::new(alloc, activities)?,
+            analysis: Analysis::new(alloc, problem.options())?,
+            proof: Proof::new(alloc, problem)?,
+            hints: Vec::new(alloc),
+            row: Vec::new(alloc),
+            layout,
+            restarts: Restarts::new(),
+            figures: Figures::new(),
+            bound: FIRST_BOUND,
+            memory: settings.memory,
+            settled: 0,
+        })
+    }
+
+    /// Returns what was done so far.
+    pub fn figures(&self) -> Figures {
+        Figures {
+            clauses: self.store.count() as u64,
+            ..self.figures
+        }
+    }
+
+    /// Lets the kernel learn that the literals of the first level are true, those that it hasn't learned yet. Returns whether it did.
+    fn settle(&mut self) -> Result<bool, AllocError>
+        ensures { self.new ≡ self.old }
+    {
+        for place in self.settled..self.now.trail.literals().len() {
+            let literal = at(self.now.trail.literals(), place, Packed::NONE);
+            if !self.settle_one(literal)? {
+                return Ok(false);
+            }
+        }
+        self.settled = self.now.trail.literals().len();
+        Ok(true)
+    }
+
+    /// The same for one literal, which follows from those before it.
+    fn settle_one(&mut self, literal: Packed) -> Result<bool, AllocError>
+        ensures { self.new ≡ self.old }
+    {
+        if self.proof.is_settled(literal.option()) {
+            return Ok(true);
+        }
+        let cause = self.now.trail.step(literal.option()).cause;
+        self.hint_settled(cause, literal)?;
+        self.proof.learn_unit(self.alloc, literal, &self.hints)
+    }
+
+    /// Writes the hints of the clause of a cause, whose other literals are settled.
+    fn hint_settled(&mut self, cause: Cause, implied: Packed) -> Result<(), AllocError>
+        ensures { self.new ≡ self.old }
+    {
+        hint_settled(
+            &self.layout,
+            &self.store,
+            &self.proof,
+            (cause, implied),
+            &mut self.row,
+            &mut self.hints,
+        )
+    }
+
+    /// Lets the kernel learn the empty clause, where a clause is falsified at the first level.
+    fn refute(&mut self, falsified: Cause) -> Result<End, AllocError>
+        ensures { self.new ≡ self.old }
+    {
+        if !self.settle()? {
+            return Ok(End::Stopped);
+        }
+        self.hint_settled(falsified, Packed::NONE)?;
+        self.proof.learn(self.alloc, &[], &self.hints)?;
+        Ok(End::Refuted)
+    }
+
+    /// Learns from a clause that is falsified, and goes back to where the learned clause says something. Returns whether the kernel took it.
+    fn learn_from(&mut self, falsified: Cause) -> Result<bool, AllocError>
+        ensures { self.new ≡ self.old }
+    {
+        self.analysis.analyse(
+            &self.layout,
+            &self.now.trail,
+            &mut self.store,
+            &mut self.heap,
+            falsified,
+            self.figures.conflicts,
+        )?;
+        hint_learned(
+            &self.analysis,
+            &self.now.trail,
+            &self.store,
+            &self.proof,
+            falsified,
+            &mut self.hints,
+        )?;
+        let glue = self.analysis.glue(&self.now.trail);
+        let level = self.analysis.level_before(&self.now.trail);
+        go_back(&self.layout, &mut self.now, &mut self.heap, level);
+        self.heap.decay();
+        let first = at(self.analysis.learned(), 0, Packed::NONE);
+        if self.analysis.learned().len() < 2 {
+            self.now.set(&self.layout, first, Cause::Decision);
+            return self.proof.learn_unit(self.alloc, first, &self.hints);
+        }
+        self.keep(first, glue)
+    }
+
+    /// Keeps the clause that was learned, if the kernel takes it, and makes its first literal true.
+    fn keep(&mut self, first: Packed, glue: u16) -> Result<bool, AllocError>
+        ensures { self.new ≡ self.old }
+    {
+        let Some(place) = self
+            .proof
+            .learn(self.alloc, self.analysis.learned(), &self.hints)?
+        else {
+            return Ok(false);
+        };
+        let number = self.store.add(self.analysis.learned(), place, glue, self.figures.conflicts)?;
+        self.watches.reserve(self.store.bound())?;
+        watch(&self.store, &mut self.watches, number);
+        self.now.set(&self.layout, first, Cause::Clause(number));
+        Ok(true)
+    }
+
+    /// Drops clauses where there are too many, or where there is no room. Returns whether there is room then.
+    fn make_room(&mut self) -> Result<bool, AllocError>
+        ensures { self.new ≡ self.old }
+    {
+        if self.store.count() < self.bound && self.store.bytes() < self.memory {
+            return Ok(true);
+        }
+        reduce(
+            self.alloc,
+            &self.now.trail,
+            &mut self.store,
+            &mut self.watches,
+            &mut self.proof,
+        )?;
+        self.bound = self.bound.saturating_add(self.bound / 10);
+        Ok(self.store.bytes() < self.memory)
+    }
+
+    /// Begins again from the first level.
+    fn restart(&mut self)
+        ensures { self.new ≡ self.old }
+    {
+        go_back(&self.layout, &mut self.now, &mut self.heap, 0);
+        self.restarts.begin(self.figures.conflicts);
+        self.figures.restarts = self.figures.restarts.wrapping_add(1);
+    }
+
+    /// Meets a conflict: learns from it, or ends the search.
+    fn meet(&mut self, falsified: Cause) -> Result<Option<End>, AllocError>
+        ensures { self.new ≡ self.old }
+    {
+        self.figures.conflicts = self.figures.conflicts.wrapping_add(1);
+        if self.now.trail.level() == 0 {
+            return Ok(Some(self.refute(falsified)?));
+        }
+        if !self.learn_from(falsified)? {
+            return Ok(Some(End::Stopped));
+        }
+        Ok(None)
+    }
+
+    /// Goes on after propagation without a conflict: begins again, drops clauses, decides.
+    fn go_on(&mut self) -> Result<Option<End>, AllocError>
+        ensures { self.new ≡ self.old }
+    {
+        if self.now.trail.level() == 0 && !self.settle()? {
+            return Ok(Some(End::Stopped));
+        }
+        if self.restarts.is_due(self.figures.conflicts) && self.now.trail.level() > 0 {
+            self.restart();
+            return Ok(None);
+        }
+        if !self.make_room()? {
+            return Ok(Some(End::Stopped));
+        }
+        if !decide(&self.layout, &mut self.now, &mut self.heap) {
+            return Ok(Some(End::Assigned));
+        }
+        self.figures.decisions = self.figures.decisions.wrapping_add(1);
+        Ok(None)
+    }
+
+    /// Propagates, and does what comes next.
+    fn turn(&mut self) -> Result<Option<End>, AllocError>
+        ensures { self.new ≡ self.old }
+    {
+        let falsified = propagate(
+            &self.layout,
+            &mut self.now,
+            &mut self.watches,
+            &mut self.store,
+        );
+        match falsified {
+            Some(falsified) => self.meet(falsified),
+            None => self.go_on(),
+        }
+    }
+
+    /// Searches until it knows the answer, or the watch stops it. The only error is out of memory.
+    pub fn search<W: LearnerWatch>(&mut self, watch: &mut W) -> Result<End, AllocError>
+        ensures { self.new ≡ self.old }
+    {
+        for turn in 0..u64::MAX {
+            if let Some(end) = self.turn()? {
+                return Ok(end);
+            }
+            if turn % 128 == 0 && watch.look(&self.figures()) {
+                return Ok(End::Stopped);
+            }
+        }
+        Ok(End::Stopped)
+    }
+
+    /// Returns the options that are chosen, in the order of the file. The only error is out of memory.
+    pub fn chosen(&self) -> Result<Vec<u16>, AllocError> {
+        let mut list = Vec::new(self.alloc);
+        for option in 0..self.layout.options() {
+            if self.now.trail.truth(Packed::chosen(option)) == Truth::True {
+                list.push(option)?;
+            }
+        }
+        Ok(list)
+    }
+
+    /// Returns whether the kernel learned the empty clause. Then there is no exact cover.
+    pub fn is_refuted(&self) -> bool
+        ensures { result ≡ true → HasNoCover self.entry.now }
+    {
+        self.proof.is_refuted()
+    }
+}

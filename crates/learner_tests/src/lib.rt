@@ -1,0 +1,5 @@
+//! Tests of `learner`: that it finds what there is, gives up where it is told to, and keeps within its room.
+#![tactic(auto)]
+
+#[cfg(test)]
+mod tests;

@@ -1,0 +1,115 @@
+//! Problems whose answers are known from elsewhere.
+
+mod texts;
+
+use crate::tests::texts::{board, langford, problem_of};
+use cover_problem::Problem;
+use learner::{Figures, Found, LearnerWatch, Settings, find_cover};
+use std::alloc::{AllocError, Global};
+use std::test::Fail;
+
+/// A watch that stops a learner after so many conflicts.
+#[derive(Drop)]
+struct Limit(u64);
+
+impl LearnerWatch for Limit {
+    fn look(&mut self, figures: &Figures) -> bool {
+        figures.conflicts >= self.0
+    }
+}
+
+/// What is found.
+#[derive(Clone, Copy, PartialEq, Eq, Debug)]
+enum Kind {
+    Cover,
+    NoCover,
+    Stopped,
+}
+
+/// Small problems: the one of Knuth's paper "Dancing Links", the same without a cover, colours that agree and that don't, secondary items alone, an
+/// item in no option.
+static SMALL: [(&str, Kind); 7] = [
+    (
+        "a b c d e f g\nc e\na d g\nb c f\na d f\nb g\nd e g\n",
+        Kind::Cover,
+    ),
+    (
+        "a b c d e f g\nc e\na d g\nb c f\na d f\nd e g\n",
+        Kind::NoCover,
+    ),
+    ("p q | x y\np x:A\nq x:A\nq x:B y\n", Kind::Cover),
+    ("p q | x y\np x:A\nq x:C\nq x:B y\n", Kind::NoCover),
+    ("p q | x\np x\nq x\n", Kind::NoCover),
+    ("p q | x\np x\nq x\nq\n", Kind::Cover),
+    ("p q\np\n", Kind::NoCover),
+];
+
+/// What is found of a problem within so many conflicts.
+fn kind_of(
+    alloc: Global,
+    problem: &Problem,
+    conflicts: u64,
+    settings: Settings,
+) -> Result<Kind, AllocError> {
+    let (found, _) = find_cover(alloc, problem, settings, &mut Limit(conflicts))?;
+    Ok(match found {
+        Found::Cover(_) => Kind::Cover,
+        Found::NoCover => Kind::NoCover,
+        Found::Stopped => Kind::Stopped,
+    })
+}
+
+#[test]
+fn small_problems(rt: HostRuntime) -> Result<(), Fail> {
+    for (text, kind) in SMALL.iter() {
+        let problem = problem_of(&rt, rt.alloc(), text);
+        let found = kind_of(rt.alloc(), &problem, u64::MAX, Settings::new())?;
+        assert!(rt; found == *kind, "{text}: {found:?}");
+    }
+    Ok(())
+}
+
+/// Langford pairs exist exactly if the number is 0 or 3 modulo 4.
+#[test]
+fn langford_pairs(rt: HostRuntime) -> Result<(), Fail> {
+    for size in 3..=8u8 {
+        let text = langford(rt.alloc(), size)?;
+        let problem = problem_of(&rt, rt.alloc(), text.as_str());
+        let found = kind_of(rt.alloc(), &problem, u64::MAX, Settings::new())?;
+        let has_cover = size % 4 == 0 || size % 4 == 3;
+        assert!(rt; (found == Kind::Cover) == has_cover, "{size}");
+        assert!(rt; (found == Kind::NoCover) != has_cover, "{size}");
+    }
+    Ok(())
+}
+
+/// Boards without two opposite corners have no dominoes that cover them.
+#[test]
+fn boards_without_corners(rt: HostRuntime) -> Result<(), Fail> {
+    for seed in 0..4 {
+        let text = board(rt.alloc(), 6)?;
+        let problem = problem_of(&rt, rt.alloc(), text.as_str());
+        let settings = Settings {
+            seed,
+            ..Settings::new()
+        };
+        let found = kind_of(rt.alloc(), &problem, u64::MAX, settings)?;
+        assert!(rt; found == Kind::NoCover, "{seed}");
+    }
+    Ok(())
+}
+
+#[test]
+fn stops_where_it_is_told_to(rt: HostRuntime) -> Result<(), Fail> {
+    let text = langford(rt.alloc(), 13)?;
+    let problem = problem_of(&rt, rt.alloc(), text.as_str());
+    let found = kind_of(rt.alloc(), &problem, 200, Settings::new())?;
+    assert!(rt; found == Kind::Stopped);
+    let little = Settings {
+        memory: 20_000,
+        ..Settings::new()
+    };
+    let found = kind_of(rt.alloc(), &problem, u64::MAX, little)?;
+    assert!(rt; found == Kind::Stopped);
+    Ok(())
+}
