@@ -1,7 +1,7 @@
 //! A stranger's packets, which are well formed and name sites of the run, are not heard, however many there are.
 //!
 //! No contract says that a link asks for the key. Of the bugs of `site_network` that are kept outside the gate,
-//! `a_strangers_result_is_not_taken` finds `opens_nothing`, as `network_tests` does; of those of `udp_node` that are,
+//! `a_strangers_result_is_not_taken` finds `opens_nothing`, as `network_tests` does. Of the bugs of `udp_node` that are kept outside the gate,
 //! `a_flood_is_no_packet` finds `strangers_use_up_turns`.
 
 use super::crowded::crowded_registry;
