@@ -2,9 +2,9 @@
 
 ghost use Rattle.std.specs.Prelude.{◌≤◌};
 
-use crate::draw::below;
 use brancher::{Outcome, Searcher, Tables};
 use cover_problem::{Problem, is_prefix};
+use drawn_problems::below;
 use rand_core::utils::NextWord;
 use rand_pcg::Pcg32;
 use std::alloc::{AllocError, Global};

@@ -7,11 +7,10 @@
 #![tactic(auto)]
 
 mod compare;
-mod draw;
 
 use crate::compare::{Seen, compare_searches};
-use crate::draw::drawn_text;
 use dlx_reader::read_problem;
+use drawn_problems::drawn_text;
 use rand_pcg::Pcg32;
 use std::alloc::{AllocError, Global};
 use std::process::ExitCode;
