@@ -1,0 +1,96 @@
+//! `learn`: any exact cover of a file's problem.
+
+ghost use Rattle.std.specs.Prelude.{◌≡◌, ◌≢◌, ◌-◌, ◌<◌, ◌^◌, IfOk, IfSome};
+ghost use Rattle.std.specs.Io.KnownBytes.{IsAtEnd};
+ghost use Rattle.learn_engine.specs.Learn.{LearnSays, found_said};
+ghost use Rattle.learner.specs.Found.{IsTrueOf};
+ghost use Rattle.search_engines.specs.Engines.{IsEnded, refuses_none};
+ghost use Rattle.search_engines.specs.Output.{IsOutput, IsOutputOf};
+
+use cover_problem::{Answer, Problem};
+use dlx_reader::{Sink, Source};
+use learner::{Found, LearnerWatch, Settings, find_cover};
+use search_engines::{EngineEnd, EngineFault, problem_of, read_all, write_published};
+use std::alloc::{AllocError, Global};
+
+/// How a run of `learn` ended: with status 0 for a cover, 1 for none, 4 where the watch stopped it or there was no room.
+pub type LearnEnd = EngineEnd;
+
+/// Writes what a learner found, and returns the status.
+fn write_found<W: Sink>(problem: &Problem, found: Found, sink: &mut W) -> Result<u8, EngineFault>
+    requires found { IsTrueOf problem.now found }
+    requires failed { W.failed sink.old < 2 ^ 64 - 1 }
+    ensures output { IsOutput (found_said problem.now found) (W.contents sink.old)
+        (W.contents sink.new) result }
+    ensures failed { result ≡ Err EngineFault.Write → W.failed sink.old < W.failed sink.new }
+{
+    match found {
+        Found::Cover(options) => write_published(problem, Some(&Answer::Cover(options)), sink),
+        Found::NoCover => write_published(problem, Some(&Answer::NoCover), sink),
+        Found::Stopped => write_published(problem, None, sink),
+    }
+}
+
+/// Looks for a cover; the only error is out of memory.
+fn found_of<L: LearnerWatch>(
+    alloc: Global,
+    problem: &Problem,
+    settings: Settings,
+    watch: &mut L,
+) -> Result<Found, AllocError>
+    ensures { IfOk result (IsTrueOf problem.now) }
+{
+    let (found, _) = find_cover(alloc, problem, settings, watch)?;
+    Ok(found)
+}
+
+/// Looks for a cover, writes what was found, and returns the status.
+fn write_learned<L: LearnerWatch, W: Sink>(
+    alloc: Global,
+    problem: &Problem,
+    settings: Settings,
+    watch: &mut L,
+    sink: &mut W,
+) -> Result<u8, EngineFault>
+    requires { W.failed sink.old < 2 ^ 64 - 1 }
+    ensures output { IsOutputOf (LearnSays problem.now) (W.contents sink.old)
+        (W.contents sink.new) result }
+    ensures failed { result ≡ Err EngineFault.Write → W.failed sink.old < W.failed sink.new }
+{
+    match found_of(alloc, problem, settings, watch) {
+        Ok(found) => write_found(problem, found, sink),
+        Err(_) => Err(EngineFault::Memory),
+    }
+}
+
+/// Reads a problem to its end, learns until it has an answer or the watch stops it, and writes an exact cover, with the options in the order of
+/// the file, or `none`, or `no answer`.
+///
+/// # Errors
+///
+/// `Read` and `Write` if that device failed, `File` with the text's first fault, and `Memory`. After `Write` a beginning of the
+/// answer's text was written, after another fault nothing. At `Memory` the source may have been read in part.
+pub fn learn_engine<R: Source, W: Sink, L: LearnerWatch>(
+    alloc: Global,
+    settings: Settings,
+    source: &mut R,
+    sink: &mut W,
+    watch: &mut L,
+) -> Result<LearnEnd, EngineFault>
+    requires source { R.failed source.old < 2 ^ 64 - 1 }
+    requires sink { W.failed sink.old < 2 ^ 64 - 1 }
+    ensures ended { IfSome (R.remaining source.old) (λ text.
+        IsEnded LearnSays refuses_none text (W.contents sink.old) (W.contents sink.new) result) }
+    ensures read { result ≢ Err EngineFault.Read → result ≢ Err EngineFault.Memory →
+        IsAtEnd (R.remaining source.new) }
+    ensures read_fault { result ≡ Err EngineFault.Read → R.failed source.old < R.failed source.new }
+    ensures write_fault { result ≡ Err EngineFault.Write → W.failed sink.old < W.failed sink.new }
+{
+    let text = read_all(alloc, source)?;
+    let read = problem_of(alloc, &text)?;
+    let status = write_learned(alloc, &read.problem, settings, watch, sink)?;
+    Ok(EngineEnd {
+        status,
+        ignored: read.ignored,
+    })
+}
