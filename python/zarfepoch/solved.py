@@ -82,7 +82,8 @@ def asked_of_school(program: str, timetable: Timetable, given: Namespace) -> Ans
     began, limit = time.monotonic(), given.seconds or 3 * TRY_SECONDS
     found = planned(program, timetable, bool(given.keep), limit / 3)
     if (found is None or found.status == 1) and timetable.school:
-        core = core_of(program, timetable.school, limit / 3, found is not None)
+        # (where it is known that there is none, all of the time is for the reason)
+        core = core_of(program, timetable.school, limit - (time.monotonic() - began) if found else limit / 3, found is not None)
         if core:
             print("There is no timetable. " + "\n".join(core_words(timetable.school, core)))
             return Answered(1, b"none\n", "")
