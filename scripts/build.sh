@@ -4,7 +4,7 @@
 #     scripts/build.sh               proves it and builds crates/solve_cli/out/solve_cli, from nothing in up to an hour
 #     scripts/build.sh --unproved    builds unproved/solve_cli in some minutes
 #
-# The unproved one is what the toolchain's `rt try` compiles and runs, with checks of memory at each access, so it is some ten times slower. Nothing about
+# The unproved one is what the toolchain's `rt try` compiles and runs, with checks of memory at each access, so it is ten times slower and more. Nothing about
 # it is proved: it says `unproved` in --version, and on standard error beside each `none`. The commands of the package and the scripts take it
 # where there is no other program, so they can be tried while the proved one is built; scripts/install.sh installs the proved one alone.
 #

@@ -201,7 +201,7 @@ def examples(trial: Drawing) -> None:
     generate.HERE = trial.folder
     generate.examples()
     written = [name for name in sorted(os.listdir(trial.folder)) if name.endswith(".dlx")]
-    trial.expect(f"all examples are written: {len(written)}", len(written) == 24)
+    trial.expect(f"all examples are written: {len(written)}", len(written) == 31)
     for name in written:
         trial.expect(f"{name} as it stands", content(trial.path(name)) == content(os.path.join(EXAMPLES, name)))
     for name in sorted(os.listdir(os.path.join(EXAMPLES, "pictures"))):

@@ -138,6 +138,12 @@ SMALL: dict[str, tuple[list[str], list[str]]] = {
     "one behind another": (["a;t;5a;;;{1,2};;1;;;", "b;t;5a;;;{1,2};;;;;a", "c;t;5b;;;1;;;;;"], []),
     "a double one behind another": (["a;t;5a;;;1;;;;;", "b;u;5a;;Mon1-3;1;2;;;;a", "c;u;5b;;;1;;;;;"], ["5a;;;;0"]),
     "apart": (["a;t;5a;;;1;;;x;;", "b;u;5a;;;1;;;x {y,};;", "c;u;5b;;;2;;;y;;"], []),
+    "one of two teachers, apart, and no holes": (
+        ["a;t or u;5a;;;2;;1;;{Mon1,Tue2};", "b;t;5a;;;{1,2};;;x;;", "c;u;5b;;;1;;;x;;"], ["5a;;;;0", "t;;;2;"]),
+    "double lessons, rooms and holes": (["a;t;5a;r or s;Mon1-3;1;2;;;;", "b;u;5a;r+s;;1;;;;;", "c;t;5a;;;1;;;;;b"], ["5a;;;;{0,1}"]),
+    "a joint lesson and one behind it": (["a;t;5a+5b;;;1;;1;;;", "b;u;5a;;;1;;;;;a", "c;u;5b;;;1;;;;;"], ["u;;Tue2;;0"]),
+    "few periods, a hole and a day": (["a;t;5a;;;2;;1;;;", "b;t;5b;;;2;;1;;;"], ["t;;;2;1", "teachers;;{Mon2,Tue1};;"]),
+    "twice a day and a hole": (["a;t;5a;;;3;;2;;{Mon1,};", "b;u;5a;;;1;;;;;"], ["classes;;;;1"]),
     "all lessons once a day": (["a;t;5a;;;2;;;;;", "b;t;5b;;;2;;{2,};;;"], ["lessons;;;1;"]),
 }
 

@@ -12,6 +12,8 @@ from .timetables import Timetable
 
 # a search with options in an order by lot gets so many visits before the next one begins with another order
 TRY_VISITS = 2_000
+# a search gets so many visits before one that looks for a reason too
+FIRST_VISITS = 10_000
 # for so many seconds orders are tried where no time is told, before one search decides
 TRY_SECONDS = 20.0
 # so many choices of lessons that may move are tried before more of them may
@@ -32,9 +34,10 @@ def asked(program: str, words: list[str], text: bytes) -> Answered:
 
 
 def answered(program: str, text: bytes, seconds: Optional[float] = None) -> Answered:
-    """The answer to a problem, within so many seconds if they are told."""
+    """The answer to a problem, within so many seconds if they are told. Most are found in a short search, which looks for no reason."""
     limit = ["--seconds", str(max(1, round(seconds)))] if seconds else []
-    return asked(program, ["alone", "-", "--unlimited", *limit], text)
+    found = asked(program, ["alone", "-", "--fuel", str(FIRST_VISITS), *limit], text)
+    return found if found.status != 4 else asked(program, ["alone", "-", "--unlimited", *limit], text)
 
 
 def shortly(program: str, timetable: Timetable) -> Answered:

@@ -711,24 +711,29 @@ def kinds_of(parser: argparse.ArgumentParser) -> list[argparse.ArgumentParser]:
     crossword = kinds.add_parser("crossword")
     crossword.add_argument("grid", metavar="GRID", help="rows of dots, letters and #")
     crossword.add_argument("file", metavar="WORDS", help="words of any length")
-    for kind in ("sudoku", "jigsaw", "killer"):
-        kinds.choices[kind].add_argument("--diagonals", action="store_true", help="both diagonals have each digit too")
-    kinds.choices["sudoku"].add_argument("--hyper", action="store_true", help="four windows of 3 by 3 cells have each digit too, one cell from the edge")
-    for kind in ("sudoku", "killer"):
-        kinds.choices[kind].add_argument("--boxes", metavar="ROWSxCOLUMNS", type=size, help="how many rows and columns a box has, as 4x3")
-    kinds.choices["stars"].add_argument("--stars", metavar="N", type=whole_number, default=1, help="how many in each row (default 1)")
-    kinds.choices["binairo"].add_argument("--alike", action="store_true", help="two rows, or two columns, may be alike")
-    for kind in ("word-square", "crossword"):
-        kinds.choices[kind].add_argument("--repeat", action="store_true", help="a word may come more than once")
-    kinds.choices["crossword"].add_argument("--ignore-case", action="store_true", help="capital and small letters are alike")
-    kinds.choices["coloring"].add_argument("--colors", default="red,green,blue", help="the colours, with commas (default red,green,blue)")
     kinds.choices["squares"].add_argument("file", metavar="FILE", help="a name and four colours a line")
-    kinds.choices["squares"].add_argument("--border", metavar="COLOUR", help="the colour of all sides that look outwards")
-    kinds.choices["timetable"].add_argument("--rules", metavar="FILE.csv", help="who can be had when, and how many periods and holes they may have")
-    kinds.choices["timetable"].add_argument("--keep", metavar="PLAN.csv", help="a plan whose places are tried first, as draw.py --csv writes one")
-    kinds.choices["timetable"].add_argument("--seed", metavar="N", type=whole_number,
-                                            help="draws the order of the options by lot: where a search doesn't end, another N may help")
+    add_options(kinds.choices)
     return list(dict.fromkeys(kinds.choices.values()))
+
+
+def add_options(kinds: dict[str, argparse.ArgumentParser]) -> None:
+    """Adds the options that kinds have of their own."""
+    for kind in ("sudoku", "jigsaw", "killer"):
+        kinds[kind].add_argument("--diagonals", action="store_true", help="both diagonals have each digit too")
+    kinds["sudoku"].add_argument("--hyper", action="store_true", help="four windows of 3 by 3 cells have each digit too, one cell from the edge")
+    for kind in ("sudoku", "killer"):
+        kinds[kind].add_argument("--boxes", metavar="ROWSxCOLUMNS", type=size, help="how many rows and columns a box has, as 4x3")
+    kinds["stars"].add_argument("--stars", metavar="N", type=whole_number, default=1, help="how many in each row (default 1)")
+    kinds["binairo"].add_argument("--alike", action="store_true", help="two rows, or two columns, may be alike")
+    for kind in ("word-square", "crossword"):
+        kinds[kind].add_argument("--repeat", action="store_true", help="a word may come more than once")
+    kinds["crossword"].add_argument("--ignore-case", action="store_true", help="capital and small letters are alike")
+    kinds["coloring"].add_argument("--colors", default="red,green,blue", help="the colours, with commas (default red,green,blue)")
+    kinds["squares"].add_argument("--border", metavar="COLOUR", help="the colour of all sides that look outwards")
+    kinds["timetable"].add_argument("--rules", metavar="FILE.csv", help="who can be had when, and how many periods and holes they may have")
+    kinds["timetable"].add_argument("--keep", metavar="PLAN.csv", help="a plan whose places are tried first, as draw.py --csv writes one")
+    kinds["timetable"].add_argument("--seed", metavar="N", type=whole_number,
+                                    help="draws the order of the options by lot: where a search doesn't end, another N may help")
 
 
 def examples() -> None:

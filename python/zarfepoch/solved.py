@@ -45,6 +45,7 @@ from .picture_kinds import picture_of
 from .programs import find_program
 from .puzzle_texts import Puzzle
 from .svg_paper import Paper
+from .timetable_plans import MOVED
 from .timetables import Timetable
 from .why_none import in_words, told_lines
 
@@ -81,7 +82,8 @@ def asked_of_school(program: str, timetable: Timetable, given: Namespace) -> Ans
     began, limit = time.monotonic(), given.seconds or 3 * TRY_SECONDS
     found = planned(program, timetable, bool(given.keep), limit / 3)
     if (found is None or found.status == 1) and timetable.school:
-        core = core_of(program, timetable.school, limit / 3, found is not None)
+        # (where it is known that there is none, all of the time is for the reason)
+        core = core_of(program, timetable.school, limit - (time.monotonic() - began) if found else limit / 3, found is not None)
         if core:
             print("There is no timetable. " + "\n".join(core_words(timetable.school, core)))
             return Answered(1, b"none\n", "")
@@ -151,10 +153,21 @@ def solved(program: str, puzzle: Puzzle, given: Namespace) -> int:
     answer = read_audited(found.text, problem)
     picture = picture_of(problem, [problem.options[place] for _, place in answer.chosen], False)
     draw(given, planned_picture(picture, getattr(given, "plan", [])), puzzle.comments[0])
+    if isinstance(puzzle, Timetable) and given.keep:
+        complain(kept_words(puzzle, found.text))
     if not given.one and not isinstance(puzzle, Timetable) and given.out != "-":
         sys.stdout.flush()
         print(only_words(program, problem, found.text, given.seconds))
     return 0
+
+
+def kept_words(timetable: Timetable, answer: bytes) -> str:
+    """How many times of lessons stay in their periods, in a sentence."""
+    lines = answer.decode("utf-8").splitlines()[1:]
+    ranks = {" ".join(one.option): (one.rank, len(one.lessons)) for one in timetable.ranked if one.lessons}
+    found = [ranks[line] for line in lines if line in ranks]
+    stay = sum(count for rank, count in found if rank < MOVED)
+    return f"{stay} of {sum(count for _, count in found)} times of lessons stay in their periods"
 
 
 def in_parts(given: Namespace, number: int, count: int) -> Namespace:

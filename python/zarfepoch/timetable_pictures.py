@@ -101,6 +101,14 @@ class Timetable(Kind):
         names = full_names(self.comments)
         return names.get(self.base(name), self.base(name))
 
+    def title(self, lesson: str) -> str:
+        """A lesson's name as the table had it, where lessons of several classes have one name."""
+        return self.titles.get(lesson) or self.titles.get(self.base(lesson)) or self.full(lesson)
+
+    @functools.cached_property
+    def titles(self) -> dict[str, str]:
+        return self.told("title")
+
     def base(self, name: str) -> str:
         """A lesson's name without the number or the day of the time, if it is one of several."""
         base = name.rpartition(".")[0]
@@ -150,7 +158,7 @@ class Timetable(Kind):
             pairs = [name.rsplit("-", 1) for name in names]
             who = list(dict.fromkeys(name for name, _ in pairs))
             lost = also.get(lesson) or also.get(self.base(lesson)) or []
-            yield Given(lesson, self.full(lesson), who + lost, list(dict.fromkeys(period for _, period in pairs)))
+            yield Given(lesson, self.title(lesson), who + lost, list(dict.fromkeys(period for _, period in pairs)))
 
     def item_words(self, item: str) -> str:
         own, less, rest = item.partition("<")
@@ -209,7 +217,7 @@ class Timetable(Kind):
         """A colour for each lesson; those that share a plan have different ones, as far as there are so many."""
         sharing = [{lesson for row in plan[1:] for lesson, _ in row[1:]} for plan in plans]
         found: dict[str, str] = {}
-        for k, name in enumerate(dict.fromkeys(map(self.full, self.lessons()))):
+        for k, name in enumerate(dict.fromkeys(map(self.title, self.lessons()))):
             taken = {found.get(other) for lessons in sharing if name in lessons for other in lessons}
             order = [*FILLS[k % len(FILLS):], *FILLS[:k % len(FILLS)]]
             found[name] = next((fill for fill in order if fill not in taken), order[0])
@@ -230,9 +238,7 @@ class Timetable(Kind):
         """A lesson as a row, and what sorts it."""
         roles, order = self.everybody(), self.periods()
         cells = ["+".join(self.full(one) for one in given.who if roles.get(one) == role) or "-" for role in ("teachers", "classes", "rooms")]
-        titles = self.told("title")
-        title = titles.get(given.item) or titles.get(self.base(given.item)) or given.name
-        return ((natural(cells[1]), order.index(given.periods[0])), [title, *cells, " ".join(given.periods), str(len(given.periods))])
+        return ((natural(cells[1]), order.index(given.periods[0])), [given.name, *cells, " ".join(given.periods), str(len(given.periods))])
 
     # ---- one table of all
 
@@ -255,7 +261,7 @@ class Timetable(Kind):
     def draw(self, paper: Paper) -> None:
         wanted = self.wanted()
         if not wanted:
-            names = [self.full(name) for name in self.lessons()]
+            names = [self.title(name) for name in self.lessons()]
             draw_table(paper, self.rows(), lambda lesson: FILLS[names.index(lesson) % len(FILLS)])
             self.caption(paper)
             return
