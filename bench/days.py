@@ -5,16 +5,17 @@
 
 Langford pairs of so many numbers (default 17, which have no pairing, and take longer than anybody waits) are searched for so many seconds (default
 600) by each number of nodes and workers (default 4x2, 16x8 and 4x1). Of each run a row has, at its end: the datagrams a second that the machine
-received by UDP in the second half; how many entries the fullest book has, and how many it got in each hour of the second half; how much memory the
-run has, and how much more of it in each hour of that half; and, by these, how many hours it takes until a book of the default, a million entries, is
-full. The entries come from the lines of progress, which have them in percents of the book. So the runs have books of 200,000 entries, and these
-figures steps of two thousand.
+received by UDP in the second half; how often a second a thread of the run was woken in it (its voluntary changes of context); how many entries the
+fullest book has, and how many it got in each hour of the second half; how much memory the run has, and how much more of it in each hour of that half;
+and, by these, how many hours it takes until a book of the default, a million entries, is full. The entries come from the lines of progress, which
+have them in percents of the book. So the runs have books of 200,000 entries, and these figures steps of two thousand.
 
 Nothing else should use UDP meanwhile. It wants the program: (cd crates/solve_cli && rt run -- --version) builds it. The exit status is 0, or 2 for a
 mistake on the command line or where there is no program.
 """
 from __future__ import annotations
 
+import glob
 import os
 import re
 import subprocess
@@ -30,13 +31,15 @@ from built import SOLVE_CLI, number_from_one, parser_of, stop, want_program  # n
 # the entries of a book of the default, and of the books of these runs
 DEFAULT, ENTRIES = 1_000_000, 200_000
 FULLEST = re.compile(r"fullest book (\d+) %")
-HEAD = ["Nodes x workers", "Datagrams, 1/s", "Entries", "Entries, 1/h", "Memory, MB", "Memory, MB/h", "Hours until the book is full"]
+WAKINGS = re.compile(r"^voluntary_ctxt_switches:\s+(\d+)", re.MULTILINE)
+HEAD = ["Nodes x workers", "Datagrams, 1/s", "Wakings, 1/s", "Entries", "Entries, 1/h", "Memory, MB", "Memory, MB/h", "Hours until the book is full"]
 
 
 class Look(NamedTuple):
-    """What a look at a run finds: seconds since its start, datagrams, entries and megabytes."""
+    """What a look at a run finds: seconds since its start, datagrams, wakings, entries and megabytes."""
     seconds: float
     datagrams: int
+    wakings: int
     entries: int
     memory: float
 
@@ -58,6 +61,15 @@ def datagrams() -> int:
     return int(counts[names.index("InDatagrams")])
 
 
+def wakings(process: int) -> int:
+    """How often the threads of a process have been woken."""
+    total = 0
+    for path in glob.glob(f"/proc/{process}/task/*/status"):
+        with open(path, encoding="ascii", errors="replace") as file:
+            total += sum(int(count) for count in WAKINGS.findall(file.read()))
+    return total
+
+
 def memory(process: int) -> float:
     """How many megabytes of memory a process has."""
     with open(f"/proc/{process}/status", encoding="ascii") as file:
@@ -72,7 +84,7 @@ def look(process: int, begun: float, lines: str) -> Look:
     with open(lines, encoding="ascii", errors="replace") as file:
         found = FULLEST.findall(file.read())
     entries = int(found[-1]) * ENTRIES // 100 if found else 0
-    return Look(time.monotonic() - begun, datagrams(), entries, memory(process))
+    return Look(time.monotonic() - begun, datagrams(), wakings(process), entries, memory(process))
 
 
 def looks(file: str, sites: tuple[int, int], seconds: int, folder: str) -> tuple[Look, Look]:
@@ -95,8 +107,9 @@ def row(sites: tuple[int, int], middle: Look, end: Look) -> str:
     seconds = end.seconds - middle.seconds
     entries, megabytes = ((after - before) * 3_600 / seconds for before, after in ((middle.entries, end.entries), (middle.memory, end.memory)))
     hours = f"{(DEFAULT - end.entries) / entries:.0f}" if entries else "-"
-    per_second = (end.datagrams - middle.datagrams) / seconds
-    cells = [f"{sites[0]} x {sites[1]}", f"{per_second:.0f}", f"{end.entries:,}", f"{entries:,.0f}", f"{end.memory:.0f}", f"{megabytes:.0f}", hours]
+    rates = [(after - before) / seconds for before, after in ((middle.datagrams, end.datagrams), (middle.wakings, end.wakings))]
+    sizes = [end.entries, entries, end.memory, megabytes]
+    cells = [f"{sites[0]} x {sites[1]}", *(f"{number:,.0f}" for number in [*rates, *sizes]), hours]
     return f"| {' | '.join(cells)} |"
 
 

@@ -3,7 +3,7 @@
 #
 #     scripts/test.sh [--trials]
 #
-# With --trials the gate is left out: they run the programs and tests that it left in this clone. They take some 200 processor seconds,
+# With --trials the gate is left out: they run the programs and tests that it left in this clone. They take some 370 processor seconds,
 # nearly all one after another.
 # Where all went well the last line is the gate's own, 'N passed, M failed', or 'test.sh: all trials passed', and the status is 0.
 # Else the last line names what failed, and the status is 1; it is 2 where a word isn't known or a command is missing. It wants the
