@@ -12,39 +12,17 @@ on the command line or where there is no program.
 """
 from __future__ import annotations
 
-import concurrent.futures
-import os
-import re
-import subprocess
 import sys
 
-from built import number_from_one, parser_of, program_of, stop, want_program
+from drawn_runs import counted
 
-STATE_TRIALS = program_of("state_trials")
-AT_ONCE = 2_000
-
-
-def seen_by(seed: int, count: int) -> list[int]:
-    """What the program counts: problems, searches, covers, spent, differ."""
-    ran = subprocess.run([STATE_TRIALS, str(seed), str(count)], capture_output=True, text=True)
-    numbers = [int(word) for word in re.findall("[0-9]+", ran.stdout)]
-    if ran.returncode not in (0, 1) or len(numbers) != 5:
-        stop(f"state_trials {seed} {count} ended with status {ran.returncode}: {ran.stdout}{ran.stderr}")
-    return numbers
+NAMES = ["problems", "searches", "covers", "spent", "differ"]
 
 
 def main() -> None:
-    words = parser_of(__doc__)
-    words.add_argument("--problems", metavar="N", type=number_from_one, default=50_000, help="how many problems (default 50000)")
-    words.add_argument("--seed", metavar="N", type=number_from_one, default=1, help="of the first process (default 1)")
-    given = words.parse_args()
-    want_program(STATE_TRIALS, "state_trials")
-    counts = [AT_ONCE] * (given.problems // AT_ONCE) + ([given.problems % AT_ONCE] if given.problems % AT_ONCE else [])
-    with concurrent.futures.ThreadPoolExecutor(os.cpu_count()) as pool:
-        seen = list(pool.map(seen_by, range(given.seed, given.seed + len(counts)), counts))
-    problems, searches, covers, spent, differ = map(sum, zip(*seen))
-    print(f"{problems} problems, {searches} searches: {covers} covers, {spent} spent; {differ} differ")
-    sys.exit(1 if differ else 0)
+    counts = counted("state_trials", __doc__, 50_000, 2_000, NAMES)
+    print("{problems} problems, {searches} searches: {covers} covers, {spent} spent; {differ} differ".format(**counts))
+    sys.exit(1 if counts["differ"] else 0)
 
 
 if __name__ == "__main__":
