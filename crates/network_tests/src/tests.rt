@@ -1,5 +1,7 @@
 //! A run's key, and two sites that talk, over sockets and in memory.
 //!
+//! Of the bugs of `run_key` that are kept outside the gate, `keys_are_drawn_whole` finds `half_of_a_key_is_drawn`.
+//!
 //! Of the bugs of `site_network` that are kept outside the gate, `a_stranger_is_not_heard` finds `opens_nothing` and `hears_without_a_code`,
 //! `receives_wait` finds `receives_never_wait`, `hastened_receives_do_not_wait` finds `the_end_is_not_hastened`, and
 //! `each_of_sixteen_nodes_is_reached` finds `sends_reach_four_nodes`.
@@ -117,6 +119,28 @@ fn keys_are_drawn(rt: HostRuntime) -> Result<(), Fail> {
     assert!(rt; one.open(&room[..many]) == Some(2) && other.open(&room[..many]).is_none());
     assert!(rt; one.seal(&[1, 2, 3, 4, 5], &mut room).is_none());
     assert!(rt; RunKey::draw(&NoRandom).is_err());
+    Ok(())
+}
+
+/// A source of which each byte is this one.
+struct EachByteIs(u8);
+
+impl RandomSource for EachByteIs {
+    fn fill_bytes(&self, buf: &mut [u8]) -> io::Result<()> {
+        buf.fill(self.0);
+        Ok(())
+    }
+}
+
+/// All bytes of a key are drawn.
+#[test]
+fn keys_are_drawn_whole(rt: HostRuntime) -> Result<(), Fail> {
+    let mut room = [0; 20];
+    let drawn = RunKey::draw(&EachByteIs(7))?;
+    let Some(many) = drawn.seal(&[1, 2], &mut room) else {
+        return Err(Fail::new("it doesn't fit"));
+    };
+    assert!(rt; RunKey::new([7; 64]).open(&room[..many]) == Some(2));
     Ok(())
 }
 

@@ -5,6 +5,7 @@
 mod end_cause;
 mod ending;
 mod gate;
+mod hunger;
 mod link;
 mod memory_link;
 mod pace;
@@ -17,6 +18,7 @@ mod udp_link;
 pub use end_cause::EndCause;
 pub use ending::Ending;
 pub use gate::{Gate, Open, SearchWatch};
+pub use hunger::Hunger;
 pub use link::{Link, LinkFault};
 pub use memory_link::{MemoryLink, Wires};
 pub use pace::{Pace, Quota};

@@ -2,6 +2,7 @@
 
 ghost use Rattle.std.specs.Prelude.{◌≤◌, IfOk};
 
+use crate::hunger::Hunger;
 use brancher::Outcome;
 use std::alloc::{AllocError, Global};
 
@@ -65,14 +66,14 @@ impl Pace {
         })
     }
 
-    /// How many visits the search of a prefix of this length gets, where the site is hungry or not.
+    /// How many visits the search of a prefix of this length gets, at a site of this hunger.
     ///
     /// With a base of 1 each gets one visit. Else a worker that is alone has no limit; the prefix without an option gets the base;
-    /// where the site is hungry, a fifth of it; and else eight times the greater of 30 times the base and a 1,024th of the visits made,
+    /// where hunger is felt, a fifth of it; and else eight times the greater of 30 times the base and a 1,024th of the visits made,
     /// unless it is thought to take more than that greater number, or nothing is known of its length and the next: then it gets a fifth
     /// of the base, and what was thought of its length is a tenth less the next time. After a search of more than that fifth was spent,
     /// each gets a fifth of the base until one ends without a cover: what is behind a spent prefix may take as long, at each length.
-    pub fn fuel(&mut self, length: usize, is_hungry: bool) -> u64
+    pub fn fuel(&mut self, length: usize, hunger: &Hunger) -> u64
         ensures { 1 ≤ result }
     {
         // (the empty prefix is the only job at first: until it is split all other workers wait)
@@ -82,7 +83,7 @@ impl Pace {
         if self.alone {
             return u64::MAX;
         }
-        if is_hungry || self.is_too_long(length) || self.is_wary {
+        if hunger.is_felt() || self.is_too_long(length) || self.is_wary {
             return self.small();
         }
         // (searches of one length differ, and one that is spent is lost: so it gets far more than it is thought to take)

@@ -80,8 +80,9 @@ impl<'a, J: Run, C: Core + Drop, N: CellName, G: Gate> Actor<'a, J, C, N, G> {
         if stirs && matches!(reply, Reply::Moved) {
             signals.stir();
         }
-        if matches!(reply, Reply::Idle) || tells_no_work(step.packets()) {
-            signals.starve(u64::from(self.shared.plan.workers) * 2);
+        if asks_in_vain(reply, step.packets()) {
+            let jobs = u64::from(self.shared.plan.workers) * 2;
+            signals.hunger().starve(jobs);
         }
     }
 
@@ -130,11 +131,10 @@ fn needs_answer(packet: &Packet) -> bool {
     )
 }
 
-/// Whether a packet refuses someone who asked for work.
-fn tells_no_work(packets: &[Packet]) -> bool {
-    packets
-        .iter()
-        .any(|packet| matches!(packet.body, Body::NoWork))
+/// Whether someone asked for work and got none, by an event's reply and packets: a worker of the site, or another site.
+pub fn asks_in_vain(reply: &Reply, packets: &[Packet]) -> bool {
+    let is_refusal = |packet: &Packet| matches!(packet.body, Body::NoWork);
+    matches!(reply, Reply::Idle) || packets.iter().any(is_refusal)
 }
 
 /// The packet's spelling, for its receiver. The only error is out of memory.

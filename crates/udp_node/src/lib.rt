@@ -26,6 +26,7 @@ mod site_context;
 mod site_run;
 mod worker;
 
+pub use actor::asks_in_vain;
 pub use idleness::{IdleTurn, Idleness};
 pub use node::{run_node, run_root};
 pub use node_end::NodeEnd;
@@ -35,8 +36,9 @@ pub use run_plan::RunPlan;
 pub use savings::{Savings, Shown};
 pub use schedule::Schedule;
 pub use seat_receipts::SeatReceipts;
+pub use signals::Signals;
 pub use site_network::{
-    EndCause, Gate, Link, LinkFault, MemoryLink, Open, Pace, Plan, Quota, SiteEnd, Sockets, Timing,
-    UdpLink, Wires, bound,
+    EndCause, Gate, Hunger, Link, LinkFault, MemoryLink, Open, Pace, Plan, Quota, SiteEnd, Sockets,
+    Timing, UdpLink, Wires, bound,
 };
 pub use worker::room_for;

@@ -1,3 +1,4 @@
+use site_network::Hunger;
 use std::sync::Wait;
 use std::sync::atomic::{AtomicBool, AtomicU64, Ordering};
 use std::thread::{self, Parker};
@@ -30,8 +31,8 @@ pub struct Signals {
     running: AtomicU64,
     /// How many events may have left an idle worker something to do.
     stirs: AtomicU64,
-    /// How many jobs should be split yet, so that the site has work for its own workers and others.
-    hunger: AtomicU64,
+    /// Whether work is short.
+    hunger: Hunger,
     /// The worker, counted from 1, to which the others leave all jobs; 0 for none.
     sole: AtomicU64,
     /// How often something was said that may be lost on its way.
@@ -53,7 +54,7 @@ impl Signals {
             works: AtomicBool::new(!has_workers),
             running: AtomicU64::new(running),
             stirs: AtomicU64::new(0),
-            hunger: AtomicU64::new(0),
+            hunger: Hunger::new(),
             sole: AtomicU64::new(0),
             said: AtomicU64::new(0),
             over: AtomicBool::new(false),
@@ -154,21 +155,9 @@ impl Signals {
         self.stirs.load(Ordering::SeqCst)
     }
 
-    /// Asks for so many jobs to be split, as there was no work for someone who asked.
-    pub fn starve(&self, jobs: u64) {
-        self.hunger.store(jobs, Ordering::Relaxed);
-    }
-
-    /// Counts a job that was split. Two at once may count as one, since the load and the store are apart: then a few jobs more are small.
-    pub fn feed(&self) {
-        let hunger = self.hunger.load(Ordering::Relaxed);
-        self.hunger
-            .store(hunger.saturating_sub(1), Ordering::Relaxed);
-    }
-
-    /// Returns whether jobs should be small, as work is short.
-    pub fn is_hungry(&self) -> bool {
-        self.hunger.load(Ordering::Relaxed) > 0
+    /// Whether work is short at the site.
+    pub fn hunger(&self) -> &Hunger {
+        &self.hunger
     }
 
     /// The states that this worker keeps save so much that the others only found them once more: they leave it all jobs.

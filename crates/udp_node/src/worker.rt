@@ -121,7 +121,7 @@ impl<'a, J: Run> Worker<'a, J> {
                 self.idleness.end();
                 let fuel = self
                     .pace
-                    .fuel(prefix.as_slice().len(), actor.shared.signals.is_hungry());
+                    .fuel(prefix.as_slice().len(), actor.shared.signals.hunger());
                 self.search(rt, actor, SearchJob::new(job, prefix, fuel))
             }
             Reply::Ripe(unit) => {
@@ -289,7 +289,7 @@ impl<'a, J: Run> Worker<'a, J> {
         match actor.act(rt, Event::Post(job, finding)) {
             Ok(_step) => {
                 if outcome == Outcome::Spent {
-                    actor.shared.signals.feed();
+                    actor.shared.signals.hunger().feed();
                 }
                 actor.shared.gate.posted(self.number, &job);
                 Turn::Used

@@ -1,10 +1,17 @@
-//! How much a worker searches: a script of what it asks and learns.
+//! How much a worker searches: a script of what it asks and learns, and when work is short.
+//!
+//! Of the bugs of `site_network` that are kept outside the gate, `hunger` finds `nobody_is_ever_hungry`.
+//!
+//! Of the bugs of `udp_node` that are kept outside the gate, `who_asks_in_vain` finds `who_asks_in_vain_is_not_heard`.
 
 use self::Step::{Asks, Ends, Keeps};
+use super::lone::{HERE, OTHER};
 use brancher::Outcome;
+use node_core::Reply;
+use packet_wire::{Body, Packet};
 use std::alloc::{AllocError, Global};
 use std::test::Fail;
-use udp_node::{Pace, Quota};
+use udp_node::{Hunger, Pace, Quota, asks_in_vain};
 
 /// What happens to a pace.
 #[derive(Clone, Copy)]
@@ -93,7 +100,11 @@ static ONE_VISIT: [Step; 7] = [
 /// Whether the pace answers so.
 fn is_answered(pace: &mut Pace, step: Step) -> bool {
     match step {
-        Asks(length, is_hungry, visits) => pace.fuel(length, is_hungry) == visits,
+        Asks(length, is_hungry, visits) => {
+            let hunger = Hunger::new();
+            hunger.starve(u64::from(is_hungry));
+            pace.fuel(length, &hunger) == visits
+        }
         Ends(length, outcome, visits) => {
             pace.note(length, outcome, visits);
             true
@@ -139,4 +150,30 @@ fn paces(rt: HostRuntime) -> Result<(), Fail> {
         assert_eq!(rt; wrong, None, "script {number}");
     }
     Ok(())
+}
+
+/// It is felt until two jobs were split.
+#[test]
+fn hunger(rt: HostRuntime) {
+    let hunger = Hunger::new();
+    assert!(rt; !hunger.is_felt());
+    hunger.starve(2);
+    for is_felt in [true, true, false, false] {
+        assert_eq!(rt; hunger.is_felt(), is_felt);
+        hunger.feed();
+    }
+}
+
+/// A worker of the site asks in vain, another site does, and nobody does.
+#[test]
+fn who_asks_in_vain(rt: HostRuntime) {
+    let to_other = |body| Packet {
+        from: HERE,
+        to: OTHER,
+        body,
+    };
+    let (refusal, theft) = ([to_other(Body::NoWork)], [to_other(Body::Steal)]);
+    assert!(rt; asks_in_vain(&Reply::Idle, &[]));
+    assert!(rt; asks_in_vain(&Reply::Moved, &refusal));
+    assert!(rt; !asks_in_vain(&Reply::Moved, &theft));
 }

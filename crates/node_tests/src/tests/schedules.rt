@@ -1,15 +1,18 @@
 //! When a site acts although nothing came, and what an idle worker does: scripts of what each is asked, with the answers expected.
 //!
-//! Of the bugs of `udp_node` that are kept outside the gate, `schedules` finds `greets_at_each_look`, `each_run_ends_after_a_day`,
-//! and `says_again_as_often`, `time_that_a_process_was_held_up` finds `all_time_counts`, `idle_turns` finds
-//! `naps_of_20_microseconds`, `savings` finds `single_searches_show_savings`, and `rooms` finds `each_worker_has_all_room`.
+//! Of the bugs of `udp_node` that are kept outside the gate, `schedules` finds `greets_at_each_look`, `each_run_ends_after_a_day` and
+//! `says_again_as_often`, `time_that_a_process_was_held_up` finds `all_time_counts`, `idle_turns` finds
+//! `naps_of_20_microseconds`, `savings` finds `single_searches_show_savings`, `a_spared_worker_is_roused` finds
+//! `spared_workers_are_not_roused`, and `rooms` finds `each_worker_has_all_room`.
 
 use self::Step::{Announces, Ends, Greets, Hears, IsSilent, IsSpent, Repeats};
 use std::io;
 use std::sync::atomic::{AtomicU64, Ordering};
 use std::test::Fail;
-use std::time::{Clock, Duration};
-use udp_node::{IdleTurn, Idleness, OwnTime, Plan, Savings, Schedule, Shown, Timing, room_for};
+use std::time::{Clock, Duration, Instant};
+use udp_node::{
+    IdleTurn, Idleness, OwnTime, Plan, Savings, Schedule, Shown, Signals, Timing, room_for,
+};
 
 /// What a schedule is asked or told, at a time in milliseconds.
 #[derive(Clone, Copy, Debug)]
@@ -248,6 +251,20 @@ fn savings(rt: HostRuntime) {
     for (made, gone, shown) in SEARCHES {
         assert_eq!(rt; savings.note(made, gone), shown, "{made} {gone}");
     }
+}
+
+/// A worker that left all jobs to another doesn't wait for long once that one leaves them to all again: by itself it would for a minute.
+#[test]
+fn a_spared_worker_is_roused(rt: HostRuntime) -> Result<(), Fail> {
+    let signals = Signals::new(2, true);
+    signals.work_alone(0);
+    assert!(rt; signals.is_spared(1) && !signals.is_spared(0));
+    signals.work_together(0);
+    assert!(rt; !signals.is_spared(1));
+    let begun = Instant::now(&rt)?;
+    signals.spare(&rt, 1);
+    assert!(rt; begun.elapsed(&rt)? < Duration::from_secs(30));
+    Ok(())
 }
 
 /// Nodes, workers of each, and how many megabytes the states of one of them may take.
