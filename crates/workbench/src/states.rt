@@ -18,10 +18,10 @@ use std::io;
 /// Compares searches of one problem that is drawn; the only error is out of memory.
 fn try_one(alloc: Global, rng: &mut Pcg32, seen: &mut Seen) -> Result<(), AllocError> {
     let text = drawn_text(alloc, rng)?;
-    if let Ok(read) = read_problem(alloc, &text) {
-        compare_searches(alloc, &read.problem, rng, seen)?;
+    match read_problem(alloc, &text) {
+        Ok(read) => compare_searches(alloc, &read.problem, rng, seen),
+        Err(_) => Ok(()),
     }
-    Ok(())
 }
 
 /// Compares searches of so many problems that are drawn; the only error is out of memory.

@@ -9,6 +9,7 @@ mod sites;
 use crate::memory_run::plan_of;
 use crate::tally::sites::{Ran, Tally, tally_run};
 use crate::words::text_of;
+use cover_problem::Problem;
 use dlx_reader::read_problem;
 use std::io;
 use std::sync::Wait;
@@ -28,9 +29,22 @@ fn tell_sites<R: Threads + Wait + Clock + Sync>(
 {
     let text = text_of(rt, file)?;
     match read_problem(rt.alloc(), &text) {
-        Ok(read) => tell_ran(rt, &tally_run(threads, rt.alloc(), &read.problem, plan)?),
+        Ok(read) => tell_run(rt, threads, &read.problem, plan),
         Err(_) => println!(rt; "the file is refused"),
     }
+}
+
+/// Lets sites search a problem, and prints how each ended.
+fn tell_run<R: Threads + Wait + Clock + Sync>(
+    rt: &HostRuntime,
+    threads: &R,
+    problem: &Problem,
+    plan: Plan,
+) -> io::Result<()>
+    requires some { 1 ≤ plan.nodes }
+    requires most { plan.nodes ≤ LAST_NODE }
+{
+    tell_ran(rt, &tally_run(threads, rt.alloc(), problem, plan)?)
 }
 
 /// Prints how each site of a run ended, and what its book holds.

@@ -11,6 +11,7 @@ mod told;
 
 use crate::words::text_of;
 use crate::worlds::story::{Plan, measure, tell};
+use cover_problem::Problem;
 use dlx_reader::read_problem;
 use std::io;
 
@@ -39,13 +40,19 @@ fn tell_file(rt: &HostRuntime, file: &str, plan: Plan, is_told: bool) -> io::Res
     let text = text_of(rt, file)?;
     match read_problem(rt.alloc(), &text) {
         Ok(read) if is_told => tell(rt.alloc(), &read.problem, plan, &mut rt.stdout()),
-        Ok(read) => {
-            let measured = measure(rt.alloc(), &read.problem, plan)?;
-            let (turns, packets) = (measured.turns, measured.packets);
-            println!(rt; "{turns} {packets} {}", measured.is_published)
-        }
+        Ok(read) => tell_measured(rt, &read.problem, plan),
         Err(fault) => println!(rt; "{fault:?}"),
     }
+}
+
+/// Lets a problem be searched, and prints the turns, the packets, and whether an answer was published.
+fn tell_measured(rt: &HostRuntime, problem: &Problem, plan: Plan) -> io::Result<()>
+    requires some { 1 ≤ plan.nodes }
+    requires most { plan.nodes ≤ LAST_NODE }
+{
+    let measured = measure(rt.alloc(), problem, plan)?;
+    let (turns, packets) = (measured.turns, measured.packets);
+    println!(rt; "{turns} {packets} {}", measured.is_published)
 }
 
 /// Does what the words ask for, and returns the exit status; none where they ask for something else.

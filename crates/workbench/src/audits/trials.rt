@@ -129,7 +129,25 @@ fn tell_changes<J: Run, R: Wait>(
         return Err(TrialFault::Unexpected);
     }
     let tables = Tables::build(trials.alloc, problem)?;
-    let mut player: Player<J> = Player::new(trials.alloc, &tables)?;
+    try_over(trials, threads, &tables, rng, books, changes)
+}
+
+/// Makes the changes, by a player over tables of the problem.
+fn try_over<J: Run, R: Wait>(
+    trials: &Trials<'_>,
+    threads: &R,
+    tables: &Tables<'_>,
+    rng: &mut Pcg32,
+    books: &mut [Book<J>],
+    changes: u32,
+) -> Result<(), TrialFault>
+    requires problem { tables.now ≡ J.run.problem }
+    requires nodes { trials.now.nodes ≡ J.run.nodes }
+    requires some { 1 ≤ trials.now.nodes }
+    requires most { trials.now.nodes ≤ LAST_NODE }
+    requires books { 1 ≤ length books.old }
+{
+    let mut player: Player<J> = Player::new(trials.alloc, tables)?;
     for _ in 0..changes {
         try_change(trials, threads, &mut player, rng, books)?;
     }
