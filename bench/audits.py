@@ -8,7 +8,7 @@ boards of 10, 12 and 14 rows give some 10,000, 100,000 and 1,000,000 entries. Th
 the audit, the megabytes of the run with its books, and those that the audit adds: the greatest memory of a run with an audit less
 that of one without.
 
-It wants the program: (cd crates/audit_trials && rt run) builds it. The exit status is 0, 1 where an audit is unclean, or 2 for a
+It wants the program: (cd crates/workbench && rt run) builds it. The exit status is 0, 1 where an audit is unclean, or 2 for a
 mistake on the command line or where the program is missing.
 """
 from __future__ import annotations
@@ -20,18 +20,17 @@ import tempfile
 
 HERE = os.path.dirname(os.path.abspath(__file__))
 sys.path.insert(0, os.path.join(HERE, "..", "scripts"))
-from built import parser_of, program_of, want_program  # noqa: E402
+from built import parser_of, want_program, WORKBENCH  # noqa: E402
 from instances import torus_queens  # noqa: E402
 from zarfepoch import generate  # noqa: E402
 
-PROGRAM = program_of("audit_trials")
 ROWS = [10, 12, 14]
 NODES = [4, 16]
 
 
 def run(file: str, nodes: int, what: str) -> tuple[list[str], float]:
     """What a run prints, and its greatest memory in megabytes."""
-    process = subprocess.Popen([PROGRAM, file, str(nodes), "1", "1", "1", "100000000", what], stdout=subprocess.PIPE, text=True)
+    process = subprocess.Popen([WORKBENCH, "audits", file, str(nodes), "1", "1", "1", "100000000", what], stdout=subprocess.PIPE, text=True)
     text = process.stdout.read() if process.stdout else ""
     _, status, usage = os.wait4(process.pid, 0)
     process.returncode = os.waitstatus_to_exitcode(status)
@@ -40,7 +39,7 @@ def run(file: str, nodes: int, what: str) -> tuple[list[str], float]:
 
 def main() -> None:
     parser_of(__doc__).parse_args()
-    want_program(PROGRAM, "audit_trials")
+    want_program(WORKBENCH, "workbench")
     print("| Books | Entries | Seconds | MB of the run | MB of the audit |")
     print("|---|---|---|---|---|")
     is_clean = True

@@ -12,7 +12,7 @@ fullest book, how many names a node used at most, and how many turns a thread to
 `--long` lets one node of four workers search Langford pairs of 13 behind choices that make the work 960 times as much, which
 takes some fifteen minutes on four processors, and prints a line each minute: how many processors were used in it.
 
-It wants gcc, and the program: (cd crates/run_tally && rt run) builds it. The exit status is 0, or 2 for a mistake on the command
+It wants gcc, and the program: (cd crates/workbench && rt run) builds it. The exit status is 0, or 2 for a mistake on the command
 line or where one of these is missing.
 """
 from __future__ import annotations
@@ -27,7 +27,7 @@ import time
 
 HERE = os.path.dirname(os.path.abspath(__file__))
 sys.path.insert(0, os.path.join(HERE, "..", "scripts"))
-from built import parser_of, RUN_TALLY, stop, want_command, want_program  # noqa: E402
+from built import parser_of, stop, want_command, want_program, WORKBENCH  # noqa: E402
 from solve import behind  # noqa: E402
 
 NAMES = ["langford-13", "skewed", "torus-queens-15", "torus-queens-16"]
@@ -66,7 +66,7 @@ def run(file: str, nodes: int, workers: int, is_watched: bool = False) -> Ran:
     """The seconds of a run, those of processors, whether an answer was published, what each site tells of its end (losses,
     turns), and the entries, searches, lost visits and names of each book."""
     start, before = time.monotonic(), resource.getrusage(resource.RUSAGE_CHILDREN)
-    words = [RUN_TALLY, file, str(nodes), str(workers), "1", "1000", "1000000"]
+    words = [WORKBENCH, "tally", file, str(nodes), str(workers), "1", "1000", "1000000"]
     with subprocess.Popen(words, stdout=subprocess.PIPE, text=True) as process:
         if is_watched:
             watch(process)
@@ -93,7 +93,7 @@ def main() -> None:
     words.add_argument("--long", action="store_true", help="one run of some fifteen minutes in place of the short ones")
     words.add_argument("names", nargs="*", metavar="NAME", help="instances, as those that are written by bench/instances.py")
     given = words.parse_args()
-    want_program(RUN_TALLY, "run_tally")
+    want_program(WORKBENCH, "workbench")
     want_command("gcc")
     with tempfile.TemporaryDirectory() as folder:
         baseline = os.path.join(folder, "baseline")

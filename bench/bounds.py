@@ -17,8 +17,8 @@ named, or all, are measured:
 The least of five audits counts, and all of five runs. Seconds of audits are by the clock: on a busy machine they may be beyond a bound where
 nothing is wrong.
 
-It wants the programs: rt run in the folders crates/audit_trials, crates/workbench and crates/run_tally builds them. The exit status is 0, 1 where a
-figure is beyond its bound or an answer is wrong, 2 for a mistake on the command line or where a program is missing.
+It wants the program: (cd crates/workbench && rt run) builds it. The exit status is 0, 1 where a figure is beyond its bound or an answer
+is wrong, 2 for a mistake on the command line or where the program is missing.
 """
 from __future__ import annotations
 
@@ -34,7 +34,7 @@ HERE = os.path.dirname(os.path.abspath(__file__))
 sys.path.insert(0, os.path.join(HERE, "..", "scripts"))
 import audits  # noqa: E402
 import books  # noqa: E402
-from built import RUN_TALLY, WORKBENCH, parser_of, stop, want_program  # noqa: E402
+from built import WORKBENCH, parser_of, stop, want_program  # noqa: E402
 from instances import torus_queens  # noqa: E402
 from solve import behind  # noqa: E402
 from zarfepoch import generate  # noqa: E402
@@ -106,19 +106,17 @@ def equal_parts(folder: str) -> float:
 
 
 class Bound(NamedTuple):
-    """What is measured, the greatest figure that is good, and the program and its crate."""
+    """What is measured, and the greatest figure that is good."""
     measure: Callable[[str], float]
     most: float
-    program: str
-    crate: str
 
 
 BOUNDS = {
-    "audit-length": Bound(audit_length, 1.75, audits.PROGRAM, "audit_trials"),
-    "audit-books": Bound(audit_books, 2, audits.PROGRAM, "audit_trials"),
-    "idle-entries": Bound(idle_entries, 64, WORKBENCH, "workbench"),
-    "only-worker": Bound(only_worker, 4, RUN_TALLY, "run_tally"),
-    "equal-parts": Bound(equal_parts, 2, RUN_TALLY, "run_tally"),
+    "audit-length": Bound(audit_length, 1.75),
+    "audit-books": Bound(audit_books, 2),
+    "idle-entries": Bound(idle_entries, 64),
+    "only-worker": Bound(only_worker, 4),
+    "equal-parts": Bound(equal_parts, 2),
 }
 
 
@@ -129,7 +127,7 @@ def main() -> int:
     for name in names:
         if name not in BOUNDS:
             stop(f"there is no bound {name}")
-        want_program(BOUNDS[name].program, BOUNDS[name].crate)
+    want_program(WORKBENCH, "workbench")
     print("| Bound | Figure | At most |\n|---|---|---|", flush=True)
     is_good = True
     with tempfile.TemporaryDirectory() as folder:

@@ -9,7 +9,7 @@ takes and what the search came to. Times are the least processor seconds of the 
 instructions are told too, without those of a search of one visit: reading and building the tables. The ratio is the time of the search
 that the program takes to the time of the other.
 
-It wants the program: (cd crates/two_searches && rt run) builds it. The exit status is 0, 1 where the two come to other outcomes, 2 for
+It wants the program: (cd crates/workbench && rt run) builds it. The exit status is 0, 1 where the two come to other outcomes, 2 for
 a mistake on the command line or where there is no program.
 """
 from __future__ import annotations
@@ -26,7 +26,7 @@ from typing import Optional
 
 HERE = os.path.dirname(os.path.abspath(__file__))
 sys.path.insert(0, os.path.join(HERE, "..", "scripts"))
-from built import TWO_SEARCHES, number_from_one, parser_of, stop, want_program  # noqa: E402
+from built import WORKBENCH, number_from_one, parser_of, stop, want_program  # noqa: E402
 from zarfepoch import generate  # noqa: E402
 
 KINDS = ["links", "sets"]
@@ -69,7 +69,7 @@ def uneven_instances(folder: str) -> None:
 def told(file: str, kind: str, fuel: int) -> tuple[list[str], float]:
     """What the program writes of a search, in words, and its processor seconds."""
     before = resource.getrusage(resource.RUSAGE_CHILDREN)
-    text = subprocess.run([TWO_SEARCHES, file, kind, "plain", str(fuel)], capture_output=True, text=True).stdout
+    text = subprocess.run([WORKBENCH, "search", file, kind, "plain", str(fuel)], capture_output=True, text=True).stdout
     after = resource.getrusage(resource.RUSAGE_CHILDREN)
     return text.split(), after.ru_utime + after.ru_stime - before.ru_utime - before.ru_stime
 
@@ -80,7 +80,7 @@ def instructions(file: str, kind: str, fuel: int) -> Optional[int]:
         return None
     counts = []
     for visits in (fuel, 1):
-        words = ["valgrind", "--tool=callgrind", "--callgrind-out-file=/dev/null", TWO_SEARCHES, file, kind, "plain", str(visits)]
+        words = ["valgrind", "--tool=callgrind", "--callgrind-out-file=/dev/null", WORKBENCH, "search", file, kind, "plain", str(visits)]
         errors = subprocess.run(words, capture_output=True, text=True).stderr
         counts.append(int(errors.partition("refs:")[2].split()[0].replace(",", "")))
     return counts[0] - counts[1]
@@ -105,7 +105,7 @@ def main() -> None:
     words.add_argument("--fuel", metavar="N", type=number_from_one, default=100000, help="how many visits a search makes at most (default 100000)")
     words.add_argument("names", nargs="*", metavar="NAME", help="instances, without their ending")
     given = words.parse_args()
-    want_program(TWO_SEARCHES, "two_searches")
+    want_program(WORKBENCH, "workbench")
     with tempfile.TemporaryDirectory() as folder:
         subprocess.run([sys.executable, os.path.join(HERE, "instances.py"), folder], check=True)
         sparse_instances(folder)

@@ -8,7 +8,7 @@ packets sent, and the most memory of the process. `letters` and `queens-8` are p
 chessboard has no cover and a search too long for these turns. On the last rows one node splits Langford pairs of 13 at each
 visit, so its table grows: to 26,000 children in 400,000 turns.
 
-It wants the program: (cd crates/world_story && rt run) builds it. The exit status is 0, 1 where the program failed, 2 for a mistake
+It wants the program: (cd crates/workbench && rt run) builds it. The exit status is 0, 1 where the program failed, 2 for a mistake
 on the command line or where there is no program.
 """
 from __future__ import annotations
@@ -23,7 +23,7 @@ from typing import Optional
 
 HERE = os.path.dirname(os.path.abspath(__file__))
 sys.path.insert(0, os.path.join(HERE, "..", "scripts"))
-from built import parser_of, want_program, WORLD_STORY  # noqa: E402
+from built import parser_of, want_program, WORKBENCH  # noqa: E402
 
 EXAMPLES = os.path.join(HERE, "..", "examples")
 
@@ -54,7 +54,7 @@ def run(words: list[str]) -> tuple[str, float, int]:
     """The output of the program, its user time, and its greatest memory in bytes, which is looked at each 2 milliseconds."""
     before = resource.getrusage(resource.RUSAGE_CHILDREN).ru_utime
     memory = 0
-    with subprocess.Popen([WORLD_STORY, *words], stdout=subprocess.PIPE, text=True) as child:
+    with subprocess.Popen([WORKBENCH, *words], stdout=subprocess.PIPE, text=True) as child:
         while child.poll() is None:
             memory = max(memory, most_memory(child.pid) or 0)
             time.sleep(0.002)
@@ -69,7 +69,7 @@ def main() -> None:
     words.add_argument("--long", action="store_true",
                        help="adds a million turns of 16 nodes, and a table that grows further; both take minutes")
     rows = ROWS + (LONG if words.parse_args().long else [])
-    want_program(WORLD_STORY, "world_story")
+    want_program(WORKBENCH, "workbench")
     with tempfile.TemporaryDirectory() as folder:
         subprocess.run([sys.executable, os.path.join(HERE, "instances.py"), folder], check=True)
         print("| File | Nodes | Fuel | Turns | Published | Packets | Seconds | Turns a second | Memory, MB |")

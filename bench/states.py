@@ -12,7 +12,7 @@ keeps states takes to one of the plain search, without those of a search of one 
 
 With --at-once N so many run at a time; the figures of several disturb one another a little.
 
-It wants the programs: (cd crates/two_searches && rt run) and (cd crates/solve_cli && rt run -- --version) build them. The exit
+It wants the programs: (cd crates/workbench && rt run) and (cd crates/solve_cli && rt run -- --version) build them. The exit
 status is 0, 1 where two come to other outcomes, 2 for a mistake on the command line or where there is no program.
 """
 from __future__ import annotations
@@ -30,7 +30,7 @@ from typing import Optional
 
 HERE = os.path.dirname(os.path.abspath(__file__))
 sys.path.insert(0, os.path.join(HERE, "..", "scripts"))
-from built import SOLVE_CLI, TWO_SEARCHES, number_from_one, parser_of, stop, want_program  # noqa: E402
+from built import SOLVE_CLI, WORKBENCH, number_from_one, parser_of, stop, want_program  # noqa: E402
 from encodings_of_peers import formula_of, program_of  # noqa: E402
 from zarfepoch import generate  # noqa: E402
 
@@ -111,14 +111,14 @@ def least(words: list[str], times: int, seconds: int, lines: Iterable[str] = ())
 
 def counted(file: str, keeping: str, fuel: str) -> int:
     """How many instructions a search of so many visits takes, by valgrind; -1 where it has no figure."""
-    words = ["valgrind", "--tool=callgrind", "--callgrind-out-file=/dev/null", TWO_SEARCHES, file, "suited", keeping, fuel]
+    words = ["valgrind", "--tool=callgrind", "--callgrind-out-file=/dev/null", WORKBENCH, "search", file, "suited", keeping, fuel]
     found = re.search(r"refs: +([0-9,]+)", subprocess.run(words, capture_output=True, text=True).stderr)
     return int(found[1].replace(",", "")) if found else -1
 
 
 def plain_and_ratio(file: str, times: int, seconds: int) -> tuple[Optional[Found], str]:
     """What the plain search comes to, and the cell of the instructions, without those of a search of one visit."""
-    plain = least([TWO_SEARCHES, file, "suited", "plain", GREATEST], times, seconds)
+    plain = least([WORKBENCH, "search", file, "suited", "plain", GREATEST], times, seconds)
     if not plain or plain[0] == "spent" or plain[1] >= 2 or not shutil.which("valgrind"):
         return plain, "-"
     kept, kept_one, other, other_one = [counted(file, keeping, fuel) for keeping in ("kept", "plain") for fuel in (GREATEST, "1")]
@@ -135,7 +135,7 @@ def by_peer(command: str, file: str, times: int, seconds: int) -> Optional[Found
 
 def tasks_of(file: str, times: int, seconds: int) -> list[Task]:
     """What is run of an instance beside the plain search: a task for each column."""
-    commands = [TWO_SEARCHES, file, "suited", "kept", GREATEST], [SOLVE_CLI, "alone", file, "--unlimited"]
+    commands = [WORKBENCH, "search", file, "suited", "kept", GREATEST], [SOLVE_CLI, "alone", file, "--unlimited"]
     ours: list[Task] = [partial(least, words, times, seconds) for words in commands]
     return ours + [partial(by_peer, command, file, times, seconds) for command in PEERS if shutil.which(command)]
 
@@ -178,7 +178,7 @@ def main() -> None:
     words.add_argument("--at-once", metavar="N", type=number_from_one, default=1, help="how many run at a time (default 1)")
     words.add_argument("names", nargs="*", metavar="NAME", help="instances, without their ending")
     given = words.parse_args()
-    want_program(TWO_SEARCHES, "two_searches")
+    want_program(WORKBENCH, "workbench")
     want_program(SOLVE_CLI)
     with tempfile.TemporaryDirectory() as folder:
         write_instances(folder)

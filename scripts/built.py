@@ -19,8 +19,7 @@ def program_of(crate: str) -> str:
     return os.path.join(TOP, "crates", crate, "out", crate)
 
 
-SOLVE_CLI, WORKBENCH, RUN_TALLY, WORLD_STORY = map(program_of, ("solve_cli", "workbench", "run_tally", "world_story"))
-TWO_SEARCHES = program_of("two_searches")
+SOLVE_CLI, WORKBENCH = map(program_of, ("solve_cli", "workbench"))
 
 
 def path_of(text: str) -> str:

@@ -9,27 +9,28 @@ import subprocess
 from built import number_from_one, parser_of, program_of, stop, want_program
 
 
-def counts_of(program: str, seed: int, problems: int, names: list[str]) -> list[int]:
-    """What the program counts, of so many problems that it draws by this seed."""
-    ran = subprocess.run([program, str(seed), str(problems)], capture_output=True, text=True)
+def counts_of(command: list[str], seed: int, problems: int, names: list[str]) -> list[int]:
+    """What the command counts, of so many problems that it draws by this seed."""
+    ran = subprocess.run([*command, str(seed), str(problems)], capture_output=True, text=True)
     numbers = [int(word) for word in re.findall("[0-9]+", ran.stdout)]
     if ran.returncode not in (0, 1) or len(numbers) != len(names):
-        stop(f"{os.path.basename(program)} {seed} {problems} ended with status {ran.returncode}: {ran.stdout}{ran.stderr}")
+        stop(f"{os.path.basename(command[0])} {seed} {problems} ended with status {ran.returncode}: {ran.stdout}{ran.stderr}")
     return numbers
 
 
-def counted(crate: str, doc: str, problems: int, at_once: int, names: list[str]) -> dict[str, int]:
-    """The sums of what a crate's program counts, by name, over as many problems as the command line asks for, or else so many.
+def counted(command: list[str], doc: str, problems: int, at_once: int, names: list[str]) -> dict[str, int]:
+    """The sums of what a command counts, by name, over as many problems as the command line asks for, or else so many. Its first word is a
+    crate that is a program.
 
     Each process draws so many at once; as many run side by side as there are processors.
     """
     words = parser_of(doc)
     words.add_argument("--problems", metavar="N", type=number_from_one, default=problems, help=f"how many problems (default {problems})")
     words.add_argument("--seed", metavar="N", type=number_from_one, default=1, help="of the first process (default 1)")
-    given, program = words.parse_args(), program_of(crate)
-    want_program(program, crate)
+    given, program = words.parse_args(), program_of(command[0])
+    want_program(program, command[0])
     whole, rest = divmod(given.problems, at_once)
     sizes = [at_once] * whole + [rest] * (rest > 0)
     with concurrent.futures.ThreadPoolExecutor(os.cpu_count()) as pool:
-        seen = pool.map(lambda place: counts_of(program, given.seed + place, sizes[place], names), range(len(sizes)))
+        seen = pool.map(lambda place: counts_of([program, *command[1:]], given.seed + place, sizes[place], names), range(len(sizes)))
         return dict(zip(names, map(sum, zip(*seen))))

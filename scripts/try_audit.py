@@ -3,7 +3,7 @@
 
     python3 scripts/try_audit.py [--changes N] [--runs N] [--seed N] [--program PATH] [FILE ..]
 
-Of each file, so many runs are made by `audit_trials`, which prints the books of all sites, and so many times the book of one site
+Of each file, so many runs are made by `workbench audits`, which prints the books of all sites, and so many times the book of one site
 in which one entry was changed: an event left out, repeated, or put behind the next one, a packet with another bit, or the packet of
 another entry. This script reads the books as text and merges them in the plainest way: it goes round all books, takes each entry
 that delivers nothing or a packet that was put out, and ends where a round takes none. A later incarnation of a node waits for the
@@ -25,7 +25,7 @@ import sys
 from collections.abc import Iterable, Iterator
 from typing import NamedTuple, Optional
 
-from built import TOP, number_from_one, parser_of, program_of, want_program
+from built import TOP, WORKBENCH, number_from_one, parser_of, want_program
 
 FILES = ["letters", "queens-8", "langford-4", "langford-5", "tetrominoes-4x5"]
 KINDS = ["Dropped", "Repeated", "Swapped", "Altered", "Exchanged"]
@@ -108,7 +108,7 @@ def take(books: Books, taken: dict[Site, int], sent: set[str], site: Site) -> in
 
 
 def audit(books: Books) -> str:
-    """What an audit finds, as `audit_trials` prints it."""
+    """What an audit finds, as `workbench audits` prints it."""
     site = missing(books)
     if site:
         return f"Err(MissingBook({site_text(site)}))"
@@ -137,7 +137,7 @@ def count_change(table: Table, books: Books, change: list[str], tail: Books, fou
 
 def try_run(given: argparse.Namespace, file: str, seed: int, table: Table) -> bool:
     """Makes a run and its changes; whether its books are clean by both audits."""
-    words = [given.program, file, "3", "2", str(seed), "1", "100000", str(given.changes)]
+    words = [given.program, "audits", file, "3", "2", str(seed), "1", "100000", str(given.changes)]
     run = subprocess.Popen(words, stdout=subprocess.PIPE, text=True)
     audits = parts(run.stdout or [])
     _, books, found = next(audits)
@@ -155,10 +155,10 @@ def main() -> None:
     parser.add_argument("--changes", type=number_from_one, default=100, help="how many changes are tried in each run (default 100)")
     parser.add_argument("--runs", type=number_from_one, default=2, help="how many runs of each file (default 2)")
     parser.add_argument("--seed", type=int, default=1, help="the seed of the first run (default 1)")
-    parser.add_argument("--program", default=program_of("audit_trials"), help="the program, in place of the built one")
+    parser.add_argument("--program", default=WORKBENCH, help="the program, in place of the built one")
     parser.add_argument("files", metavar="FILE", nargs="*", help="problems (default: five examples)")
     given = parser.parse_args()
-    want_program(given.program, "audit_trials")
+    want_program(given.program, "workbench")
     files = given.files or [os.path.join(TOP, "examples", f"{name}.dlx") for name in FILES]
     table: Table = collections.defaultdict(collections.Counter)
     good = [try_run(given, file, given.seed + number, table) for file in files for number in range(given.runs)]

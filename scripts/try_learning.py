@@ -19,7 +19,7 @@ NAMES = ["problems", "covers", "conflicts", "differ"]
 
 
 def main() -> None:
-    counts = counted("learn_trials", __doc__, 100_000, 5_000, NAMES)
+    counts = counted(["learn_trials"], __doc__, 100_000, 5_000, NAMES)
     print("{problems} problems: {covers} covers, {conflicts} conflicts; {differ} differ".format(**counts))
     sys.exit(1 if counts["differ"] else 0)
 

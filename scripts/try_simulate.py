@@ -8,7 +8,7 @@ of 1, 10 and 1,000 visits, without restarts and with five. Every answer is given
 tells, file by file, in how many of the runs an answer was published within 10,000 turns, without the closing phase, and the
 turns and packets that the middle one of these took.
 
-It wants two programs: (cd crates/solve_cli && rt run -- --version) and (cd crates/world_story && rt run) build them. The exit status is 0
+It wants two programs: (cd crates/solve_cli && rt run -- --version) and (cd crates/workbench && rt run) build them. The exit status is 0
 where every answer is right, 1 where one is wrong, 2 for a mistake on the command line or where a program is missing.
 """
 from __future__ import annotations
@@ -20,7 +20,7 @@ import subprocess
 import sys
 import tempfile
 
-from built import number_from_one, parser_of, SOLVE_CLI, TOP, want_program, WORLD_STORY
+from built import number_from_one, parser_of, SOLVE_CLI, TOP, want_program, WORKBENCH
 
 NODES, TURNS = 4, 10_000
 
@@ -41,7 +41,7 @@ def is_right(file: str, answer_file: str, seed: str, fuel: str, restarts: str) -
 
 
 def measured(file: str, seed: str, fuel: str, restarts: str) -> tuple[int, int, bool]:
-    words = [WORLD_STORY, "measure", file, str(NODES), seed, fuel, restarts, str(TURNS)]
+    words = [WORKBENCH, "measure", file, str(NODES), seed, fuel, restarts, str(TURNS)]
     turns, packets, published = output(words).stdout.split()
     return int(turns), int(packets), published == "true"
 
@@ -51,7 +51,7 @@ def main() -> None:
     parser.add_argument("seeds", nargs="?", metavar="SEEDS", type=number_from_one, default=20, help="how many seeds are tried, from 1 (default 20)")
     seeds = parser.parse_args().seeds
     want_program(SOLVE_CLI)
-    want_program(WORLD_STORY, "world_story")
+    want_program(WORKBENCH, "workbench")
     plans = [(str(seed), fuel, restarts) for seed in range(1, seeds + 1)
              for fuel in ("1", "10", "1000") for restarts in ("0", "5")]
     wrong = 0

@@ -1,143 +1,58 @@
-//! `workbench`: programs for those who work on the protocol.
+//! `workbench`: what those who work on the code run, for trials and for benches.
 //!
-//! `workbench act KIND TIMES` lets cores take events, so many times over; `workbench copy KIND TIMES` only copies the packets
-//! that go with them. A KIND is `cycle`, a steal from the first packet to the last, `share-1`, `share-2` or `share-8`, a Steal with
-//! the Give of so many children, or the name of a packet that is delivered. `bench/cores.py` takes the times of both.
-//!
-//! `workbench greet THREADS TIMES` lets so many threads greet at one cell, each so many times; with 0 threads a core without a lock.
-//! `bench/cells.py` takes their times.
-//!
-//! `workbench table UNITS` times the calls of a ledger with so many own children, `workbench guests UNITS` of one with so many
-//! guests: a line for each call, how often it was called, and the nanoseconds of all. `bench/table.py` reads them.
+//! Its first word says what it does; the file of that name has the rest.
 #![tactic(auto)]
 
-mod cells;
-mod cycle;
-mod deliveries;
-mod fault;
-mod many_units;
-mod shares;
-mod table;
+mod audits;
+mod cores;
+mod memory_run;
+mod searches;
+mod states;
+mod tally;
+mod words;
+mod worlds;
 
-use crate::cells::{greet_cell, greet_core};
-use crate::cycle::{act_cycles, copy_packets, packets};
-use crate::deliveries::{act_deliveries, packet_of};
-use crate::fault::BenchFault;
-use crate::shares::{act_shares, one_item, share_in, share_packets};
-use crate::table::{measure_children, measure_guests};
-use std::alloc::Global;
+use crate::words::given_words;
+use std::io;
 use std::process::ExitCode;
 use std::sync::Wait;
 use std::thread::Threads;
 use std::time::Clock;
-use std::{env, io};
-
-/// Lets cores take the events of this kind so many times.
-fn act(alloc: Global, kind: &str, times: u64) -> Result<(), BenchFault> {
-    if let Some(share) = share_in(kind) {
-        return act_shares(alloc, share, times);
-    }
-    // One item and no option: the search of the root is short, and there is no cover.
-    let problem = one_item(alloc, 0)?;
-    if kind == "cycle" {
-        return act_cycles(alloc, &problem, times);
-    }
-    act_deliveries(alloc, &problem, kind, times)
-}
-
-/// Copies the packets of this kind so many times.
-fn copy(alloc: Global, kind: &str, times: u64) -> Result<(), BenchFault> {
-    if let Some(share) = share_in(kind) {
-        return copy_packets(alloc, &share_packets(alloc, share)?, times);
-    }
-    if kind == "cycle" {
-        return copy_packets(alloc, &packets(alloc), times);
-    }
-    copy_packets(alloc, &[packet_of(alloc, kind)?], times)
-}
-
-/// Runs a count.
-fn count(alloc: Global, what: &str, kind: &str, times: &str) -> Result<(), BenchFault> {
-    let Ok(times) = times.parse::<u64>() else {
-        return Err(BenchFault::Unexpected);
-    };
-    match what {
-        "act" => act(alloc, kind, times),
-        "copy" => copy(alloc, kind, times),
-        _ => Err(BenchFault::Unexpected),
-    }
-}
-
-/// Greets at a cell from so many threads, or at a core without a lock.
-fn greet<R: Threads + Wait + Sync>(
-    rt: &R,
-    alloc: Global,
-    threads: &str,
-    times: &str,
-) -> Result<(), BenchFault> {
-    let (Ok(threads), Ok(times)) = (threads.parse::<u8>(), times.parse::<u64>()) else {
-        return Err(BenchFault::Unexpected);
-    };
-    let problem = one_item(alloc, 0)?;
-    if threads == 0 {
-        return greet_core(alloc, &problem, times);
-    }
-    greet_cell(rt, alloc, &problem, threads, times)
-}
-
-/// Times the calls of a ledger with so many children, or guests.
-fn time_calls(rt: &HostRuntime, what: &str, units: &str) -> io::Result<Result<(), BenchFault>> {
-    let Ok(units) = units.parse::<u32>() else {
-        return Ok(Err(BenchFault::Unexpected));
-    };
-    let measured = match what {
-        "table" => measure_children(rt, rt.alloc(), units),
-        "guests" => measure_guests(rt, rt.alloc(), units),
-        _ => Err(BenchFault::Unexpected),
-    };
-    match measured {
-        Ok(rows) => {
-            for row in &rows {
-                println!(rt; "{},{},{}", row.name, row.calls, row.time.as_nanos())?;
-            }
-            Ok(Ok(()))
-        }
-        Err(fault) => Ok(Err(fault)),
-    }
-}
-
-/// The words of the command line behind the program's name.
-fn given_words(rt: &HostRuntime) -> io::Result<Vec<String>> {
-    let mut given = Vec::new(rt.alloc());
-    for word in env::args(rt)?.skip(1) {
-        given.push(word)?;
-    }
-    Ok(given)
-}
 
 /// How it is called.
-const USAGE: &str = "workbench act|copy KIND TIMES
+const USAGE: &str = "workbench search FILE links|sets|suited plain|kept FUEL
+workbench states SEED COUNT
+workbench act|copy KIND TIMES
 workbench greet THREADS TIMES
-workbench table|guests UNITS";
+workbench table|guests UNITS
+workbench tell|measure FILE NODES SEED FUEL RESTARTS TURNS
+workbench tally FILE NODES WORKERS SEED FUEL TURNS
+workbench audits FILE NODES WORKERS SEED FUEL TURNS CHANGES|time|nothing";
+
+/// Does what the words ask for, and returns the exit status; none where they ask for nothing that it does.
+fn run<R: Threads + Wait + Clock + Sync>(
+    rt: &HostRuntime,
+    threads: &R,
+    words: &[String],
+) -> io::Result<Option<u8>> {
+    let [what, given @ ..] = words else {
+        return Ok(None);
+    };
+    match what.as_str() {
+        "search" => searches::command(rt, given),
+        "states" => states::command(rt, given),
+        "tell" | "measure" => worlds::command(rt, what, given),
+        "tally" => tally::command(rt, threads, given),
+        "audits" => audits::command(rt, threads, given),
+        _ => cores::command(rt, threads, what, given),
+    }
+}
 
 fn main(rt: HostRuntime) -> io::Result<ExitCode> {
     let words = given_words(&rt)?;
-    let counted = match words.as_slice() {
-        [what, threads, times] if what.as_str() == "greet" => greet(
-            &rt,
-            rt.alloc(),
-            threads,
-            times,
-        ),
-        [what, units] => time_calls(&rt, what, units)?,
-        [what, kind, times] => count(rt.alloc(), what, kind, times),
-        _ => Err(BenchFault::Unexpected),
-    };
-    match counted {
-        Ok(()) => Ok(ExitCode::from(0)),
-        Err(fault) => {
-            println!(rt; "{fault:?}\n{USAGE}")?;
-            Ok(ExitCode::from(2))
-        }
+    if let Some(status) = run(&rt, &rt, words.as_slice())? {
+        return Ok(ExitCode::from(status));
     }
+    println!(rt; "{USAGE}")?;
+    Ok(ExitCode::from(2))
 }

@@ -1,4 +1,0 @@
-use Rattle.run_tally.proofs.sites.run_over_memory.Given as goal
-
-abbrev pub ghosts-run_named : goal.ghosts-run_named
-ghosts-run_named g a = record { run = record { problem = a.problem.now; nodes = a.plan.nodes } }
