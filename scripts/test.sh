@@ -3,8 +3,8 @@
 #
 #     scripts/test.sh [--trials]
 #
-# With --trials the gate is left out: they run the programs and tests that it left in this clone. They take some 370 processor seconds,
-# nearly all one after another.
+# With --trials the gate is left out: they run the programs and tests that it left in this clone, as many side by side as there are processors.
+# They take some 370 processor seconds.
 # Where all went well the last line is the gate's own, 'N passed, M failed', or 'test.sh: all trials passed', and the status is 0.
 # Else the last line names what failed, and the status is 1; it is 2 where a word isn't known or a command is missing. It wants the
 # toolchain's command rt, cc, Python and mypy; the gate builds the programs.
@@ -41,36 +41,54 @@ short_form() {
     esac
 }
 
-# Runs a trial by its words, says how long it took, and notes its name where it fails.
-failed=
+# Runs a trial by its words. What it says, and how long it took, is printed whole once it has ended; its name is noted where it fails.
 try() {
     local begun=$SECONDS name
     name=$(basename "$1")
-    echo "== $name ${*:2}"
-    case "$1" in
-    *.py) python3 "$@" ;;
-    *) "$@" ;;
-    esac || failed="$failed $name"
-    echo "== $name: $((SECONDS - begun)) s"
+    {
+        echo "== $name ${*:2}"
+        case "$1" in
+        *.py) python3 "$@" ;;
+        *) "$@" ;;
+        esac || echo " $name" >> "$room/failed"
+        echo "== $name: $((SECONDS - begun)) s"
+    } > "$room/$name.said" 2>&1 < /dev/null
+    cat "$room/$name.said"
 }
 
-log=$(mktemp) || exit 2
-trap 'rm -f "$log"' EXIT
+# Begins a trial as soon as a processor is free for it.
+begin() {
+    while [ "$(jobs -rp | wc -l)" -ge "$(nproc)" ]; do
+        wait -n
+    done
+    try "$@" &
+}
+
+room=$(mktemp -d) || exit 2
+trap 'rm -rf "$room"' EXIT
+log=$room/log
 echo "test.sh: all trials passed" > "$log"
 if [ $# -eq 0 ] && ! rt ci 2>&1 | tee "$log"; then
     echo "test.sh: the gate failed"
     exit 1
 fi
 begun=$SECONDS
-for path in scripts/try_*.py; do
+# (those that take longest first, so that none of them is left over at the end)
+long=$(printf 'scripts/try_%s.py ' program generate kinds draw timetables)
+for path in $long scripts/try_*.py; do
+    name=$(basename "$path")
+    [ -e "$room/$name.said" ] && continue
+    : > "$room/$name.said"
     # (the words are several)
     # shellcheck disable=SC2046
-    try "$path" $(short_form "$(basename "$path")")
+    begin "$path" $(short_form "$name")
 done
-try mypy
-try scripts/check_pages.py
-try scripts/draw_layers.py --check
+begin mypy
+begin scripts/check_pages.py
+begin scripts/draw_layers.py --check
+wait
 echo "test.sh: the trials took $((SECONDS - begun)) s"
+failed=$(tr -d '\n' < "$room/failed" 2> /dev/null)
 if [ -n "$failed" ]; then
     echo "test.sh: failed:$failed"
     exit 1
