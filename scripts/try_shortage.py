@@ -10,6 +10,8 @@ runs. `refuse_growth.c`, which is built here and loaded before the C library, re
 end within the limit (60 seconds). Where memory ran out and there is no answer, the status has to be 5 and standard error has to say so; but
 a thread whose growth is refused at its start is one that can't be started, and then status 4 is right, too.
 
+Last it is solved in a network namespace without a loopback device, where the system allows one: status 3 and `cannot bind` within a second.
+
 --short refuses 25 growths where else it would be each or a hundred, and three numbers of threads. It wants cc and the program:
 (cd crates/solve_cli && rt run -- --version) builds it. The exit status is 0, 1 where a run went wrong, 2 for a mistake on the command line or where
 something is missing.
@@ -111,6 +113,20 @@ def growths(trial: Trial, name: str, words: Sequence[str], what: str, count: int
     print(f"| {' | '.join(map(str, cells))} |", flush=True)
 
 
+def loopback(trial: Trial) -> None:
+    """A run without a loopback device: it is told at once."""
+    lonely = ["unshare", "--user", "--map-root-user", "--net"]
+    if subprocess.run([*lonely, "true"], capture_output=True).returncode:
+        print("without a loopback device: not tried, as the system allows no namespace")
+        return
+    begun = time.monotonic()
+    ran = subprocess.run([*lonely, SOLVE_CLI, "solve", trial.file], capture_output=True, text=True, timeout=trial.limit)
+    seconds = time.monotonic() - begun
+    is_told = (ran.returncode, ran.stdout, ran.stderr) == (3, "", "cannot bind\n") and seconds < 1
+    trial.wrong += not is_told
+    print(f"without a loopback device: status {ran.returncode} after {seconds:.2f} s, {ran.stderr.strip()}")
+
+
 def main() -> int:
     words = parser_of(__doc__)
     words.add_argument("--short", action="store_true", help="fewer runs")
@@ -127,6 +143,7 @@ def main() -> int:
         growths(trial, "one of a run with one worker", ALONE, ONE, FEW if given.short else 0)
         growths(trial, "one of a run with eight workers", USUAL, ONE, some)
         growths(trial, "all from one on", USUAL, ALL, max(some // 4, 1))
+        loopback(trial)
     print(f"{trial.wrong} runs went wrong")
     return 1 if trial.wrong else 0
 

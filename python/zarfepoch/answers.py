@@ -1,6 +1,7 @@
 """How commands ask the program for an answer."""
 from __future__ import annotations
 
+import concurrent.futures
 import itertools
 import random
 import subprocess
@@ -10,11 +11,11 @@ from typing import NamedTuple, Optional
 
 from .timetables import Timetable
 
-# a search with options in an order by lot gets so many visits before the next one begins with another order
+# a search in which some lessons may move gets so many visits before others may
 TRY_VISITS = 2_000
-# a search gets so many visits before one that looks for a reason too
+# a search gets so many visits before others are asked beside it
 FIRST_VISITS = 10_000
-# for so many seconds orders are tried where no time is told, before one search decides
+# for so many seconds a plan is looked for where no time is told, before parts of the school are tried by themselves
 TRY_SECONDS = 20.0
 # so many choices of lessons that may move are tried before more of them may
 CHOICES = 30
@@ -33,11 +34,32 @@ def asked(program: str, words: list[str], text: bytes) -> Answered:
     return Answered(ran.returncode, ran.stdout, ran.stderr.decode(errors="replace").strip())
 
 
+def first_of(program: str, ways: list[list[str]], text: bytes) -> Answered:
+    """The answer of whichever of these ways is first; the others are ended then. Where none answers, what the first one said."""
+    runs = [subprocess.Popen([program, *words], stdin=subprocess.PIPE, stdout=subprocess.PIPE, stderr=subprocess.PIPE) for words in ways]
+    with concurrent.futures.ThreadPoolExecutor(len(runs)) as pool:
+        try:
+            said = {pool.submit(run.communicate, text): run for run in runs}
+            for ended in concurrent.futures.as_completed(said):
+                if said[ended].returncode in (0, 1):
+                    return answer_of(said[ended], *ended.result())
+        finally:
+            for run in runs:
+                run.kill()
+    return answer_of(runs[0], *next(iter(said)).result())
+
+
+def answer_of(run: subprocess.Popen[bytes], text: bytes, why: bytes) -> Answered:
+    """What a process answered that has ended."""
+    return Answered(run.returncode, text, why.decode(errors="replace").strip())
+
+
 def answered(program: str, text: bytes, seconds: Optional[float] = None) -> Answered:
-    """The answer to a problem, within so many seconds if they are told. Most are found in a short search, which looks for no reason."""
+    """The answer to a problem, within so many seconds if they are told. Most are found in a short search; else by one that keeps states and looks
+    for a reason, or by one that learns, whichever is first."""
     limit = ["--seconds", str(max(1, round(seconds)))] if seconds else []
     found = asked(program, ["alone", "-", "--fuel", str(FIRST_VISITS), *limit], text)
-    return found if found.status != 4 else asked(program, ["alone", "-", "--unlimited", *limit], text)
+    return found if found.status != 4 else first_of(program, [["alone", "-", "--unlimited", *limit], ["learn", "-", *limit]], text)
 
 
 def shortly(program: str, timetable: Timetable) -> Answered:
@@ -70,21 +92,14 @@ def movable(timetable: Timetable, draw: random.Random) -> Iterator[set[str]]:
             yield unfit | set(order[:size])
 
 
-def tries(timetable: Timetable, is_kept: bool) -> Iterator[Timetable]:
-    """The problem in ever other forms, each for a short search: with all but some lessons kept in place, and then with options in other orders."""
-    if is_kept:
-        yield from (timetable.kept(released) for released in movable(timetable, random.Random(1)))
-    yield timetable
-    yield from (timetable.in_order(seed) for seed in itertools.count(2))
-
-
 def planned(program: str, timetable: Timetable, is_kept: bool, seconds: float) -> Optional[Answered]:
-    """The answer to the problem of a timetable, where short searches find it in so many seconds: a long one seldom ends once its first choices are
-    wrong. A `none` counts only for the problem as it is."""
+    """The answer to the problem of a timetable, where it is found in so many seconds. Where a plan is kept, short searches come first, in which ever
+    more of its lessons may move; their `none` says nothing of the problem as it is."""
     limit = time.monotonic() + seconds
-    whole = len(timetable.options)
-    for attempt in itertools.takewhile(lambda _: time.monotonic() < limit, tries(timetable, is_kept)):
-        found = shortly(program, attempt)
-        if found.status not in (1, 4) or found.status == 1 and len(attempt.options) == whole:
+    choices = movable(timetable, random.Random(1)) if is_kept else iter(())
+    for released in itertools.takewhile(lambda _: time.monotonic() < limit, choices):
+        found = shortly(program, timetable.kept(released))
+        if found.status not in (1, 4):
             return found
-    return None
+    found = answered(program, timetable.text(), max(1.0, limit - time.monotonic()))
+    return None if found.status == 4 else found

@@ -78,7 +78,7 @@ def positive(text: str) -> float:
 
 
 def asked_of_school(program: str, timetable: Timetable, given: Namespace) -> Answered:
-    """The program's answer to a timetable: by short searches, for a third of the time, or by a part of the school that has none, or by one search."""
+    """The program's answer to a timetable: for a third of the time, or by a part of the school that has none, or for the rest of the time."""
     began, limit = time.monotonic(), given.seconds or 3 * TRY_SECONDS
     found = planned(program, timetable, bool(given.keep), limit / 3)
     if (found is None or found.status == 1) and timetable.school:

@@ -274,13 +274,6 @@ class Timetable(Puzzle):
     lessons: dict[str, Lesson] = field(default_factory=dict)
     school: Optional[School] = None
 
-    def in_order(self, seed: int) -> Timetable:
-        """The problem with its options in an order by lot; those nearer to the plan stay before others."""
-        ranked = list(self.ranked)
-        random.Random(seed).shuffle(ranked)
-        ranked.sort(key=lambda one: one.rank)
-        return replace(self, options=[one.option for one in ranked], ranked=ranked)
-
     def kept(self, released: Collection[str]) -> Timetable:
         """The problem in which all lessons but these have to stay in the periods that they have in the plan."""
         ranked = [one for one in self.ranked if one.rank < MOVED or any(lesson in released for lesson in one.lessons)]

@@ -23,6 +23,10 @@ pub fn bound<R: Net>(rt: &R) -> io::Result<UdpSocket> {
     let here = SocketAddrV4::new(Ipv4Addr::LOCALHOST, 0);
     let socket = UdpSocket::bind(rt, SocketAddr::V4(here))?;
     socket.set_read_timeout(Some(Duration::from_millis(PATIENCE)))?;
+    // (without a loopback device it is bound all the same, and only a send fails)
+    socket.send_to(&[], socket.local_addr()?)?;
+    // (should it come later, it is a stranger's)
+    let _ = socket.recv_from(&mut []);
     Ok(socket)
 }
 
