@@ -2,7 +2,6 @@
 
 ghost use Rattle.std.specs.Prelude.{◌≡◌, ◌-◌, ◌<◌, ◌≤◌, ℕ, List, length, IfOk, IfSome, slice_index, slice_set};
 ghost use Rattle.barren_states.specs.States.{Holds};
-ghost use Rattle.choices.specs.Keys.{KeyKind};
 ghost use Rattle.brancher.specs.Keeping.{AreKept, IsKeptOf, IsKnown};
 
 use crate::trials::Trials;
@@ -47,7 +46,7 @@ impl Kept {
         room: u64,
     ) -> Result<Kept, AllocError>
         requires width { width ≤ 1024 }
-        ensures kept { (kind : KeyKind) → IfOk result (AreKept kind problem.now) }
+        ensures kept { IfOk result (AreKept problem.now) }
         ensures empty { IfOk result (λ kept. (key : List ℕ) (visits : ℕ) →
             Holds kept.states key visits → ⊥) }
     {
@@ -122,7 +121,7 @@ impl Kept {
     #[inline(always)]
     pub fn look<B: Branching>(&mut self, state: &B) -> Option<u64>
         ensures unchanged { self.new ≡ self.old }
-        ensures known { IfSome result (IsKnown B.kind (B.choices state.now).problem
+        ensures known { IfSome result (IsKnown (B.choices state.now).problem
             (B.choices state.now).chosen self.old.states) }
     {
         if !state.write_key(&mut self.key) {
@@ -139,7 +138,7 @@ impl Kept {
     #[inline(always)]
     pub fn keep<B: Branching>(&mut self, state: &B, visits: u64)
         ensures entered { self.new.entered ≡ self.old.entered }
-        ensures states { IsKeptOf B.kind (B.choices state.now).problem
+        ensures states { IsKeptOf (B.choices state.now).problem
             (B.choices state.now).chosen visits self.old.states self.new.states }
     {
         if visits < LEAST {

@@ -5,7 +5,7 @@ ghost use Rattle.cover_problem.specs.Prefix.{is_prefix};
 ghost use Rattle.cover_problem.specs.Problem.{IsProblem};
 ghost use Rattle.cover_problem.specs.Search.{first, visits};
 ghost use Rattle.brancher.specs.Keeping.{AreKept};
-ghost use Rattle.brancher.specs.Kernels.{choices_in, kind_in};
+ghost use Rattle.brancher.specs.Kernels.{choices_in};
 ghost use Rattle.brancher.specs.Visit.{IsVisit};
 
 use crate::keeping::visit_below_keeping;
@@ -88,15 +88,14 @@ impl<'a> Kernel<'a> {
         kept: &mut Kept,
     ) -> Visit
         requires prefix { is_prefix (choices_in self.old).problem prefix.now ≡ true }
-        requires kept { AreKept (kind_in self.old) (choices_in self.old).problem kept.old }
+        requires kept { AreKept (choices_in self.old).problem kept.old }
         ensures problem { (choices_in self.new).problem ≡ (choices_in self.old).problem }
-        ensures kind { kind_in self.new ≡ kind_in self.old }
         ensures lawful { IsProblem (choices_in self.old).problem }
         ensures visit { IsVisit (first (choices_in self.old).problem prefix.now)
             (visits (choices_in self.old).problem prefix.now) fuel prefix.now
             (choices_in self.new).chosen result }
         ensures stopped { (left : ℕ) → result ≡ Visit.Stopped left → W.may_stop ≡ true }
-        ensures kept { AreKept (kind_in self.old) (choices_in self.old).problem kept.new }
+        ensures kept { AreKept (choices_in self.old).problem kept.new }
     {
         match self {
             Kernel::Links(links) => visit_below_keeping(links, prefix, fuel, watch, kept),
@@ -109,10 +108,9 @@ impl<'a> Kernel<'a> {
         requires prefix { is_prefix (choices_in self.old).problem prefix.now ≡ true }
         requires barren { first (choices_in self.old).problem prefix.now ≡ None }
         requires count { visits (choices_in self.old).problem prefix.now ≡ count }
-        requires kept { AreKept (kind_in self.old) (choices_in self.old).problem kept.old }
+        requires kept { AreKept (choices_in self.old).problem kept.old }
         ensures problem { (choices_in self.new).problem ≡ (choices_in self.old).problem }
-        ensures kind { kind_in self.new ≡ kind_in self.old }
-        ensures kept { AreKept (kind_in self.old) (choices_in self.old).problem kept.new }
+        ensures kept { AreKept (choices_in self.old).problem kept.new }
     {
         match self {
             Kernel::Links(links) => learn_barren(links, prefix, count, kept),

@@ -30,7 +30,7 @@ pub struct Searcher<'a> {
 impl<'a> Model for Searcher<'a> {
     ghost use Rattle.std.specs.Prelude.{IfSome};
     ghost use Rattle.brancher.specs.Keeping.{AreKept};
-    ghost use Rattle.brancher.specs.Kernels.{choices_in, kind_in};
+    ghost use Rattle.brancher.specs.Kernels.{choices_in};
     ghost use Rattle.brancher.specs.Searching.{Searcher as SearcherValue};
 
     ghost Value = { SearcherValue };
@@ -40,7 +40,7 @@ impl<'a> Model for Searcher<'a> {
       found = (choices_in s.kernel).chosen;
     } };
 
-    ghost invariant = { λ s. IfSome s.kept (AreKept (kind_in s.kernel) (choices_in s.kernel).problem) };
+    ghost invariant = { λ s. IfSome s.kept (AreKept (choices_in s.kernel).problem) };
 }
 
 impl<'a> Searcher<'a> {

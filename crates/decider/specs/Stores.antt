@@ -1,6 +1,5 @@
 -- What is chosen in a store, whichever it is.
 use Rattle.choices.specs.Choices.{Choices}
-use Rattle.choices.specs.Keys.{KeyKind, OfLiveOptions, OfUncoveredItems}
 use Rattle.decider.specs.declared.store.Store.{Store}
 use Rattle.decider.specs.declared.store.Store.TheVariants.{Links, Rows}
 
@@ -8,8 +7,3 @@ use Rattle.decider.specs.declared.store.Store.TheVariants.{Links, Rows}
 abbrev pub choices_in : Store → Choices
 choices_in (Links choices) = choices
 choices_in (Rows choices) = choices
-
--- what the bits of a key are in it
-abbrev pub kind_in : Store → KeyKind
-kind_in (Links choices) = OfUncoveredItems
-kind_in (Rows choices) = OfLiveOptions

@@ -22,7 +22,7 @@ pub struct Decider<'a> {
 impl<'a> Model for Decider<'a> {
     ghost use Rattle.brancher.specs.Searching.{Searcher};
     ghost use Rattle.decider.specs.Deciding.{HaveNoCover};
-    ghost use Rattle.decider.specs.Stores.{choices_in, kind_in};
+    ghost use Rattle.decider.specs.Stores.{choices_in};
 
     ghost Value = { Searcher };
 
@@ -31,7 +31,7 @@ impl<'a> Model for Decider<'a> {
       found = (choices_in s.store).chosen;
     } };
 
-    ghost invariant = { λ s. HaveNoCover (kind_in s.store) (choices_in s.store).problem s.kept.states };
+    ghost invariant = { λ s. HaveNoCover (choices_in s.store).problem s.kept.states };
 }
 
 impl<'a> Decider<'a> {
