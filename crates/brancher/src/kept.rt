@@ -1,7 +1,7 @@
 //! What the searches of a problem keep.
 
 ghost use Rattle.std.specs.Prelude.{◌≡◌, ◌-◌, ◌<◌, ◌≤◌, ℕ, List, length, IfOk, IfSome, slice_index, slice_set};
-ghost use Rattle.barren_states.specs.States.{Holds};
+ghost use Rattle.barren_states.specs.States.{bytes_of, Holds};
 ghost use Rattle.brancher.specs.Keeping.{AreKept, IsKeptOf, IsKnown};
 
 use crate::trials::Trials;
@@ -49,6 +49,7 @@ impl Kept {
         ensures kept { IfOk result (AreKept problem.now) }
         ensures empty { IfOk result (λ kept. (key : List ℕ) (visits : ℕ) →
             Holds kept.states key visits → ⊥) }
+        ensures room { IfOk result (λ kept. bytes_of kept.states.most kept.states ≤ room) }
     {
         problem.recall_rules();
         let depths = problem.primary() + 1;
@@ -140,6 +141,8 @@ impl Kept {
         ensures entered { self.new.entered ≡ self.old.entered }
         ensures states { IsKeptOf (B.choices state.now).problem
             (B.choices state.now).chosen visits self.old.states self.new.states }
+        ensures room { bytes_of self.new.states.most self.new.states
+            ≡ bytes_of self.old.states.most self.old.states }
     {
         if visits < LEAST {
             return;
@@ -169,17 +172,12 @@ impl Kept {
 /// A table of states of keys of so many words, in at most so many bytes, or in less where that is refused; the only error is out of memory.
 fn states_in(alloc: Global, width: usize, room: u64) -> Result<BarrenStates, AllocError>
     requires { width ≤ 1024 }
-    ensures { IfOk result (λ states. (key : List ℕ) (visits : ℕ) → Holds states key visits → ⊥) }
+    ensures empty { IfOk result (λ states. (key : List ℕ) (visits : ℕ) → Holds states key visits → ⊥) }
+    ensures room { IfOk result (λ states. bytes_of states.most states ≤ room) }
 {
-    // (a slot has a key, its visits, and a byte for its worth)
-    let slots = room / (width as u64 * 8 + 9);
-    // (the greatest power of two that fits, since a slot is found by a mask of the hash)
-    let bits = (u64::BITS - 1)
-        .saturating_sub(slots.leading_zeros())
-        .min(32);
     // (half as much each time: the table only saves time, so a small one is better than an error)
-    for less in 0..bits + 1 {
-        if let Ok(states) = BarrenStates::build(alloc, width, bits - less) {
+    for half in 0..u64::BITS {
+        if let Ok(states) = BarrenStates::build(alloc, width, room >> half) {
             return Ok(states);
         }
     }

@@ -12,7 +12,7 @@ returns-clause-states g c =
     let S : States → Type 0 = λ s. IsKept s c.deref.result.now c.args.visits c.keep.new.self in
     record {
       key = c.deref.result.now;
-      is = inr (subst K (sym key) (c.write_key.ensures c.if-not-write_key.false), subst S (ap (λ (v : Keeping). v.states) c.self.view_is) c.keep.ensures);
+      is = inr (subst K (sym key) (c.write_key.ensures c.if-not-write_key.false), subst S (ap (λ (v : Keeping). v.states) c.self.view_is) c.keep.ensures.kept);
     }
 
 pub returns-then-visits-lt-LEAST-clause-states : goal.returns-then-visits-lt-LEAST-clause-states
