@@ -53,10 +53,11 @@ impl Kept {
     {
         problem.recall_rules();
         let depths = problem.primary() + 1;
-        let states = states_in(alloc, width, room)?;
+        // (without words there are no keys: nothing is ever kept then)
+        let states = states_in(alloc, width, if width > 0 { room } else { 0 })?;
         let entered = vec![in alloc; 0u64; depths]?;
         let key = vec![in alloc; 0u64; width]?;
-        let trials = Trials::build(alloc, depths)?;
+        let trials = Trials::build(alloc, depths, width > 0)?;
         Ok(Kept {
             states,
             entered,

@@ -260,13 +260,16 @@ impl<'a> Searcher<'a> {
     }
 
     /// How many visits a search of a prefix takes below which there is no cover, where that is seen before the watch stops the search; none
-    /// where it isn't, or where there is one.
+    /// where it isn't, where there is one, or where no states are kept: such a search doesn't ask the watch how long it may go on.
     pub fn barren_visits<W: Watch>(&mut self, prefix: &[u16], watch: &mut W) -> Option<u64>
         requires { is_prefix self.old.problem prefix.now ≡ true }
         ensures problem { self.new.problem ≡ self.old.problem }
         ensures barren { IfSome result (λ count. (first self.old.problem prefix.now ≡ None)
             × (visits self.old.problem prefix.now ≡ count)) }
     {
+        if !self.keeps() {
+            return None;
+        }
         match self.visit(prefix, u64::MAX, watch) {
             Visit::Barren(left) => Some(u64::MAX - left),
             Visit::Found | Visit::Spent | Visit::Stopped(_) => None,

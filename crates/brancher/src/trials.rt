@@ -50,18 +50,27 @@ pub(crate) struct Trials {
 }
 
 impl Trials {
-    /// The first trial, for prefixes of fewer than so many options; the only error is out of memory.
-    pub(crate) fn build(alloc: Global, depths: usize) -> Result<Trials, AllocError> {
+    /// The first trial, for prefixes of fewer than so many options; none ever where there are no keys. The only error is out of memory.
+    pub(crate) fn build(
+        alloc: Global,
+        depths: usize,
+        has_keys: bool,
+    ) -> Result<Trials, AllocError> {
         let looks = vec![in alloc; 0u64; depths]?;
         let saved = vec![in alloc; 0u64; depths]?;
+        let (deepest, pause) = if has_keys {
+            (usize::MAX, 0)
+        } else {
+            (0, u64::MAX)
+        };
         Ok(Trials {
             looks,
             saved,
-            deepest: usize::MAX,
-            is_trial: true,
+            deepest,
+            is_trial: has_keys,
             left: TRIAL,
             made: 0,
-            pause: 0,
+            pause,
             unwatched: 0,
         })
     }
