@@ -88,7 +88,7 @@ fn step<B: Branching, W: Watch>(
 {
     // (for what the getter says: that the problem is lawful)
     state.problem();
-    if is_due(watch, kept) && watch.look(state.chosen(), left) {
+    if kept.is_watch_due(watch) && watch.look(state.chosen(), left) {
         return SearchStep::End(Visit::Stopped(left));
     }
     if kept.is_beyond(state.chosen().len()) {
@@ -107,14 +107,6 @@ fn step<B: Branching, W: Watch>(
     } else {
         turn(state, base, rest, kept)
     }
-}
-
-/// Whether the watch is to look now.
-#[inline(always)]
-fn is_due<W: Watch>(watch: &W, kept: &mut Kept) -> bool
-    ensures { kept.new ≡ kept.old }
-{
-    kept.is_watch_due() || watch.wait() == 0
 }
 
 /// How many visits may be made until the next trial, or until the watch looks.

@@ -5,6 +5,7 @@ ghost use Rattle.barren_states.specs.States.{bytes_of, Holds};
 ghost use Rattle.brancher.specs.Keeping.{AreKept, IsKeptOf, IsKnown};
 
 use crate::trials::Trials;
+use crate::watch::{Lookout, Watch};
 use barren_states::BarrenStates;
 use choices::Branching;
 use cover_problem::Problem;
@@ -26,6 +27,8 @@ pub struct Kept {
     key: Vec<u64>,
     /// Where states are looked for.
     trials: Trials,
+    /// When a watch is to look.
+    lookout: Lookout,
 }
 
 impl Model for Kept {
@@ -63,6 +66,7 @@ impl Kept {
             entered,
             key,
             trials,
+            lookout: Lookout::default(),
         })
     }
 
@@ -79,12 +83,12 @@ impl Kept {
         self.trials.until_trial()
     }
 
-    /// Whether a watch is to look now.
+    /// Whether the watch is to look now.
     #[inline(always)]
-    pub fn is_watch_due(&mut self) -> bool
+    pub fn is_watch_due<W: Watch>(&mut self, watch: &W) -> bool
         ensures { self.new ≡ self.old }
     {
-        self.trials.is_watch_due()
+        self.lookout.is_due(watch)
     }
 
     /// Counts visits that were made.
@@ -93,6 +97,7 @@ impl Kept {
         ensures { self.new ≡ self.old }
     {
         self.trials.made(visits);
+        self.lookout.made(visits);
     }
 
     /// Notes how much was left when the search came to a prefix of this length.

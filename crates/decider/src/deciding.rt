@@ -23,7 +23,7 @@ pub fn decide<B: Branching, W: Watch>(
 {
     state.problem();
     // (there is no fuel, so a watch hears what is left of the greatest)
-    if kept.is_watch_due() && watch.look(state.chosen(), u64::MAX.saturating_sub(*steps)) {
+    if kept.is_watch_due(watch) && watch.look(state.chosen(), u64::MAX.saturating_sub(*steps)) {
         return Decision::Stopped;
     }
     let Some(item) = state.branch_item() else {
@@ -31,6 +31,7 @@ pub fn decide<B: Branching, W: Watch>(
     };
     *steps = steps.saturating_add(1);
     kept.made(1);
+    watch.made(1, u64::MAX.saturating_sub(*steps));
     let looks = !kept.is_beyond(state.chosen().len());
     if let Some(visits) = known(state, kept, looks) {
         return Decision::Barren(visits);
