@@ -1,11 +1,16 @@
 -- What a table of states is seen as, and what it holds.
 use Rattle.std.specs.Prelude.{◌≡◌, ℕ, ◌+◌, ◌*◌, ◌<◌, ◌≤◌, List, [], ◌∷◌, ◌++◌, take, drop, ◌⊎◌}
 
--- how many words a key has, how many slots are in use, and the words of these slots, one behind the other: each is a key and its visits
+-- how many words a key has, how many slots are in use, for how many there is room at most, and the words of those in use, one behind the other: each is a key and its visits
 pub record States : Type 0 where
   pub width : ℕ
   pub slots : ℕ
+  pub most : ℕ
   pub words : List ℕ
+
+-- how many bytes so many slots take: 8 for each word of a key and for its visits, and one for its worth
+abbrev pub bytes_of : ℕ → States → ℕ
+bytes_of slots states = slots * (states.width * 8 + 9)
 
 -- the words of a slot
 abbrev pub slot_at : States → ℕ → List ℕ

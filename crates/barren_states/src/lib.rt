@@ -4,7 +4,9 @@
 //! one. It knows nothing of problems; what is true of all that is put in is true of all that is found.
 #![tactic(auto)]
 
+mod places;
 mod slot;
+mod slots;
 mod states;
 mod worth;
 

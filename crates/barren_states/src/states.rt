@@ -1,9 +1,10 @@
 //! The table.
 
-ghost use Rattle.std.specs.Prelude.{◌≡◌, ℕ, ◌+◌, ◌<◌, ◌≤◌, List, length, IfOk, IfSome};
-ghost use Rattle.barren_states.specs.States.{Holds, HoldsNoMore, IsKept};
+ghost use Rattle.std.specs.Prelude.{◌≡◌, ℕ, ◌+◌, ◌*◌, ◌<◌, ◌≤◌, List, length, IfOk, IfSome};
+ghost use Rattle.barren_states.specs.States.{bytes_of, Holds, HoldsNoMore, IsKept};
 
-use crate::slot::{hash_of, write_slot};
+use crate::places::{hash_of, places_of};
+use crate::slots::Slots;
 use crate::worth::worth_of;
 use std::alloc::{AllocError, Global};
 use std::marker::Model;
@@ -15,56 +16,52 @@ pub const MOST_WORDS: usize = 1_024;
 /// that keeps little is to touch little.
 const FIRST_BYTES: usize = 1 << 18;
 
+/// The most slots.
+const MOST_SLOTS: u64 = 1 << 32;
+
 /// States that are known by keys of one width, and of each how many visits it takes. Only `build` takes memory.
 #[derive(Drop)]
 pub struct BarrenStates {
-    /// How many words a key has.
-    width: usize,
-    /// How many slots are in use: none at first, then a power of two, which is doubled as more is kept.
-    slots: usize,
-    /// The most slots that there is room for, a power of two.
-    most: usize,
+    /// The slots: none are in use at first, then twice as many each time as more is kept.
+    slots: Slots,
     /// How many keys were kept since there are so many slots.
     kept: usize,
-    /// The slots: each is a key and its visits, 0 where it is empty.
-    words: Vec<u64>,
     /// How much each slot is worth. It fades with each key that is kept beside it, and is as at first once its key is found.
     worths: Vec<u8>,
+    /// Room for a key that is moved.
+    spare: Vec<u64>,
 }
 
 impl Model for BarrenStates {
-    ghost use Rattle.std.specs.Prelude.{◌≡◌, ◌≤◌, ◌+◌, ◌*◌, length};
+    ghost use Rattle.std.specs.Prelude.{◌≡◌, ◌≤◌, length};
     ghost use Rattle.barren_states.specs.States.{States};
 
     ghost Value = { States };
 
-    ghost view = { λ t. record { width = t.width; slots = t.slots; words = t.words.items } };
+    ghost view = { λ t. t.slots };
 
-    ghost invariant = { λ t. (length t.words.items ≡ t.slots * (t.width + 1))
-        × (t.slots ≤ length t.worths.items) × (t.width ≤ 1024) × (t.slots ≤ t.most)
-        × (t.most ≤ 4294967296) };
+    ghost invariant = { λ t. (t.slots.slots ≤ length t.worths.items)
+        × (length t.spare.items ≡ t.slots.width) };
 }
 
 impl BarrenStates {
-    /// An empty table for keys of so many words, with room for two to the power of `bits` slots; the only error is out of memory.
-    pub fn build(alloc: Global, width: usize, bits: u32) -> Result<BarrenStates, AllocError>
-        requires width { width ≤ 1024 }
-        requires bits { bits ≤ 32 }
-        ensures { IfOk result (λ states.
+    /// An empty table for keys of so many words, with room for as many slots as take so many bytes; the only error is out of memory.
+    pub fn build(alloc: Global, width: usize, room: u64) -> Result<BarrenStates, AllocError>
+        requires { width ≤ 1024 }
+        ensures empty { IfOk result (λ states.
             (key : List ℕ) (visits : ℕ) → Holds states key visits → ⊥) }
+        ensures room { IfOk result (λ states. bytes_of states.most states ≤ room) }
     {
-        let most = 1usize << bits;
-        // (at most 2^32 slots of 1,025 words, so the product can't overflow)
-        // (reserved and not filled: memory costs time only once it is touched)
-        let words = Vec::with_capacity(alloc, most * (width + 1))?;
+        // (a slot has a key, its visits, and a byte for its worth)
+        let most = (room / (width as u64 * 8 + 9)).min(MOST_SLOTS) as usize;
+        let slots = Slots::build(alloc, width, most)?;
         let worths = Vec::with_capacity(alloc, most)?;
+        let spare = vec![in alloc; 0u64; width]?;
         Ok(BarrenStates {
-            width,
-            slots: 0,
-            most,
+            slots,
             kept: 0,
-            words,
             worths,
+            spare,
         })
     }
 
@@ -74,18 +71,17 @@ impl BarrenStates {
         ensures unchanged { self.new ≡ self.old }
         ensures held { IfSome result (Holds self.old key.now) }
     {
-        // (before a first key is kept there are no slots, so the hash has no mask)
-        if key.len() != self.width || self.slots == 0 {
+        // (before a first key is kept there are no slots)
+        let count = self.slots.count();
+        if key.len() != self.slots.width() || count == 0 {
             return None;
         }
-        // (a number with some of the bits of another is at most that one, so the slot is inside whatever the hash is)
-        let first = hash_of(key) as usize & (self.slots - 1);
-        if let Some(visits) = self.read(first, key) {
+        let (first, second) = places_of(hash_of(key), count);
+        if let Some(visits) = self.slots.read(first, key) {
             self.worths[first] = worth_of(visits);
             return Some(visits);
         }
-        let second = (first + 1) & (self.slots - 1);
-        let visits = self.read(second, key)?;
+        let visits = self.slots.read(second, key)?;
         self.worths[second] = worth_of(visits);
         Some(visits)
     }
@@ -93,19 +89,25 @@ impl BarrenStates {
     /// Keeps the visits of a key, where it has the width of the table's keys; another key may be lost by that.
     #[inline(always)]
     pub fn keep(&mut self, key: &[u64], visits: u64)
-        ensures { IsKept self.old key.now visits self.new }
+        ensures kept { IsKept self.old key.now visits self.new }
+        ensures width { self.new.width ≡ self.old.width }
+        ensures most { self.new.most ≡ self.old.most }
+        ensures room { self.new.slots ≤ self.new.most }
     {
-        if key.len() != self.width {
+        // (for what the getter says: that no more are in use than there is room for)
+        self.slots.count();
+        if key.len() != self.slots.width() {
             return;
         }
         self.grow_if_due();
         // (growing can't fail, since its room is reserved, but no clause says so)
-        if self.slots == 0 {
+        if self.slots.count() == 0 {
             return;
         }
         let slot = self.slot_for(hash_of(key));
         self.worths[slot] = worth_of(visits);
-        self.write(slot, key, visits);
+        self.slots.write(slot, key, visits);
+        self.slots.count();
     }
 
     /// The slot of lesser worth of the two that a key of this hash may have; the other's worth fades.
@@ -115,8 +117,7 @@ impl BarrenStates {
         ensures unchanged { self.new ≡ self.old }
         ensures inside { result < self.old.slots }
     {
-        let first = hash as usize & (self.slots - 1);
-        let second = (first + 1) & (self.slots - 1);
+        let (first, second) = places_of(hash, self.slots.count());
         let (slot, other) = if self.worths[first] <= self.worths[second] {
             (first, second)
         } else {
@@ -126,73 +127,83 @@ impl BarrenStates {
         slot
     }
 
-    /// The visits in a slot, if the key is there.
-    #[inline(always)]
-    fn read(&self, slot: usize, key: &[u64]) -> Option<u64>
-        requires slot { slot < self.now.slots }
-        requires key { length key.now ≡ self.now.width }
-        ensures { IfSome result (Holds self.now key.now) }
-    {
-        let start = slot * (self.width + 1);
-        let visits = self.words[start + self.width];
-        // (the whole key is compared: by its hash alone a state with a cover could pass for a barren one)
-        if visits != 0 && &self.words[start..start + self.width] == key {
-            Some(visits)
-        } else {
-            None
-        }
-    }
-
-    /// Writes a key and its visits into a slot.
-    #[inline(always)]
-    fn write(&mut self, slot: usize, key: &[u64], visits: u64)
-        requires slot { slot < self.old.slots }
-        requires key { length key.now ≡ self.old.width }
-        ensures { IsKept self.old key.now visits self.new }
-    {
-        let start = slot * (self.width + 1);
-        write_slot(&mut self.words, start, key, visits);
-    }
-
     /// Takes twice as many slots in use, where there is room for them, once a key was kept for each of them; the first ones at the
-    /// first key. What was held is where it was, so a key of which one more bit of the hash counts may be lost.
+    /// first key.
     #[inline(always)]
     fn grow_if_due(&mut self)
         ensures width { self.new.width ≡ self.old.width }
+        ensures most { self.new.most ≡ self.old.most }
         ensures held { HoldsNoMore self.old self.new }
     {
-        if self.kept < self.slots {
+        if self.kept < self.slots.count() {
             self.kept += 1;
             return;
         }
+        // (also if the table is as large as it gets: then the next attempt comes only after as many keys again)
+        self.kept = 0;
         self.grow();
     }
 
-    /// Takes twice as many slots in use, or the first ones, where there is room for them.
+    /// Takes twice as many slots in use, or the first ones, or all where there is no room for so many.
     fn grow(&mut self)
         ensures width { self.new.width ≡ self.old.width }
+        ensures most { self.new.most ≡ self.old.most }
         ensures held { HoldsNoMore self.old self.new }
     {
-        // (also if the table is as large as it gets: then the next attempt comes only after as many keys again)
-        self.kept = 0;
-        let first = (FIRST_BYTES / 8 / (self.width + 1))
-            .next_power_of_two()
-            .min(self.most);
-        let slots = if self.slots == 0 {
+        let before = self.slots.count();
+        let first = FIRST_BYTES / 8 / (self.slots.width() + 1);
+        let count = first.max(before * 2).min(self.slots.most());
+        if count <= before {
+            return;
+        }
+        // (worths first: there may be more of them than slots)
+        // (the room is there, so neither takes memory)
+        if self.worths.resize(count, 0).is_err() {
+            return;
+        }
+        if self.slots.extend(count) {
+            self.spread(before);
+        }
+    }
+
+    /// Moves what so many first slots hold to where it is looked for now.
+    fn spread(&mut self, before: usize)
+        requires { before ≤ self.old.slots }
+        ensures width { self.new.width ≡ self.old.width }
+        ensures most { self.new.most ≡ self.old.most }
+        ensures held { HoldsNoMore self.old self.new }
+    {
+        // (the last one first: a key moves up, so what is still to be moved isn't written over but at the very beginning)
+        for slot in (0..before).rev() {
+            self.shift(slot);
+        }
+    }
+
+    /// Moves what a slot holds to where it is looked for now, unless both slots there are worth more.
+    fn shift(&mut self, slot: usize)
+        requires { slot < self.old.slots }
+        ensures width { self.new.width ≡ self.old.width }
+        ensures slots { self.new.slots ≡ self.old.slots }
+        ensures most { self.new.most ≡ self.old.most }
+        ensures held { HoldsNoMore self.old self.new }
+    {
+        let visits = self.slots.copy(slot, &mut self.spare);
+        if visits == 0 {
+            return;
+        }
+        self.slots.write(slot, &self.spare, 0);
+        let worth = self.worths[slot];
+        self.worths[slot] = 0;
+        let (first, second) = places_of(hash_of(&self.spare), self.slots.count());
+        let place = if self.worths[first] <= self.worths[second] {
             first
         } else {
-            self.slots * 2
+            second
         };
-        if slots > self.most || slots <= self.slots {
+        if self.worths[place] > worth {
             return;
         }
-        // (worths first: there may be more of them than slots, but the words have to be those of the slots)
-        // (the room is there, so neither takes memory)
-        if self.worths.resize(slots, 0).is_err() {
-            return;
-        }
-        if self.words.resize(slots * (self.width + 1), 0).is_ok() {
-            self.slots = slots;
-        }
+        self.slots.write(place, &self.spare, visits);
+        self.worths[place] = worth;
     }
 }

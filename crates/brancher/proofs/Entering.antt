@@ -1,6 +1,6 @@
 -- A visit that notes how much was left at each prefix, and keeps what it found barren.
 use Rattle.std.proofs.Common.{◌≡◌, ℕ, ◌+◌, ◌-◌, ◌<◌, ◌≤◌, List, [], ◌∷◌, length, set, slice_index, not, Bool, true, false, Option, Some, None, is_some, IfSome, slice_get, refl, arith, sym, ◌∙◌, subst, inl, inr}
-use Rattle.std.proofs.lemmas.Bool.{both_ways}
+use Rattle.std.proofs.lemmas.Bool.{both_ways, cases_eq}
 use Rattle.std.proofs.lemmas.List.{length-append, get_or-set_other}
 use Rattle.cover_problem.specs.Alike.{AreAlike}
 use Rattle.cover_problem.specs.Branching.{branch_item}
@@ -12,7 +12,7 @@ use Rattle.cover_problem.proofs.Alike.{alike, alike_barren, alive_alike, uncover
 use Rattle.cover_problem.proofs.Prefixes.{prefix_short}
 use Rattle.cover_problem.proofs.Steps.{some_visits}
 use Rattle.choices.specs.Choices.{Choices, IsChild, with_child_if}
-use Rattle.choices.specs.Keys.{IsKey, KeyKind, OfLiveOptions, OfUncoveredItems}
+use Rattle.choices.specs.Keys.{IsKey}
 use Rattle.barren_states.specs.States.{States, IsKept}
 use Rattle.brancher.specs.Keeping.{AreBarren, IsBarrenIn, IsEntered, IsKeptOf, IsKnown, IsNoteOf, IsPast, in_root, in_child}
 use Rattle.brancher.specs.Reach.{IsSoFar, IsReached, at_root, at_child, IsBarrenAt, IsEnded}
@@ -27,30 +27,36 @@ not_same false false e = refl
 not_same true false e = sym e
 not_same false true e = sym e
 
-pub key_alike : (kind : KeyKind) (p : Problem) (key xs ys : List ℕ) → IsProblem p → IsKey kind p xs key → IsKey kind p ys key → AreAlike p xs ys
-key_alike OfLiveOptions p key xs ys lawful one other = alive_alike p xs ys (λ o inside. sym (one.live o inside) ∙ other.live o inside) one.alive other.alive
-key_alike OfUncoveredItems p key xs ys lawful one other =
-    uncovered_alike p xs ys lawful one.all_primary (λ i inside. not_same (is_covered p xs i) (is_covered p ys i) (sym (one.uncovered i inside) ∙ other.uncovered i inside))
+pub key_alike : (p : Problem) (key xs ys : List ℕ) → IsProblem p → IsKey p xs key → IsKey p ys key → AreAlike p xs ys
+key_alike p key xs ys lawful one other = elim (cases_eq p.primary (length p.names)) [
+  | inl all ↦
+      let same : (i : ℕ) → i < p.primary → is_covered p xs i ≡ is_covered p ys i = λ i inside. not_same (is_covered p xs i) (is_covered p ys i) (sym (one.uncovered all i inside) ∙ other.uncovered all i inside) in
+      uncovered_alike p xs ys lawful all same
+  | inr some ↦
+      let few = lawful.primary in
+      let less : p.primary < length p.names = omega (arith, some, few) in
+      alive_alike p xs ys (λ o inside. sym ((one.live less).live o inside) ∙ (other.live less).live o inside) (one.live less).alive (other.live less).alive
+]
 
-barren_more : (kind : KeyKind) (p : Problem) (old new : States) (key xs : List ℕ) (count : ℕ) → IsProblem p → AreBarren kind p old → IsKept old key count new → IsKey kind p xs key → first p xs ≡ None → visits p xs ≡ count → AreBarren kind p new
-barren_more kind p old new key xs count lawful are kept is none visited = λ other n ys holds of.
+barren_more : (p : Problem) (old new : States) (key xs : List ℕ) (count : ℕ) → IsProblem p → AreBarren p old → IsKept old key count new → IsKey p xs key → first p xs ≡ None → visits p xs ≡ count → AreBarren p new
+barren_more p old new key xs count lawful are kept is none visited = λ other n ys holds of.
     elim (kept.held other n holds) [
       | inl before ↦ are other n ys before of
       | inr same ↦
-          let P : List ℕ → Type 0 = λ k. IsKey kind p ys k in
-          let both = key_alike kind p key xs ys lawful is (subst P same.0 of) in
+          let P : List ℕ → Type 0 = λ k. IsKey p ys k in
+          let both = key_alike p key xs ys lawful is (subst P same.0 of) in
           (alike_barren p xs ys both none, sym (alike p xs ys both).visits ∙ visited ∙ sym same.1)
     ]
 
 -- the same of a prefix, where it is kept
-pub barren_kept : (kind : KeyKind) (p : Problem) (old new : States) (xs : List ℕ) (count : ℕ) → IsProblem p → AreBarren kind p old → IsKeptOf kind p xs count old new → first p xs ≡ None → visits p xs ≡ count → AreBarren kind p new
-barren_kept kind p old new xs count lawful are kept none visited = elim kept.is [
-  | inl same ↦ let P : States → Type 0 = λ s. AreBarren kind p s in subst P (sym same) are
-  | inr more ↦ barren_more kind p old new kept.key xs count lawful are more.1 more.0 none visited
+pub barren_kept : (p : Problem) (old new : States) (xs : List ℕ) (count : ℕ) → IsProblem p → AreBarren p old → IsKeptOf p xs count old new → first p xs ≡ None → visits p xs ≡ count → AreBarren p new
+barren_kept p old new xs count lawful are kept none visited = elim kept.is [
+  | inl same ↦ let P : States → Type 0 = λ s. AreBarren p s in subst P (sym same) are
+  | inr more ↦ barren_more p old new kept.key xs count lawful are more.1 more.0 none visited
 ]
 
-pub known_barren : (kind : KeyKind) (p : Problem) (states : States) (xs : List ℕ) (count : ℕ) → AreBarren kind p states → IsKnown kind p xs states count → (first p xs ≡ None) × (visits p xs ≡ count)
-known_barren kind p states xs count are known = are known.key count xs known.held known.is_key
+pub known_barren : (p : Problem) (states : States) (xs : List ℕ) (count : ℕ) → AreBarren p states → IsKnown p xs states count → (first p xs ≡ None) × (visits p xs ≡ count)
+known_barren p states xs count are known = are known.key count xs known.held known.is_key
 
 -- ---- how far it has come
 

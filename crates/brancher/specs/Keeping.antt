@@ -4,7 +4,7 @@ use Rattle.cover_problem.specs.Onward.{live_options_from}
 use Rattle.cover_problem.specs.Problem.{Problem}
 use Rattle.cover_problem.specs.Search.{first, visits}
 use Rattle.choices.specs.Choices.{Choices, IsChild, with_child}
-use Rattle.choices.specs.Keys.{IsKey, KeyKind}
+use Rattle.choices.specs.Keys.{IsKey}
 use Rattle.barren_states.specs.States.{States, Holds, IsKept}
 use Rattle.brancher.specs.Reach.{IsEnded, IsSoFar}
 
@@ -14,23 +14,23 @@ pub record Keeping : Type 0 where
   pub entered : List ℕ
 
 -- a key of the prefix is held, with so many visits
-pub record IsKnown (kind : KeyKind) (problem : Problem) (prefix : List ℕ) (states : States) (visits : ℕ) : Type 0 where
+pub record IsKnown (problem : Problem) (prefix : List ℕ) (states : States) (visits : ℕ) : Type 0 where
   pub key : List ℕ
-  pub is_key : IsKey kind problem prefix key
+  pub is_key : IsKey problem prefix key
   pub held : Holds states key visits
 
 -- what is held then is what was held, or a key of the prefix with so many visits, too
-pub record IsKeptOf (kind : KeyKind) (problem : Problem) (prefix : List ℕ) (visits : ℕ) (old new : States) : Type 0 where
+pub record IsKeptOf (problem : Problem) (prefix : List ℕ) (visits : ℕ) (old new : States) : Type 0 where
   pub key : List ℕ
-  pub is : (new ≡ old) ⊎ (IsKey kind problem prefix key × IsKept old key visits new)
+  pub is : (new ≡ old) ⊎ (IsKey problem prefix key × IsKept old key visits new)
 
 -- Below each prefix whose key is held there is no cover, and its visits are those that are held.
-abbrev pub AreBarren : KeyKind → Problem → States → Type 0
-AreBarren kind problem states = (key : List ℕ) (count : ℕ) (prefix : List ℕ) → Holds states key count → IsKey kind problem prefix key → (first problem prefix ≡ None) × (visits problem prefix ≡ count)
+abbrev pub AreBarren : Problem → States → Type 0
+AreBarren problem states = (key : List ℕ) (count : ℕ) (prefix : List ℕ) → Holds states key count → IsKey problem prefix key → (first problem prefix ≡ None) × (visits problem prefix ≡ count)
 
 -- what the searches of a problem keep is true, and there is room for a note of each prefix
-pub record AreKept (kind : KeyKind) (problem : Problem) (kept : Keeping) : Type 0 where
-  pub barren : AreBarren kind problem kept.states
+pub record AreKept (problem : Problem) (kept : Keeping) : Type 0 where
+  pub barren : AreBarren problem kept.states
   pub room : problem.primary < length kept.entered
 
 -- the note of the prefixes of a length says that so much was left, unless it is 0, which says nothing

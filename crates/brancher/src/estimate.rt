@@ -78,7 +78,7 @@ pub fn suits_links(alloc: Global, problem: &Problem) -> Result<bool, AllocError>
 
 /// Whether there are so few primary items, with so few options each, that a search over sets counts digit by digit.
 fn are_few(rows: &[Row], primary: usize) -> bool {
-    primary <= 128 && rows.iter().take(primary).all(|row| row.options < 128)
+    primary <= 128 && rows.iter().take(primary).all(|row| row.options < 256)
 }
 
 /// The row of each item, without colours.

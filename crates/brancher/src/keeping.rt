@@ -26,14 +26,14 @@ pub(crate) fn visit_below_keeping<B: Branching, W: Watch>(
     kept: &mut Kept,
 ) -> Visit
     requires prefix { is_prefix (B.choices state.old).problem prefix.now ≡ true }
-    requires kept { AreKept B.kind (B.choices state.old).problem kept.old }
+    requires kept { AreKept (B.choices state.old).problem kept.old }
     ensures problem { (B.choices state.new).problem ≡ (B.choices state.old).problem }
     ensures lawful { IsProblem (B.choices state.old).problem }
     ensures visit { IsVisit (first (B.choices state.old).problem prefix.now)
         (visits (B.choices state.old).problem prefix.now) fuel prefix.now
         (B.choices state.new).chosen result }
     ensures stopped { (left : ℕ) → result ≡ Visit.Stopped left → W.may_stop ≡ true }
-    ensures kept { AreKept B.kind (B.choices state.old).problem kept.new }
+    ensures kept { AreKept (B.choices state.old).problem kept.new }
 {
     state.problem();
     put_prefix(state, prefix);
@@ -47,13 +47,13 @@ fn visit_keeping<B: Branching, W: Watch>(
     watch: &mut W,
     kept: &mut Kept,
 ) -> Visit
-    requires { AreKept B.kind (B.choices state.old).problem kept.old }
+    requires { AreKept (B.choices state.old).problem kept.old }
     ensures problem { (B.choices state.new).problem ≡ (B.choices state.old).problem }
     ensures visit { IsVisit (first (B.choices state.old).problem (B.choices state.old).chosen)
         (visits (B.choices state.old).problem (B.choices state.old).chosen) fuel
         (B.choices state.old).chosen (B.choices state.new).chosen result }
     ensures stopped { (left : ℕ) → result ≡ Visit.Stopped left → W.may_stop ≡ true }
-    ensures kept { AreKept B.kind (B.choices state.old).problem kept.new }
+    ensures kept { AreKept (B.choices state.old).problem kept.new }
 {
     let base = state.chosen().len();
     let mut left = fuel;
@@ -81,14 +81,14 @@ fn step<B: Branching, W: Watch>(
     requires room { (B.choices state.old).problem.primary < length kept.old.entered }
     ensures room { length kept.new.entered ≡ length kept.old.entered }
     ensures step { (root : Choices) (fuel : ℕ) → base ≡ length root.chosen →
-        AreBarren B.kind root.problem kept.old.states →
+        AreBarren root.problem kept.old.states →
         IsEntered root fuel kept.old.entered (B.choices state.old) left →
-        AreBarren B.kind root.problem kept.new.states
+        AreBarren root.problem kept.new.states
         × IsStep W.may_stop root fuel kept.new.entered left (B.choices state.new) result }
 {
     // (for what the getter says: that the problem is lawful)
     state.problem();
-    if is_due(watch, kept) && watch.look(state.chosen(), left) {
+    if kept.is_watch_due(watch) && watch.look(state.chosen(), left) {
         return SearchStep::End(Visit::Stopped(left));
     }
     if kept.is_beyond(state.chosen().len()) {
@@ -107,14 +107,6 @@ fn step<B: Branching, W: Watch>(
     } else {
         turn(state, base, rest, kept)
     }
-}
-
-/// Whether the watch is to look now.
-#[inline(always)]
-fn is_due<W: Watch>(watch: &W, kept: &mut Kept) -> bool
-    ensures { kept.new ≡ kept.old }
-{
-    kept.is_watch_due() || watch.wait() == 0
 }
 
 /// How many visits may be made until the next trial, or until the watch looks.
@@ -139,9 +131,9 @@ fn step_plainly<B: Branching, W: Watch>(
     requires room { (B.choices state.old).problem.primary < length kept.old.entered }
     ensures room { length kept.new.entered ≡ length kept.old.entered }
     ensures step { (root : Choices) (fuel : ℕ) → base ≡ length root.chosen →
-        AreBarren B.kind root.problem kept.old.states →
+        AreBarren root.problem kept.old.states →
         IsEntered root fuel kept.old.entered (B.choices state.old) left →
-        AreBarren B.kind root.problem kept.new.states
+        AreBarren root.problem kept.new.states
         × IsStep W.may_stop root fuel kept.new.entered left (B.choices state.new) result }
 {
     state.problem();
@@ -184,7 +176,7 @@ fn pass<B: Branching>(state: &mut B, item: u16, left: u64, kept: &mut Kept) -> O
     ensures states { kept.new.states ≡ kept.old.states }
     ensures room { length kept.new.entered ≡ length kept.old.entered }
     ensures passed { (root : Choices) (fuel : ℕ) →
-        AreBarren B.kind (B.choices state.old).problem kept.old.states →
+        AreBarren (B.choices state.old).problem kept.old.states →
         IsEntered root fuel kept.old.entered (B.choices state.old) left →
         IsPassed root fuel kept.new.entered (B.choices state.new) left result }
 {
@@ -209,9 +201,9 @@ fn turn<B: Branching>(state: &mut B, base: usize, left: u64, kept: &mut Kept) ->
     requires room { length (B.choices state.old).chosen < length kept.old.entered }
     ensures room { length kept.new.entered ≡ length kept.old.entered }
     ensures step { (root : Choices) (fuel before : ℕ) (may_stop : Bool) → base ≡ length root.chosen →
-        left < before → AreBarren B.kind root.problem kept.old.states →
+        left < before → AreBarren root.problem kept.old.states →
         IsBarrenIn root fuel kept.old.entered (B.choices state.old) left →
-        AreBarren B.kind root.problem kept.new.states
+        AreBarren root.problem kept.new.states
         × IsStep may_stop root fuel kept.new.entered before (B.choices state.new) result }
 {
     if turn_onward(state, base, left, kept) {
@@ -230,9 +222,9 @@ fn turn_onward<B: Branching>(state: &mut B, base: usize, left: u64, kept: &mut K
     requires room { length (B.choices state.old).chosen < length kept.old.entered }
     ensures entered { kept.new.entered ≡ kept.old.entered }
     ensures turned { (root : Choices) (fuel : ℕ) → base ≡ length root.chosen →
-        AreBarren B.kind root.problem kept.old.states →
+        AreBarren root.problem kept.old.states →
         IsBarrenIn root fuel kept.old.entered (B.choices state.old) left →
-        AreBarren B.kind root.problem kept.new.states
+        AreBarren root.problem kept.new.states
         × IsTurned root fuel kept.old.entered left (B.choices state.new) result }
 {
     while state.chosen().len() > base {
@@ -251,11 +243,11 @@ fn turn_onward<B: Branching>(state: &mut B, base: usize, left: u64, kept: &mut K
 fn keep_barren<B: Branching>(state: &B, left: u64, kept: &mut Kept)
     requires { length (B.choices state.now).chosen < length kept.old.entered }
     ensures entered { kept.new.entered ≡ kept.old.entered }
-    ensures barren { AreBarren B.kind (B.choices state.now).problem kept.old.states →
+    ensures barren { AreBarren (B.choices state.now).problem kept.old.states →
         first (B.choices state.now).problem (B.choices state.now).chosen ≡ None →
         IsNoteOf kept.old.entered (length (B.choices state.now).chosen)
         (visits (B.choices state.now).problem (B.choices state.now).chosen + left) →
-        AreBarren B.kind (B.choices state.now).problem kept.new.states }
+        AreBarren (B.choices state.now).problem kept.new.states }
 {
     state.problem();
     if let Some(visits) = kept.since(state.chosen().len(), left) {

@@ -1,11 +1,11 @@
 //! What the searches of a problem keep.
 
 ghost use Rattle.std.specs.Prelude.{◌≡◌, ◌-◌, ◌<◌, ◌≤◌, ℕ, List, length, IfOk, IfSome, slice_index, slice_set};
-ghost use Rattle.barren_states.specs.States.{Holds};
-ghost use Rattle.choices.specs.Keys.{KeyKind};
+ghost use Rattle.barren_states.specs.States.{bytes_of, Holds};
 ghost use Rattle.brancher.specs.Keeping.{AreKept, IsKeptOf, IsKnown};
 
 use crate::trials::Trials;
+use crate::watch::{Lookout, Watch};
 use barren_states::BarrenStates;
 use choices::Branching;
 use cover_problem::Problem;
@@ -27,6 +27,8 @@ pub struct Kept {
     key: Vec<u64>,
     /// Where states are looked for.
     trials: Trials,
+    /// When a watch is to look.
+    lookout: Lookout,
 }
 
 impl Model for Kept {
@@ -47,21 +49,24 @@ impl Kept {
         room: u64,
     ) -> Result<Kept, AllocError>
         requires width { width ≤ 1024 }
-        ensures kept { (kind : KeyKind) → IfOk result (AreKept kind problem.now) }
+        ensures kept { IfOk result (AreKept problem.now) }
         ensures empty { IfOk result (λ kept. (key : List ℕ) (visits : ℕ) →
             Holds kept.states key visits → ⊥) }
+        ensures room { IfOk result (λ kept. bytes_of kept.states.most kept.states ≤ room) }
     {
         problem.recall_rules();
         let depths = problem.primary() + 1;
-        let states = states_in(alloc, width, room)?;
+        // (without words there are no keys: nothing is ever kept then)
+        let states = states_in(alloc, width, if width > 0 { room } else { 0 })?;
         let entered = vec![in alloc; 0u64; depths]?;
         let key = vec![in alloc; 0u64; width]?;
-        let trials = Trials::build(alloc, depths)?;
+        let trials = Trials::build(alloc, depths, width > 0)?;
         Ok(Kept {
             states,
             entered,
             key,
             trials,
+            lookout: Lookout::default(),
         })
     }
 
@@ -78,12 +83,12 @@ impl Kept {
         self.trials.until_trial()
     }
 
-    /// Whether a watch is to look now.
+    /// Whether the watch is to look now.
     #[inline(always)]
-    pub fn is_watch_due(&mut self) -> bool
+    pub fn is_watch_due<W: Watch>(&mut self, watch: &W) -> bool
         ensures { self.new ≡ self.old }
     {
-        self.trials.is_watch_due()
+        self.lookout.is_due(watch)
     }
 
     /// Counts visits that were made.
@@ -92,6 +97,7 @@ impl Kept {
         ensures { self.new ≡ self.old }
     {
         self.trials.made(visits);
+        self.lookout.made(visits);
     }
 
     /// Notes how much was left when the search came to a prefix of this length.
@@ -122,7 +128,7 @@ impl Kept {
     #[inline(always)]
     pub fn look<B: Branching>(&mut self, state: &B) -> Option<u64>
         ensures unchanged { self.new ≡ self.old }
-        ensures known { IfSome result (IsKnown B.kind (B.choices state.now).problem
+        ensures known { IfSome result (IsKnown (B.choices state.now).problem
             (B.choices state.now).chosen self.old.states) }
     {
         if !state.write_key(&mut self.key) {
@@ -139,8 +145,10 @@ impl Kept {
     #[inline(always)]
     pub fn keep<B: Branching>(&mut self, state: &B, visits: u64)
         ensures entered { self.new.entered ≡ self.old.entered }
-        ensures states { IsKeptOf B.kind (B.choices state.now).problem
+        ensures states { IsKeptOf (B.choices state.now).problem
             (B.choices state.now).chosen visits self.old.states self.new.states }
+        ensures room { bytes_of self.new.states.most self.new.states
+            ≡ bytes_of self.old.states.most self.old.states }
     {
         if visits < LEAST {
             return;
@@ -170,17 +178,12 @@ impl Kept {
 /// A table of states of keys of so many words, in at most so many bytes, or in less where that is refused; the only error is out of memory.
 fn states_in(alloc: Global, width: usize, room: u64) -> Result<BarrenStates, AllocError>
     requires { width ≤ 1024 }
-    ensures { IfOk result (λ states. (key : List ℕ) (visits : ℕ) → Holds states key visits → ⊥) }
+    ensures empty { IfOk result (λ states. (key : List ℕ) (visits : ℕ) → Holds states key visits → ⊥) }
+    ensures room { IfOk result (λ states. bytes_of states.most states ≤ room) }
 {
-    // (a slot has a key, its visits, and a byte for its worth)
-    let slots = room / (width as u64 * 8 + 9);
-    // (the greatest power of two that fits, since a slot is found by a mask of the hash)
-    let bits = (u64::BITS - 1)
-        .saturating_sub(slots.leading_zeros())
-        .min(32);
     // (half as much each time: the table only saves time, so a small one is better than an error)
-    for less in 0..bits + 1 {
-        if let Ok(states) = BarrenStates::build(alloc, width, bits - less) {
+    for half in 0..u64::BITS {
+        if let Ok(states) = BarrenStates::build(alloc, width, room >> half) {
             return Ok(states);
         }
     }

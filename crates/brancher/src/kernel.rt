@@ -1,11 +1,11 @@
-//! What a searcher chooses its options in.
+//! What a search chooses its options in.
 
 use dancing_links::Links;
 use live_sets::LiveSets;
 
-/// What a searcher chooses its options in.
+/// What a search chooses its options in.
 #[derive(Drop)]
-pub(crate) enum Kernel<'a> {
+pub enum Kernel<'a> {
     /// Options as columns of linked nodes.
     Links(Links<'a>),
     /// Sets of live options, level by level.

@@ -1,11 +1,11 @@
 //! What a searcher asks of its kernel: each call goes on to whichever it is.
 
-ghost use Rattle.std.specs.Prelude.{◌≡◌, ◌≤◌, ℕ, None, true, IfOk};
+ghost use Rattle.std.specs.Prelude.{◌≡◌, ◌≤◌, ℕ, [], None, true, IfOk};
 ghost use Rattle.cover_problem.specs.Prefix.{is_prefix};
 ghost use Rattle.cover_problem.specs.Problem.{IsProblem};
 ghost use Rattle.cover_problem.specs.Search.{first, visits};
 ghost use Rattle.brancher.specs.Keeping.{AreKept};
-ghost use Rattle.brancher.specs.Kernels.{choices_in, kind_in};
+ghost use Rattle.brancher.specs.Kernels.{choices_in};
 ghost use Rattle.brancher.specs.Visit.{IsVisit};
 
 use crate::keeping::visit_below_keeping;
@@ -24,14 +24,16 @@ use std::alloc::{AllocError, Global};
 impl<'a> Kernel<'a> {
     /// Links of the problem; the only error is out of memory.
     pub(crate) fn linked(alloc: Global, problem: &'a Problem) -> Result<Kernel<'a>, AllocError>
-        ensures { IfOk result (λ kernel. (choices_in kernel).problem ≡ problem.now) }
+        ensures problem { IfOk result (λ kernel. (choices_in kernel).problem ≡ problem.now) }
+        ensures chosen { IfOk result (λ kernel. (choices_in kernel).chosen ≡ []) }
     {
         Ok(Kernel::Links(Links::build(alloc, problem)?))
     }
 
     /// Live rows over the tables' sets, or links where there are none; the only error is out of memory.
-    pub(crate) fn over(alloc: Global, tables: &'a Tables<'a>) -> Result<Kernel<'a>, AllocError>
-        ensures { IfOk result (λ kernel. (choices_in kernel).problem ≡ tables.now) }
+    pub fn over(alloc: Global, tables: &'a Tables<'a>) -> Result<Kernel<'a>, AllocError>
+        ensures problem { IfOk result (λ kernel. (choices_in kernel).problem ≡ tables.now) }
+        ensures chosen { IfOk result (λ kernel. (choices_in kernel).chosen ≡ []) }
     {
         match tables.sets() {
             Some(sets) => Ok(Kernel::Rows(LiveSets::build(alloc, sets)?)),
@@ -51,7 +53,7 @@ impl<'a> Kernel<'a> {
     }
 
     /// The chosen options.
-    pub(crate) fn chosen(&self) -> &[u16]
+    pub fn chosen(&self) -> &[u16]
         ensures chosen { result.now ≡ (choices_in self.now).chosen }
         ensures prefix { is_prefix (choices_in self.now).problem (choices_in self.now).chosen
             ≡ true }
@@ -88,15 +90,14 @@ impl<'a> Kernel<'a> {
         kept: &mut Kept,
     ) -> Visit
         requires prefix { is_prefix (choices_in self.old).problem prefix.now ≡ true }
-        requires kept { AreKept (kind_in self.old) (choices_in self.old).problem kept.old }
+        requires kept { AreKept (choices_in self.old).problem kept.old }
         ensures problem { (choices_in self.new).problem ≡ (choices_in self.old).problem }
-        ensures kind { kind_in self.new ≡ kind_in self.old }
         ensures lawful { IsProblem (choices_in self.old).problem }
         ensures visit { IsVisit (first (choices_in self.old).problem prefix.now)
             (visits (choices_in self.old).problem prefix.now) fuel prefix.now
             (choices_in self.new).chosen result }
         ensures stopped { (left : ℕ) → result ≡ Visit.Stopped left → W.may_stop ≡ true }
-        ensures kept { AreKept (kind_in self.old) (choices_in self.old).problem kept.new }
+        ensures kept { AreKept (choices_in self.old).problem kept.new }
     {
         match self {
             Kernel::Links(links) => visit_below_keeping(links, prefix, fuel, watch, kept),
@@ -109,10 +110,9 @@ impl<'a> Kernel<'a> {
         requires prefix { is_prefix (choices_in self.old).problem prefix.now ≡ true }
         requires barren { first (choices_in self.old).problem prefix.now ≡ None }
         requires count { visits (choices_in self.old).problem prefix.now ≡ count }
-        requires kept { AreKept (kind_in self.old) (choices_in self.old).problem kept.old }
+        requires kept { AreKept (choices_in self.old).problem kept.old }
         ensures problem { (choices_in self.new).problem ≡ (choices_in self.old).problem }
-        ensures kind { kind_in self.new ≡ kind_in self.old }
-        ensures kept { AreKept (kind_in self.old) (choices_in self.old).problem kept.new }
+        ensures kept { AreKept (choices_in self.old).problem kept.new }
     {
         match self {
             Kernel::Links(links) => learn_barren(links, prefix, count, kept),
@@ -121,7 +121,7 @@ impl<'a> Kernel<'a> {
     }
 
     /// How many words a key has; 0 where there are no keys.
-    pub(crate) fn key_words(&self) -> usize
+    pub fn key_words(&self) -> usize
         ensures { result ≤ 1024 }
     {
         match self {

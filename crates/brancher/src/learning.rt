@@ -14,9 +14,9 @@ pub(crate) fn learn_barren<B: Branching>(state: &mut B, prefix: &[u16], count: u
     requires prefix { is_prefix (B.choices state.old).problem prefix.now ≡ true }
     requires barren { first (B.choices state.old).problem prefix.now ≡ None }
     requires count { visits (B.choices state.old).problem prefix.now ≡ count }
-    requires kept { AreKept B.kind (B.choices state.old).problem kept.old }
+    requires kept { AreKept (B.choices state.old).problem kept.old }
     ensures problem { (B.choices state.new).problem ≡ (B.choices state.old).problem }
-    ensures kept { AreKept B.kind (B.choices state.old).problem kept.new }
+    ensures kept { AreKept (B.choices state.old).problem kept.new }
 {
     state.problem();
     put_prefix(state, prefix);

@@ -30,7 +30,7 @@ pub struct Searcher<'a> {
 impl<'a> Model for Searcher<'a> {
     ghost use Rattle.std.specs.Prelude.{IfSome};
     ghost use Rattle.brancher.specs.Keeping.{AreKept};
-    ghost use Rattle.brancher.specs.Kernels.{choices_in, kind_in};
+    ghost use Rattle.brancher.specs.Kernels.{choices_in};
     ghost use Rattle.brancher.specs.Searching.{Searcher as SearcherValue};
 
     ghost Value = { SearcherValue };
@@ -40,7 +40,7 @@ impl<'a> Model for Searcher<'a> {
       found = (choices_in s.kernel).chosen;
     } };
 
-    ghost invariant = { λ s. IfSome s.kept (AreKept (kind_in s.kernel) (choices_in s.kernel).problem) };
+    ghost invariant = { λ s. IfSome s.kept (AreKept (choices_in s.kernel).problem) };
 }
 
 impl<'a> Searcher<'a> {
@@ -260,13 +260,16 @@ impl<'a> Searcher<'a> {
     }
 
     /// How many visits a search of a prefix takes below which there is no cover, where that is seen before the watch stops the search; none
-    /// where it isn't, or where there is one.
+    /// where it isn't, where there is one, or where no states are kept: such a search doesn't ask the watch how long it may go on.
     pub fn barren_visits<W: Watch>(&mut self, prefix: &[u16], watch: &mut W) -> Option<u64>
         requires { is_prefix self.old.problem prefix.now ≡ true }
         ensures problem { self.new.problem ≡ self.old.problem }
         ensures barren { IfSome result (λ count. (first self.old.problem prefix.now ≡ None)
             × (visits self.old.problem prefix.now ≡ count)) }
     {
+        if !self.keeps() {
+            return None;
+        }
         match self.visit(prefix, u64::MAX, watch) {
             Visit::Barren(left) => Some(u64::MAX - left),
             Visit::Found | Visit::Spent | Visit::Stopped(_) => None,

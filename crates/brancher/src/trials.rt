@@ -25,8 +25,6 @@ const PAUSE_WHERE_ALL_PAY: u64 = 64;
 const LONGEST_PAUSE: u64 = 1 << 32;
 /// The most visits that count as saved by one look, so that one lucky look doesn't decide.
 const MOST_SAVED: u64 = 1 << 30;
-/// A watch looks once in so many visits.
-const WATCHED: u64 = 1_024;
 
 /// How deep a search looks for states, by what the looks saved that it made.
 #[derive(Drop)]
@@ -45,24 +43,30 @@ pub(crate) struct Trials {
     made: u64,
     /// How many visits there are to be until the next trial.
     pause: u64,
-    /// How many visits were made since a watch looked.
-    unwatched: u64,
 }
 
 impl Trials {
-    /// The first trial, for prefixes of fewer than so many options; the only error is out of memory.
-    pub(crate) fn build(alloc: Global, depths: usize) -> Result<Trials, AllocError> {
+    /// The first trial, for prefixes of fewer than so many options; none ever where there are no keys. The only error is out of memory.
+    pub(crate) fn build(
+        alloc: Global,
+        depths: usize,
+        has_keys: bool,
+    ) -> Result<Trials, AllocError> {
         let looks = vec![in alloc; 0u64; depths]?;
         let saved = vec![in alloc; 0u64; depths]?;
+        let (deepest, pause) = if has_keys {
+            (usize::MAX, 0)
+        } else {
+            (0, u64::MAX)
+        };
         Ok(Trials {
             looks,
             saved,
-            deepest: usize::MAX,
-            is_trial: true,
+            deepest,
+            is_trial: has_keys,
             left: TRIAL,
             made: 0,
-            pause: 0,
-            unwatched: 0,
+            pause,
         })
     }
 
@@ -77,16 +81,6 @@ impl Trials {
         ensures { 0 < result }
     {
         self.pause.saturating_sub(self.made).max(1)
-    }
-
-    /// Whether a watch is to look now: so many visits were made since it last did.
-    #[inline(always)]
-    pub(crate) fn is_watch_due(&mut self) -> bool {
-        if self.unwatched < WATCHED {
-            return false;
-        }
-        self.unwatched = 0;
-        true
     }
 
     /// Counts a look.
@@ -111,7 +105,6 @@ impl Trials {
     #[inline(always)]
     pub(crate) fn made(&mut self, visits: u64) {
         self.made = self.made.saturating_add(visits);
-        self.unwatched = self.unwatched.saturating_add(visits);
         if self.is_trial {
             if self.left == 0 {
                 self.end_trial();

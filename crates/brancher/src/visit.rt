@@ -7,11 +7,8 @@ ghost use Rattle.brancher.specs.Reach.{IsBarrenAt, IsOnward, IsReached};
 ghost use Rattle.brancher.specs.Visit.{IsVisit};
 
 use crate::branching::put_prefix;
-use crate::watch::Watch;
+use crate::watch::{EVERY, Watch};
 use choices::Branching;
-
-/// A watch looks once in so many visits.
-const LOOK: u64 = 1_024;
 
 /// How a visit of a prefix ended.
 #[derive(Clone, Copy, Debug, PartialEq, Eq)]
@@ -70,7 +67,7 @@ pub(crate) fn visit_prefix<B: Branching, W: Watch>(
     let mut left = fuel;
     while left > pause {
         // (by what is left, which needs no counter; of a power of two the remainder is a mask)
-        if left % LOOK == 0 && watch.look(state.chosen(), left) {
+        if left % EVERY == 0 && watch.look(state.chosen(), left) {
             return Visit::Stopped(left);
         }
         let Some(item) = state.branch_item() else {

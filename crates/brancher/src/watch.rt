@@ -1,4 +1,4 @@
-//! What may stop a search before its fuel is spent.
+//! What may stop a search before its fuel is spent, and when it looks.
 
 ghost use Rattle.std.specs.Prelude.{◌≡◌, Bool, true, IsTrue};
 
@@ -23,6 +23,34 @@ pub trait Watch {
     /// kept, only one of its visits is made, but all of them are gone.
     #[inline(always)]
     fn made(&mut self, _visits: u64, _left: u64) {}
+}
+
+/// A watch looks once in so many visits, or sooner where it asks for that.
+pub(crate) const EVERY: u64 = 1_024;
+
+/// When a watch is to look at a search that keeps states.
+#[derive(Clone, Copy, Debug, Default)]
+pub(crate) struct Lookout {
+    /// How many visits were made since it last looked.
+    made: u64,
+}
+
+impl Lookout {
+    /// Whether the watch is to look now; then the count begins again.
+    #[inline(always)]
+    pub(crate) fn is_due<W: Watch>(&mut self, watch: &W) -> bool {
+        if self.made < EVERY && watch.wait() > 0 {
+            return false;
+        }
+        self.made = 0;
+        true
+    }
+
+    /// Counts visits that were made.
+    #[inline(always)]
+    pub(crate) fn made(&mut self, visits: u64) {
+        self.made = self.made.saturating_add(visits);
+    }
 }
 
 /// The watch that stops nothing.

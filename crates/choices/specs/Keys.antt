@@ -9,22 +9,16 @@ use Rattle.cover_problem.specs.Problem.{Problem}
 abbrev pub has_bit : List ℕ → ℕ → Bool
 has_bit words x = bit_at (slice_index_or words (x / 64) 0) (x % 64) == 1
 
--- the bits of a key are those of the live options, or those of the uncovered primary items
-pub data KeyKind : Type 0 where
-  OfLiveOptions : KeyKind
-  OfUncoveredItems : KeyKind
-
 -- which options are live, where each uncovered primary item has a live option
 pub record TellLive (problem : Problem) (prefix words : List ℕ) : Type 0 where
   pub live : (option : ℕ) → option < length problem.options → has_bit words option ≡ is_live problem prefix option
   pub alive : IsAlive problem prefix
 
--- which items are uncovered, where all items are primary
-pub record TellUncovered (problem : Problem) (prefix words : List ℕ) : Type 0 where
-  pub uncovered : (item : ℕ) → item < problem.primary → has_bit words item ≡ not (is_covered problem prefix item)
-  pub all_primary : problem.primary ≡ length problem.names
+-- which primary items are uncovered
+abbrev pub TellUncovered : Problem → List ℕ → List ℕ → Type 0
+TellUncovered problem prefix words = (item : ℕ) → item < problem.primary → has_bit words item ≡ not (is_covered problem prefix item)
 
--- the words are a key of this kind
-abbrev pub IsKey : KeyKind → Problem → List ℕ → List ℕ → Type 0
-IsKey OfLiveOptions problem prefix words = TellLive problem prefix words
-IsKey OfUncoveredItems problem prefix words = TellUncovered problem prefix words
+-- the words are a key: where all items are primary, their bits are those of the uncovered items, else those of the live options
+pub record IsKey (problem : Problem) (prefix words : List ℕ) : Type 0 where
+  pub uncovered : problem.primary ≡ length problem.names → TellUncovered problem prefix words
+  pub live : problem.primary < length problem.names → TellLive problem prefix words

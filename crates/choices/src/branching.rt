@@ -5,7 +5,7 @@ ghost use Rattle.cover_problem.specs.Branching.{branch_item, IsOpen};
 ghost use Rattle.cover_problem.specs.Onward.{live_options_from};
 ghost use Rattle.cover_problem.specs.Prefix.{is_covered, is_live, is_prefix};
 ghost use Rattle.cover_problem.specs.Problem.{IsProblem};
-ghost use Rattle.choices.specs.Keys.{IsKey, KeyKind};
+ghost use Rattle.choices.specs.Keys.{IsKey};
 ghost use Rattle.choices.specs.Choices.{Choices, with_child, with_child_if, with_choice, IsChild, IsNextChoice};
 
 use cover_problem::Problem;
@@ -16,9 +16,6 @@ pub trait Branching: Drop {
     // (items are part of a state since links depend on them: the item of a choice was covered before the others of its option)
     /// The problem, the chosen options, and the item by which each was chosen.
     ghost choices: { Self → Choices };
-
-    /// What the bits of a key are.
-    ghost kind: { KeyKind };
 
     /// The problem.
     fn problem(&self) -> &Problem
@@ -45,7 +42,7 @@ pub trait Branching: Drop {
     /// Writes the key of the chosen options into the words, if there are as many as a key has and the branch item, if there is one, has
     /// a live option. Answers whether it did. Below prefixes with equal keys the search is the same.
     fn write_key(&self, words: &mut [u64]) -> bool
-        ensures { IsTrue result → IsKey kind (choices self.now).problem
+        ensures { IsTrue result → IsKey (choices self.now).problem
             (choices self.now).chosen words.new };
 
     /// Chooses a live option, by its first primary item.

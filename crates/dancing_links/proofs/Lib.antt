@@ -1,6 +1,5 @@
 pub mod Agreeing
 pub mod Around
-pub mod Bits
 pub mod Branching
 pub mod Building
 pub mod Built

@@ -1,15 +1,11 @@
 //! Links as what a search branches over.
 
-ghost use Rattle.choices.specs.Keys.KeyKind.{OfUncoveredItems};
-
 use crate::links::Links;
 use choices::Branching;
 use cover_problem::Problem;
 
 impl<'a> Branching for Links<'a> {
     ghost choices = { λ links. links };
-
-    ghost kind = { OfUncoveredItems };
 
     #[inline(always)]
     fn problem(&self) -> &Problem {

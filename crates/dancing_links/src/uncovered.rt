@@ -3,7 +3,7 @@
 ghost use Rattle.std.specs.Prelude.{◌≡◌, ℕ, ◌+◌, ◌*◌, ◌<◌, ◌≤◌, ◌==◌, length, not, IsTrue};
 ghost use Rattle.std.specs.Int.{bit_at};
 ghost use Rattle.cover_problem.specs.Prefix.{is_covered};
-ghost use Rattle.choices.specs.Keys.{TellUncovered};
+ghost use Rattle.choices.specs.Keys.{IsKey};
 
 use crate::links::Links;
 
@@ -28,7 +28,7 @@ impl<'a> Links<'a> {
 
     /// Writes which items are uncovered, if all are primary and the words are as many as their bits take. Answers whether it did.
     pub fn write_uncovered(&self, words: &mut [u64]) -> bool
-        ensures { IsTrue result → TellUncovered self.now.problem self.now.chosen words.new }
+        ensures { IsTrue result → IsKey self.now.problem self.now.chosen words.new }
     {
         let problem = self.problem();
         let items = problem.items();

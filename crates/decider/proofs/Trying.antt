@@ -11,7 +11,7 @@ use Rattle.cover_problem.proofs.Alike.{alike_barren}
 use Rattle.cover_problem.proofs.Remaining.{live_options_from_take}
 use Rattle.cover_problem.proofs.Steps.{left_barren, left_found}
 use Rattle.choices.specs.Choices.{Choices, IsChild, IsNextChoice, with_child, with_child_if}
-use Rattle.choices.specs.Keys.{IsKey, KeyKind}
+use Rattle.choices.specs.Keys.{IsKey}
 use Rattle.barren_states.specs.States.{States}
 use Rattle.brancher.specs.Keeping.{IsKeptOf, IsKnown}
 use Rattle.brancher.proofs.Entering.{key_alike}
@@ -23,19 +23,19 @@ use Rattle.decider.specs.Deciding.{HaveNoCover, IsDecided}
 
 -- ---- the states that are kept
 
-pub no_cover_kept : (kind : KeyKind) (p : Problem) (old new : States) (xs : List ℕ) (count : ℕ) → IsProblem p → HaveNoCover kind p old → IsKeptOf kind p xs count old new → first p xs ≡ None → HaveNoCover kind p new
-no_cover_kept kind p old new xs count lawful have kept none = elim kept.is [
-  | inl same ↦ let P : States → Type 0 = λ s. HaveNoCover kind p s in subst P (sym same) have
+pub no_cover_kept : (p : Problem) (old new : States) (xs : List ℕ) (count : ℕ) → IsProblem p → HaveNoCover p old → IsKeptOf p xs count old new → first p xs ≡ None → HaveNoCover p new
+no_cover_kept p old new xs count lawful have kept none = elim kept.is [
+  | inl same ↦ let P : States → Type 0 = λ s. HaveNoCover p s in subst P (sym same) have
   | inr more ↦ (λ other n ys holds of. elim (more.1.held other n holds) [
     | inl before ↦ have other n ys before of
     | inr is ↦
-        let P : List ℕ → Type 0 = λ k. IsKey kind p ys k in
-        alike_barren p xs ys (key_alike kind p kept.key xs ys lawful more.0 (subst P is.0 of)) none
+        let P : List ℕ → Type 0 = λ k. IsKey p ys k in
+        alike_barren p xs ys (key_alike p kept.key xs ys lawful more.0 (subst P is.0 of)) none
   ])
 ]
 
-pub known_none : (kind : KeyKind) (p : Problem) (states : States) (xs : List ℕ) (count : ℕ) → HaveNoCover kind p states → IsKnown kind p xs states count → first p xs ≡ None
-known_none kind p states xs count have known = have known.key count xs known.held known.is_key
+pub known_none : (p : Problem) (states : States) (xs : List ℕ) (count : ℕ) → HaveNoCover p states → IsKnown p xs states count → first p xs ≡ None
+known_none p states xs count have known = have known.key count xs known.held known.is_key
 
 -- ---- child by child
 

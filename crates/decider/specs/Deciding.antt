@@ -3,14 +3,14 @@ use Rattle.std.specs.Prelude.{◌≡◌, ℕ, List, Bool, true, Option, Some, No
 use Rattle.cover_problem.specs.Problem.{Problem}
 use Rattle.cover_problem.specs.Search.{first}
 use Rattle.choices.specs.Choices.{Choices}
-use Rattle.choices.specs.Keys.{IsKey, KeyKind}
+use Rattle.choices.specs.Keys.{IsKey}
 use Rattle.barren_states.specs.States.{States, Holds}
 use Rattle.decider.specs.declared.decision.Decision.{Decision}
 use Rattle.decider.specs.declared.decision.Decision.TheVariants.{Found, Barren, Stopped}
 
 -- Below each prefix whose key is held there is no cover.
-abbrev pub HaveNoCover : KeyKind → Problem → States → Type 0
-HaveNoCover kind problem states = (key : List ℕ) (visits : ℕ) (prefix : List ℕ) → Holds states key visits → IsKey kind problem prefix key → first problem prefix ≡ None
+abbrev pub HaveNoCover : Problem → States → Type 0
+HaveNoCover problem states = (key : List ℕ) (visits : ℕ) (prefix : List ℕ) → Holds states key visits → IsKey problem prefix key → first problem prefix ≡ None
 
 -- What a search of these choices comes to: at the first cover below them, or without one at what was chosen before; stopped only if it may be.
 abbrev pub IsDecided : Bool → Choices → Choices → Decision → Type 0

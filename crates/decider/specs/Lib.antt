@@ -1,2 +1,1 @@
 pub mod Deciding
-pub mod Stores

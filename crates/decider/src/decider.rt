@@ -6,8 +6,7 @@ ghost use Rattle.decider.specs.Deciding.{IsDecision};
 
 use crate::deciding::decide;
 use crate::decision::Decision;
-use crate::store::Store;
-use brancher::{Kept, Tables, Watch};
+use brancher::{Kept, Kernel, Tables, Watch};
 use std::alloc::{AllocError, Global};
 use std::marker::Model;
 
@@ -15,35 +14,35 @@ use std::marker::Model;
 /// them when it meets them again.
 #[derive(Drop)]
 pub struct Decider<'a> {
-    store: Store<'a>,
+    kernel: Kernel<'a>,
     kept: Kept,
 }
 
 impl<'a> Model for Decider<'a> {
     ghost use Rattle.brancher.specs.Searching.{Searcher};
     ghost use Rattle.decider.specs.Deciding.{HaveNoCover};
-    ghost use Rattle.decider.specs.Stores.{choices_in, kind_in};
+    ghost use Rattle.brancher.specs.Kernels.{choices_in};
 
     ghost Value = { Searcher };
 
     ghost view = { λ s. record {
-      problem = (choices_in s.store).problem;
-      found = (choices_in s.store).chosen;
+      problem = (choices_in s.kernel).problem;
+      found = (choices_in s.kernel).chosen;
     } };
 
-    ghost invariant = { λ s. HaveNoCover (kind_in s.store) (choices_in s.store).problem s.kept.states };
+    ghost invariant = { λ s. HaveNoCover (choices_in s.kernel).problem s.kept.states };
 }
 
 impl<'a> Decider<'a> {
-    /// A search that has not begun, by the store that the tables are for, with room for states in at most so many bytes; where that is
+    /// A search that has not begun, by the kernel that the tables are for, with room for states in at most so many bytes; where that is
     /// refused, in fewer. The only error is out of memory.
     pub fn new(alloc: Global, tables: &'a Tables<'a>, room: u64) -> Result<Decider<'a>, AllocError>
         ensures problem { IfOk result (λ s. s.problem ≡ tables.now) }
         ensures found { IfOk result (λ s. s.found ≡ []) }
     {
-        let store = Store::build(alloc, tables)?;
-        let kept = Kept::build(alloc, tables.problem(), store.key_words(), room)?;
-        Ok(Decider { store, kept })
+        let kernel = Kernel::over(alloc, tables)?;
+        let kept = Kept::build(alloc, tables.problem(), kernel.key_words(), room)?;
+        Ok(Decider { kernel, kept })
     }
 
     /// Searches the problem until it is decided or the watch stops it. With `Found`, `found` is the first cover.
@@ -54,9 +53,9 @@ impl<'a> Decider<'a> {
     {
         let mut steps = 0;
         // (asked once for a search and not at each prefix: each arm has a recursion of its own)
-        match &mut self.store {
-            Store::Links(links) => decide(links, watch, &mut self.kept, &mut steps),
-            Store::Rows(rows) => decide(rows, watch, &mut self.kept, &mut steps),
+        match &mut self.kernel {
+            Kernel::Links(links) => decide(links, watch, &mut self.kept, &mut steps),
+            Kernel::Rows(rows) => decide(rows, watch, &mut self.kept, &mut steps),
         }
     }
 
@@ -64,6 +63,6 @@ impl<'a> Decider<'a> {
     pub fn found(&self) -> &[u16]
         ensures { result.now ≡ self.now.found }
     {
-        self.store.chosen()
+        self.kernel.chosen()
     }
 }

@@ -16,14 +16,14 @@ pub fn decide<B: Branching, W: Watch>(
     kept: &mut Kept,
     steps: &mut u64,
 ) -> Decision
-    requires { HaveNoCover B.kind (B.choices state.old).problem kept.old.states }
+    requires { HaveNoCover (B.choices state.old).problem kept.old.states }
     ensures problem { (B.choices state.new).problem ≡ (B.choices state.old).problem }
     ensures decided { IsDecided W.may_stop (B.choices state.old) (B.choices state.new) result }
-    ensures kept { HaveNoCover B.kind (B.choices state.old).problem kept.new.states }
+    ensures kept { HaveNoCover (B.choices state.old).problem kept.new.states }
 {
     state.problem();
     // (there is no fuel, so a watch hears what is left of the greatest)
-    if kept.is_watch_due() && watch.look(state.chosen(), u64::MAX.saturating_sub(*steps)) {
+    if kept.is_watch_due(watch) && watch.look(state.chosen(), u64::MAX.saturating_sub(*steps)) {
         return Decision::Stopped;
     }
     let Some(item) = state.branch_item() else {
@@ -31,6 +31,7 @@ pub fn decide<B: Branching, W: Watch>(
     };
     *steps = steps.saturating_add(1);
     kept.made(1);
+    watch.made(1, u64::MAX.saturating_sub(*steps));
     let looks = !kept.is_beyond(state.chosen().len());
     if let Some(visits) = known(state, kept, looks) {
         return Decision::Barren(visits);
@@ -57,7 +58,7 @@ pub fn decide<B: Branching, W: Watch>(
 #[inline(always)]
 fn known<B: Branching>(state: &B, kept: &mut Kept, looks: bool) -> Option<u64>
     ensures unchanged { kept.new ≡ kept.old }
-    ensures known { IfSome result (IsKnown B.kind (B.choices state.now).problem
+    ensures known { IfSome result (IsKnown (B.choices state.now).problem
         (B.choices state.now).chosen kept.old.states) }
 {
     if looks { kept.look(state) } else { None }

@@ -4,7 +4,6 @@
 mod decider;
 mod deciding;
 mod decision;
-mod store;
 
 pub use decider::Decider;
 pub use decision::Decision;

@@ -1,6 +1,7 @@
 //! What the engines write of texts in memory, and where devices fail.
 
 mod alone;
+mod boards;
 mod check;
 mod colours;
 mod devices;

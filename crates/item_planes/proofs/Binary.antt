@@ -3,7 +3,7 @@ use Rattle.std.proofs.Common.{◌≡◌, ℕ, ◌+◌, ◌*◌, ◌^◌, ◌<◌
 use Rattle.std.specs.Int.{bit_at, bit_not}
 use Rattle.std.specs.Int.Bits.{bit_or, bit_xor}
 use Rattle.item_planes.specs.declared.digits.Digits.{Digits}
-use Rattle.item_planes.specs.declared.digits.Digits.TheVariants.{Three, Five, Seven}
+use Rattle.item_planes.specs.declared.digits.Digits.TheVariants.{Three, Five, Eight}
 use Rattle.item_planes.specs.declared.planes.Planes.{Planes}
 use Rattle.item_planes.specs.Counts.{count_at, limit_of, part_at}
 use Rattle.std.proofs.lemmas.Nat.Bits.{bit_at_and, bit_at_xor, bit_at_not, bit_at_or, bit_at_ones, bit_at-lt, bit_at-zero}
@@ -39,8 +39,14 @@ none_of_both one other i none =
     let zero : bit_at (bit_or one other) i ≡ 0 = rw none (bit_at-zero i) in
     omega (arith, bit_at_or one other i, zero, bit_at-lt one i, bit_at-lt other i)
 
+-- the same of three
+pub none_of_three : (one other third i : ℕ) → bit_or (bit_or one other) third ≡ 0 → bit_at one i + bit_at other i + bit_at third i ≡ 0
+none_of_three one other third i none =
+    let two = none_of_both (bit_or one other) third i none in
+    omega (arith, two, bit_at_or one other i, bit_at-lt one i, bit_at-lt other i)
+
 -- the lowest digits of a count with no more digits are all of it
 pub part_all : (digits : Digits) (p : Planes) (i : ℕ) → count_at p i < limit_of digits → part_at digits p i ≡ count_at p i
 part_all Three p i few = omega (arith, few)
 part_all Five p i few = omega (arith, few)
-part_all Seven p i few = refl
+part_all Eight p i few = refl

@@ -2,7 +2,7 @@
 use Rattle.std.specs.Prelude.{◌≡◌, ℕ, ◌+◌, ◌*◌, ◌<◌, ◌≤◌, ◌↔◌}
 use Rattle.std.specs.Int.{bit_at}
 use Rattle.item_planes.specs.declared.digits.Digits.{Digits}
-use Rattle.item_planes.specs.declared.digits.Digits.TheVariants.{Three, Five, Seven}
+use Rattle.item_planes.specs.declared.digits.Digits.TheVariants.{Three, Five, Eight}
 use Rattle.item_planes.specs.declared.planes.Planes.{Planes}
 
 -- what the three lowest digits of an item count
@@ -13,7 +13,7 @@ low_at p i = bit_at p.ones i + 2 * bit_at p.twos i + 4 * bit_at p.fours i
 abbrev pub high_at : Digits → Planes → ℕ → ℕ
 high_at Three p i = 0
 high_at Five p i = bit_at p.eights i + 2 * bit_at p.sixteens i
-high_at Seven p i = bit_at p.eights i + 2 * bit_at p.sixteens i + 4 * bit_at p.thirty_twos i + 8 * bit_at p.sixty_fours i
+high_at Eight p i = bit_at p.eights i + 2 * bit_at p.sixteens i + 4 * bit_at p.thirty_twos i + 8 * bit_at p.sixty_fours i + 16 * bit_at p.one_twenty_eights i
 
 -- what so many of its lowest digits count of an item
 abbrev pub part_at : Digits → Planes → ℕ → ℕ
@@ -21,13 +21,13 @@ part_at digits p i = low_at p i + 8 * high_at digits p i
 
 -- the count of an item
 abbrev pub count_at : Planes → ℕ → ℕ
-count_at p i = part_at Seven p i
+count_at p i = part_at Eight p i
 
 -- numbers of so many digits are below it
 abbrev pub limit_of : Digits → ℕ
 limit_of Three = 8
 limit_of Five = 32
-limit_of Seven = 128
+limit_of Eight = 256
 
 -- of some items those whose digit is least, and this digit
 pub record IsLeastDigit (items digits left digit : ℕ) : Type 0 where

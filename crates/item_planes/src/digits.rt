@@ -5,6 +5,6 @@ pub enum Digits {
     Three,
     /// Each count is below 32.
     Five,
-    /// Each count is below 128.
-    Seven,
+    /// Each count is below 256.
+    Eight,
 }

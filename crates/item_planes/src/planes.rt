@@ -1,4 +1,4 @@
-//! The counts of at most 64 items, each below 128.
+//! The counts of at most 64 items, each below 256.
 
 ghost use Rattle.std.specs.Prelude.{◌≡◌, ℕ, ◌+◌, ◌*◌, ◌<◌, ◌≤◌, ◌↔◌, false, None, IfSome};
 ghost use Rattle.std.specs.Int.{bit_at};
@@ -7,7 +7,7 @@ ghost use Rattle.item_planes.specs.Counts.{count_at, high_at, limit_of, low_at, 
 use crate::digit::{least_digit, lowered};
 use crate::digits::Digits;
 
-/// The counts of at most 64 items, each below 128, and which of the items are uncovered: bit `i` is that of item `i`.
+/// The counts of at most 64 items, each below 256, and which of the items are uncovered: bit `i` is that of item `i`.
 #[derive(Clone, Copy)]
 pub struct Planes {
     /// The items that are uncovered.
@@ -24,18 +24,20 @@ pub struct Planes {
     pub sixteens: u64,
     /// The sixth one.
     pub thirty_twos: u64,
-    /// The highest one.
+    /// The seventh one.
     pub sixty_fours: u64,
+    /// The highest one.
+    pub one_twenty_eights: u64,
 }
 
 impl Planes {
-    /// These items are uncovered, and all counts are 127.
+    /// These items are uncovered, and all counts are 255.
     #[inline(always)]
     pub fn full(uncovered: u64) -> Planes
         ensures uncovered { result.uncovered ≡ uncovered }
         ensures part { (digits : Digits) (i : ℕ) → i < 64 → part_at digits result i + 1
             ≡ limit_of digits }
-        ensures counts { (i : ℕ) → i < 64 → count_at result i ≡ 127 }
+        ensures counts { (i : ℕ) → i < 64 → count_at result i ≡ 255 }
     {
         Planes {
             uncovered,
@@ -46,16 +48,17 @@ impl Planes {
             sixteens: u64::MAX,
             thirty_twos: u64::MAX,
             sixty_fours: u64::MAX,
+            one_twenty_eights: u64::MAX,
         }
     }
 
-    /// What each count lacks of 127.
+    /// What each count lacks of 255.
     #[inline(always)]
     pub fn complement(&self) -> Planes
         ensures uncovered { result.uncovered ≡ self.now.uncovered }
-        ensures counts { (i : ℕ) → i < 64 → count_at result i + count_at self.now i ≡ 127 }
+        ensures counts { (i : ℕ) → i < 64 → count_at result i + count_at self.now i ≡ 255 }
     {
-        // (127 has all seven digits, so what a count lacks of it has just the digits that the count has not)
+        // (255 has all eight digits, so what a count lacks of it has just the digits that the count has not)
         Planes {
             uncovered: self.uncovered,
             ones: !self.ones,
@@ -65,6 +68,7 @@ impl Planes {
             sixteens: !self.sixteens,
             thirty_twos: !self.thirty_twos,
             sixty_fours: !self.sixty_fours,
+            one_twenty_eights: !self.one_twenty_eights,
         }
     }
 
@@ -73,8 +77,8 @@ impl Planes {
     pub fn digits(&self) -> Digits
         ensures { (i : ℕ) → i < 64 → count_at self.now i < limit_of result }
     {
-        if self.thirty_twos | self.sixty_fours != 0 {
-            Digits::Seven
+        if self.thirty_twos | self.sixty_fours | self.one_twenty_eights != 0 {
+            Digits::Eight
         } else if self.eights | self.sixteens != 0 {
             Digits::Five
         } else {
@@ -99,7 +103,7 @@ impl Planes {
             Digits::Five => {
                 self.take_two(eight);
             }
-            Digits::Seven => self.take_four(eight),
+            Digits::Eight => self.take_five(eight),
         }
     }
 
@@ -111,6 +115,7 @@ impl Planes {
         ensures sixteens { self.new.sixteens ≡ self.old.sixteens }
         ensures thirty_twos { self.new.thirty_twos ≡ self.old.thirty_twos }
         ensures sixty_fours { self.new.sixty_fours ≡ self.old.sixty_fours }
+        ensures one_twenty_eights { self.new.one_twenty_eights ≡ self.old.one_twenty_eights }
         ensures part { (i : ℕ) → i < 64 → low_at self.new i + bit_at items i
             ≡ low_at self.old i + 8 * bit_at result i }
     {
@@ -132,6 +137,7 @@ impl Planes {
         ensures fours { self.new.fours ≡ self.old.fours }
         ensures thirty_twos { self.new.thirty_twos ≡ self.old.thirty_twos }
         ensures sixty_fours { self.new.sixty_fours ≡ self.old.sixty_fours }
+        ensures one_twenty_eights { self.new.one_twenty_eights ≡ self.old.one_twenty_eights }
         ensures part { (i : ℕ) → i < 64 → high_at Digits.Five self.new i + bit_at eight i
             ≡ high_at Digits.Five self.old i + 4 * bit_at result i }
     {
@@ -144,20 +150,22 @@ impl Planes {
 
     /// Takes a borrow from all digits above the third, which count as much.
     #[inline(always)]
-    fn take_four(&mut self, eight: u64)
-        requires { (i : ℕ) → i < 64 → bit_at eight i ≤ high_at Digits.Seven self.old i }
+    fn take_five(&mut self, eight: u64)
+        requires { (i : ℕ) → i < 64 → bit_at eight i ≤ high_at Digits.Eight self.old i }
         ensures uncovered { self.new.uncovered ≡ self.old.uncovered }
         ensures ones { self.new.ones ≡ self.old.ones }
         ensures twos { self.new.twos ≡ self.old.twos }
         ensures fours { self.new.fours ≡ self.old.fours }
-        ensures part { (i : ℕ) → i < 64 → high_at Digits.Seven self.new i + bit_at eight i
-            ≡ high_at Digits.Seven self.old i }
+        ensures part { (i : ℕ) → i < 64 → high_at Digits.Eight self.new i + bit_at eight i
+            ≡ high_at Digits.Eight self.old i }
     {
         let thirty_two = self.take_two(eight);
         let (thirty_twos, sixty_four) = lowered(self.thirty_twos, thirty_two);
-        let (sixty_fours, _) = lowered(self.sixty_fours, sixty_four);
+        let (sixty_fours, one_twenty_eight) = lowered(self.sixty_fours, sixty_four);
+        let (one_twenty_eights, _) = lowered(self.one_twenty_eights, one_twenty_eight);
         self.thirty_twos = thirty_twos;
         self.sixty_fours = sixty_fours;
+        self.one_twenty_eights = one_twenty_eights;
     }
 
     /// Covers these items. The counts stay.
@@ -193,13 +201,13 @@ impl Planes {
     #[inline(always)]
     fn least_high(&self, items: u64, digits: Digits) -> (u64, u32)
         requires { 1 ≤ items }
-        ensures few { result.1 < 16 }
+        ensures few { result.1 < 32 }
         ensures least { IsNarrowed items (high_at digits self.now) result.0 result.1 }
     {
         match digits {
             Digits::Three => (items, 0),
             Digits::Five => self.least_two(items, 0),
-            Digits::Seven => self.least_four(items),
+            Digits::Eight => self.least_five(items),
         }
     }
 
@@ -207,7 +215,7 @@ impl Planes {
     #[inline(always)]
     fn least_two(&self, items: u64, high: u32) -> (u64, u32)
         requires some { 1 ≤ items }
-        requires high { high < 4 }
+        requires high { high < 8 }
         ensures few { result.1 < 4 * high + 4 }
         ensures least { (all : ℕ) (number : ℕ → ℕ) → IsNarrowed all number items high
             → IsNarrowed all (λ i. 4 * number i + high_at Digits.Five self.now i) result.0 result.1 }
@@ -219,13 +227,14 @@ impl Planes {
 
     /// The same by all digits above the third.
     #[inline(always)]
-    fn least_four(&self, items: u64) -> (u64, u32)
+    fn least_five(&self, items: u64) -> (u64, u32)
         requires { 1 ≤ items }
-        ensures few { result.1 < 16 }
-        ensures least { IsNarrowed items (high_at Digits.Seven self.now) result.0 result.1 }
+        ensures few { result.1 < 32 }
+        ensures least { IsNarrowed items (high_at Digits.Eight self.now) result.0 result.1 }
     {
+        let (items, one_twenty_eight) = least_digit(items, self.one_twenty_eights);
         let (items, sixty_four) = least_digit(items, self.sixty_fours);
         let (items, thirty_two) = least_digit(items, self.thirty_twos);
-        self.least_two(items, 2 * sixty_four + thirty_two)
+        self.least_two(items, 4 * one_twenty_eight + 2 * sixty_four + thirty_two)
     }
 }

@@ -140,12 +140,13 @@ fn five_items(alloc: Global, options: u32) -> Result<String, AllocError> {
     Ok(text)
 }
 
-/// Many options over few items: sets of five words, counted digit by digit, and of eleven words, counted in keys.
+/// Many options over few items: counted by up to eight digits where each item has at most 255, and in keys where one has 256.
 #[test]
 fn many(rt: HostRuntime) -> Result<(), Fail> {
     let alloc = rt.alloc();
-    assert!(rt; search_same(&rt, alloc, five_items(alloc, 300)?.as_str(), 200));
-    assert!(rt; search_same(&rt, alloc, five_items(alloc, 700)?.as_str(), 200));
+    for options in [300, 640, 1_275, 1_280] {
+        assert!(rt; search_same(&rt, alloc, five_items(alloc, options)?.as_str(), 200));
+    }
     Ok(())
 }
 

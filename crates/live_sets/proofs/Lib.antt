@@ -15,3 +15,4 @@ pub mod Planed
 pub mod Staying
 pub mod Taking
 pub mod Words
+pub mod Uncovering

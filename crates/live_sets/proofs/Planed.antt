@@ -14,9 +14,9 @@ use Rattle.item_planes.specs.Counts.{count_at, IsLeast}
 use Rattle.live_sets.specs.declared.plane_counts.PlaneCounts.{PlaneCounts}
 use Rattle.live_sets.specs.Planes.{AreMasks, ArePlanes, ArePlaneCounts, IsFewestOf, IsMask}
 
-pub count_small : (planes : Planes) (i : ℕ) → count_at planes i < 128
+pub count_small : (planes : Planes) (i : ℕ) → count_at planes i < 256
 count_small planes i =
-    omega (arith, bit_at-lt planes.ones i, bit_at-lt planes.twos i, bit_at-lt planes.fours i, bit_at-lt planes.eights i, bit_at-lt planes.sixteens i, bit_at-lt planes.thirty_twos i, bit_at-lt planes.sixty_fours i)
+    omega (arith, bit_at-lt planes.ones i, bit_at-lt planes.twos i, bit_at-lt planes.fours i, bit_at-lt planes.eights i, bit_at-lt planes.sixteens i, bit_at-lt planes.thirty_twos i, bit_at-lt planes.sixty_fours i, bit_at-lt planes.one_twenty_eights i)
 
 -- the first of the fewest of 64 items from a first one on
 pub planes_fewest : (p : Problem) (prefix : List ℕ) (first : ℕ) (planes : Planes) (i count : ℕ) → ArePlanes p prefix first planes → IsLeast planes i count → IsFewestOf p prefix first (first + i) count

@@ -49,7 +49,7 @@ IsLeastOf problem prefix first result =
 -- there are few primary items, with few options each
 pub record IsSmall (problem : Problem) : Type 0 where
   pub items : problem.primary ≤ 128
-  pub options : (i : ℕ) → i < problem.primary → length (live_options problem [] i) < 128
+  pub options : (i : ℕ) → i < problem.primary → length (live_options problem [] i) < 256
 
 -- the planes of each level, from a first item on
 pub record ArePlaneCounts (problem : Problem) (chosen : List ℕ) (counts : PlaneCounts) : Type 0 where

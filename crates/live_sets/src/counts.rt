@@ -1,15 +1,17 @@
 //! How many live options name each primary item, level by level.
 
-ghost use Rattle.std.specs.Prelude.{◌≡◌, ◌+◌, ◌<◌, ◌≤◌, [], ◌∷◌, ◌++◌, length, IfOk};
+ghost use Rattle.std.specs.Prelude.{◌≡◌, ◌+◌, ◌<◌, ◌≤◌, [], ◌∷◌, ◌++◌, length, IfOk, IsTrue};
 ghost use Rattle.cover_problem.specs.Branching.{branch_item};
+ghost use Rattle.choices.specs.Keys.{TellUncovered};
 ghost use Rattle.live_sets.specs.Counting.{item_of, IsLive};
 ghost use Rattle.live_sets.specs.Levels.{AreCounts};
 ghost use Rattle.live_sets.specs.Planes.{ArePlaneCounts, IsSmall};
 ghost use Rattle.live_sets.specs.ChoiceStep.{IsStep};
 
 use crate::choice_step::ChoiceStep;
-use crate::level::{count_first, count_level};
+use crate::level::{count_first, count_level, keys_at, level_at};
 use crate::plane_counts::{PlaneCounts, is_small, least_item};
+use crate::uncovered::{write_plane, write_planes, write_unmarked};
 use option_sets::OptionSets;
 use std::alloc::{AllocError, Global};
 
@@ -80,6 +82,25 @@ impl Counts {
             }
             Counts::Planes(planes) => least_item(planes.push(sets, step), None),
             Counts::Halves(low, high) => push_halves(low, high, sets, step),
+        }
+    }
+
+    /// Writes which primary items are uncovered, if the words are as many as that takes. Answers whether it did.
+    #[inline(always)]
+    pub fn write_uncovered(&self, sets: &OptionSets, chosen: &[u16], words: &mut [u64]) -> bool
+        requires counts { AreCounts sets.now chosen.now self.now }
+        requires room { length chosen.now ≤ sets.now.primary }
+        ensures { IsTrue result → TellUncovered sets.now chosen.now words.new }
+    {
+        let depth = chosen.len();
+        match self {
+            Counts::Keys(keys) => {
+                write_unmarked(keys_at(keys, sets.problem().primary(), depth), words)
+            }
+            Counts::Planes(counts) => write_plane(&counts.planes[depth], words),
+            Counts::Halves(low, high) => {
+                write_planes(&low.planes[depth], &high.planes[depth], words)
+            }
         }
     }
 }

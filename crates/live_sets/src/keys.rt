@@ -14,7 +14,7 @@ use option_sets::{OptionSets, Word};
 const ONE_OPTION: u32 = 65_536;
 
 /// The mark of a covered item; an uncovered one has a lesser key.
-const COVERED: u32 = 2_147_483_648;
+pub const COVERED: u32 = 2_147_483_648;
 
 /// How many options of a row are live.
 #[inline(always)]

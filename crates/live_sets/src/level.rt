@@ -20,6 +20,16 @@ pub fn level_at(words: &[u64], width: usize, depth: usize) -> &[u64]
     &words[start..start + width]
 }
 
+/// The keys of a level.
+#[inline(always)]
+pub fn keys_at(keys: &[u32], width: usize, depth: usize) -> &[u32]
+    requires { depth * width + width ≤ length keys.now }
+    ensures { result.now ≡ level_at width depth keys.now }
+{
+    let start = depth * width;
+    &keys[start..start + width]
+}
+
 /// Makes the live options of the first level all options.
 pub fn fill_first(sets: &OptionSets, live: &mut [u64])
     requires inside { words_of sets.now ≤ length live.old }

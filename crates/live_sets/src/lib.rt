@@ -13,6 +13,7 @@ mod made_choice;
 mod plane_counts;
 mod searching;
 mod sets;
+mod uncovered;
 mod untried;
 
 pub use sets::LiveSets;

@@ -30,7 +30,7 @@ pub struct PlaneCounts {
     pub turn: usize,
 }
 
-/// Whether there are at most 128 primary items, and at most 127 options for each. All options are live.
+/// Whether there are at most 128 primary items, and at most 255 options for each. All options are live.
 pub fn is_small(sets: &OptionSets, live: &[u64]) -> bool
     requires { IsLive sets.now [] live.now }
     ensures { IsTrue result → IsSmall sets.now }
@@ -40,7 +40,7 @@ pub fn is_small(sets: &OptionSets, live: &[u64]) -> bool
         return false;
     }
     for item in 0..primary as u16 {
-        if count_row(sets.row(item), live) > 127 {
+        if count_row(sets.row(item), live) > 255 {
             return false;
         }
     }
@@ -74,7 +74,7 @@ impl PlaneCounts {
                 planes,
                 turn,
             },
-            least_from(&start, first, Digits::Seven),
+            least_from(&start, first, Digits::Eight),
         ))
     }
 
@@ -155,7 +155,7 @@ fn first_planes(sets: &OptionSets, masks: &[u64], live: &[u64], first: u16) -> P
     ensures { ArePlanes sets.now [] first result }
 {
     let uncovered = word_below(sets.problem().primary().saturating_sub(first as usize));
-    count_live(sets, masks, live, first, uncovered, Digits::Seven)
+    count_live(sets, masks, live, first, uncovered, Digits::Eight)
 }
 
 /// Counts the options that are live, of which each item has at most as many as have so many digits.

@@ -1,15 +1,11 @@
 //! Live rows as what a search branches over.
 
-ghost use Rattle.choices.specs.Keys.KeyKind.{OfLiveOptions};
-
 use crate::sets::LiveSets;
 use choices::Branching;
 use cover_problem::Problem;
 
 impl<'a> Branching for LiveSets<'a> {
     ghost choices = { λ rows. rows };
-
-    ghost kind = { OfLiveOptions };
 
     #[inline(always)]
     fn problem(&self) -> &Problem {
@@ -28,19 +24,12 @@ impl<'a> Branching for LiveSets<'a> {
 
     #[inline(always)]
     fn key_words(&self) -> usize {
-        LiveSets::words(self)
+        LiveSets::key_words(self)
     }
 
     #[inline(always)]
     fn write_key(&self, words: &mut [u64]) -> bool {
-        let Some(key) = LiveSets::key(self) else {
-            return false;
-        };
-        if key.len() != words.len() {
-            return false;
-        }
-        words.copy_from_slice(key);
-        true
+        LiveSets::write_key(self, words)
     }
 
     #[inline(always)]

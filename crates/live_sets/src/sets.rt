@@ -1,17 +1,18 @@
 //! The live options of a problem in which options are chosen.
 
-ghost use Rattle.std.specs.Prelude.{◌≡◌, ℕ, ◌+◌, ◌<◌, ◌≤◌, [], length, IfOk, IfSome, true, false, slice_get};
+ghost use Rattle.std.specs.Prelude.{◌≡◌, ℕ, ◌+◌, ◌<◌, ◌≤◌, [], length, IfOk, IfSome, IsTrue, true, false, slice_get};
 ghost use Rattle.cover_problem.specs.Branching.{branch_item, IsOpen};
 ghost use Rattle.cover_problem.specs.Onward.{live_options_from};
 ghost use Rattle.cover_problem.specs.Prefix.{is_covered, is_live, is_prefix};
 ghost use Rattle.cover_problem.specs.Problem.{IsProblem};
-ghost use Rattle.choices.specs.Keys.{TellLive};
+ghost use Rattle.choices.specs.Keys.{IsKey, TellLive};
 ghost use Rattle.choices.specs.Choices.{Choices, with_child, with_child_if, with_choice, IsChild, IsNextChoice};
 ghost use Rattle.live_sets.specs.Rows.{IsUntried, IsTaken, IsPopped, untried_of};
 
 use crate::keys::item_in;
 use crate::levels::Levels;
 use crate::made_choice::MadeChoice;
+use crate::uncovered::WORD;
 use crate::untried::{Untried, behind};
 use cover_problem::Problem;
 use option_sets::OptionSets;
@@ -95,8 +96,8 @@ impl<'a> LiveSets<'a> {
 
     /// The words of the live options, where the branch item has one; none where it has none or all items are covered.
     #[inline(always)]
-    pub fn key(&self) -> Option<&[u64]>
-        ensures { IfSome result (λ key. TellLive self.now.problem self.now.chosen key.now) }
+    fn live_options(&self) -> Option<&[u64]>
+        ensures { IfSome result (λ live. TellLive self.now.problem self.now.chosen live.now) }
     {
         let item = self.branch_item()?;
         let live = self.levels.live_at(self.sets, self.chosen.len());
@@ -106,13 +107,42 @@ impl<'a> LiveSets<'a> {
         Some(live)
     }
 
-    /// How many words the live options take.
-    pub fn words(&self) -> usize
+    /// How many words a key has: those of the bits of the items where all are primary, else those of the live options.
+    pub fn key_words(&self) -> usize
         ensures { result ≤ 1024 }
     {
-        // (for the rule that there are at most 20,000 options, whose bits take 313 words)
-        self.sets.problem().recall_rules();
-        self.sets.words()
+        let problem = self.sets.problem();
+        // (for the rules that there are at most 1,000 items, and at most 20,000 options, whose bits take 313 words)
+        problem.recall_rules();
+        if problem.primary() == problem.items() {
+            problem.items().div_ceil(WORD)
+        } else {
+            self.sets.words()
+        }
+    }
+
+    /// Writes the key of the chosen options, if the words are as many as it has and the branch item has a live option. Answers whether it
+    /// did.
+    #[inline(always)]
+    pub fn write_key(&self, words: &mut [u64]) -> bool
+        ensures { IsTrue result → IsKey self.now.problem self.now.chosen words.new }
+    {
+        // (where the branch item has none, the search is at its end sooner than a look)
+        let Some(live) = self.live_options() else {
+            return false;
+        };
+        let problem = self.sets.problem();
+        if problem.primary() == problem.items() {
+            return self
+                .levels
+                .counts
+                .write_uncovered(self.sets, &self.chosen, words);
+        }
+        if words.len() != live.len() {
+            return false;
+        }
+        words.copy_from_slice(live);
+        true
     }
 
     /// Chooses a live option, by its first primary item.

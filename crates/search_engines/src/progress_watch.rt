@@ -28,7 +28,10 @@ pub struct ProgressWatch<'a, E: Sink, C: Clock> {
     /// None where nobody sees it: at the limits of the format it takes megabytes.
     estimate: Option<TreeEstimate<'a>>,
     log: ProgressLog<'a, E>,
-    fuel: u64,
+    /// How many visits the search said that it made.
+    made: u64,
+    /// What was left of its fuel then.
+    left: u64,
     timer: LineTimer,
 }
 
@@ -49,7 +52,8 @@ impl<'a, E: Sink, C: Clock> ProgressWatch<'a, E, C> {
             clock,
             estimate,
             log,
-            fuel,
+            made: 0,
+            left: fuel,
             timer: LineTimer::new(clock),
         })
     }
@@ -75,13 +79,21 @@ impl<'a, E: Sink, C: Clock> Watch for ProgressWatch<'a, E, C> {
         let Some(seconds) = self.timer.due(self.clock, self.log.style()) else {
             return false;
         };
+        // (what went past a kept state is gone, but wasn't made; what is gone since the search last said so was made)
+        let visits = self.made.saturating_add(self.left.saturating_sub(left));
         self.log.write(Progress {
             seconds,
-            visits: self.fuel.saturating_sub(left),
+            visits,
             share: estimate.share(chosen),
             jobs: None,
             fullest: None,
         });
         false
+    }
+
+    #[inline(always)]
+    fn made(&mut self, visits: u64, left: u64) {
+        self.made = self.made.saturating_add(visits);
+        self.left = left;
     }
 }

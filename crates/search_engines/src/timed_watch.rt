@@ -22,6 +22,16 @@ impl<'a, V: EndWatch, C: Clock> Watch for TimedWatch<'a, V, C> {
         // (the other one looks first, so that a search that is stopped has its last line)
         self.inner.look(chosen, left) || self.limits.is_late(self.clock)
     }
+
+    #[inline(always)]
+    fn wait(&self) -> u64 {
+        self.inner.wait()
+    }
+
+    #[inline(always)]
+    fn made(&mut self, visits: u64, left: u64) {
+        self.inner.made(visits, left);
+    }
 }
 
 impl<'a, V: EndWatch, C: Clock> EndWatch for TimedWatch<'a, V, C> {

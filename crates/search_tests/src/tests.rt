@@ -1,6 +1,7 @@
 //! Links and searches of small problems, and of random ones.
 
 mod coloured;
+mod deciding;
 mod fuels;
 mod keeping;
 mod links;

@@ -1,7 +1,10 @@
 //! `check` over texts in memory; the expected values were worked out by hand.
+//!
+//! Of the bugs of `search_engines` that are kept outside the gate, `a_check_of_none_keeps_states` finds `check_keeps_no_states`.
 
 ghost use Rattle.std.specs.Prelude.{◌≤◌};
 
+use super::boards::board;
 use super::run_output::RunOutput;
 use super::texts::{LETTERS, NO_COVER};
 use dlx_reader::{CountedReader, CountedWriter};
@@ -168,6 +171,13 @@ fn verdicts(rt: HostRuntime) {
             (out, errors, *status),
         );
     }
+}
+
+/// A search of 10^15 visits is over at once where it goes past the states that it meets again.
+#[test]
+fn a_check_of_none_keeps_states(rt: HostRuntime) {
+    let text = board(&rt, rt.alloc(), 12, 12);
+    assert!(rt; check(rt.alloc(), &text, "none\n", u64::MAX).is("right\n", "", 0));
 }
 
 pub static REFUSALS: [(&str, &str, &str); 15] = [

@@ -1,12 +1,14 @@
 //! How far a search has come: the share of the tree, the lines, and that they change no answer.
 //!
 //! Of the bugs of `search_engines` that are kept outside the gate, `what_comes_before_a_prefix_is_not_behind_its_search` finds
-//! `done_part_counts_from_the_root`, `listed_lines_become_rarer` finds `a_line_each_second_all_night`, and
-//! `a_forecast_is_of_the_rest` finds `a_forecast_of_what_is_done`.
+//! `done_part_counts_from_the_root`, `listed_lines_become_rarer` finds `a_line_each_second_all_night`,
+//! `a_forecast_is_of_the_rest` finds `a_forecast_of_what_is_done`, and `visits_that_are_skipped_are_not_shown` finds
+//! `skipped_visits_are_shown` and `a_limit_of_time_hears_of_no_visits`.
 
+use super::boards::board;
 use dlx_reader::{CountedReader, CountedWriter, read_problem};
 use search_engines::{
-    Forecast, LineStyle, LineTimer, Progress, ProgressLog, SearchLimits, TreeEstimate,
+    Forecast, LineStyle, LineTimer, Progress, ProgressLog, SearchLimits, TimeLimit, TreeEstimate,
     alone_engine, alone_within,
 };
 use std::alloc::Global;
@@ -155,11 +157,12 @@ fn alone(alloc: Global, text: &str, fuel: u64) -> Result<(Vec<u8>, u8), Fail> {
     Ok((out, end.status))
 }
 
-/// The same with progress, and what is written of that.
+/// The same with progress, within so many seconds if any, and what is written of that.
 fn followed(
     alloc: Global,
     text: &str,
     fuel: u64,
+    seconds: Option<u64>,
     style: LineStyle,
 ) -> Result<(Vec<u8>, u8, Vec<u8>), Fail> {
     let mut out = Vec::new(alloc);
@@ -170,7 +173,8 @@ fn followed(
         seconds: AtomicU64::new(0),
     };
     let log = ProgressLog::new(&mut errors, style);
-    let limits = SearchLimits::new(Some(fuel.max(1)), None);
+    let time = seconds.map(|limit| TimeLimit::from_now(&clock, Duration::from_secs(limit)));
+    let limits = SearchLimits::new(Some(fuel.max(1)), time);
     let mut sink = CountedWriter::new(&mut out);
     let end = alone_within(&clock, alloc, &limits, &mut source, &mut sink, log)?;
     Ok((out, end.status, log_text))
@@ -192,19 +196,59 @@ fn progress_changes_no_answer(rt: HostRuntime) -> Result<(), Fail> {
             rt.alloc(),
             text,
             *fuel,
+            None,
             LineStyle::Listed,
         )?;
         assert!(rt; followed_out.as_slice() == out.as_slice() && followed_status == status);
         assert!(rt; log_text.as_slice() == lines.as_bytes(), "{text}");
-        let (_out, _status, silent_text) = followed(rt.alloc(), text, *fuel, LineStyle::Silent)?;
+        let (_out, _status, silent_text) = followed(
+            rt.alloc(),
+            text,
+            *fuel,
+            None,
+            LineStyle::Silent,
+        )?;
         assert!(rt; silent_text.is_empty(), "{text}");
+    }
+    Ok(())
+}
+
+/// How many visits the last line of a log names.
+fn last_visits(log_text: &[u8]) -> Option<u64> {
+    let text = str::from_utf8(log_text).ok()?;
+    let (_before, line) = text.trim_end().rsplit_once('\n')?;
+    let (told, _share) = line.split_once(" visits")?;
+    let (_seconds, visits) = told.rsplit_once(' ')?;
+    visits.parse().ok()
+}
+
+/// A search of 10^15 visits that goes past the states that it meets again makes some 80,000, and says so; also where a limit of time watches it.
+#[test]
+fn visits_that_are_skipped_are_not_shown(rt: HostRuntime) -> Result<(), Fail> {
+    let text = board(&rt, rt.alloc(), 12, 12);
+    for seconds in [None, Some(9_999)] {
+        let (_out, _status, log_text) = followed(
+            rt.alloc(),
+            &text,
+            u64::MAX,
+            seconds,
+            LineStyle::Listed,
+        )?;
+        let visits = last_visits(&log_text);
+        assert!(rt; matches!(visits, Some(10_000..=200_000)), "{visits:?}");
     }
     Ok(())
 }
 
 #[test]
 fn a_terminal_has_one_line(rt: HostRuntime) -> Result<(), Fail> {
-    let (_out, _status, log_text) = followed(rt.alloc(), QUEENS, 1500, LineStyle::Overwritten)?;
+    let (_out, _status, log_text) = followed(
+        rt.alloc(),
+        QUEENS,
+        1500,
+        None,
+        LineStyle::Overwritten,
+    )?;
     assert!(rt;
         log_text.as_slice() == b"\r1 s: 1024 visits,  43.6607 % of the tree \x1b[K\n".as_slice()
     );

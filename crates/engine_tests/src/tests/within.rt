@@ -1,4 +1,6 @@
 //! `alone` and `check` within a limit of time, and what is written where there is no answer or a file can't be read.
+//!
+//! Of the bugs of `search_engines` that are kept outside the gate, `a_search_ends_once_its_time_is_over` finds `time_without_a_limit_never_ends`.
 
 use super::progress::{QUEENS, Ticking};
 use super::run_output::RunOutput;
@@ -118,29 +120,29 @@ fn ticking() -> Ticking {
     }
 }
 
-/// Seconds, with what a search of 2,331 visits writes that may last so long, what a check of `none`, and the status of the first. The clock
-/// is read when it begins and once in some 1,024 visits, more often where states are looked for.
-static TIMES: [(u64, &str, &str, u8); 3] = [
-    (1, "no answer\n", "no answer\n", 4),
-    (2, "no answer\n", "no answer\n", 4),
-    (9, "none\n", "right\n", 1),
+/// A fuel, or 0 for none, and seconds, with what a search of 2,331 visits writes that may last so long, what a check of `none`, and the status of
+/// the first. The clock is read when it begins and once in some 1,024 visits, more often where states are looked for.
+static TIMES: [(u64, u64, &str, &str, u8); 5] = [
+    (u64::MAX, 1, "no answer\n", "no answer\n", 4),
+    (u64::MAX, 2, "no answer\n", "no answer\n", 4),
+    (u64::MAX, 9, "none\n", "right\n", 1),
+    (0, 1, "no answer\n", "no answer\n", 4),
+    (0, 99, "none\n", "right\n", 1),
 ];
 
 #[test]
 fn a_search_ends_once_its_time_is_over(rt: HostRuntime) {
-    for (seconds, out, verdict, status) in TIMES.iter() {
+    for (fuel, seconds, out, verdict, status) in TIMES.iter() {
         let clock = ticking();
-        let output = alone(
-            &clock,
-            rt.alloc(),
-            QUEENS,
-            &limits(&clock, u64::MAX, *seconds),
-        );
-        assert!(rt; output.is(out, "", *status), "{seconds}");
+        let output = alone(&clock, rt.alloc(), QUEENS, &limits(&clock, *fuel, *seconds));
+        assert!(rt; output.is(out, "", *status), "{fuel} {seconds}");
         let clock = ticking();
-        let limits = limits(&clock, u64::MAX, *seconds);
+        let limits = limits(&clock, *fuel, *seconds);
         let output = check(&clock, rt.alloc(), QUEENS, "none\n", &limits);
-        assert!(rt; output.out.as_slice() == verdict.as_bytes(), "{seconds}");
+        assert!(rt;
+            output.out.as_slice() == verdict.as_bytes(),
+            "{fuel} {seconds}"
+        );
     }
 }
 

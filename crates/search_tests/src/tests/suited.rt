@@ -36,7 +36,7 @@ fn dominoes(alloc: Global, squares: u8) -> Result<Vec<u8>, AllocError> {
 }
 
 /// One item with so many options, all of which a choice bars.
-fn one_item(alloc: Global, options: u8) -> Result<Vec<u8>, AllocError> {
+fn one_item(alloc: Global, options: u16) -> Result<Vec<u8>, AllocError> {
     let mut text = Vec::from_slice(alloc, b"a\n")?;
     for _ in 0..options {
         text.push(b'a')?;
@@ -51,14 +51,14 @@ fn has_sets(alloc: Global, text: &[u8]) -> Result<bool, Fail> {
     Ok(Tables::build(alloc, &read.problem)?.has_sets())
 }
 
-/// Where there are at most 128 items with at most 127 options each, sets suit; else it depends on what a choice bars.
+/// Where there are at most 128 items with at most 255 options each, sets suit; else it depends on what a choice bars.
 #[test]
 fn the_search_suits_the_problem(rt: HostRuntime) -> Result<(), Fail> {
     let alloc = rt.alloc();
     assert!(rt; has_sets(alloc, &dominoes(alloc, 128)?)?);
     assert!(rt; !has_sets(alloc, &dominoes(alloc, 129)?)?);
-    assert!(rt; has_sets(alloc, &one_item(alloc, 127)?)?);
-    assert!(rt; has_sets(alloc, &one_item(alloc, 128)?)?);
+    assert!(rt; has_sets(alloc, &one_item(alloc, 255)?)?);
+    assert!(rt; has_sets(alloc, &one_item(alloc, 256)?)?);
     Ok(())
 }
 

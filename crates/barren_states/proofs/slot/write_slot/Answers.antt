@@ -1,5 +1,5 @@
 use Rattle.std.proofs.Common.{length, ◌+◌, ◌-◌, arith, refl}
-use Rattle.barren_states.proofs.Slots.{write_is}
+use Rattle.barren_states.proofs.Laid.{write_is}
 use Rattle.barren_states.proofs.slot.write_slot.Goals as goal
 
 pub returns : goal.returns

@@ -8,4 +8,4 @@ returns-in-Some-clause-barren g c = λ are none noted.
     let place = ap (λ (os : List ℕ). slice_index c.args.kept.now.entered (length os)) c.chosen.ensures.chosen in
     let told = c.in-Some.ensures in
     let note = noted (omega (arith, told.0, place)) in
-    barren_kept g.B.Branching.kind now.problem c.args.kept.now.states c.keep.new.self.states now.chosen c.in-Some.visits c.problem.ensures.lawful are c.keep.ensures.states none (omega (arith, told.1, note, place))
+    barren_kept now.problem c.args.kept.now.states c.keep.new.self.states now.chosen c.in-Some.visits c.problem.ensures.lawful are c.keep.ensures.states none (omega (arith, told.1, note, place))

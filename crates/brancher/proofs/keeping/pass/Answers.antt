@@ -14,15 +14,15 @@ note-requires g c =
 pub returns-then-count-left-clause-passed : goal.returns-then-count-left-clause-passed
 returns-then-count-left-clause-passed g c = λ root fuel are reached.
     let now = g.B.Branching.choices c.args.state.now in
-    let S : States → Type 0 = λ s. AreBarren g.B.Branching.kind (g.B.Branching.choices c.args.state.now).problem s in
-    let fact = known_barren g.B.Branching.kind now.problem c.note.new.self.states now.chosen c.in-Some.count (subst S (sym c.note.ensures.states) are) c.in-Some.ensures.known in
+    let S : States → Type 0 = λ s. AreBarren (g.B.Branching.choices c.args.state.now).problem s in
+    let fact = known_barren now.problem c.note.new.self.states now.chosen c.in-Some.count (subst S (sym c.note.ensures.states) are) c.in-Some.ensures.known in
     known_spent root fuel c.args.kept.now.entered now c.args.left c.in-Some.count fact.1 c.if-count-left.true reached
 
 pub returns-in-Some-clause-passed : goal.returns-in-Some-clause-passed
 returns-in-Some-clause-passed g c = λ root fuel are reached.
     let now = g.B.Branching.choices c.args.state.now in
-    let S : States → Type 0 = λ s. AreBarren g.B.Branching.kind (g.B.Branching.choices c.args.state.now).problem s in
-    let fact = known_barren g.B.Branching.kind now.problem c.note.new.self.states now.chosen c.in-Some.count (subst S (sym c.note.ensures.states) are) c.in-Some.ensures.known in
+    let S : States → Type 0 = λ s. AreBarren (g.B.Branching.choices c.args.state.now).problem s in
+    let fact = known_barren now.problem c.note.new.self.states now.chosen c.in-Some.count (subst S (sym c.note.ensures.states) are) c.in-Some.ensures.known in
     let notes : c.look.new.self.entered ≡ set c.args.kept.now.entered (length c.chosen.result.now) c.args.left = ap (λ (v : Keeping). v.entered) c.look.ensures.unchanged ∙ c.note.ensures.entered in
     known_past root fuel c.look.new.self.entered now c.args.left c.in-Some.count fact.0 fact.1 (omega (arith, c.if-count-left.false))
     (noted_here root fuel c.args.kept.now.entered c.look.new.self.entered now c.args.left (length c.chosen.result.now) notes (ap length c.chosen.ensures.chosen) reached)

@@ -16,8 +16,8 @@ use Rattle.brancher.proofs.keeping.step.Goals as goal
 pub returns-then-look-clause-step : goal.returns-then-look-clause-step
 returns-then-look-clause-step g c = λ root fuel same are reached.
     let now = g.B.Branching.choices c.args.state.now in
-    let A : Keeping → Type 0 = λ k. AreBarren g.B.Branching.kind root.problem k.states in (
-      subst A (sym c.is_due.ensures) are,
+    let A : Keeping → Type 0 = λ k. AreBarren root.problem k.states in (
+      subst A (sym c.is_watch_due.ensures) are,
       ended_here g.W.Watch.may_stop root fuel c.args.kept.now.entered now now c.args.left (Stopped c.args.left) (λ rest is. absurd (cc)) (λ rest is. c.look.ensures c.if-look.true)
           refl (omega (arith, some_visits now.problem now.problem.primary now.chosen)) reached,
     )
@@ -25,10 +25,10 @@ returns-then-look-clause-step g c = λ root fuel same are reached.
 pub returns-in_default-clause-step : goal.returns-in_default-clause-step
 returns-in_default-clause-step g c = λ root fuel same are reached.
     let now = g.B.Branching.choices c.args.state.now in
-    let A : Keeping → Type 0 = λ k. AreBarren g.B.Branching.kind root.problem k.states in
+    let A : Keeping → Type 0 = λ k. AreBarren root.problem k.states in
     let e : branch_item (g.B.Branching.choices c.args.state.now).problem (g.B.Branching.choices c.args.state.now).chosen ≡ None = sym c.branch_item.ensures.item ∙ c.in_default.is in
     let came = within_none now.problem now.problem.primary now.chosen e in (
-      subst A (sym c.is_due.ensures) are,
+      subst A (sym c.is_watch_due.ensures) are,
       ended_here g.W.Watch.may_stop root fuel c.args.kept.now.entered now now c.args.left Found (λ rest is. absurd (cc)) (λ rest is. absurd (cc))
           refl (omega (arith, came.visits, c.requires.left), came.found) reached,
     )
@@ -37,18 +37,18 @@ returns-in_default-clause-step g c = λ root fuel same are reached.
 
 pub returns-then-is_beyond-clause-step : goal.returns-then-is_beyond-clause-step
 returns-then-is_beyond-clause-step g c = λ root fuel same are reached.
-    let A : Keeping → Type 0 = λ k. AreBarren g.B.Branching.kind root.problem k.states in
+    let A : Keeping → Type 0 = λ k. AreBarren root.problem k.states in
     let R : Keeping → Type 0 = λ k. IsEntered root fuel k.entered (g.B.Branching.choices c.args.state.now) c.args.left in
-    c.step_plainly.ensures.step root fuel same (subst A (sym c.is_due.ensures) are) (subst R (sym c.is_due.ensures) reached)
+    c.step_plainly.ensures.step root fuel same (subst A (sym c.is_watch_due.ensures) are) (subst R (sym c.is_watch_due.ensures) reached)
 
 pub returns-in_default-pass-clause-step : goal.returns-in_default-pass-clause-step
 returns-in_default-pass-clause-step g c = λ root fuel same are reached.
     let now = g.B.Branching.choices c.args.state.now in
-    let kept : c.made.new.self ≡ c.args.kept.now = c.made.ensures ∙ c.is_due.ensures in
-    let A : Keeping → Type 0 = λ k. AreBarren g.B.Branching.kind root.problem k.states in
+    let kept : c.made.new.self ≡ c.args.kept.now = c.made.ensures ∙ c.is_watch_due.ensures in
+    let A : Keeping → Type 0 = λ k. AreBarren root.problem k.states in
     let R : Keeping → Type 0 = λ k. IsEntered root fuel k.entered (g.B.Branching.choices c.args.state.now) c.args.left in
-    let P : Problem → Type 0 = λ p. AreBarren g.B.Branching.kind p c.made.new.self.states in
-    let S : States → Type 0 = λ s. AreBarren g.B.Branching.kind root.problem s in
+    let P : Problem → Type 0 = λ p. AreBarren p c.made.new.self.states in
+    let S : States → Type 0 = λ s. AreBarren root.problem s in
     let problem = entered_problem root fuel c.args.kept.now.entered now c.args.left reached in
     let spent = c.in_default-pass.ensures.passed root fuel (subst P (sym problem) (subst A (sym kept) are)) (subst R (sym kept) reached) in (
       subst S (sym c.pass.ensures.states) (subst A (sym kept) are),
@@ -62,18 +62,18 @@ returns-in_default-pass-clause-step g c = λ root fuel same are reached.
 pub turn-requires-clause-room : goal.turn-requires-clause-room
 turn-requires-clause-room g c =
     let now = g.B.Branching.choices c.args.state.now in
-    let kept : c.made.new.self ≡ c.args.kept.now = c.made.ensures ∙ c.is_due.ensures in
+    let kept : c.made.new.self ≡ c.args.kept.now = c.made.ensures ∙ c.is_watch_due.ensures in
     let back = c.in-Some-pass.ensures.unchanged c.if-chosen.false in
     omega (arith, prefix_short now.problem now.chosen c.problem.ensures.lawful c.chosen-2.ensures.prefix, c.requires.room, c.pass.ensures.room, ap (λ (v : Choices). length v.chosen) back, ap (λ (v : Keeping). length v.entered) kept)
 
 pub returns-then-chosen-clause-step : goal.returns-then-chosen-clause-step
 returns-then-chosen-clause-step g c = λ root fuel same are reached.
     let now = g.B.Branching.choices c.args.state.now in
-    let kept : c.made.new.self ≡ c.args.kept.now = c.made.ensures ∙ c.is_due.ensures in
-    let A : Keeping → Type 0 = λ k. AreBarren g.B.Branching.kind root.problem k.states in
+    let kept : c.made.new.self ≡ c.args.kept.now = c.made.ensures ∙ c.is_watch_due.ensures in
+    let A : Keeping → Type 0 = λ k. AreBarren root.problem k.states in
     let R : Keeping → Type 0 = λ k. IsEntered root fuel k.entered (g.B.Branching.choices c.args.state.now) c.args.left in
-    let P : Problem → Type 0 = λ p. AreBarren g.B.Branching.kind p c.made.new.self.states in
-    let S : States → Type 0 = λ s. AreBarren g.B.Branching.kind root.problem s in
+    let P : Problem → Type 0 = λ p. AreBarren p c.made.new.self.states in
+    let S : States → Type 0 = λ s. AreBarren root.problem s in
     let B : Bool → Type 0 = λ b. IsPast root fuel c.pass.new.kept.entered (g.B.Branching.choices c.pass.new.state) c.in-Some-pass.rest b in
     let problem = entered_problem root fuel c.args.kept.now.entered now c.args.left reached in
     let passed = c.in-Some-pass.ensures.passed root fuel (subst P (sym problem) (subst A (sym kept) are)) (subst R (sym kept) reached) in
@@ -82,11 +82,11 @@ returns-then-chosen-clause-step g c = λ root fuel same are reached.
 pub returns-else-chosen-clause-step : goal.returns-else-chosen-clause-step
 returns-else-chosen-clause-step g c = λ root fuel same are reached.
     let now = g.B.Branching.choices c.args.state.now in
-    let kept : c.made.new.self ≡ c.args.kept.now = c.made.ensures ∙ c.is_due.ensures in
-    let A : Keeping → Type 0 = λ k. AreBarren g.B.Branching.kind root.problem k.states in
+    let kept : c.made.new.self ≡ c.args.kept.now = c.made.ensures ∙ c.is_watch_due.ensures in
+    let A : Keeping → Type 0 = λ k. AreBarren root.problem k.states in
     let R : Keeping → Type 0 = λ k. IsEntered root fuel k.entered (g.B.Branching.choices c.args.state.now) c.args.left in
-    let P : Problem → Type 0 = λ p. AreBarren g.B.Branching.kind p c.made.new.self.states in
-    let S : States → Type 0 = λ s. AreBarren g.B.Branching.kind root.problem s in
+    let P : Problem → Type 0 = λ p. AreBarren p c.made.new.self.states in
+    let S : States → Type 0 = λ s. AreBarren root.problem s in
     let B : Bool → Type 0 = λ b. IsPast root fuel c.pass.new.kept.entered (g.B.Branching.choices c.pass.new.state) c.in-Some-pass.rest b in
     let problem = entered_problem root fuel c.args.kept.now.entered now c.args.left reached in
     let passed = c.in-Some-pass.ensures.passed root fuel (subst P (sym problem) (subst A (sym kept) are)) (subst R (sym kept) reached) in

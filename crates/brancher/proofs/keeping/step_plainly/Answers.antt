@@ -19,7 +19,7 @@ returns-in-Barren-clause-step g c = λ root fuel same are reached.
     let back = c.visit_prefix.ensures.back c.in-Barren.rest c.in-Barren.is in
     let visit = c.in-Barren.ensures.visit in
     let R : Keeping → Type 0 = λ k. IsEntered root fuel k.entered (g.B.Branching.choices c.args.state.now) c.args.left in
-    let A : Keeping → Type 0 = λ k. AreBarren g.B.Branching.kind root.problem k.states in
+    let A : Keeping → Type 0 = λ k. AreBarren root.problem k.states in
     let here = barren_here root fuel c.made.new.self.entered now (g.B.Branching.choices c.visit_prefix.new.state) c.args.left c.in-Barren.rest back visit.0 visit.1 (subst R (sym c.made.ensures) reached) in
     c.turn.ensures.step root fuel c.args.left g.W.Watch.may_stop same here.0 (subst A (sym c.made.ensures) are) here.1
 
@@ -27,7 +27,7 @@ pub returns-in-Stopped-clause-step : goal.returns-in-Stopped-clause-step
 returns-in-Stopped-clause-step g c = λ root fuel same are reached.
     let now = g.B.Branching.choices c.args.state.now in
     let R : Keeping → Type 0 = λ k. IsEntered root fuel k.entered (g.B.Branching.choices c.args.state.now) c.args.left in
-    let S : States → Type 0 = λ s. AreBarren g.B.Branching.kind root.problem s in (
+    let S : States → Type 0 = λ s. AreBarren root.problem s in (
       subst S (sym (c.forget_from.ensures.states ∙ ap (λ (v : Keeping). v.states) c.made-in-Stopped.ensures)) are,
       (
         omega (arith, c.if-rest-pause.true, c.saturating_sub-pause.ensures, c.stretch.ensures, c.requires.left),

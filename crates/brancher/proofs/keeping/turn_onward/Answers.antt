@@ -34,8 +34,8 @@ loop-state-preserved g c =
           let next = changed_in root fuel c.args.left c.args.kept.now.entered (g.B.Branching.choices c.loop-state.state) (g.B.Branching.choices c.choose_next.new.self) c.choose_next.result (omega (arith, same, c.loop-state-test.true, ap length c.chosen.ensures.chosen)) before.1 c.choose_next.ensures in
           let noted = noted_in root fuel c.args.kept.now.entered c.args.left (g.B.Branching.choices c.choose_next.new.self) c.choose_next.result (sym c.is_some.ensures ∙ c.if-is_some.false) next in
           let problem = entered_problem root fuel c.args.kept.now.entered (g.B.Branching.choices c.choose_next.new.self) noted.barren.earlier noted.barren.reached in
-          let O : Problem → Type 0 = λ p. AreBarren g.B.Branching.kind p c.loop-state.kept.states in
-          let N : Problem → Type 0 = λ p. AreBarren g.B.Branching.kind p c.keep_barren.new.kept.states in
+          let O : Problem → Type 0 = λ p. AreBarren p c.loop-state.kept.states in
+          let N : Problem → Type 0 = λ p. AreBarren p c.keep_barren.new.kept.states in
           let E : List ℕ → Type 0 = λ ns. IsNoteOf ns (length (g.B.Branching.choices c.choose_next.new.self).chosen) (visits (g.B.Branching.choices c.choose_next.new.self).problem (g.B.Branching.choices c.choose_next.new.self).chosen + c.args.left) in
           (subst N problem (c.keep_barren.ensures.barren (subst O (sym problem) before.0) noted.barren.none (subst E (sym c.loop-state.invariant.entered) noted.noted)), noted.barren);
     }

@@ -14,7 +14,7 @@ use Rattle.decider.proofs.deciding.+decide.Goals as goal
 
 pub returns-then-look-clause-kept : goal.returns-then-look-clause-kept
 returns-then-look-clause-kept g t c =
-    let A : Keeping → Type 0 = λ k. HaveNoCover g.B.Branching.kind (g.B.Branching.choices c.args.state.now).problem k.states in
+    let A : Keeping → Type 0 = λ k. HaveNoCover (g.B.Branching.choices c.args.state.now).problem k.states in
     subst A (sym c.is_watch_due.ensures) c.requires
 
 pub returns-in_default-clause-decided : goal.returns-in_default-clause-decided
@@ -25,19 +25,19 @@ returns-in_default-clause-decided g t c =
 
 pub returns-in_default-clause-kept : goal.returns-in_default-clause-kept
 returns-in_default-clause-kept g t c =
-    let A : Keeping → Type 0 = λ k. HaveNoCover g.B.Branching.kind (g.B.Branching.choices c.args.state.now).problem k.states in
+    let A : Keeping → Type 0 = λ k. HaveNoCover (g.B.Branching.choices c.args.state.now).problem k.states in
     subst A (sym c.is_watch_due.ensures) c.requires
 
 pub returns-in-Some-known-clause-decided : goal.returns-in-Some-known-clause-decided
 returns-in-Some-known-clause-decided g t c =
     let now = g.B.Branching.choices c.args.state.now in
     let kept : c.made.new.self ≡ c.args.kept.now = c.made.ensures ∙ c.is_watch_due.ensures in
-    let A : Keeping → Type 0 = λ k. HaveNoCover g.B.Branching.kind (g.B.Branching.choices c.args.state.now).problem k.states in
-    (known_none g.B.Branching.kind now.problem c.made.new.self.states now.chosen c.in-Some-known.visits (subst A (sym kept) c.requires) c.in-Some-known.ensures.known, refl)
+    let A : Keeping → Type 0 = λ k. HaveNoCover (g.B.Branching.choices c.args.state.now).problem k.states in
+    (known_none now.problem c.made.new.self.states now.chosen c.in-Some-known.visits (subst A (sym kept) c.requires) c.in-Some-known.ensures.known, refl)
 
 pub returns-in-Some-known-clause-kept : goal.returns-in-Some-known-clause-kept
 returns-in-Some-known-clause-kept g t c =
-    let A : Keeping → Type 0 = λ k. HaveNoCover g.B.Branching.kind (g.B.Branching.choices c.args.state.now).problem k.states in
+    let A : Keeping → Type 0 = λ k. HaveNoCover (g.B.Branching.choices c.args.state.now).problem k.states in
     subst A (sym (c.known.ensures.unchanged ∙ c.made.ensures ∙ c.is_watch_due.ensures)) c.requires
 
 -- ---- the children
@@ -45,7 +45,7 @@ returns-in-Some-known-clause-kept g t c =
 pub loop-state-init : goal.loop-state-init
 loop-state-init g t c =
     let now = g.B.Branching.choices c.args.state.now in
-    let A : Keeping → Type 0 = λ k. HaveNoCover g.B.Branching.kind (g.B.Branching.choices c.args.state.now).problem k.states in
+    let A : Keeping → Type 0 = λ k. HaveNoCover (g.B.Branching.choices c.args.state.now).problem k.states in
     record {
       kept = subst A (sym (c.known.ensures.unchanged ∙ c.made.ensures ∙ c.is_watch_due.ensures)) c.requires;
       trying = tried_first now (g.B.Branching.choices c.choose_first-next.new.self) c.in-Some.item c.choose_first-next.result (sym c.in-Some.ensures.item) c.choose_first-next.ensures.first c.choose_first-next.ensures.child c.choose_first-next.ensures.chosen;
@@ -56,13 +56,13 @@ pub decide-requires : goal.decide-requires
 decide-requires g t c κs within =
     let before = g.B.Branching.choices c.args.state.now in
     let child = tried_child before (g.B.Branching.choices c.loop-state.state) c.in-Some.item c.loop-state.next (sym c.is_some.ensures ∙ c.loop-state-test.true) c.loop-state.invariant.trying in
-    let P : Problem → Type 0 = λ p. HaveNoCover g.B.Branching.kind p c.loop-state.kept.states in
+    let P : Problem → Type 0 = λ p. HaveNoCover p c.loop-state.kept.states in
     (omega (arith, c.decreases, ap (λ (p : Problem). p.primary) child.0, child.1, c.loop-state.invariant.short), (within.0, (within.1, subst P (sym child.0) c.loop-state.invariant.kept)))
 
 pub returns-in_default-decide : goal.returns-in_default-decide
 returns-in_default-decide g t c =
     let child = tried_child (g.B.Branching.choices c.args.state.now) (g.B.Branching.choices c.loop-state.state) c.in-Some.item c.loop-state.next (sym c.is_some.ensures ∙ c.loop-state-test.true) c.loop-state.invariant.trying in
-    let P : Problem → Type 0 = λ p. HaveNoCover g.B.Branching.kind p c.decide.new.kept.states in
+    let P : Problem → Type 0 = λ p. HaveNoCover p c.decide.new.kept.states in
     record {
       problem = c.decide.ensures.problem ∙ child.0;
       decided = tried_end g.W.Watch.may_stop (g.B.Branching.choices c.args.state.now) (g.B.Branching.choices c.loop-state.state) (g.B.Branching.choices c.decide.new.state) c.in-Some.item c.loop-state.next c.decide.result c.decide.result refl c.in_default-decide.not-Barren
@@ -81,7 +81,7 @@ loop-state-preserved g t c =
     let before = g.B.Branching.choices c.args.state.now in
     let T : Choices → Type 0 = λ v. IsTrying (g.B.Branching.choices c.args.state.now) c.in-Some.item v c.loop-state.next in
     let child = tried_child (g.B.Branching.choices c.args.state.now) (g.B.Branching.choices c.loop-state.state) c.in-Some.item c.loop-state.next (sym c.is_some.ensures ∙ c.loop-state-test.true) c.loop-state.invariant.trying in
-    let P : Problem → Type 0 = λ p. HaveNoCover g.B.Branching.kind p c.decide.new.kept.states in
+    let P : Problem → Type 0 = λ p. HaveNoCover p c.decide.new.kept.states in
     record {
       kept = subst P child.0 c.decide.ensures.kept;
       trying = tried_other before (g.B.Branching.choices c.decide.new.state) (g.B.Branching.choices c.choose_next-next.new.self) c.in-Some.item c.loop-state.next c.choose_next-next.result (sym c.is_some.ensures ∙ c.loop-state-test.true) (subst T (sym c.in-Barren.ensures.decided.1) c.loop-state.invariant.trying)
@@ -94,5 +94,5 @@ returns-then-looks-clause-kept g t c =
     let before = g.B.Branching.choices c.args.state.now in
     let now = g.B.Branching.choices c.loop-state.state in
     let all = tried_all before now c.in-Some.item c.loop-state.next (sym c.is_some.ensures ∙ c.loop-state-test.false) c.loop-state.invariant.trying in
-    let K : Choices → Type 0 = λ v. IsKeptOf g.B.Branching.kind v.problem v.chosen c.loop-state.visits c.loop-state.kept.states c.keep.new.self.states in
-    no_cover_kept g.B.Branching.kind before.problem c.loop-state.kept.states c.keep.new.self.states before.chosen c.loop-state.visits c.problem.ensures.lawful c.loop-state.invariant.kept (subst K all.0 c.keep.ensures.states) all.1
+    let K : Choices → Type 0 = λ v. IsKeptOf v.problem v.chosen c.loop-state.visits c.loop-state.kept.states c.keep.new.self.states in
+    no_cover_kept before.problem c.loop-state.kept.states c.keep.new.self.states before.chosen c.loop-state.visits c.problem.ensures.lawful c.loop-state.invariant.kept (subst K all.0 c.keep.ensures.states) all.1

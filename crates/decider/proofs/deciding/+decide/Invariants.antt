@@ -9,7 +9,7 @@ decreases-decide g l = (g.B.Branching.choices l.state.now).problem.primary + 1 -
 
 abbrev pub invariant-loop-state : goal.invariant-loop-state
 invariant-loop-state g l = record {
-  kept : HaveNoCover g.B.Branching.kind (g.B.Branching.choices l.fn.state).problem l.kept.states;
+  kept : HaveNoCover (g.B.Branching.choices l.fn.state).problem l.kept.states;
   trying : IsTrying (g.B.Branching.choices l.fn.state) l.item (g.B.Branching.choices l.state) l.next;
   short : length (g.B.Branching.choices l.fn.state).chosen ≤ (g.B.Branching.choices l.fn.state).problem.primary;
 }

@@ -1,6 +1,6 @@
 use Rattle.std.proofs.Common.{ℕ, Bool, ◌∙◌, ◌+◌, ◌*◌, sym, arith, subst}
 use Rattle.cover_problem.specs.Prefix.{is_covered}
-use Rattle.dancing_links.proofs.Bits.{AreBits, bit_left, bit_set}
+use Rattle.choices.proofs.Bits.{AreBits, bit_left, bit_set}
 use Rattle.dancing_links.proofs.links.Links.uncovered_word.Goals as goal
 use Rattle.dancing_links.proofs.links.Links.uncovered_word.Goals.{then-not-is_covered, else-not-is_covered}
 

@@ -13,4 +13,5 @@ returns-clause-counts c i inside =
     let sixteens = digit_turned p.sixteens i (search rules) inside in
     let thirty_twos = digit_turned p.thirty_twos i (search rules) inside in
     let sixty_fours = digit_turned p.sixty_fours i (search rules) inside in
-    omega (arith, ones, twos, fours, eights, sixteens, thirty_twos, sixty_fours)
+    let one_twenty_eights = digit_turned p.one_twenty_eights i (search rules) inside in
+    omega (arith, ones, twos, fours, eights, sixteens, thirty_twos, sixty_fours, one_twenty_eights)

@@ -1,5 +1,5 @@
 -- Slots one behind the other.
-use Rattle.std.proofs.Common.{◌≡◌, ℕ, ◌+◌, ◌-◌, ◌*◌, ◌<◌, ◌≤◌, List, [], ◌∷◌, ◌++◌, length, take, drop, set, get_or, arith, sym, ap, ◌∙◌, inl, inr, add-one, suc-mul, mul-le-mul_right, length-append, length-take-le, length-drop}
+use Rattle.std.proofs.Common.{◌≡◌, ℕ, ◌+◌, ◌-◌, ◌*◌, ◌<◌, ◌≤◌, List, [], ◌∷◌, ◌++◌, length, take, drop, set, get_or, arith, sym, ap, ◌∙◌, inl, inr, add-one, subst, suc-mul, mul-le-mul_right, length-append, length-take-le, length-drop}
 use Rattle.std.proofs.Math.Seq.{take-append_seam, drop-append_seam, drop-append-add, get_or-append_seam}
 use Rattle.std.proofs.Math.Nat.{min-le_left}
 use Rattle.std.proofs.lemmas.Bool.{cases_lt, cases_eq}
@@ -100,13 +100,13 @@ same_last xs ys x y e =
       sym (get_or-append_seam xs x [] 0) ∙ ap (λ (zs : List ℕ). get_or zs (length xs) 0) e ∙ ap (λ n. get_or (ys ++ y ∷ []) n 0) long ∙ get_or-append_seam ys y [] 0,
     )
 
-abbrev pub with_words : ℕ → ℕ → List ℕ → States
-with_words width slots words = record { width = width; slots = slots; words = words }
+abbrev pub with_words : ℕ → ℕ → ℕ → List ℕ → States
+with_words width slots most words = record { width = width; slots = slots; most = most; words = words }
 
 -- what is held once a key and its visits are written into a slot
-pub kept_is : (width slots : ℕ) (old new key : List ℕ) (visits slot : ℕ) → slot < slots → length old ≡ slots * (width + 1) → length key ≡ width
-    → new ≡ take (slot * (width + 1)) old ++ ((key ++ visits ∷ []) ++ drop (slot * (width + 1) + length key + 1) old) → IsKept (with_words width slots old) key visits (with_words width slots new)
-kept_is width slots old new key visits slot less whole long is = record {
+pub kept_is : (width slots most : ℕ) (old new key : List ℕ) (visits slot : ℕ) → slot < slots → length old ≡ slots * (width + 1) → length key ≡ width
+    → new ≡ take (slot * (width + 1)) old ++ ((key ++ visits ∷ []) ++ drop (slot * (width + 1) + length key + 1) old) → IsKept (with_words width slots most old) key visits (with_words width slots most new)
+kept_is width slots most old new key visits slot less whole long is = record {
   held = λ other count holds.
       let room = slot_inside (width + 1) slot slots less in
       let end : slot * (width + 1) + length key + 1 ≡ slot * (width + 1) + (width + 1) = omega (arith, long) in
@@ -129,9 +129,9 @@ kept_is width slots old new key visits slot less whole long is = record {
 }
 
 -- a slot whose key and visits are read
-pub read_is : (width slots : ℕ) (words key : List ℕ) (visits slot : ℕ) → slot < slots → length words ≡ slots * (width + 1) → take width (drop (slot * (width + 1)) words) ≡ key
-    → get_or words (slot * (width + 1) + width) 0 ≡ visits → 1 ≤ visits → Holds (with_words width slots words) key visits
-read_is width slots words key visits slot less whole is there some = record {
+pub read_is : (width slots most : ℕ) (words key : List ℕ) (visits slot : ℕ) → slot < slots → length words ≡ slots * (width + 1) → take width (drop (slot * (width + 1)) words) ≡ key
+    → get_or words (slot * (width + 1) + width) 0 ≡ visits → 1 ≤ visits → Holds (with_words width slots most words) key visits
+read_is width slots most words key visits slot less whole is there some = record {
   slot = slot;
   inside = less;
   here =
@@ -161,9 +161,9 @@ front_slot w e xs ys low =
     ap (take w) (drop-append-le (e * w) xs ys (omega (arith, low))) ∙ take-append-le w (drop (e * w) xs) ys (omega (arith, low, length-drop (e * w) xs))
 
 -- nothing is held then but what was
-pub grown_holds : (width slots more : ℕ) (old new zeros : List ℕ) → length old ≡ slots * (width + 1) → new ≡ old ++ zeros
-    → ((k : ℕ) → length old ≤ k → get_or new k 0 ≡ 0) → HoldsNoMore (with_words width slots old) (with_words width more new)
-grown_holds width slots more old new zeros whole is none = λ key visits holds. elim (cases_lt holds.slot slots) [
+pub grown_holds : (width slots more most : ℕ) (old new zeros : List ℕ) → length old ≡ slots * (width + 1) → new ≡ old ++ zeros
+    → ((k : ℕ) → length old ≤ k → get_or new k 0 ≡ 0) → HoldsNoMore (with_words width slots most old) (with_words width more most new)
+grown_holds width slots more most old new zeros whole is none = λ key visits holds. elim (cases_lt holds.slot slots) [
   | inl less ↦
       let room = slot_inside (width + 1) holds.slot slots less in
       record {
@@ -178,4 +178,25 @@ grown_holds width slots more old new zeros whole is none = λ key visits holds. 
       let value = last_of (width + 1) (holds.slot * (width + 1)) new key visits holds.here in
       let some = holds.some in
       absurd (omega (arith, zero, value, some))
+]
+
+-- ---- a key that is moved
+
+-- once no visits are written beside a key, nothing is held but what was
+pub cleared : (old new : States) (key : List ℕ) → IsKept old key 0 new → HoldsNoMore old new
+cleared old new key kept = λ other count holds. elim (kept.held other count holds) [
+  | inl before ↦ before
+  | inr is ↦
+      let some = holds.some in
+      absurd (omega (arith, is.1, some))
+]
+
+-- nor if a key that was held is written once more
+pub moved : (old mid new : States) (key : List ℕ) (visits : ℕ) → Holds old key visits → HoldsNoMore old mid → IsKept mid key visits new → HoldsNoMore old new
+moved old mid new key visits was less kept = λ other count holds. elim (kept.held other count holds) [
+  | inl before ↦ less other count before
+  | inr is ↦
+      let K : List ℕ → Type 0 = λ k. Holds old k count in
+      let C : ℕ → Type 0 = λ n. Holds old key n in
+      subst K (sym is.0) (subst C (sym is.1) was)
 ]

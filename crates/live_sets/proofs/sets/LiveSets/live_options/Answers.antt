@@ -5,7 +5,7 @@ use Rattle.live_sets.specs.Rows.{IsUntried}
 use Rattle.live_sets.proofs.Choosing.{live_here}
 use Rattle.live_sets.proofs.Keyed.{key_of_live}
 use Rattle.live_sets.proofs.Taking.{next_child, row_untried}
-use Rattle.live_sets.proofs.sets.LiveSets.key.Goals as goal
+use Rattle.live_sets.proofs.sets.LiveSets.live_options.Goals as goal
 
 pub returns : goal.returns
 returns c =
