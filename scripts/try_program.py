@@ -31,6 +31,7 @@ PROGRAM = SOLVE_CLI
 # a word of a command line
 Word = Union[str, bytes]
 LINE = re.compile(r"\d+ s: \d+ visits, +\d+\.\d{4} % of the tree, \d+ jobs? out, fullest book \d+ %(?:, some \d+ (?:s|min|h|days) left)?")
+LEARNED = re.compile(r"\d+ s: \d+ conflicts, \d+ clauses, \d+ restarts")
 SPENT = b"ended: the fuel is spent: try more --fuel, or --unlimited\n"
 # the header of a packet: magic, version, kind, the sender's node and incarnation, and the receiver's
 HEADER = struct.Struct(">2sBBBIBI")
@@ -116,7 +117,7 @@ def bad_input(folder: str) -> None:
     letters = os.path.join(TOP, "examples", "letters.dlx")
     cover = b"cover 3\nc e\na d f\nb g\n"
     missing = os.path.join(folder, "none")
-    for words in (("alone",), ("alone", "--seconds", "9"), ("why",), ("simulate",), ("solve",)):
+    for words in (("alone",), ("alone", "--seconds", "9"), ("why",), ("learn",), ("simulate",), ("solve",)):
         expect(f"a missing file, {words}", run(*words, missing) == (b"", unread(missing, "no such file"), 3))
         expect(f"a folder, {words}", run(*words, folder) == (b"", unread(folder, "is a directory"), 3))
         expect(f"a read that fails, {words}", run(*words, "/proc/self/mem") == (b"", unread("/proc/self/mem", "a read failed"), 3))
@@ -128,7 +129,7 @@ def bad_input(folder: str) -> None:
     expect("an empty file", run("alone", file("empty", b"")) == (b"", b"refused: NoItems\n", 3))
     unknown = (b"", b"refused: UnknownItem line 3\nno item is named c\n", 3)
     stray = b"a b\na\nb c:red\n"
-    expect("a name that no item has", [run(mode, file("stray", stray)) for mode in ("alone", "solve", "simulate", "why")] == 4 * [unknown])
+    expect("a name that no item has", [run(mode, file("stray", stray)) for mode in ("alone", "solve", "simulate", "why", "learn")] == 5 * [unknown])
     expect("the same to check", run("check", file("stray", stray), file("nothing", b"none\n")) == unknown)
     expect("the same in standard input", run("alone", "-", stdin=stray) == unknown)
     expect("binary bytes", run("alone", file("binary", bytes(range(256)))) == (b"", b"refused: IllegalByte line 1\n", 3))
@@ -169,6 +170,7 @@ def progress() -> None:
     cover = b"cover 3\nc e\na d f\nb g\n"
     expect("alone with progress", run("alone", letters, "--progress") == (cover, b"", 0))
     expect("solve with progress", run("solve", letters, "--progress") == (cover, b"", 0))
+    expect("learn with progress", run("learn", letters, "--progress") == (cover, b"", 0))
     for more in ((), ("--progress",)):
         turns = run("solve", letters, "--turns", "0", *more)
         expect(f"no turns {more}", turns == (b"no answer\n", b"ended: the turns of a site are over: try more --turns\n", 4))
@@ -202,6 +204,24 @@ def timed(folder: str) -> None:
         began = time.monotonic()
         expect(f"a second of {words}", run(*words, "--seconds", "1") == (b"no answer\n", late, 4))
         expect(f"the seconds of {words}", 1 <= time.monotonic() - began < 15)
+
+
+def learning(folder: str) -> None:
+    """The answers of `learn` to the examples, its lines of progress, and when it ends."""
+    for name in sorted(os.listdir(os.path.join(TOP, "examples"))):
+        if name.endswith(".dlx"):
+            file = os.path.join(TOP, "examples", name)
+            out, errors, status = run("learn", file)
+            expect(f"learn {name} status", status == (1 if name in NONE else 0) and errors == (b"ignored 1\n" if name == "ignored.dlx" else b""))
+            expect(f"learn {name} answer", out == b"none\n" if name in NONE else is_exact(file, out))
+    path = search_of_years(folder)
+    for seed in "1", "18446744073709551615":
+        began = time.monotonic()
+        out, errors, status = run("learn", path, "--seconds", "2", "--seed", seed, "--progress")
+        lines = errors.decode().splitlines()
+        expect(f"two seconds of learn: {status}", (out, status) == (b"no answer\n", 4) and 2 <= time.monotonic() - began < 15)
+        expect("why learn ends", lines[-1:] == ["ended: the time is over: try more --seconds, or solve"])
+        expect("a line of learn each second", lines[:-1] and all(map(LEARNED.fullmatch, lines[:-1])))
 
 
 def sites_of(*words: str) -> tuple[int, int]:
@@ -444,6 +464,7 @@ def main() -> int:
         bad_input(folder)
         many_visits(folder)
         timed(folder)
+        learning(folder)
         installing(os.path.join(folder, "dest"))
         installing_again(os.path.join(folder, "dest"))
         options_of_solve(folder)

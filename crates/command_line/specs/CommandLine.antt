@@ -56,6 +56,10 @@ check_app =
 abbrev pub why_app : App
 why_app = with_rule (versioned (new_app (codes "why"))) (file_rule (codes "file"))
 
+-- in which file any cover is looked for, with which seed, whether it writes how far it has come, and when it ends
+abbrev pub learn_app : App
+learn_app = timed (with_rule (with_rule (with_rule (versioned (new_app (codes "learn"))) (file_rule (codes "file"))) (number_rule (codes "seed") (codes "1"))) (flag_rule (codes "progress")))
+
 -- what sites search, how many nodes there are, and the seed of what is drawn
 abbrev pub sites_app : Text → App
 sites_app name =
@@ -85,7 +89,7 @@ one_thread_app = with_subcommand (with_subcommand (wanting_subcommand (versioned
 
 -- all that one thread does
 abbrev pub reasoning_app : App
-reasoning_app = with_subcommand one_thread_app why_app.top
+reasoning_app = with_subcommand (with_subcommand one_thread_app why_app.top) learn_app.top
 
 -- with what sites do
 abbrev pub solver_app : App
@@ -96,6 +100,7 @@ abbrev pub mode_word : Mode → Text
 mode_word modes.Alone = codes "alone"
 mode_word modes.Check = codes "check"
 mode_word modes.Why = codes "why"
+mode_word modes.Learn = codes "learn"
 mode_word modes.Simulate = codes "simulate"
 mode_word modes.Solve = codes "solve"
 

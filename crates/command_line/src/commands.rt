@@ -3,7 +3,7 @@
 ghost use Rattle.std.specs.Prelude.{◌≡◌, false, IfOk, codes};
 ghost use Rattle.clap.specs.Words.{app_of, new_app, rule_of, with_rule};
 ghost use Rattle.clap.specs.declared.builder.command.Command.TheViews.{out-Command};
-ghost use Rattle.command_line.specs.CommandLine.{alone_app, check_app, file_rule, flag_rule, greatest_fuel_rule, limit_rule, number_rule, one_thread_app, reasoning_app, simulate_app, sites_app, solve_app, solver_app, threads_app, versioned, why_app};
+ghost use Rattle.command_line.specs.CommandLine.{alone_app, check_app, file_rule, flag_rule, greatest_fuel_rule, learn_app, limit_rule, number_rule, one_thread_app, reasoning_app, simulate_app, sites_app, solve_app, solver_app, threads_app, versioned, why_app};
 
 use crate::ranges::{
     ENTRIES_HELP, FUEL_HELP, GREATEST_FUEL, JOB_FUEL_HELP, NODE_RESTARTS_HELP, NODES_HELP,
@@ -176,6 +176,21 @@ fn why_command<'a>(alloc: Global) -> Result<Command<'a>, AllocError>
         .arg(file_argument(alloc))
 }
 
+fn learn_command<'a>(alloc: Global) -> Result<Command<'a>, AllocError>
+    ensures app { IfOk result (λ command. app_of command ≡ learn_app) }
+    ensures local { IfOk result (λ command. (out-Command command).has_globals ≡ false) }
+{
+    let about =
+        "Looks for any exact cover on one thread, learning from dead ends, and writes it, or none";
+    let command = described(alloc, "learn", about).after_help(SEARCH_STATUSES);
+    let command = with_two(
+        command,
+        file_argument(alloc),
+        number_argument(alloc, "seed", "1", SEED_HELP),
+    )?;
+    with_two(command, progress_argument(alloc), time_argument(alloc))
+}
+
 /// What sites search, how many nodes there are, and the seed of what is drawn.
 fn sites_command<'a>(
     alloc: Global,
@@ -262,7 +277,10 @@ fn reasoning_command<'a>(alloc: Global) -> Result<Command<'a>, AllocError>
     ensures { IfOk result (λ command. app_of command ≡ reasoning_app) }
 {
     let why = why_command(alloc)?;
-    one_thread_command(alloc)?.subcommand(why)
+    let learn = learn_command(alloc)?;
+    one_thread_command(alloc)?
+        .subcommand(why)?
+        .subcommand(learn)
 }
 
 /// All subcommands of the program. The only error is out of memory.
@@ -282,6 +300,7 @@ fn command_of<'a>(alloc: Global, mode: Mode) -> Result<Command<'a>, AllocError> 
         Mode::Alone => alone_command(alloc),
         Mode::Check => check_command(alloc),
         Mode::Why => why_command(alloc),
+        Mode::Learn => learn_command(alloc),
         Mode::Simulate => simulate_command(alloc),
         Mode::Solve => solve_command(alloc),
     }
@@ -293,6 +312,7 @@ fn name_of(mode: Mode) -> &'static str {
         Mode::Alone => "alone",
         Mode::Check => "check",
         Mode::Why => "why",
+        Mode::Learn => "learn",
         Mode::Simulate => "simulate",
         Mode::Solve => "solve",
     }

@@ -39,6 +39,9 @@ fn mode_of(name: &str) -> Option<Mode>
     if name == "why" {
         return Some(Mode::Why);
     }
+    if name == "learn" {
+        return Some(Mode::Learn);
+    }
     if name == "simulate" {
         return Some(Mode::Simulate);
     }
@@ -59,7 +62,7 @@ fn answer_file<'a>(mode: Mode, inner: &ArgMatches<'a>) -> Option<Option<&'a str>
 {
     match mode {
         Mode::Check => Some(Some(inner.get_str("answer")?)),
-        Mode::Alone | Mode::Why | Mode::Simulate | Mode::Solve => Some(None),
+        Mode::Alone | Mode::Why | Mode::Learn | Mode::Simulate | Mode::Solve => Some(None),
     }
 }
 

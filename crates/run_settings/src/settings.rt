@@ -15,6 +15,8 @@ pub enum Mode {
     Check,
     /// Look for a reason why a problem has no exact cover.
     Why,
+    /// Find any exact cover of a problem by learning from dead ends.
+    Learn,
     /// Let a world of sites search a problem, by chance.
     Simulate,
     /// Let sites with threads of their own search a problem.

@@ -14,6 +14,8 @@ pub enum Unanswered {
     GreatestFuel,
     /// It has lasted as long as its limit allows.
     Time,
+    /// What it learned has no more room.
+    Room,
     /// A simulated world has published nothing: its last job has visited as many prefixes as the greatest limit allows.
     Unpublished,
 }
@@ -34,6 +36,8 @@ impl Display for Unanswered {
         f.write_str(match self {
             Unanswered::Fuel => "the fuel is spent: try more --fuel, or --unlimited",
             Unanswered::GreatestFuel => "the greatest fuel is spent: try --unlimited",
+            Unanswered::Room =>
+                "the room for what is learned is full: try another --seed, or alone",
             Unanswered::Time => "the time is over: try more --seconds, or solve",
             Unanswered::Unpublished => "nothing was published: try alone --unlimited",
         })

@@ -15,6 +15,8 @@ use cover_engines::{
 };
 use dlx_reader::{CountedReader, CountedWriter, Sink, Source};
 use either::Either;
+use learn_engine::LearnWatch;
+pub use learn_engine::{LearnEnd, learn_engine};
 pub use reason_engine::{WhyEnd, why_engine};
 pub use run_settings::{Mode, Settings};
 use run_settings::{Request, STANDARD_INPUT};
@@ -187,6 +189,49 @@ fn run_why(rt: &HostRuntime, settings: &Settings<'_>) -> u8 {
     status
 }
 
+/// Runs `learn` on a file, and returns the exit status.
+fn run_learn(rt: &HostRuntime, request: &Request<'_>) -> u8 {
+    let mut errors = CountedWriter::new(rt.stderr());
+    // (the time counts from here, so opening and reading the file is part of it)
+    let limits = limits_of(rt, request);
+    let mut source = match open(rt, request.settings.file) {
+        Ok(source) => source,
+        Err(error) => return tell_unopened(request.settings.file, error.kind(), &mut errors),
+    };
+    let ended = learn(rt, request, &limits, &mut source, &mut errors);
+    let status = tell_end_of(&ended, request.settings.file, &mut errors);
+    source.tell_unknown(status, &mut errors);
+    // (without a limit of time it ends without an answer only where its clauses have no room)
+    let why = if limits.is_late(rt) {
+        Unanswered::Time
+    } else {
+        Unanswered::Room
+    };
+    tell_unanswered(&ended, why, &mut errors);
+    status
+}
+
+/// Learns from the problem in a source, and writes the answer; progress, if it is asked for, goes to the other sink.
+fn learn<W: Sink>(
+    rt: &HostRuntime,
+    request: &Request<'_>,
+    limits: &SearchLimits,
+    source: &mut Input,
+    errors: &mut W,
+) -> Result<LearnEnd, EngineFault>
+    requires { source.old.inner.failures ≡ 0 }
+{
+    let mut sink = CountedWriter::new(rt.stdout());
+    let mut watch = LearnWatch::new(rt, limits.time, errors, line_style(rt, request.progress));
+    let settings = learner::Settings {
+        seed: request.settings.seed,
+        ..learner::Settings::new()
+    };
+    let ended = learn_engine(rt.alloc(), settings, source, &mut sink, &mut watch);
+    watch.end();
+    ended
+}
+
 /// Runs `simulate` on a file, and returns the exit status.
 fn run_simulate(rt: &HostRuntime, settings: &Settings<'_>) -> u8 {
     let mut errors = CountedWriter::new(rt.stderr());
@@ -240,6 +285,7 @@ fn run_request<R: Threads + Wait + Clock + Net + Sync>(
         Mode::Alone => run_alone(rt, request),
         Mode::Check => run_check(rt, request),
         Mode::Why => run_why(rt, settings),
+        Mode::Learn => run_learn(rt, request),
         Mode::Simulate => run_simulate(rt, settings),
         Mode::Solve => run_solve(rt, threads, request),
     }

@@ -139,6 +139,24 @@ fn reads_words_of_why(rt: HostRuntime) {
     assert!(rt; status_of(rt.alloc(), &["solve_cli", "why"]) == 2);
 }
 
+#[test]
+fn reads_words_of_learn(rt: HostRuntime) {
+    let words = ["solve_cli", "learn", "a.dlx", "--seed", "7"].as_slice();
+    let asked = (Mode::Learn, "a.dlx", None);
+    assert!(rt;
+        is_read(
+            &rt,
+            rt.alloc(),
+            words,
+            asked,
+            (u64::MAX, 4, 7),
+            (2, 10000, 0)
+        )
+    );
+    assert!(rt; status_of(rt.alloc(), &["solve_cli", "learn", "a.dlx", "--fuel", "7"]) == 2);
+    assert!(rt; status_of(rt.alloc(), &["solve_cli", "learn"]) == 2);
+}
+
 /// Words that ask for an audit, or don't.
 static AUDITS: [(&[&str], bool); 5] = [
     (&["solve_cli", "solve", "a.dlx", "--audit"], true),

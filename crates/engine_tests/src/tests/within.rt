@@ -170,7 +170,7 @@ fn progress_goes_on_until_the_time_is_over(rt: HostRuntime) {
 }
 
 /// Statuses and reasons, each with the line that is written.
-static UNANSWERED: [(u8, Unanswered, &str); 6] = [
+static UNANSWERED: [(u8, Unanswered, &str); 7] = [
     (0, Unanswered::Fuel, ""),
     (1, Unanswered::Time, ""),
     (
@@ -187,6 +187,11 @@ static UNANSWERED: [(u8, Unanswered, &str); 6] = [
         4,
         Unanswered::Time,
         "ended: the time is over: try more --seconds, or solve\n",
+    ),
+    (
+        4,
+        Unanswered::Room,
+        "ended: the room for what is learned is full: try another --seed, or alone\n",
     ),
     (
         4,

@@ -4,7 +4,7 @@ use crate::run_words;
 use std::fs;
 
 /// Each with its status; the files are those that are written below.
-static WORDS: [(&[&str], u8); 33] = [
+static WORDS: [(&[&str], u8); 37] = [
     (&["solve_cli"], 2),
     (&["solve_cli", "--help"], 0),
     (&["solve_cli", "check", "--help"], 0),
@@ -80,6 +80,21 @@ static WORDS: [(&[&str], u8); 33] = [
     (&["solve_cli", "why", "no/such/file"], 3),
     (&["solve_cli", "why", "p.dlx"], 4),
     (&["solve_cli", "why", "q.dlx"], 1),
+    (&["solve_cli", "learn", "no/such/file"], 3),
+    (&["solve_cli", "learn", "p.dlx"], 0),
+    (&["solve_cli", "learn", "q.dlx", "--progress"], 1),
+    (
+        &[
+            "solve_cli",
+            "learn",
+            "p.dlx",
+            "--seconds",
+            "9",
+            "--seed",
+            "7",
+        ],
+        0,
+    ),
     (&["solve_cli", "simulate", "p.dlx"], 0),
     (&["solve_cli", "simulate", "p.dlx", "--fuel", "1"], 0),
     (&["solve_cli", "solve", "p.dlx", "--turns", "0"], 4),
