@@ -12,6 +12,7 @@ from __future__ import annotations
 
 import doctest
 import glob
+import itertools
 import os
 import pty
 import random
@@ -117,7 +118,7 @@ def bad_input(folder: str) -> None:
     letters = os.path.join(TOP, "examples", "letters.dlx")
     cover = b"cover 3\nc e\na d f\nb g\n"
     missing = os.path.join(folder, "none")
-    for words in (("alone",), ("alone", "--seconds", "9"), ("why",), ("learn",), ("simulate",), ("solve",)):
+    for words in (("answer",), ("alone",), ("alone", "--seconds", "9"), ("why",), ("learn",), ("simulate",), ("solve",)):
         expect(f"a missing file, {words}", run(*words, missing) == (b"", unread(missing, "no such file"), 3))
         expect(f"a folder, {words}", run(*words, folder) == (b"", unread(folder, "is a directory"), 3))
         expect(f"a read that fails, {words}", run(*words, "/proc/self/mem") == (b"", unread("/proc/self/mem", "a read failed"), 3))
@@ -129,7 +130,7 @@ def bad_input(folder: str) -> None:
     expect("an empty file", run("alone", file("empty", b"")) == (b"", b"refused: NoItems\n", 3))
     unknown = (b"", b"refused: UnknownItem line 3\nno item is named c\n", 3)
     stray = b"a b\na\nb c:red\n"
-    expect("a name that no item has", [run(mode, file("stray", stray)) for mode in ("alone", "solve", "simulate", "why", "learn")] == 5 * [unknown])
+    expect("a name that no item has", [run(mode, file("stray", stray)) for mode in ("answer", "alone", "solve", "simulate", "why", "learn")] == 6 * [unknown])
     expect("the same to check", run("check", file("stray", stray), file("nothing", b"none\n")) == unknown)
     expect("the same in standard input", run("alone", "-", stdin=stray) == unknown)
     expect("binary bytes", run("alone", file("binary", bytes(range(256)))) == (b"", b"refused: IllegalByte line 1\n", 3))
@@ -200,20 +201,20 @@ def timed(folder: str) -> None:
     with open(none, "w", encoding="ascii") as file:
         file.write("none\n")
     late = b"ended: the time is over: try more --seconds, or solve\n"
-    for words in (("alone", path), ("alone", path, "--unlimited"), ("check", path, none), ("check", path, none, "--unlimited")):
+    for words in (("answer", path), ("alone", path), ("alone", path, "--unlimited"), ("check", path, none), ("check", path, none, "--unlimited")):
         began = time.monotonic()
         expect(f"a second of {words}", run(*words, "--seconds", "1") == (b"no answer\n", late, 4))
         expect(f"the seconds of {words}", 1 <= time.monotonic() - began < 15)
 
 
 def learning(folder: str) -> None:
-    """The answers of `learn` to the examples, its lines of progress, and when it ends."""
-    for name in sorted(os.listdir(os.path.join(TOP, "examples"))):
-        if name.endswith(".dlx"):
-            file = os.path.join(TOP, "examples", name)
-            out, errors, status = run("learn", file)
-            expect(f"learn {name} status", status == (1 if name in NONE else 0) and errors == (b"ignored 1\n" if name == "ignored.dlx" else b""))
-            expect(f"learn {name} answer", out == b"none\n" if name in NONE else is_exact(file, out))
+    """The answers of `answer` and `learn` to the examples, the lines of progress of `learn`, and when it ends."""
+    names = [name for name in sorted(os.listdir(os.path.join(TOP, "examples"))) if name.endswith(".dlx")]
+    for mode, name in itertools.product(("answer", "learn"), names):
+        file = os.path.join(TOP, "examples", name)
+        out, errors, status = run(mode, file)
+        expect(f"{mode} {name} status", status == (1 if name in NONE else 0) and errors == (b"ignored 1\n" if name == "ignored.dlx" else b""))
+        expect(f"{mode} {name} answer", out == b"none\n" if name in NONE else is_exact(file, out))
     path = search_of_years(folder)
     for seed in "1", "18446744073709551615":
         began = time.monotonic()

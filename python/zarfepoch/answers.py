@@ -1,7 +1,6 @@
 """How commands ask the program for an answer."""
 from __future__ import annotations
 
-import concurrent.futures
 import itertools
 import random
 import subprocess
@@ -13,8 +12,6 @@ from .timetables import Timetable
 
 # a search in which some lessons may move gets so many visits before others may
 TRY_VISITS = 2_000
-# a search gets so many visits before others are asked beside it
-FIRST_VISITS = 10_000
 # for so many seconds a plan is looked for where no time is told, before parts of the school are tried by themselves
 TRY_SECONDS = 20.0
 # so many choices of lessons that may move are tried before more of them may
@@ -34,32 +31,9 @@ def asked(program: str, words: list[str], text: bytes) -> Answered:
     return Answered(ran.returncode, ran.stdout, ran.stderr.decode(errors="replace").strip())
 
 
-def first_of(program: str, ways: list[list[str]], text: bytes) -> Answered:
-    """The answer of whichever of these ways is first; the others are ended then. Where none answers, what the first one said."""
-    runs = [subprocess.Popen([program, *words], stdin=subprocess.PIPE, stdout=subprocess.PIPE, stderr=subprocess.PIPE) for words in ways]
-    with concurrent.futures.ThreadPoolExecutor(len(runs)) as pool:
-        try:
-            said = {pool.submit(run.communicate, text): run for run in runs}
-            for ended in concurrent.futures.as_completed(said):
-                if said[ended].returncode in (0, 1):
-                    return answer_of(said[ended], *ended.result())
-        finally:
-            for run in runs:
-                run.kill()
-    return answer_of(runs[0], *next(iter(said)).result())
-
-
-def answer_of(run: subprocess.Popen[bytes], text: bytes, why: bytes) -> Answered:
-    """What a process answered that has ended."""
-    return Answered(run.returncode, text, why.decode(errors="replace").strip())
-
-
 def answered(program: str, text: bytes, seconds: Optional[float] = None) -> Answered:
-    """The answer to a problem, within so many seconds if they are told. Most are found in a short search; else by one that keeps states and looks
-    for a reason, or by one that learns, whichever is first."""
-    limit = ["--seconds", str(max(1, round(seconds)))] if seconds else []
-    found = asked(program, ["alone", "-", "--fuel", str(FIRST_VISITS), *limit], text)
-    return found if found.status != 4 else first_of(program, [["alone", "-", "--unlimited", *limit], ["learn", "-", *limit]], text)
+    """The answer to a problem, within so many seconds if they are told."""
+    return asked(program, ["answer", "-", *(["--seconds", str(max(1, round(seconds)))] if seconds else [])], text)
 
 
 def shortly(program: str, timetable: Timetable) -> Answered:

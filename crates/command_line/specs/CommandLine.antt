@@ -52,6 +52,10 @@ abbrev pub check_app : App
 check_app =
     timed (with_rule (with_rule (with_rule (with_rule (versioned (new_app (codes "check"))) (file_rule (codes "file"))) (file_rule (codes "answer"))) greatest_fuel_rule) (flag_rule (codes "unlimited")))
 
+-- to which file an answer is looked for, whether it writes how far that has come, and when it ends
+abbrev pub answer_app : App
+answer_app = timed (with_rule (with_rule (versioned (new_app (codes "answer"))) (file_rule (codes "file"))) (flag_rule (codes "progress")))
+
 -- of which file a reason is looked for
 abbrev pub why_app : App
 why_app = with_rule (versioned (new_app (codes "why"))) (file_rule (codes "file"))
@@ -83,11 +87,15 @@ solve_app = with_rule (with_rule (with_rule threads_app (flag_rule (codes "audit
 abbrev pub wanting_subcommand : App → App
 wanting_subcommand app = record app { top = record app.top { subcommand_required = true } }
 
--- what one thread searches and tests
-abbrev pub one_thread_app : App
-one_thread_app = with_subcommand (with_subcommand (wanting_subcommand (versioned (new_app (codes "solve_cli")))) alone_app.top) check_app.top
+-- what answers by whatever is first
+abbrev pub answering_app : App
+answering_app = with_subcommand (wanting_subcommand (versioned (new_app (codes "solve_cli")))) answer_app.top
 
--- all that one thread does
+-- with what one thread searches and tests
+abbrev pub one_thread_app : App
+one_thread_app = with_subcommand (with_subcommand answering_app alone_app.top) check_app.top
+
+-- with all else that one thread does
 abbrev pub reasoning_app : App
 reasoning_app = with_subcommand (with_subcommand one_thread_app why_app.top) learn_app.top
 
@@ -99,6 +107,7 @@ solver_app = with_subcommand (with_subcommand reasoning_app simulate_app.top) so
 abbrev pub mode_word : Mode → Text
 mode_word modes.Alone = codes "alone"
 mode_word modes.Check = codes "check"
+mode_word modes.Answer = codes "answer"
 mode_word modes.Why = codes "why"
 mode_word modes.Learn = codes "learn"
 mode_word modes.Simulate = codes "simulate"

@@ -3,7 +3,7 @@
 ghost use Rattle.std.specs.Prelude.{◌≡◌, false, IfOk, codes};
 ghost use Rattle.clap.specs.Words.{app_of, new_app, rule_of, with_rule};
 ghost use Rattle.clap.specs.declared.builder.command.Command.TheViews.{out-Command};
-ghost use Rattle.command_line.specs.CommandLine.{alone_app, check_app, file_rule, flag_rule, greatest_fuel_rule, learn_app, limit_rule, number_rule, one_thread_app, reasoning_app, simulate_app, sites_app, solve_app, solver_app, threads_app, versioned, why_app};
+ghost use Rattle.command_line.specs.CommandLine.{alone_app, answer_app, answering_app, check_app, file_rule, flag_rule, greatest_fuel_rule, learn_app, limit_rule, number_rule, one_thread_app, reasoning_app, simulate_app, sites_app, solve_app, solver_app, threads_app, versioned, why_app};
 
 use crate::ranges::{
     ENTRIES_HELP, FUEL_HELP, GREATEST_FUEL, JOB_FUEL_HELP, NODE_RESTARTS_HELP, NODES_HELP,
@@ -165,6 +165,17 @@ fn check_command<'a>(alloc: Global) -> Result<Command<'a>, AllocError>
     command.arg(time_argument(alloc))
 }
 
+fn answer_command<'a>(alloc: Global) -> Result<Command<'a>, AllocError>
+    ensures app { IfOk result (λ command. app_of command ≡ answer_app) }
+    ensures local { IfOk result (λ command. (out-Command command).has_globals ≡ false) }
+{
+    let about =
+        "Writes any exact cover of the problem, or none, by whatever is first: a search, a reason, or learning from dead ends";
+    let command = described(alloc, "answer", about).after_help(SEARCH_STATUSES);
+    let command = with_two(command, file_argument(alloc), progress_argument(alloc))?;
+    command.arg(time_argument(alloc))
+}
+
 fn why_command<'a>(alloc: Global) -> Result<Command<'a>, AllocError>
     ensures app { IfOk result (λ command. app_of command ≡ why_app) }
     ensures local { IfOk result (λ command. (out-Command command).has_globals ≡ false) }
@@ -258,21 +269,30 @@ fn solve_command<'a>(alloc: Global) -> Result<Command<'a>, AllocError>
     audited.arg(progress_argument(alloc))
 }
 
-/// What one thread searches and tests.
+/// What answers by whatever is first.
+fn answering_command<'a>(alloc: Global) -> Result<Command<'a>, AllocError>
+    ensures { IfOk result (λ command. app_of command ≡ answering_app) }
+{
+    let answer = answer_command(alloc)?;
+    Command::new(alloc, "solve_cli")
+        .about("Finds an exact cover, or shows that there is none")
+        .version(VERSION)
+        .subcommand_required(true)
+        .subcommand(answer)
+}
+
+/// With what one thread searches and tests.
 fn one_thread_command<'a>(alloc: Global) -> Result<Command<'a>, AllocError>
     ensures { IfOk result (λ command. app_of command ≡ one_thread_app) }
 {
     let alone = alone_command(alloc)?;
     let check = check_command(alloc)?;
-    Command::new(alloc, "solve_cli")
-        .about("Finds an exact cover, or shows that there is none")
-        .version(VERSION)
-        .subcommand_required(true)
+    answering_command(alloc)?
         .subcommand(alone)?
         .subcommand(check)
 }
 
-/// All that one thread does.
+/// With all else that one thread does.
 fn reasoning_command<'a>(alloc: Global) -> Result<Command<'a>, AllocError>
     ensures { IfOk result (λ command. app_of command ≡ reasoning_app) }
 {
@@ -299,6 +319,7 @@ fn command_of<'a>(alloc: Global, mode: Mode) -> Result<Command<'a>, AllocError> 
     match mode {
         Mode::Alone => alone_command(alloc),
         Mode::Check => check_command(alloc),
+        Mode::Answer => answer_command(alloc),
         Mode::Why => why_command(alloc),
         Mode::Learn => learn_command(alloc),
         Mode::Simulate => simulate_command(alloc),
@@ -311,6 +332,7 @@ fn name_of(mode: Mode) -> &'static str {
     match mode {
         Mode::Alone => "alone",
         Mode::Check => "check",
+        Mode::Answer => "answer",
         Mode::Why => "why",
         Mode::Learn => "learn",
         Mode::Simulate => "simulate",

@@ -36,6 +36,9 @@ fn mode_of(name: &str) -> Option<Mode>
     if name == "check" {
         return Some(Mode::Check);
     }
+    if name == "answer" {
+        return Some(Mode::Answer);
+    }
     if name == "why" {
         return Some(Mode::Why);
     }
@@ -62,7 +65,9 @@ fn answer_file<'a>(mode: Mode, inner: &ArgMatches<'a>) -> Option<Option<&'a str>
 {
     match mode {
         Mode::Check => Some(Some(inner.get_str("answer")?)),
-        Mode::Alone | Mode::Why | Mode::Learn | Mode::Simulate | Mode::Solve => Some(None),
+        Mode::Answer | Mode::Alone | Mode::Why | Mode::Learn | Mode::Simulate | Mode::Solve => Some(
+            None,
+        ),
     }
 }
 

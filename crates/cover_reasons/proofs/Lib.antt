@@ -1,5 +1,5 @@
 mod Reasoning
-mod Rooming
+pub mod Rooming
 mod Steps
 mod Sums
-mod Weighing
+pub mod Weighing

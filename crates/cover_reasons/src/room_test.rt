@@ -33,8 +33,8 @@ fn amount_of_items(list: &[u16], items: &[u16]) -> u64
     amount
 }
 
-/// What a list says of all items, together.
-fn whole_amount(list: &[u16]) -> u64
+/// Returns what a list says of all items, together.
+pub fn whole_amount(list: &[u16]) -> u64
     requires { length list.now ≤ 200000 }
     ensures { result ≡ sum list.now }
 {
@@ -54,8 +54,8 @@ fn option_amount(problem: &Problem, list: &[u16], option: u16) -> u64
     amount_of_items(list, problem.option(option))
 }
 
-/// Whether the option gives no colour to an item that has room.
-fn is_plain(problem: &Problem, rooms: &[u16], option: u16) -> bool
+/// Returns whether the option gives no colour to an item that has room.
+pub fn is_plain(problem: &Problem, rooms: &[u16], option: u16) -> bool
     requires { option < length problem.now.options }
     ensures { result ≡ is_plain problem.now rooms.now option }
 {
@@ -70,8 +70,8 @@ fn is_plain(problem: &Problem, rooms: &[u16], option: u16) -> bool
     true
 }
 
-/// Whether the option needs no more than it has room for, and gives no colour to an item that has room.
-fn fits(problem: &Problem, room: &Room, option: u16) -> bool
+/// Returns whether the option needs no more than it has room for, and gives no colour to an item that has room.
+pub fn fits(problem: &Problem, room: &Room, option: u16) -> bool
     requires lawful { IsProblem problem.now }
     requires option { option < length problem.now.options }
     ensures { result ≡ fits problem.now room.now option }

@@ -24,8 +24,8 @@ fn weight_of_items(weights: &Weights, items: &[u16]) -> u32
     weight
 }
 
-/// What all items weigh together, modulo the modulus.
-fn whole_weight(weights: &Weights) -> u32
+/// Returns what all items weigh together, modulo the modulus.
+pub fn whole_weight(weights: &Weights) -> u32
     ensures { result ≡ whole_weight weights.now % weights.now.modulus }
 {
     let modulus = weights.modulus();
@@ -36,8 +36,8 @@ fn whole_weight(weights: &Weights) -> u32
     whole
 }
 
-/// Whether an option weighs 0.
-fn is_balanced(problem: &Problem, weights: &Weights, option: u16) -> bool
+/// Returns whether an option weighs 0 modulo the modulus.
+pub fn is_balanced(problem: &Problem, weights: &Weights, option: u16) -> bool
     requires { option < length problem.now.options }
     ensures { result ≡ is_zero weights.now (option_weight problem.now weights.now option) }
 {

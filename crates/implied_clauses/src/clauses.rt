@@ -132,6 +132,8 @@ impl<'a> ImpliedClauses<'a> {
         requires { place ≤ length self.old.list }
         ensures answer { IfOk result (λ is_learned.
             is_learned ≡ follows self.old.problem self.old.list clause.now hints.now) }
+        ensures implied { IfOk result (λ is_learned.
+            is_learned ≡ true → IsImplied self.old.problem clause.now) }
         ensures after { MatchResult result
             (λ is_learned. self.new ≡ (if is_learned then learned self.old place clause.now else self.old))
             (λ error. self.new ≡ self.old) }

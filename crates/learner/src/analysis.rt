@@ -33,6 +33,15 @@ pub struct Analysis {
     open: usize,
 }
 
+/// Returns the mark of an option whose literal is to be explained: what was settled before any decision needs no more.
+fn mark_to_explain(trail: &Trail, option: u16) -> Mark {
+    if trail.step(option).level == 0 {
+        Mark::Settled
+    } else {
+        Mark::Seen
+    }
+}
+
 impl Analysis {
     /// Room for clauses over so many options. The only error is out of memory.
     pub fn new(alloc: Global, options: usize) -> Result<Analysis, AllocError> {
@@ -157,6 +166,59 @@ impl Analysis {
         self.note_redundant(trail)?;
         self.resolved.as_mut_slice().sort_unstable();
         self.put_latest_second(trail);
+        Ok(())
+    }
+
+    /// Adds options to a list, each of them once. The only error is out of memory.
+    pub fn collect_given(&mut self, given: &[u16], list: &mut Vec<u16>) -> Result<(), AllocError> {
+        self.clear();
+        for option in given {
+            if self.marks.mark(*option) == Mark::Unseen {
+                self.marks.set(*option, Mark::Seen)?;
+                list.push(*option)?;
+            }
+        }
+        Ok(())
+    }
+
+    /// Takes in the literals of the row, where no clause is learned: each is to be explained.
+    fn collect_row(&mut self, trail: &Trail) -> Result<(), AllocError> {
+        for literal in &self.row {
+            let option = literal.option();
+            if self.marks.mark(option) == Mark::Unseen {
+                self.marks.set(option, mark_to_explain(trail, option))?;
+            }
+        }
+        Ok(())
+    }
+
+    /// Finds what it rests on that an option was left: the causes of literals, down to those that were decided. The only error is out of
+    /// memory.
+    pub fn explain(
+        &mut self,
+        layout: &Layout,
+        trail: &Trail,
+        store: &Store,
+        option: u16,
+    ) -> Result<(), AllocError> {
+        self.clear();
+        self.marks.set(option, mark_to_explain(trail, option))?;
+        for literal in trail.literals().iter().rev() {
+            let option = literal.option();
+            if self.marks.mark(option) != Mark::Seen {
+                continue;
+            }
+            self.note(trail, option)?;
+            write_row(
+                layout,
+                store,
+                trail.step(option).cause,
+                *literal,
+                &mut self.row,
+            )?;
+            self.collect_row(trail)?;
+        }
+        self.resolved.as_mut_slice().sort_unstable();
         Ok(())
     }
 

@@ -1,6 +1,7 @@
 //! An exact cover of a problem, or that there is none, by learning.
 
-ghost use Rattle.std.specs.Prelude.{◌≡◌, IfOk};
+ghost use Rattle.std.specs.Prelude.{◌≡◌, IfOk, IfSome};
+ghost use Rattle.learner.specs.Covers.{IsCoverOf};
 ghost use Rattle.learner.specs.Found.{IsTrueOf};
 
 use crate::figures::{Figures, LearnerWatch};
@@ -20,14 +21,29 @@ pub enum Found {
     Stopped,
 }
 
-/// Returns the list as a cover, if it is one. The only error is out of memory.
-fn counted(alloc: Global, problem: &Problem, chosen: &[u16]) -> Result<Found, AllocError>
-    ensures { IfOk result (IsTrueOf problem.now) }
+/// Returns the options in the order of the file, if they are an exact cover. The only error is out of memory.
+pub fn counted(
+    alloc: Global,
+    problem: &Problem,
+    chosen: &[u16],
+) -> Result<Option<Numbers>, AllocError>
+    ensures { IfOk result (λ cover. IfSome cover (IsCoverOf problem.now)) }
 {
     let cover = in_order(alloc, problem, chosen)?;
     match check_cover(problem, cover.as_slice()) {
-        Verdict::Exact => Ok(Found::Cover(cover)),
-        _ => Ok(Found::Stopped),
+        Verdict::Exact => Ok(Some(cover)),
+        _ => Ok(None),
+    }
+}
+
+/// Returns the cover that was counted, if there is one.
+fn cover_or_stopped(problem: &Problem, cover: Option<Numbers>) -> Found
+    requires { IfSome cover (IsCoverOf problem.now) }
+    ensures { IsTrueOf problem.now result }
+{
+    match cover {
+        Some(cover) => Found::Cover(cover),
+        None => Found::Stopped,
     }
 }
 
@@ -56,10 +72,12 @@ fn told(
     match end {
         End::Assigned => {
             let chosen = learner.chosen()?;
-            counted(alloc, problem, &chosen)
+            let cover = counted(alloc, problem, &chosen)?;
+            Ok(cover_or_stopped(problem, cover))
         }
         End::Refuted => Ok(refuted(problem, learner)),
-        End::Stopped => Ok(Found::Stopped),
+        // (none was given, so none was left)
+        End::Left(_) | End::Stopped => Ok(Found::Stopped),
     }
 }
 

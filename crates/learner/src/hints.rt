@@ -69,6 +69,19 @@ pub fn hint_settled(
     push_cause(store, cause, hints)
 }
 
+/// Writes the hints of a clause that rests on what was explained last. The only error is out of memory.
+pub fn hint_explained(
+    analysis: &Analysis,
+    trail: &Trail,
+    store: &Store,
+    proof: &Proof<'_>,
+    hints: &mut Vec<Hint>,
+) -> Result<(), AllocError> {
+    hints.clear();
+    push_settled(analysis, proof, hints)?;
+    push_resolved(analysis, trail, store, hints)
+}
+
 /// Writes the hints of the clause that was learned where another one was falsified. The only error is out of memory.
 pub fn hint_learned(
     analysis: &Analysis,

@@ -1,15 +1,16 @@
 //! Conflict-driven learning over the items of a problem.
 
-ghost use Rattle.std.specs.Prelude.{◌≡◌, true, IfOk};
+ghost use Rattle.std.specs.Prelude.{◌≡◌, ℕ, List, true, IfOk};
+ghost use Rattle.cover_problem.specs.Prefix.{IsBarren};
 ghost use Rattle.learner.specs.Covers.{HasNoCover};
 
 use crate::analysis::Analysis;
 use crate::assignment::Assignment;
 use crate::counts::Counts;
-use crate::deciding::{decide, go_back};
+use crate::deciding::{Given, choose, decide, go_back, next_given};
 use crate::figures::{Figures, LearnerWatch};
 use crate::heap::Heap;
-use crate::hints::{hint_learned, hint_settled};
+use crate::hints::{hint_explained, hint_learned, hint_settled};
 use crate::layout::Layout;
 use crate::packed::Packed;
 use crate::proof::Proof;
@@ -38,6 +39,8 @@ pub enum End {
     Assigned,
     /// The empty clause was learned.
     Refuted,
+    /// Of the given options this one can't be together with others.
+    Left(u16),
     /// The watch stopped it, there was no room for a clause, or the kernel refused one.
     Stopped,
 }
@@ -56,6 +59,8 @@ pub struct Learner<'a> {
     /// The hints of the clause that the kernel is to learn.
     hints: Vec<Hint>,
     row: Vec<Packed>,
+    /// The options that are given, each of them once: they are decided first.
+    given: Vec<u16>,
     restarts: Restarts,
     figures: Figures,
     /// How many clauses are kept.
@@ -121,6 +126,7 @@ impl<'a> Learner<'a> {
             proof: Proof::new(alloc, problem)?,
             hints: Vec::new(alloc),
             row: Vec::new(alloc),
+            given: Vec::new(alloc),
             layout,
             restarts: Restarts::new(),
             figures: Figures::new(),
@@ -294,11 +300,24 @@ impl<'a> Learner<'a> {
         if !self.make_room()? {
             return Ok(Some(End::Stopped));
         }
-        if !decide(&self.layout, &mut self.now, &mut self.heap) {
-            return Ok(Some(End::Assigned));
+        Ok(self.decide_next())
+    }
+
+    /// Decides what is given, and then what is most active. Returns how the search ends, if there is nothing to decide.
+    fn decide_next(&mut self) -> Option<End>
+        ensures { self.new ≡ self.old }
+    {
+        match next_given(&mut self.now.trail, &self.given) {
+            Given::Next(option) => choose(&self.layout, &mut self.now, option),
+            Given::Left(option) => return Some(End::Left(option)),
+            Given::Chosen => {
+                if !decide(&self.layout, &mut self.now, &mut self.heap) {
+                    return Some(End::Assigned);
+                }
+            }
         }
         self.figures.decisions = self.figures.decisions.wrapping_add(1);
-        Ok(None)
+        None
     }
 
     /// Propagates, and does what comes next.
@@ -332,6 +351,44 @@ impl<'a> Learner<'a> {
         Ok(End::Stopped)
     }
 
+    /// Begins a search with these options given, from the first level. The only error is out of memory.
+    pub fn begin(&mut self, given: &[u16]) -> Result<(), AllocError>
+        ensures { self.new ≡ self.old }
+    {
+        if self.now.trail.level() > 0 {
+            go_back(&self.layout, &mut self.now, &mut self.heap, 0);
+            // (a search that was stopped may have left items of the levels that ended)
+            self.now.counts.clear_due();
+        }
+        self.given.clear();
+        self.analysis.collect_given(given, &mut self.given)
+    }
+
+    /// Returns whether the kernel sees that no exact cover has all options that were given, where this one of them was left. The only error is
+    /// out of memory.
+    pub fn denies(&mut self, given: &[u16], left: u16) -> Result<bool, AllocError>
+        ensures kept { self.new ≡ self.old }
+        ensures barren { IfOk result (λ is_denied. is_denied ≡ true → IsBarren self.old given.now) }
+    {
+        self.analysis
+            .explain(&self.layout, &self.now.trail, &self.store, left)?;
+        hint_explained(
+            &self.analysis,
+            &self.now.trail,
+            &self.store,
+            &self.proof,
+            &mut self.hints,
+        )?;
+        self.proof.denies(self.alloc, given, &self.hints)
+    }
+
+    /// Returns the problem.
+    pub fn problem(&self) -> &'a Problem
+        ensures { result.now ≡ self.entry.now }
+    {
+        self.proof.problem()
+    }
+
     /// Returns the options that are chosen, in the order of the file. The only error is out of memory.
     pub fn chosen(&self) -> Result<Vec<u16>, AllocError> {
         let mut list = Vec::new(self.alloc);
@@ -343,9 +400,10 @@ impl<'a> Learner<'a> {
         Ok(list)
     }
 
-    /// Returns whether the kernel learned the empty clause. Then there is no exact cover.
+    /// Returns whether the kernel learned the empty clause. Then there is no exact cover, with any options.
     pub fn is_refuted(&self) -> bool
-        ensures { result ≡ true → HasNoCover self.entry.now }
+        ensures none { result ≡ true → HasNoCover self.entry.now }
+        ensures barren { result ≡ true → (prefix : List ℕ) → IsBarren self.entry.now prefix }
     {
         self.proof.is_refuted()
     }

@@ -11,6 +11,7 @@ mod figures;
 mod find;
 mod heap;
 mod hints;
+mod incremental;
 mod layout;
 mod learner;
 mod marks;
@@ -27,4 +28,5 @@ mod watches;
 
 pub use figures::{Figures, LearnerWatch};
 pub use find::{Found, find_cover};
+pub use incremental::IncrementalLearner;
 pub use settings::Settings;

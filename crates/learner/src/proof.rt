@@ -1,12 +1,15 @@
 //! What the kernel is told, and where its clauses stand.
 
-ghost use Rattle.std.specs.Prelude.{◌≡◌, true, IfOk};
+ghost use Rattle.std.specs.Prelude.{◌≡◌, ℕ, List, map, is_some, true, IfOk};
+ghost use Rattle.cover_problem.specs.Prefix.{IsBarren};
+ghost use Rattle.implied_clauses.specs.Clauses.{IsImplied};
+ghost use Rattle.implied_clauses.specs.declared.literal.Literal.TheVariants.{Left};
 ghost use Rattle.learner.specs.Covers.{HasNoCover};
 
 use crate::packed::Packed;
 use crate::tables::{at, put};
 use cover_problem::Problem;
-use implied_clauses::{Hint, ImpliedClauses, Literal};
+use implied_clauses::{Hint, ImpliedClauses, Literal, barren_prefixes_are_implied_clauses};
 use std::alloc::{AllocError, Global};
 use std::marker::Model;
 
@@ -33,6 +36,43 @@ fn write_literals(clause: &[Packed], literals: &mut Vec<Literal>) -> Result<(), 
     Ok(())
 }
 
+/// Returns the clause that one of the options is left. The only error is out of memory.
+fn one_is_left(alloc: Global, options: &[u16]) -> Result<Vec<Literal>, AllocError>
+    ensures { IfOk result (λ clause. clause.items ≡ map (λ option. Left option) options.now) }
+{
+    options
+        .iter()
+        .map(|option| Literal::Left(*option))
+        .collect(alloc)
+}
+
+/// Lets the kernel learn a clause by the hints, at a place that is free. Returns the place, or none where the clause doesn't follow. The only
+/// error is out of memory.
+fn learn_written(
+    kernel: &mut ImpliedClauses<'_>,
+    free: &mut Vec<u32>,
+    alloc: Global,
+    clause: &[Literal],
+    hints: &[Hint],
+) -> Result<Option<u32>, AllocError>
+    ensures kept { kernel.new.problem ≡ kernel.old.problem }
+    ensures implied { IfOk result (λ place.
+        is_some place ≡ true → IsImplied kernel.old.problem clause.now) }
+{
+    let place = match free.pop() {
+        Some(place) => place as usize,
+        None => kernel.places(),
+    };
+    // (a free place is one of the kernel's)
+    if place > kernel.places() {
+        return Ok(None);
+    }
+    if !kernel.learn(alloc, place, clause, hints)? {
+        return Ok(None);
+    }
+    Ok(Some((place & 0xffff_ffff) as u32))
+}
+
 impl<'a> Model for Proof<'a> {
     ghost use Rattle.cover_problem.specs.Problem.{Problem as ProblemValue};
 
@@ -54,9 +94,17 @@ impl<'a> Proof<'a> {
         })
     }
 
-    /// Returns whether the kernel learned the empty clause. Then there is no exact cover.
+    /// Returns the problem.
+    pub fn problem(&self) -> &'a Problem
+        ensures { result.now ≡ self.now }
+    {
+        self.kernel.problem()
+    }
+
+    /// Returns whether the kernel learned the empty clause. Then there is no exact cover, with any options.
     pub fn is_refuted(&self) -> bool
-        ensures { result ≡ true → HasNoCover self.now }
+        ensures none { result ≡ true → HasNoCover self.now }
+        ensures barren { result ≡ true → (prefix : List ℕ) → IsBarren self.now prefix }
     {
         self.kernel.is_refuted()
     }
@@ -82,18 +130,35 @@ impl<'a> Proof<'a> {
         ensures { self.new ≡ self.old }
     {
         write_literals(clause, &mut self.literals)?;
-        let place = match self.free.pop() {
-            Some(place) => place as usize,
-            None => self.kernel.places(),
+        learn_written(
+            &mut self.kernel,
+            &mut self.free,
+            alloc,
+            &self.literals,
+            hints,
+        )
+    }
+
+    /// Returns whether the kernel sees along the hints that no exact cover has all of these options. The only error is out of memory.
+    pub fn denies(
+        &mut self,
+        alloc: Global,
+        options: &[u16],
+        hints: &[Hint],
+    ) -> Result<bool, AllocError>
+        ensures kept { self.new ≡ self.old }
+        ensures barren { IfOk result (λ is_denied.
+            is_denied ≡ true → IsBarren self.old options.now) }
+    {
+        barren_prefixes_are_implied_clauses();
+        let clause = one_is_left(alloc, options)?;
+        let learned = learn_written(&mut self.kernel, &mut self.free, alloc, &clause, hints)?;
+        let Some(place) = learned else {
+            return Ok(false);
         };
-        // (a free place is one of the kernel's)
-        if place > self.kernel.places() {
-            return Ok(None);
-        }
-        if !self.kernel.learn(alloc, place, &self.literals, hints)? {
-            return Ok(None);
-        }
-        Ok(Some((place & 0xffff_ffff) as u32))
+        // (the answer is all that it is for)
+        self.forget(place)?;
+        Ok(true)
     }
 
     /// The same for a clause of one literal, whose place is kept.

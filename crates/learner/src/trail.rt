@@ -146,7 +146,7 @@ impl Trail {
     /// Ends all levels above this one, whose literals were taken back.
     pub fn end_levels(&mut self, level: u16) {
         self.limits.truncate(level as usize);
-        self.head = self.literals.len();
+        self.head = self.head.min(self.literals.len());
     }
 }
 

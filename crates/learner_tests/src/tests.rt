@@ -4,7 +4,7 @@ mod texts;
 
 use crate::tests::texts::{board, langford, problem_of};
 use cover_problem::Problem;
-use learner::{Figures, Found, LearnerWatch, Settings, find_cover};
+use learner::{Figures, Found, IncrementalLearner, LearnerWatch, Settings, find_cover};
 use std::alloc::{AllocError, Global};
 use std::test::Fail;
 
@@ -52,11 +52,59 @@ fn kind_of(
     settings: Settings,
 ) -> Result<Kind, AllocError> {
     let (found, _) = find_cover(alloc, problem, settings, &mut Limit(conflicts))?;
-    Ok(match found {
+    Ok(kind_found(&found))
+}
+
+fn kind_found(found: &Found) -> Kind {
+    match found {
         Found::Cover(_) => Kind::Cover,
         Found::NoCover => Kind::NoCover,
         Found::Stopped => Kind::Stopped,
-    })
+    }
+}
+
+/// Questions to one learner, one after the other, of the first of the small problems, whose one cover has the options 0, 3 and 4; an option may be
+/// given twice, and 6 is no option.
+static QUESTIONS: [(&[u16], Kind); 10] = [
+    (&[3], Kind::Cover),
+    (&[1], Kind::NoCover),
+    (&[3, 0], Kind::Cover),
+    (&[0, 2], Kind::NoCover),
+    (&[4, 4, 0, 3, 0], Kind::Cover),
+    (&[0, 3, 5], Kind::NoCover),
+    (&[1], Kind::NoCover),
+    (&[], Kind::Cover),
+    (&[6], Kind::Stopped),
+    (&[4], Kind::Cover),
+];
+
+#[test]
+fn questions_with_given_options(rt: HostRuntime) -> Result<(), Fail> {
+    let (text, _) = SMALL[0];
+    let problem = problem_of(&rt, rt.alloc(), text);
+    let mut learner = IncrementalLearner::new(rt.alloc(), &problem, Settings::new())?;
+    for (given, answer) in QUESTIONS.iter() {
+        let found = learner.find(given, &mut Limit(u64::MAX))?;
+        assert!(rt; kind_found(&found) == *answer, "{given:?}: {found:?}");
+    }
+    Ok(())
+}
+
+/// A learner that was stopped, or that knows that there is no cover, answers the next question.
+#[test]
+fn questions_after_others(rt: HostRuntime) -> Result<(), Fail> {
+    let text = board(rt.alloc(), 6)?;
+    let problem = problem_of(&rt, rt.alloc(), text.as_str());
+    let mut learner = IncrementalLearner::new(rt.alloc(), &problem, Settings::new())?;
+    for conflicts in 0..20 {
+        let found = learner.find(&[5, 9], &mut Limit(conflicts))?;
+        assert!(rt; kind_found(&found) != Kind::Cover, "{conflicts}");
+    }
+    for given in [[].as_slice(), [5, 9].as_slice(), [].as_slice()] {
+        let found = learner.find(given, &mut Limit(u64::MAX))?;
+        assert!(rt; kind_found(&found) == Kind::NoCover, "{given:?}");
+    }
+    Ok(())
 }
 
 #[test]

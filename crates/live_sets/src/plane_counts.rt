@@ -13,6 +13,7 @@ ghost use Rattle.live_sets.specs.ChoiceStep.{IsStep};
 
 use crate::choice_step::ChoiceStep;
 use crate::keys::count_row;
+use cover_problem::Problem;
 use item_planes::{Digits, Planes};
 use option_sets::{OptionSets, word_below};
 use std::alloc::{AllocError, Global};
@@ -135,16 +136,31 @@ impl PlaneCounts {
 
 /// From how many choices on it is likely that fewer options stay live than leave.
 ///
-/// Say that an option names k primary items, and that u are uncovered. An option stays if it names none of the k that a choice covers,
-/// with a chance of (1 - k/u)^k, which is about 1/2 where u is 3/2 k². So many are uncovered behind P/k - 3/2 k choices.
+/// Say that an option names k items, and that u are uncovered. An option stays if it names none of the k that a choice covers, with a
+/// chance of (1 - k/u)^k, which is about 1/2 where u is 3/2 k². Of n items so many are uncovered behind n/k - 3/2 k choices.
 fn turn_of(sets: &OptionSets) -> usize {
-    let mut names = 0usize;
-    for option in 0..sets.problem().options() as u16 {
-        names = names.saturating_add(sets.primary_items(option).len());
-    }
-    let options = sets.problem().options();
-    let choices = sets.problem().primary().saturating_mul(options) / names.max(1);
+    let problem = sets.problem();
+    // (options that give an item colours may agree, so where there are colours secondary items don't count)
+    let items = if problem.colour_names() == 0 {
+        problem.items()
+    } else {
+        problem.primary()
+    };
+    let options = problem.options();
+    let names = names_below(problem, items);
+    let choices = items.saturating_mul(options) / names.max(1);
     choices.saturating_sub(names.saturating_mul(3) / options.max(1) / 2)
+}
+
+/// How often the options name one of so many first items.
+fn names_below(problem: &Problem, items: usize) -> usize {
+    let mut names = 0usize;
+    for option in 0..problem.options() as u16 {
+        let named = problem.option(option).iter();
+        let below = named.filter(|item| usize::from(**item) < items).count();
+        names = names.saturating_add(below);
+    }
+    names
 }
 
 /// The counts of the empty prefix, whose live options are given.

@@ -13,6 +13,8 @@ pub enum Mode {
     Alone,
     /// Test an answer to a problem.
     Check,
+    /// Find any exact cover of a problem, by whatever is first.
+    Answer,
     /// Look for a reason why a problem has no exact cover.
     Why,
     /// Find any exact cover of a problem by learning from dead ends.

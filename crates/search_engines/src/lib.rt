@@ -25,6 +25,7 @@ mod within;
 
 pub use alone::{AloneEnd, alone_engine};
 pub use check::{CheckEnd, check_engine, check_unlimited};
+pub use deciding::{answer_until, first_answer};
 pub use engine::EngineEnd;
 pub use fault::EngineFault;
 pub use forecast::Forecast;
@@ -33,6 +34,7 @@ pub use line_timer::LineTimer;
 pub use lines::{write_line, write_published};
 pub use progress::Progress;
 pub use progress_log::{LineStyle, ProgressLog};
+pub use progress_watch::{EndWatch, ProgressWatch};
 pub use remembered::Remembered;
 pub use search_limits::{SearchLimits, TimeLimit};
 pub use stopwatch::Stopwatch;

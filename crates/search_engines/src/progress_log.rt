@@ -55,6 +55,14 @@ impl<'a, E: Sink> ProgressLog<'a, E> {
         let _ = writeln!(self.sink, "ended: {reason}");
     }
 
+    /// Writes something of the search on a line of its own, where it is followed.
+    pub fn tell(&mut self, words: &str) {
+        self.end();
+        if self.style != LineStyle::Silent {
+            let _ = writeln!(self.sink, "{words}");
+        }
+    }
+
     /// Ends the last line, so that what follows is on one of its own. A listed line has its end already.
     pub fn end(&mut self) {
         if self.is_begun && self.style == LineStyle::Overwritten {

@@ -14,6 +14,9 @@ use std::time::Clock;
 pub trait EndWatch: Watch {
     /// Is called once, when the search has ended.
     fn end(&mut self);
+
+    /// Hears something that is worth a line, once the search has ended.
+    fn tell(&mut self, _words: &str) {}
 }
 
 impl EndWatch for Unwatched {
@@ -63,6 +66,10 @@ impl<'a, E: Sink, C: Clock> EndWatch for ProgressWatch<'a, E, C> {
     /// Ends the last line before the answer is written, which on a terminal would else follow it on the same line.
     fn end(&mut self) {
         self.log.end();
+    }
+
+    fn tell(&mut self, words: &str) {
+        self.log.tell(words);
     }
 }
 

@@ -3,6 +3,8 @@
 
 ghost use Rattle.std.specs.Prelude.{◌≡◌, IfOk};
 
+use answer_engine::Task;
+pub use answer_engine::{AnswerEnd, answer_engine};
 use command_line::request;
 pub use command_line::{SettingsFault, settings};
 pub use cover_engines::{
@@ -118,6 +120,33 @@ fn search_alone<W: Sink>(
     let mut sink = CountedWriter::new(rt.stdout());
     let log = ProgressLog::new(errors, line_style(rt, request.progress));
     alone_within(rt, rt.alloc(), limits, source, &mut sink, log)
+}
+
+/// Runs `answer` on a file, and returns the exit status.
+fn run_answer<R: Threads + Wait + Clock + Sync>(
+    rt: &HostRuntime,
+    threads: &R,
+    request: &Request<'_>,
+) -> u8 {
+    let mut errors = CountedWriter::new(rt.stderr());
+    // (the time counts from here, so opening and reading the file is part of it)
+    let limits = limits_of(rt, request);
+    let mut source = match open(rt, request.settings.file) {
+        Ok(source) => source,
+        Err(error) => return tell_unopened(request.settings.file, error.kind(), &mut errors),
+    };
+    let task = Task {
+        rt: threads,
+        alloc: rt.alloc(),
+        time: limits.time,
+    };
+    let mut sink = CountedWriter::new(rt.stdout());
+    let log = ProgressLog::new(&mut errors, line_style(rt, request.progress));
+    let ended = answer_engine(&task, &mut source, &mut sink, log);
+    let status = tell_end_of(&ended, request.settings.file, &mut errors);
+    source.tell_unknown(status, &mut errors);
+    tell_unanswered(&ended, Unanswered::Time, &mut errors);
+    status
 }
 
 /// Runs `check` on a file and an answer's file, and returns the exit status.
@@ -282,6 +311,7 @@ fn run_request<R: Threads + Wait + Clock + Net + Sync>(
 ) -> u8 {
     let settings = &request.settings;
     match settings.mode {
+        Mode::Answer => run_answer(rt, threads, request),
         Mode::Alone => run_alone(rt, request),
         Mode::Check => run_check(rt, request),
         Mode::Why => run_why(rt, settings),

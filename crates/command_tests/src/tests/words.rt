@@ -140,6 +140,24 @@ fn reads_words_of_why(rt: HostRuntime) {
 }
 
 #[test]
+fn reads_words_of_answer(rt: HostRuntime) {
+    let words = ["solve_cli", "answer", "a.dlx", "--progress"].as_slice();
+    let asked = (Mode::Answer, "a.dlx", None);
+    assert!(rt;
+        is_read(
+            &rt,
+            rt.alloc(),
+            words,
+            asked,
+            (u64::MAX, 4, 1),
+            (2, 10000, 0)
+        )
+    );
+    assert!(rt; status_of(rt.alloc(), &["solve_cli", "answer", "a.dlx", "--fuel", "7"]) == 2);
+    assert!(rt; status_of(rt.alloc(), &["solve_cli", "answer"]) == 2);
+}
+
+#[test]
 fn reads_words_of_learn(rt: HostRuntime) {
     let words = ["solve_cli", "learn", "a.dlx", "--seed", "7"].as_slice();
     let asked = (Mode::Learn, "a.dlx", None);

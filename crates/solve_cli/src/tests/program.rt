@@ -4,7 +4,7 @@ use crate::run_words;
 use std::fs;
 
 /// Each with its status; the files are those that are written below.
-static WORDS: [(&[&str], u8); 37] = [
+static WORDS: [(&[&str], u8); 41] = [
     (&["solve_cli"], 2),
     (&["solve_cli", "--help"], 0),
     (&["solve_cli", "check", "--help"], 0),
@@ -80,6 +80,10 @@ static WORDS: [(&[&str], u8); 37] = [
     (&["solve_cli", "why", "no/such/file"], 3),
     (&["solve_cli", "why", "p.dlx"], 4),
     (&["solve_cli", "why", "q.dlx"], 1),
+    (&["solve_cli", "answer", "no/such/file"], 3),
+    (&["solve_cli", "answer", "p.dlx"], 0),
+    (&["solve_cli", "answer", "q.dlx", "--progress"], 1),
+    (&["solve_cli", "answer", "q.dlx", "--seconds", "9"], 1),
     (&["solve_cli", "learn", "no/such/file"], 3),
     (&["solve_cli", "learn", "p.dlx"], 0),
     (&["solve_cli", "learn", "q.dlx", "--progress"], 1),

@@ -1,0 +1,10 @@
+//! The engine that answers by whatever is first: a search that keeps states, a reason that excludes covers, or a learner.
+#![tactic(auto)]
+
+mod answer;
+mod lanes;
+mod race;
+mod race_watches;
+
+pub use answer::{AnswerEnd, Task, answer_engine};
+pub use race::Way;

@@ -1,0 +1,49 @@
+//! What stops the lanes of a race: the other one's answer, or the limit of time.
+
+use crate::race::Race;
+use brancher::Watch;
+use learner::{Figures, LearnerWatch};
+use search_engines::{EndWatch, TimeLimit};
+use std::time::Clock;
+
+/// Whether a lane is to end.
+fn is_over<C: Clock>(clock: &C, race: &Race, time: &Option<TimeLimit>) -> bool {
+    match time {
+        Some(time) => race.is_won() || time.is_over(clock),
+        None => race.is_won(),
+    }
+}
+
+/// Stops the search, and does what another watch does.
+#[derive(Drop)]
+pub(crate) struct SearchLane<'a, V: EndWatch, C: Clock> {
+    pub(crate) clock: &'a C,
+    pub(crate) race: &'a Race,
+    pub(crate) time: Option<TimeLimit>,
+    pub(crate) inner: &'a mut V,
+}
+
+impl<'a, V: EndWatch, C: Clock> Watch for SearchLane<'a, V, C> {
+    ghost use Rattle.std.specs.Prelude.{true};
+
+    ghost may_stop = { true };
+
+    fn look(&mut self, chosen: &[u16], left: u64) -> bool {
+        // (the other one looks first, so that a search that is stopped has its last line)
+        self.inner.look(chosen, left) || is_over(self.clock, self.race, &self.time)
+    }
+}
+
+/// Stops the learner.
+#[derive(Drop)]
+pub(crate) struct LearnerLane<'a, C: Clock> {
+    pub(crate) clock: &'a C,
+    pub(crate) race: &'a Race,
+    pub(crate) time: Option<TimeLimit>,
+}
+
+impl<'a, C: Clock> LearnerWatch for LearnerLane<'a, C> {
+    fn look(&mut self, _figures: &Figures) -> bool {
+        is_over(self.clock, self.race, &self.time)
+    }
+}

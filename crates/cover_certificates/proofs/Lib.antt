@@ -1,0 +1,5 @@
+pub mod Adding
+pub mod Named
+pub mod Spared
+pub mod Sticking
+pub mod Trying

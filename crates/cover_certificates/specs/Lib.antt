@@ -1,0 +1,5 @@
+pub mod Cases
+pub mod Reasons
+pub mod Refutations
+pub mod Stuck
+pub mod Tables
