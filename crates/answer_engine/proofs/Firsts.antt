@@ -1,11 +1,9 @@
 -- What the search in the defined order finds is right.
-use Rattle.std.proofs.Common.{◌≡◌, ℕ, true, List, [], Option, Some, None, refl, sym, ap, ◌∙◌, subst}
+use Rattle.std.proofs.Common.{◌≡◌, ℕ, List, [], Option, Some, None, refl, sym, subst}
 use Rattle.cover_problem.specs.ExactCover.{IsExactCover, in_order}
 use Rattle.cover_problem.specs.Numbers.{is_in}
 use Rattle.cover_problem.specs.Problem.{Problem}
 use Rattle.cover_problem.specs.Search.{first}
-use Rattle.cover_problem.specs.declared.answer.Answer.{Answer}
-use Rattle.cover_problem.specs.declared.answer.Answer.TheVariants.{Cover, NoCover}
 use Rattle.cover_problem.proofs.Covering.{first_covers, none_barren}
 use Rattle.cover_problem.proofs.Ordered.{in_order_rises}
 use Rattle.cover_problem.proofs.Sets.{in_order_same}

@@ -3,13 +3,12 @@
 ghost use Rattle.std.specs.Prelude.{◌≡◌, ◌≢◌, ◌-◌, ◌<◌, ◌^◌, IfOk, IfSome, None};
 ghost use Rattle.std.specs.Io.KnownBytes.{IsAtEnd};
 ghost use Rattle.answer_engine.specs.Answers.{AnswerSays, IsRight};
-ghost use Rattle.cover_problem.specs.Problem.{Problem as ProblemValue};
 ghost use Rattle.search_engines.specs.Engines.{IsEnded, refuses_none};
 ghost use Rattle.search_engines.specs.Output.{IsOutputOf};
 
 use crate::lanes::{learner_lane, search_lane};
 use crate::race::{Race, Way};
-use crate::race_watches::{LearnerLane, SearchLane};
+use crate::race_watches::SearchLane;
 use brancher::Unwatched;
 use cover_problem::{Answer, Problem};
 use dlx_reader::{Sink, Source};
@@ -38,12 +37,13 @@ pub struct Task<'a, R: Threads + Wait + Clock + Sync> {
 
 /// The answer of the first lane that has one. The only error is out of memory, where neither has one.
 fn first_of(
+    _problem: &Problem,
     searched: Result<Option<Answer>, AllocError>,
     learned: Result<Option<Answer>, AllocError>,
 ) -> Result<Option<(Answer, Way)>, AllocError>
-    ensures { (problem : ProblemValue) → IfOk searched (λ found. IfSome found (IsRight problem))
-        → IfOk learned (λ found. IfSome found (IsRight problem))
-        → IfOk result (λ found. IfSome found (λ won. IsRight problem won.0)) }
+    requires searched { IfOk searched (λ found. IfSome found (IsRight _problem.now)) }
+    requires learned { IfOk learned (λ found. IfSome found (IsRight _problem.now)) }
+    ensures { IfOk result (λ found. IfSome found (λ won. IsRight _problem.now won.0)) }
 {
     match (searched, learned) {
         (Ok(Some(answer)), _) => Ok(Some((answer, Way::Search))),
@@ -63,11 +63,6 @@ fn raced<V: EndWatch, R: Threads + Wait + Clock + Sync>(
 {
     let (rt, alloc, time) = (task.rt, task.alloc, task.time);
     let race = Race::new();
-    let learner = LearnerLane {
-        clock: rt,
-        race: &race,
-        time,
-    };
     let mut search = SearchLane {
         clock: rt,
         race: &race,
@@ -77,10 +72,10 @@ fn raced<V: EndWatch, R: Threads + Wait + Clock + Sync>(
     // (the first closure may run in another thread, and the log of the search belongs to this one)
     let (learned, searched) = join(
         rt,
-        move || learner_lane(rt, alloc, problem, learner),
-        || search_lane(rt, alloc, problem, &race, &mut search),
+        || learner_lane(rt, alloc, problem, &race, time),
+        || search_lane(rt, alloc, problem, &mut search),
     );
-    first_of(searched, learned)
+    first_of(problem, searched, learned)
 }
 
 /// Returns an answer; none only where the time is limited, and over. The watch hears what found it. The only error is out of memory.

@@ -8,7 +8,7 @@ use crate::race::Race;
 use crate::race_watches::{LearnerLane, SearchLane};
 use cover_problem::{Answer, Problem};
 use learner::{Found, Settings, find_cover};
-use search_engines::{EndWatch, answer_until};
+use search_engines::{EndWatch, TimeLimit, answer_until};
 use std::alloc::{AllocError, Global};
 use std::sync::Wait;
 use std::time::Clock;
@@ -19,11 +19,11 @@ pub(crate) fn search_lane<V: EndWatch, C: Clock>(
     clock: &C,
     alloc: Global,
     problem: &Problem,
-    race: &Race,
-    watch: &mut SearchLane<'_, V, C>,
+    watch: &mut SearchLane<'_, '_, '_, V, C>,
 ) -> Result<Option<Answer>, AllocError>
     ensures { IfOk result (λ found. IfSome found (IsRight problem.now)) }
 {
+    let race = watch.race;
     race.begin();
     let found = answer_until(clock, alloc, problem, watch);
     race.end(matches!(found, Ok(Some(_))));
@@ -46,7 +46,7 @@ fn answer_of(problem: &Problem, found: Found) -> Option<Answer>
 fn learned<C: Clock>(
     alloc: Global,
     problem: &Problem,
-    watch: &mut LearnerLane<'_, C>,
+    watch: &mut LearnerLane<'_, '_, C>,
 ) -> Result<Option<Answer>, AllocError>
     ensures { IfOk result (λ found. IfSome found (IsRight problem.now)) }
 {
@@ -55,18 +55,23 @@ fn learned<C: Clock>(
 }
 
 /// The lane of the learner, which begins a tenth of a second after the search. The only error is out of memory.
-pub(crate) fn learner_lane<R: Wait, C: Clock>(
+pub(crate) fn learner_lane<R: Wait + Clock>(
     rt: &R,
     alloc: Global,
     problem: &Problem,
-    mut watch: LearnerLane<'_, C>,
+    race: &Race,
+    time: Option<TimeLimit>,
 ) -> Result<Option<Answer>, AllocError>
     ensures { IfOk result (λ found. IfSome found (IsRight problem.now)) }
 {
-    let race = watch.race;
     if !race.wait(rt) {
         return Ok(None);
     }
+    let mut watch = LearnerLane {
+        clock: rt,
+        race,
+        time,
+    };
     let found = learned(alloc, problem, &mut watch);
     race.end(matches!(found, Ok(Some(_))));
     found

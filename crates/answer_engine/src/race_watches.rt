@@ -16,14 +16,14 @@ fn is_over<C: Clock>(clock: &C, race: &Race, time: &Option<TimeLimit>) -> bool {
 
 /// Stops the search, and does what another watch does.
 #[derive(Drop)]
-pub(crate) struct SearchLane<'a, V: EndWatch, C: Clock> {
+pub(crate) struct SearchLane<'a, 'b, 'c, V: EndWatch, C: Clock> {
     pub(crate) clock: &'a C,
-    pub(crate) race: &'a Race,
+    pub(crate) race: &'b Race,
     pub(crate) time: Option<TimeLimit>,
-    pub(crate) inner: &'a mut V,
+    pub(crate) inner: &'c mut V,
 }
 
-impl<'a, V: EndWatch, C: Clock> Watch for SearchLane<'a, V, C> {
+impl<'a, 'b, 'c, V: EndWatch, C: Clock> Watch for SearchLane<'a, 'b, 'c, V, C> {
     ghost use Rattle.std.specs.Prelude.{true};
 
     ghost may_stop = { true };
@@ -36,13 +36,13 @@ impl<'a, V: EndWatch, C: Clock> Watch for SearchLane<'a, V, C> {
 
 /// Stops the learner.
 #[derive(Drop)]
-pub(crate) struct LearnerLane<'a, C: Clock> {
+pub(crate) struct LearnerLane<'a, 'b, C: Clock> {
     pub(crate) clock: &'a C,
-    pub(crate) race: &'a Race,
+    pub(crate) race: &'b Race,
     pub(crate) time: Option<TimeLimit>,
 }
 
-impl<'a, C: Clock> LearnerWatch for LearnerLane<'a, C> {
+impl<'a, 'b, C: Clock> LearnerWatch for LearnerLane<'a, 'b, C> {
     fn look(&mut self, _figures: &Figures) -> bool {
         is_over(self.clock, self.race, &self.time)
     }
