@@ -32,7 +32,10 @@ def members(number: int) -> Iterator[int]:
 
 
 def number_of(digits: bytes) -> int:
-    return int(digits) if digits.rstrip(b"\n").isdigit() else -1      # (nothing has that number)
+    """The value of decimal digits, below 2^32; else -1, which nothing has."""
+    value = digits.rstrip(b"\n").lstrip(b"0")
+    number = int(value or b"0") if digits.rstrip(b"\n").isdigit() and len(value) <= 10 else -1
+    return number if number < 1 << 32 else -1
 
 
 class Checker:
@@ -97,9 +100,12 @@ class Checker:
         return used
 
     def check(self) -> None:
-        for head in (b"none", b"cases %d %d" % (self.items, len(self.options))):
-            expect(self.line.rstrip(b"\n") == head, f"'{head.decode()}'")
-            self.advance()
+        expect(self.line.rstrip(b"\n") == b"none", "'none'")
+        self.advance()
+        word, *numbers = self.line.rstrip(b"\n").split(b" ")
+        own = [self.items, len(self.options)]
+        expect(word == b"cases" and list(map(number_of, numbers)) == own, f"'cases {own[0]} {own[1]}'")
+        self.advance()
         # by how many options are chosen: live options, items to be covered, options still to be chosen, items used in the refutation so far
         live, free, left, used = ([0] * (self.primary + 1) for _ in range(4))
         live[0], free[0], depth = (1 << len(self.options)) - 1, (1 << self.primary) - 1, 0

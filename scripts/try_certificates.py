@@ -111,6 +111,14 @@ def certificate(draw: random.Random, text: str) -> list[str]:
     return ["none", f"cases {len(names)} {len(options)}", *writer.lines]
 
 
+def with_another_number(draw: random.Random, line: str) -> str:
+    """A line in which one word behind the first is another number."""
+    words = line.split(" ")
+    if len(words) > 1:
+        words[draw.randrange(1, len(words))] = draw.choice(["0", "1", "2", "3", "03", "5", "65535", "65536", "4294967296", "x"])
+    return " ".join(words)
+
+
 def changed(draw: random.Random, lines: list[str]) -> list[str]:
     """The lines with one to three of them left out, repeated, replaced by another one, or with another number."""
     lines = list(lines)
@@ -118,7 +126,8 @@ def changed(draw: random.Random, lines: list[str]) -> list[str]:
         if len(lines) < 3:
             break
         place = draw.randrange(2, len(lines))
-        way = draw.randrange(6)
+        reasons = [number for number, line in enumerate(lines) if line[:1] in "wr"]
+        way = draw.randrange(7)
         if way == 0:
             del lines[place]
         elif way == 1:
@@ -129,6 +138,9 @@ def changed(draw: random.Random, lines: list[str]) -> list[str]:
             lines.insert(place, draw.choice("=^!-*") + str(draw.randrange(4)))
         elif way == 4:
             lines[place] = lines[place][:1] + str(draw.randrange(5)) if lines[place][:1] in "=^!-*" else str(draw.randrange(6))
+        elif way == 5 and reasons:
+            place = draw.choice(reasons)
+            lines[place] = with_another_number(draw, lines[place])
         else:
             del lines[place:]
     return lines
@@ -188,7 +200,7 @@ def try_with_cover(folder: str, draw: random.Random, text: str) -> None:
         cover = search(primary, numbered, [])[0]
         if cover is None:
             break
-        options = [line for place, line in enumerate(options) if place != draw.choice(cover)]
+        del options[draw.choice(cover)]
         rest = "\n".join([head, *options]) + "\n"
     lines = certificate(draw, rest)
     lines[1] = certificate_head(text)
