@@ -128,7 +128,8 @@ def written(trial: Solving) -> None:
     trial.expect("a picture on the standard output", status == 0 and ElementTree.fromstring("\n".join(lines)).tag.endswith("svg"))
     rows: tuple[tuple[str, list[str], int], ...] = (
         ("no kind", [], 2), ("an unknown kind", ["sudokus", "x"], 2), ("a file that isn't there", ["jigsaw", "nothing.txt"], 3),
-        ("too little time", ["langford", "60", "--seconds", "1"], 4), ("plain by counting", ["sudoku", "11" + "." * 14], 1),
+        ("too little time", ["board", "15x16", "--pieces", "16*F 16*W 16*X", "--seconds", "1"], 4),
+        ("plain by counting", ["sudoku", "11" + "." * 14], 1),
         ("a folder that isn't there", ["queens", "4", "--out", "nothing/x.svg"], 3))
     for what, words, wanted in rows:
         status, lines, errors = trial.run(*words)
