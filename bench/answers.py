@@ -7,7 +7,7 @@ The files are those of instances.py, two of each kind of learning.py, and any th
 `answer`, `alone`, `alone --unlimited`, `learn` and `solve --nodes 1 --workers 4`, each for N seconds at most (default 10). Each file has a row, with a dash
 where a command had no answer in time; the last column says how many times as long as the best of the others `answer` took. The line below the table has the
 geometric mean of these, over the files on which the best took more than a tenth of a second, and the greatest; and by how many milliseconds `answer` was
-slower than `alone` on the others, in the mean and at most. A cover and a `none` for one file are a mistake.
+slower than `alone` on the others that it decides in a tenth of a second, in the mean and at most. A cover and a `none` for one file are a mistake.
 
 It wants the program: (cd crates/solve_cli && rt run -- --version) builds it. The exit status is 0, 1 where two answers differ, 2 for a mistake on the
 command line or where there is no program.
@@ -95,7 +95,7 @@ def main() -> int:
             others = [took for answer, took in told[1:] if answer is not None]
             if told[0][0] is not None and others and min(others) > LONG:
                 ratios.append(told[0][1] / min(others))
-            elif told[0][0] is not None and told[1][0] is not None:
+            elif told[0][0] is not None and told[1][0] is not None and told[1][1] <= LONG:
                 later.append(1_000 * (told[0][1] - told[1][1]))
     if ratios:
         print(f"long: geometric mean {statistics.geometric_mean(ratios):.2f}, greatest {max(ratios):.2f}, of {len(ratios)}")
