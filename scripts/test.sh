@@ -68,6 +68,7 @@ room=$(mktemp -d) || exit 2
 trap 'rm -rf "$room"' EXIT
 log=$room/log
 echo "test.sh: all trials passed" > "$log"
+: > "$room/failed"
 if [ $# -eq 0 ] && ! rt ci 2>&1 | tee "$log"; then
     echo "test.sh: the gate failed"
     exit 1
@@ -88,7 +89,7 @@ begin scripts/check_pages.py
 begin scripts/draw_layers.py --check
 wait
 echo "test.sh: the trials took $((SECONDS - begun)) s"
-failed=$(tr -d '\n' < "$room/failed" 2> /dev/null)
+failed=$(tr -d '\n' < "$room/failed")
 if [ -n "$failed" ]; then
     echo "test.sh: failed:$failed"
     exit 1
