@@ -3,10 +3,11 @@
 
     python3 scripts/try_certificates.py [COUNT]
 
-A plain search in this script writes them, with kept cases, jumps, dropped cases and reasons where these are found. Of so many random problems
-without a cover (default 300) both checkers have to accept the certificate. In a copy some lines are changed: both have to say the same of it, and
-to name the same line. Of as many problems with a cover all that is tried has to be refused: a certificate of the problem without an option of the
-cover, with the counts of the whole one, and copies of it in which lines are changed. Whether there is a cover says the search of `plain_search.py`.
+A plain search in this script writes them: by cases, with kept cases, jumps, dropped cases and reasons where these are found, and by clauses, one for
+each case, some of which are forgotten. Of so many random problems without a cover (default 300) both checkers have to accept both certificates. In
+copies some lines or words are changed: both have to say the same of it, and to name the same line. Of as many problems with a cover all that is tried
+has to be refused: certificates of the problem without an option of the cover, with the counts of the whole one, and copies of them in which lines or
+words are changed. Whether there is a cover says the search of `plain_search.py`.
 
 It wants the program check_certificate: (cd crates/check_certificate && rt run) builds it. The last line is 'N passed, M failed'. The exit status
 is 0 where all passed, 1 where something failed, 2 for a mistake on the command line or where there is no program.
@@ -24,7 +25,7 @@ from typing import Optional
 from built import number_from_one, parser_of, program_of, want_program
 from check_certificate import Checker, Wrong
 from expected import Trial
-from plain_search import Numbered, clash, read, search
+from plain_search import Numbered, clash, live_options, read, search
 
 CHECK_CERTIFICATE = program_of("check_certificate")
 trial = Trial()
@@ -103,12 +104,41 @@ class Writer:
         return used
 
 
-def certificate(draw: random.Random, text: str) -> list[str]:
-    """The lines of a certificate of a problem without a cover, with those at the head."""
+class ClauseWriter:
+    """Refutes a problem without a cover by a plain search, and writes of each case that one of its chosen options is left."""
+
+    def __init__(self, draw: random.Random, primary: int, options: list[Numbered]) -> None:
+        self.draw, self.primary, self.options = draw, primary, options
+        self.lines: list[str] = []
+        self.next = primary
+
+    def refute(self, chosen: list[int]) -> int:
+        """The number of the clause that not all of these are chosen, whose line and those before it are written."""
+        live = live_options(self.primary, self.options, chosen)
+        item = self.draw.choice([item for item in range(self.primary) if not any(item in self.options[option] for option in chosen)])
+        naming = [option for option, items in enumerate(self.options) if item in items]
+        below = {option: self.refute([*chosen, option]) for option in naming if option in live}
+        hints = [str(below[option]) if option in below else self.clash_with(chosen, option) for option in naming]
+        self.draw.shuffle(hints)
+        self.lines.append(" ".join([f"-{option}" for option in self.draw.sample(chosen, len(chosen))] + hints + [str(item)]))
+        self.lines += [f"d {number}" for number in below.values() if chosen and self.draw.random() < 0.5]
+        self.next += 1
+        return self.next - 1
+
+    def clash_with(self, chosen: list[int], option: int) -> str:
+        """The hint that a chosen option clashes with this one."""
+        pair = [next(other for other in chosen if clash(self.primary, self.options[other], self.options[option])), option]
+        self.draw.shuffle(pair)
+        return f"{pair[0]}:{pair[1]}"
+
+
+def certificates(draw: random.Random, text: str) -> list[list[str]]:
+    """The lines of certificates of a problem without a cover, by cases and by clauses, with those at the head."""
     names, primary, options, _ = read(text.encode())
-    writer = Writer(draw, len(names), primary, options)
-    writer.refute(set(range(len(options))), set(range(primary)))
-    return ["none", f"cases {len(names)} {len(options)}", *writer.lines]
+    cases, clauses = Writer(draw, len(names), primary, options), ClauseWriter(draw, primary, options)
+    cases.refute(set(range(len(options))), set(range(primary)))
+    clauses.refute([])
+    return [["none", f"cases {len(names)} {len(options)}", *cases.lines], ["none", f"clauses {len(names)} {len(options)}", *clauses.lines]]
 
 
 def with_another_number(draw: random.Random, line: str) -> str:
@@ -119,9 +149,19 @@ def with_another_number(draw: random.Random, line: str) -> str:
     return " ".join(words)
 
 
+def with_other_words(draw: random.Random, line: str) -> str:
+    """A line of a clause with a word left out, repeated, replaced by another one, or put elsewhere."""
+    words, numbers = line.split(" "), [draw.randrange(8), draw.randrange(8)]
+    place, other = draw.randrange(len(words)), draw.choice(["+{}", "-{}", "{}", "{}:{}", "{}:", ":{}", "+", "d", "x", "", "0{}", "4294967296"])
+    taken = words.pop(place) if draw.random() < 0.7 else words[place]
+    words.insert(draw.randint(0, len(words)), taken if draw.random() < 0.3 else other.format(*numbers))
+    return " ".join(words if draw.random() < 0.9 else words[1:])
+
+
 def changed(draw: random.Random, lines: list[str]) -> list[str]:
-    """The lines with one to three of them left out, repeated, replaced by another one, or with another number."""
+    """The lines with one to three of them left out, repeated, replaced by another one, or with another number or word."""
     lines = list(lines)
+    clauses = lines[1].startswith("clauses")
     for _ in range(draw.randint(1, 3)):
         if len(lines) < 3:
             break
@@ -130,6 +170,8 @@ def changed(draw: random.Random, lines: list[str]) -> list[str]:
         way = draw.randrange(7)
         if way == 0:
             del lines[place]
+        elif clauses and way > 2:
+            lines[place] = with_other_words(draw, lines[place])
         elif way == 1:
             lines.insert(place, lines[place])
         elif way == 2:
@@ -184,11 +226,11 @@ def random_text(draw: random.Random) -> str:
 
 
 def try_without_cover(folder: str, draw: random.Random, text: str) -> None:
-    lines = certificate(draw, text)
-    expect(f"the certificate of\n{text}" + "\n".join(lines), by_script(text, lines) == by_program(folder, text, lines) == "right")
-    other = changed(draw, lines)
-    said = by_script(text, other), by_program(folder, text, other)
-    expect(f"both say the same, not {said}, of\n{text}" + "\n".join(other), said[0] == said[1])
+    for lines in certificates(draw, text):
+        expect(f"the certificate of\n{text}" + "\n".join(lines), by_script(text, lines) == by_program(folder, text, lines) == "right")
+        other = changed(draw, lines)
+        said = by_script(text, other), by_program(folder, text, other)
+        expect(f"both say the same, not {said}, of\n{text}" + "\n".join(other), said[0] == said[1])
 
 
 def try_with_cover(folder: str, draw: random.Random, text: str) -> None:
@@ -202,16 +244,12 @@ def try_with_cover(folder: str, draw: random.Random, text: str) -> None:
             break
         del options[draw.choice(cover)]
         rest = "\n".join([head, *options]) + "\n"
-    lines = certificate(draw, rest)
-    lines[1] = certificate_head(text)
-    for other in (lines, changed(draw, lines), changed(draw, lines)):
-        said = by_script(text, other), by_program(folder, text, other)
-        expect(f"it is refused at one line, not {said}:\n{text}" + "\n".join(other), said[0] == said[1] and said[0].startswith("wrong"))
-
-
-def certificate_head(text: str) -> str:
-    names, _, options, _ = read(text.encode())
-    return f"cases {len(names)} {len(options)}"
+    names, _, kept, _ = read(text.encode())
+    for lines in certificates(draw, rest):
+        lines[1] = f"{lines[1].split()[0]} {len(names)} {len(kept)}"
+        for other in (lines, changed(draw, lines), changed(draw, lines)):
+            said = by_script(text, other), by_program(folder, text, other)
+            expect(f"it is refused at one line, not {said}:\n{text}" + "\n".join(other), said[0] == said[1] and said[0].startswith("wrong"))
 
 
 def main() -> int:

@@ -1,4 +1,5 @@
 pub mod Cases
+pub mod Heads
 pub mod Reasons
 pub mod Refutations
 pub mod Stuck

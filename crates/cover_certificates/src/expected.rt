@@ -3,7 +3,7 @@
 pub enum Expected {
     /// The line `none`.
     None,
-    /// The line `cases`, with the numbers of items and of options of this problem.
+    /// The line `cases` or `clauses`, with the numbers of items and of options of this problem.
     Counts,
     /// A line that refutes a case, such as an item's number.
     Refutation,
@@ -21,6 +21,12 @@ pub enum Expected {
     Reason,
     /// A reason that holds here.
     ReasonHere,
+    /// A clause, or one that is to be forgotten: literals and hints, of options of this problem.
+    Clause,
+    /// A clause that follows along its hints.
+    Following,
+    /// The number of a clause that there is.
+    KnownClause,
     /// The end of the text, since all is refuted.
     End,
 }

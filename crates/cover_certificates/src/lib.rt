@@ -3,10 +3,13 @@
 
 mod case;
 mod certificate;
+mod checked;
+mod clause_line;
 mod expected;
 mod fault;
 mod items;
 mod laws;
+mod learning;
 mod line;
 mod notes;
 mod reasons;
@@ -16,6 +19,7 @@ mod sparing;
 mod tables;
 mod words;
 
-pub use certificate::{Checked, check_certificate};
+pub use certificate::{begins_certificate, check_certificate};
+pub use checked::Checked;
 pub use expected::Expected;
 pub use laws::{refutations_are_sound, stuck_items_exclude_covers};

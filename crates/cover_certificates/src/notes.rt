@@ -13,6 +13,10 @@ pub(crate) fn reason_of(
     primary: usize,
     items: usize,
 ) -> Result<Option<Reason>, AllocError> {
+    // (a space parts two words: none stands behind the last one)
+    if line.last() == Some(&b' ') {
+        return Ok(None);
+    }
     let (word, rest) = cut(line, b' ');
     let (first, pairs) = cut(rest, b' ');
     let Some(number) = number_of(first) else {

@@ -102,7 +102,7 @@ pub(crate) fn cut(text: &[u8], byte: u8) -> (&[u8], &[u8])
 }
 
 /// Returns what stands behind the first byte of a line.
-fn behind_sign(line: &[u8]) -> &[u8] {
+pub(crate) fn behind_sign(line: &[u8]) -> &[u8] {
     if line.is_empty() {
         return line;
     }
