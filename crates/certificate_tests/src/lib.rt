@@ -1,4 +1,4 @@
-//! Tests of `cover_certificates`: certificates written by hand, right and wrong. Nothing else is here, since a crate with tests is proved twice.
+//! Tests of certificates: some written by hand, right and wrong, and those that a learner writes.
 #![tactic(auto)]
 
 #[cfg(test)]

@@ -3,6 +3,8 @@
 //! Of the bugs of `cover_certificates` that are kept outside the gate, `wrong_certificates` finds `forgotten_clause_stays` and
 //! `text_goes_on_behind_the_empty_clause`.
 
+mod engine;
+
 use cover_certificates::{Checked, Expected, begins_certificate, check_certificate};
 use dlx_reader::{AnswerFault, read_answer, read_problem};
 use std::alloc::Global;
