@@ -1,3 +1,5 @@
+use implied_clauses::{Hint, Literal};
+
 /// What a learner has done so far.
 #[derive(Clone, Copy, Debug, PartialEq, Eq)]
 pub struct Figures {
@@ -23,8 +25,14 @@ impl Figures {
     }
 }
 
-/// What looks at a learner now and then, and may stop it.
+/// What looks at a learner now and then, and may stop it. It hears of each clause, too.
 pub trait LearnerWatch {
     /// Looks at what was done so far. Answers whether the learner is to stop.
     fn look(&mut self, figures: &Figures) -> bool;
+
+    /// Hears that the kernel learned a clause along hints, and at which of its places the clause stands now.
+    fn learned(&mut self, _place: u32, _clause: &[Literal], _hints: &[Hint]) {}
+
+    /// Hears that the kernel forgot the clause at a place.
+    fn forgot(&mut self, _place: u32) {}
 }

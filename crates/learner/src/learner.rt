@@ -15,7 +15,7 @@ use crate::layout::Layout;
 use crate::packed::Packed;
 use crate::proof::Proof;
 use crate::propagation::propagate;
-use crate::reducing::{reduce, watch};
+use crate::reducing::{reduce, watch_first_two};
 use crate::restarts::Restarts;
 use crate::settings::Settings;
 use crate::store::Store;
@@ -145,12 +145,12 @@ impl<'a> Learner<'a> {
     }
 
     /// Lets the kernel learn that the literals of the first level are true, those that it hasn't learned yet. Returns whether it did.
-    fn settle(&mut self) -> Result<bool, AllocError>
+    fn settle<W: LearnerWatch>(&mut self, watch: &mut W) -> Result<bool, AllocError>
         ensures { self.new ≡ self.old }
     {
         for place in self.settled..self.now.trail.literals().len() {
             let literal = at(self.now.trail.literals(), place, Packed::NONE);
-            if !self.settle_one(literal)? {
+            if !self.settle_one(literal, watch)? {
                 return Ok(false);
             }
         }
@@ -159,7 +159,11 @@ impl<'a> Learner<'a> {
     }
 
     /// The same for one literal, which follows from those before it.
-    fn settle_one(&mut self, literal: Packed) -> Result<bool, AllocError>
+    fn settle_one<W: LearnerWatch>(
+        &mut self,
+        literal: Packed,
+        watch: &mut W,
+    ) -> Result<bool, AllocError>
         ensures { self.new ≡ self.old }
     {
         if self.proof.is_settled(literal.option()) {
@@ -167,7 +171,8 @@ impl<'a> Learner<'a> {
         }
         let cause = self.now.trail.step(literal.option()).cause;
         self.hint_settled(cause, literal)?;
-        self.proof.learn_unit(self.alloc, literal, &self.hints)
+        self.proof
+            .learn_unit(self.alloc, literal, &self.hints, watch)
     }
 
     /// Writes the hints of the clause of a cause, whose other literals are settled.
@@ -185,19 +190,27 @@ impl<'a> Learner<'a> {
     }
 
     /// Lets the kernel learn the empty clause, where a clause is falsified at the first level.
-    fn refute(&mut self, falsified: Cause) -> Result<End, AllocError>
+    fn refute<W: LearnerWatch>(
+        &mut self,
+        falsified: Cause,
+        watch: &mut W,
+    ) -> Result<End, AllocError>
         ensures { self.new ≡ self.old }
     {
-        if !self.settle()? {
+        if !self.settle(watch)? {
             return Ok(End::Stopped);
         }
         self.hint_settled(falsified, Packed::NONE)?;
-        self.proof.learn(self.alloc, &[], &self.hints)?;
+        self.proof.learn(self.alloc, &[], &self.hints, watch)?;
         Ok(End::Refuted)
     }
 
     /// Learns from a clause that is falsified, and goes back to where the learned clause says something. Returns whether the kernel took it.
-    fn learn_from(&mut self, falsified: Cause) -> Result<bool, AllocError>
+    fn learn_from<W: LearnerWatch>(
+        &mut self,
+        falsified: Cause,
+        watch: &mut W,
+    ) -> Result<bool, AllocError>
         ensures { self.new ≡ self.old }
     {
         self.analysis.analyse(
@@ -223,30 +236,35 @@ impl<'a> Learner<'a> {
         let first = at(self.analysis.learned(), 0, Packed::NONE);
         if self.analysis.learned().len() < 2 {
             self.now.set(&self.layout, first, Cause::Decision);
-            return self.proof.learn_unit(self.alloc, first, &self.hints);
+            return self.proof.learn_unit(self.alloc, first, &self.hints, watch);
         }
-        self.keep(first, glue)
+        self.keep(first, glue, watch)
     }
 
     /// Keeps the clause that was learned, if the kernel takes it, and makes its first literal true.
-    fn keep(&mut self, first: Packed, glue: u16) -> Result<bool, AllocError>
+    fn keep<W: LearnerWatch>(
+        &mut self,
+        first: Packed,
+        glue: u16,
+        watch: &mut W,
+    ) -> Result<bool, AllocError>
         ensures { self.new ≡ self.old }
     {
         let Some(place) = self
             .proof
-            .learn(self.alloc, self.analysis.learned(), &self.hints)?
+            .learn(self.alloc, self.analysis.learned(), &self.hints, watch)?
         else {
             return Ok(false);
         };
         let number = self.store.add(self.analysis.learned(), place, glue, self.figures.conflicts)?;
         self.watches.reserve(self.store.bound())?;
-        watch(&self.store, &mut self.watches, number);
+        watch_first_two(&self.store, &mut self.watches, number);
         self.now.set(&self.layout, first, Cause::Clause(number));
         Ok(true)
     }
 
     /// Drops clauses where there are too many, or where there is no room. Returns whether there is room then.
-    fn make_room(&mut self) -> Result<bool, AllocError>
+    fn make_room<W: LearnerWatch>(&mut self, watch: &mut W) -> Result<bool, AllocError>
         ensures { self.new ≡ self.old }
     {
         if self.store.count() < self.bound && self.store.bytes() < self.memory {
@@ -258,6 +276,7 @@ impl<'a> Learner<'a> {
             &mut self.store,
             &mut self.watches,
             &mut self.proof,
+            watch,
         )?;
         self.bound = self.bound.saturating_add(self.bound / 10);
         Ok(self.store.bytes() < self.memory)
@@ -273,31 +292,35 @@ impl<'a> Learner<'a> {
     }
 
     /// Meets a conflict: learns from it, or ends the search.
-    fn meet(&mut self, falsified: Cause) -> Result<Option<End>, AllocError>
+    fn meet<W: LearnerWatch>(
+        &mut self,
+        falsified: Cause,
+        watch: &mut W,
+    ) -> Result<Option<End>, AllocError>
         ensures { self.new ≡ self.old }
     {
         self.figures.conflicts = self.figures.conflicts.wrapping_add(1);
         if self.now.trail.level() == 0 {
-            return Ok(Some(self.refute(falsified)?));
+            return Ok(Some(self.refute(falsified, watch)?));
         }
-        if !self.learn_from(falsified)? {
+        if !self.learn_from(falsified, watch)? {
             return Ok(Some(End::Stopped));
         }
         Ok(None)
     }
 
     /// Goes on after propagation without a conflict: begins again, drops clauses, decides.
-    fn go_on(&mut self) -> Result<Option<End>, AllocError>
+    fn go_on<W: LearnerWatch>(&mut self, watch: &mut W) -> Result<Option<End>, AllocError>
         ensures { self.new ≡ self.old }
     {
-        if self.now.trail.level() == 0 && !self.settle()? {
+        if self.now.trail.level() == 0 && !self.settle(watch)? {
             return Ok(Some(End::Stopped));
         }
         if self.restarts.is_due(self.figures.conflicts) && self.now.trail.level() > 0 {
             self.restart();
             return Ok(None);
         }
-        if !self.make_room()? {
+        if !self.make_room(watch)? {
             return Ok(Some(End::Stopped));
         }
         Ok(self.decide_next())
@@ -321,7 +344,7 @@ impl<'a> Learner<'a> {
     }
 
     /// Propagates, and does what comes next.
-    fn turn(&mut self) -> Result<Option<End>, AllocError>
+    fn turn<W: LearnerWatch>(&mut self, watch: &mut W) -> Result<Option<End>, AllocError>
         ensures { self.new ≡ self.old }
     {
         let falsified = propagate(
@@ -331,8 +354,8 @@ impl<'a> Learner<'a> {
             &mut self.store,
         );
         match falsified {
-            Some(falsified) => self.meet(falsified),
-            None => self.go_on(),
+            Some(falsified) => self.meet(falsified, watch),
+            None => self.go_on(watch),
         }
     }
 
@@ -341,7 +364,7 @@ impl<'a> Learner<'a> {
         ensures { self.new ≡ self.old }
     {
         for turn in 0..u64::MAX {
-            if let Some(end) = self.turn()? {
+            if let Some(end) = self.turn(watch)? {
                 return Ok(end);
             }
             if turn % 128 == 0 && watch.look(&self.figures()) {

@@ -6,6 +6,7 @@ ghost use Rattle.implied_clauses.specs.Clauses.{IsImplied};
 ghost use Rattle.implied_clauses.specs.declared.literal.Literal.TheVariants.{Left};
 ghost use Rattle.learner.specs.Covers.{HasNoCover};
 
+use crate::figures::{Figures, LearnerWatch};
 use crate::packed::Packed;
 use crate::tables::{at, put};
 use cover_problem::Problem;
@@ -46,14 +47,25 @@ fn one_is_left(alloc: Global, options: &[u16]) -> Result<Vec<Literal>, AllocErro
         .collect(alloc)
 }
 
+/// A watch that hears of nothing.
+#[derive(Drop)]
+struct Unheard;
+
+impl LearnerWatch for Unheard {
+    fn look(&mut self, _figures: &Figures) -> bool {
+        false
+    }
+}
+
 /// Lets the kernel learn a clause by the hints, at a place that is free. Returns the place, or none where the clause doesn't follow. The only
 /// error is out of memory.
-fn learn_written(
+fn learn_written<W: LearnerWatch>(
     kernel: &mut ImpliedClauses<'_>,
     free: &mut Vec<u32>,
     alloc: Global,
     clause: &[Literal],
     hints: &[Hint],
+    watch: &mut W,
 ) -> Result<Option<u32>, AllocError>
     ensures kept { kernel.new.problem ≡ kernel.old.problem }
     ensures implied { IfOk result (λ place.
@@ -70,7 +82,9 @@ fn learn_written(
     if !kernel.learn(alloc, place, clause, hints)? {
         return Ok(None);
     }
-    Ok(Some((place & 0xffff_ffff) as u32))
+    let place = (place & 0xffff_ffff) as u32;
+    watch.learned(place, clause, hints);
+    Ok(Some(place))
 }
 
 impl<'a> Model for Proof<'a> {
@@ -121,11 +135,12 @@ impl<'a> Proof<'a> {
 
     /// Lets the kernel learn a clause by the hints. Returns the clause's place, or none where it doesn't follow. The only error is out of
     /// memory.
-    pub fn learn(
+    pub fn learn<W: LearnerWatch>(
         &mut self,
         alloc: Global,
         clause: &[Packed],
         hints: &[Hint],
+        watch: &mut W,
     ) -> Result<Option<u32>, AllocError>
         ensures { self.new ≡ self.old }
     {
@@ -136,6 +151,7 @@ impl<'a> Proof<'a> {
             alloc,
             &self.literals,
             hints,
+            watch,
         )
     }
 
@@ -152,25 +168,33 @@ impl<'a> Proof<'a> {
     {
         barren_prefixes_are_implied_clauses();
         let clause = one_is_left(alloc, options)?;
-        let learned = learn_written(&mut self.kernel, &mut self.free, alloc, &clause, hints)?;
+        let learned = learn_written(
+            &mut self.kernel,
+            &mut self.free,
+            alloc,
+            &clause,
+            hints,
+            &mut Unheard,
+        )?;
         let Some(place) = learned else {
             return Ok(false);
         };
         // (the answer is all that it is for)
-        self.forget(place)?;
+        self.forget(place, &mut Unheard)?;
         Ok(true)
     }
 
     /// The same for a clause of one literal, whose place is kept.
-    pub fn learn_unit(
+    pub fn learn_unit<W: LearnerWatch>(
         &mut self,
         alloc: Global,
         literal: Packed,
         hints: &[Hint],
+        watch: &mut W,
     ) -> Result<bool, AllocError>
         ensures { self.new ≡ self.old }
     {
-        let Some(place) = self.learn(alloc, &[literal], hints)? else {
+        let Some(place) = self.learn(alloc, &[literal], hints, watch)? else {
             return Ok(false);
         };
         put(&mut self.units, literal.option() as usize, place);
@@ -178,10 +202,11 @@ impl<'a> Proof<'a> {
     }
 
     /// Lets the kernel forget a clause. The only error is out of memory.
-    pub fn forget(&mut self, place: u32) -> Result<(), AllocError>
+    pub fn forget<W: LearnerWatch>(&mut self, place: u32, watch: &mut W) -> Result<(), AllocError>
         ensures { self.new ≡ self.old }
     {
         self.kernel.forget(place as usize);
+        watch.forgot(place);
         self.free.push(place)?;
         Ok(())
     }

@@ -2,6 +2,7 @@
 
 ghost use Rattle.std.specs.Prelude.{◌≡◌};
 
+use crate::figures::LearnerWatch;
 use crate::packed::Packed;
 use crate::proof::Proof;
 use crate::store::Store;
@@ -47,30 +48,36 @@ fn candidates(alloc: Global, trail: &Trail, store: &Store) -> Result<Vec<Candida
 }
 
 /// Drops clauses.
-fn drop_all(store: &mut Store, proof: &mut Proof<'_>, list: &[Candidate]) -> Result<(), AllocError>
+fn drop_all<W: LearnerWatch>(
+    store: &mut Store,
+    proof: &mut Proof<'_>,
+    list: &[Candidate],
+    watch: &mut W,
+) -> Result<(), AllocError>
     ensures { proof.new ≡ proof.old }
 {
     for candidate in list {
-        proof.forget(store.clause(candidate.2).place)?;
+        proof.forget(store.clause(candidate.2).place, watch)?;
         store.drop_clause(candidate.2);
     }
     Ok(())
 }
 
 /// Drops the worse half of the clauses that may be dropped, and gives back their room.
-pub fn reduce(
+pub fn reduce<W: LearnerWatch>(
     alloc: Global,
     trail: &Trail,
     store: &mut Store,
     watches: &mut Watches,
     proof: &mut Proof<'_>,
+    watch: &mut W,
 ) -> Result<(), AllocError>
     ensures { proof.new ≡ proof.old }
 {
     let list = candidates(alloc, trail, store)?;
     let worse = list.len() / 2;
     if let Some(worst) = list.get(..worse) {
-        drop_all(store, proof, worst)?;
+        drop_all(store, proof, worst, watch)?;
     }
     store.compact(alloc)?;
     watch_all(store, watches);
@@ -81,12 +88,12 @@ pub fn reduce(
 fn watch_all(store: &Store, watches: &mut Watches) {
     watches.clear();
     for number in 0..(store.bound() & 0xffff_ffff) as u32 {
-        watch(store, watches, number);
+        watch_first_two(store, watches, number);
     }
 }
 
 /// Lets a clause watch its first two literals.
-pub fn watch(store: &Store, watches: &mut Watches, number: u32) {
+pub fn watch_first_two(store: &Store, watches: &mut Watches, number: u32) {
     let row = store.row(number);
     if row.len() < 2 {
         return;

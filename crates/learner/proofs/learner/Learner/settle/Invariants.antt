@@ -2,4 +2,4 @@ use Rattle.std.proofs.Common.{◌≡◌}
 use Rattle.learner.proofs.learner.Learner.settle.Given as goal
 
 abbrev pub invariant-loop-place : goal.invariant-loop-place
-invariant-loop-place l = l.self ≡ l.initial.self
+invariant-loop-place g l = l.self ≡ l.initial.self
