@@ -44,8 +44,13 @@ fn found_of<L: LearnerWatch>(
     Ok(found)
 }
 
-/// Looks for a cover, writes what was found, and returns the status.
-fn write_learned<L: LearnerWatch, W: Sink>(
+/// Learns until it has an answer or the watch stops it, writes an exact cover, with the options in the order of the file, or `none`, or `no
+/// answer`, and returns the status.
+///
+/// # Errors
+///
+/// `Write` where the sink failed, after a beginning of the text, and `Memory`, before any of it.
+pub fn learn_problem<L: LearnerWatch, W: Sink>(
     alloc: Global,
     problem: &Problem,
     settings: Settings,
@@ -88,7 +93,7 @@ pub fn learn_engine<R: Source, W: Sink, L: LearnerWatch>(
 {
     let text = read_all(alloc, source)?;
     let read = problem_of(alloc, &text)?;
-    let status = write_learned(alloc, &read.problem, settings, watch, sink)?;
+    let status = learn_problem(alloc, &read.problem, settings, watch, sink)?;
     Ok(EngineEnd {
         status,
         ignored: read.ignored,

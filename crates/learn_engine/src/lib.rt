@@ -5,6 +5,6 @@ mod learn;
 mod learn_progress;
 mod learn_watch;
 
-pub use learn::{LearnEnd, learn_engine};
+pub use learn::{LearnEnd, learn_engine, learn_problem};
 pub use learn_progress::LearnProgress;
 pub use learn_watch::LearnWatch;

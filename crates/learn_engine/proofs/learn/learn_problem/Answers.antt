@@ -1,7 +1,7 @@
 use Rattle.std.proofs.Common.{refl}
 use Rattle.learn_engine.specs.Learn.{LearnSays, found_said}
 use Rattle.learn_engine.proofs.Saying.{output_of}
-use Rattle.learn_engine.proofs.learn.write_learned.Goals as goal
+use Rattle.learn_engine.proofs.learn.learn_problem.Goals as goal
 
 pub returns-in-Ok-clause-output : goal.returns-in-Ok-clause-output
 returns-in-Ok-clause-output g c =
