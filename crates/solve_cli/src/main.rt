@@ -5,6 +5,7 @@ ghost use Rattle.std.specs.Prelude.{◌≡◌, IfOk};
 
 use answer_engine::Task;
 pub use answer_engine::{AnswerEnd, answer_engine};
+use certificate_engine::{begins_certificate, certificate_engine};
 use command_line::request;
 pub use command_line::{SettingsFault, settings};
 pub use cover_engines::{
@@ -22,6 +23,7 @@ pub use learn_engine::{LearnEnd, learn_engine};
 pub use reason_engine::{WhyEnd, why_engine};
 pub use run_settings::{Mode, Settings};
 use run_settings::{Request, STANDARD_INPUT};
+use search_engines::read_all;
 use std::env;
 use std::fs::File;
 use std::io::{self, ErrorKind, IsTerminal, Stdin};
@@ -149,7 +151,7 @@ fn run_answer<R: Threads + Wait + Clock + Sync>(
     status
 }
 
-/// Runs `check` on a file and an answer's file, and returns the exit status.
+/// Runs `check` on a file and an answer's or a certificate's file, and returns the exit status.
 fn run_check(rt: &HostRuntime, request: &Request<'_>) -> u8
     requires { request.now.settings.mode ≡ Mode.Check }
 {
@@ -169,7 +171,6 @@ fn run_check(rt: &HostRuntime, request: &Request<'_>) -> u8
         Err(error) => return tell_unopened(answer_name, error.kind(), &mut errors),
     };
     let ended = check_inputs(rt, request, &limits, &mut file, &mut answer);
-    // (the problem is read first, so a fault is the answer's only where the problem had none)
     let unread = if file.failures() > 0 {
         settings.file
     } else {
@@ -181,7 +182,7 @@ fn run_check(rt: &HostRuntime, request: &Request<'_>) -> u8
     status
 }
 
-/// Tests the answer in one source to the problem in the other, and writes whether it is right.
+/// Tests the answer, or the certificate, in one source to the problem in the other, and writes whether it is right.
 fn check_inputs(
     rt: &HostRuntime,
     request: &Request<'_>,
@@ -194,6 +195,11 @@ fn check_inputs(
 {
     let mut sink = CountedWriter::new(rt.stdout());
     let (alloc, fuel) = (rt.alloc(), request.settings.fuel);
+    let given = read_all(alloc, answer)?;
+    if begins_certificate(&given) {
+        return certificate_engine(alloc, file, &given, &mut sink);
+    }
+    let answer = &mut CountedReader::new(given.as_slice());
     // (three engines: only one with a limit of time may write no answer at any moment, so the contracts of the others say more)
     if limits.time.is_some() {
         check_within(rt, alloc, limits, file, answer, &mut sink)

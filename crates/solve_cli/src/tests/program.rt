@@ -4,7 +4,7 @@ use crate::run_words;
 use std::fs;
 
 /// Each with its status; the files are those that are written below.
-static WORDS: [(&[&str], u8); 41] = [
+static WORDS: [(&[&str], u8); 43] = [
     (&["solve_cli"], 2),
     (&["solve_cli", "--help"], 0),
     (&["solve_cli", "check", "--help"], 0),
@@ -22,6 +22,8 @@ static WORDS: [(&[&str], u8); 41] = [
         4,
     ),
     (&["solve_cli", "check", "cover.txt", "p.dlx"], 3),
+    (&["solve_cli", "check", "q.dlx", "clauses.txt"], 0),
+    (&["solve_cli", "check", "p.dlx", "clauses.txt"], 1),
     (&["solve_cli", "alone", "p.dlx", "--unlimited"], 0),
     (
         &["solve_cli", "alone", "q.dlx", "--unlimited", "--progress"],
@@ -114,6 +116,7 @@ fn words_end_with_their_status(rt: HostRuntime) {
     fs::write(&rt, "q.dlx", "a b\na\n").expect(&rt, "a folder");
     fs::write(&rt, "cover.txt", "cover 1\na\n").expect(&rt, "a folder");
     fs::write(&rt, "none.txt", "none\n").expect(&rt, "a folder");
+    fs::write(&rt, "clauses.txt", "none\nclauses 2 1\n1\n").expect(&rt, "a folder");
     for (words, status) in WORDS.iter() {
         assert!(rt; run_words(&rt, &rt, words) == *status);
     }
