@@ -1,13 +1,15 @@
--- What the search in the defined order finds is right.
-use Rattle.std.proofs.Common.{◌≡◌, ℕ, List, [], Option, Some, None, refl, sym, subst}
+-- What the search in the defined order finds is right, and so is what a run in memory settles.
+use Rattle.std.proofs.Common.{◌≡◌, ℕ, Bool, List, [], Option, Some, None, refl, sym, subst}
 use Rattle.cover_problem.specs.ExactCover.{IsExactCover, in_order}
 use Rattle.cover_problem.specs.Numbers.{is_in}
 use Rattle.cover_problem.specs.Problem.{Problem}
 use Rattle.cover_problem.specs.Search.{first}
+use Rattle.cover_problem.specs.declared.answer.Answer.{Answer}
+use Rattle.cover_problem.specs.declared.answer.Answer.TheVariants.{Cover, NoCover}
 use Rattle.cover_problem.proofs.Covering.{first_covers, none_barren}
 use Rattle.cover_problem.proofs.Ordered.{in_order_rises}
 use Rattle.cover_problem.proofs.Sets.{in_order_same}
-use Rattle.learner.specs.Covers.{IsCoverOf, HasNoCover}
+use Rattle.memory_run.specs.Settled.{IsSettled}
 use Rattle.search_engines.specs.Alone.{answer_by}
 use Rattle.answer_engine.specs.Answers.{IsRight}
 
@@ -27,3 +29,11 @@ by_first problem None e = record {
 
 pub first_is_right : (problem : Problem) → IsRight problem (answer_by problem (first problem []))
 first_is_right problem = by_first problem (first problem []) refl
+
+no_first : (problem : Problem) (found : Option (List ℕ)) → first problem [] ≡ found → ((chosen : ℕ → Bool) → IsExactCover problem chosen → ⊥) → found ≡ None
+no_first problem None e none = refl
+no_first problem (Some chosen) e none = absurd (none (is_in chosen) (first_covers problem [] chosen refl e).cover)
+
+pub settled_is_right : (problem : Problem) (answer : Answer) → IsSettled problem answer → IsRight problem answer
+settled_is_right problem (Cover options) settled = record { exact = settled.0; order = settled.1 }
+settled_is_right problem NoCover settled = record { none = settled; first = no_first problem (first problem []) refl settled }

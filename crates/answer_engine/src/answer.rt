@@ -6,9 +6,9 @@ ghost use Rattle.answer_engine.specs.Answers.{AnswerSays, IsRight};
 ghost use Rattle.search_engines.specs.Engines.{IsEnded, refuses_none};
 ghost use Rattle.search_engines.specs.Output.{IsOutputOf};
 
-use crate::lanes::{learner_lane, search_lane};
+use crate::lanes::{learner_lane, run_lane, search_lane};
 use crate::race::{Race, Way};
-use crate::race_watches::SearchLane;
+use crate::race_watches::{LearnerLane, SearchLane};
 use brancher::Unwatched;
 use cover_problem::{Answer, Problem};
 use dlx_reader::{Sink, Source};
@@ -33,27 +33,59 @@ pub struct Task<'a, R: Threads + Wait + Clock + Sync> {
     pub alloc: Global,
     /// How long it may last; as long as it takes where there is none.
     pub time: Option<TimeLimit>,
+    /// How many threads may work at once: two search and learn, and what is more works for a run in memory.
+    pub threads: u64,
 }
 
-/// The answer of the first lane that has one. The only error is out of memory, where neither has one.
-fn first_of(
-    _problem: &Problem,
+/// What each lane has found.
+#[derive(Drop)]
+struct Found {
     searched: Result<Option<Answer>, AllocError>,
     learned: Result<Option<Answer>, AllocError>,
-) -> Result<Option<(Answer, Way)>, AllocError>
-    requires searched { IfOk searched (λ found. IfSome found (IsRight _problem.now)) }
-    requires learned { IfOk learned (λ found. IfSome found (IsRight _problem.now)) }
+    ran: Option<Answer>,
+}
+
+/// An answer of a lane that has one, and which lane that is. The only error is out of memory, where none has one.
+fn first_of(_problem: &Problem, found: Found) -> Result<Option<(Answer, Way)>, AllocError>
+    requires searched { IfOk found.searched (λ answer. IfSome answer (IsRight _problem.now)) }
+    requires learned { IfOk found.learned (λ answer. IfSome answer (IsRight _problem.now)) }
+    requires ran { IfSome found.ran (IsRight _problem.now) }
     ensures { IfOk result (λ found. IfSome found (λ won. IsRight _problem.now won.0)) }
 {
-    match (searched, learned) {
-        (Ok(Some(answer)), _) => Ok(Some((answer, Way::Search))),
-        (_, Ok(Some(answer))) => Ok(Some((answer, Way::Learning))),
-        (Ok(None), Ok(None)) => Ok(None),
-        (Err(fault), _) | (_, Err(fault)) => Err(fault),
+    match (found.searched, found.learned, found.ran) {
+        (Ok(Some(answer)), _, _) => Ok(Some((answer, Way::Search))),
+        (_, Ok(Some(answer)), _) => Ok(Some((answer, Way::Learning))),
+        (_, _, Some(answer)) => Ok(Some((answer, Way::Run))),
+        (Ok(None), Ok(None), None) => Ok(None),
+        (Err(fault), _, _) | (_, Err(fault), _) => Err(fault),
     }
 }
 
-/// Lets both lanes look for an answer until one of them has it or the time is over. The only error is out of memory.
+/// Lets workers run, if there are threads for them, and the search go on, until the race is over.
+fn run_and_search<V: EndWatch, R: Threads + Wait + Clock + Sync>(
+    task: &Task<'_, R>,
+    problem: &Problem,
+    race: &Race,
+    inner: &mut V,
+) -> (Option<Answer>, Result<Option<Answer>, AllocError>)
+    ensures ran { IfSome result.0 (IsRight problem.now) }
+    ensures searched { IfOk result.1 (λ found. IfSome found (IsRight problem.now)) }
+{
+    let (rt, alloc, threads) = (task.rt, task.alloc, task.threads);
+    let mut search = SearchLane {
+        clock: rt,
+        race,
+        time: task.time,
+        inner,
+    };
+    join(
+        rt,
+        || run_lane(rt, alloc, problem, threads, race),
+        || search_lane(alloc, problem, &mut search),
+    )
+}
+
+/// Lets all lanes look for an answer until one of them has it or the time is over. The only error is out of memory.
 fn raced<V: EndWatch, R: Threads + Wait + Clock + Sync>(
     task: &Task<'_, R>,
     problem: &Problem,
@@ -61,21 +93,27 @@ fn raced<V: EndWatch, R: Threads + Wait + Clock + Sync>(
 ) -> Result<Option<(Answer, Way)>, AllocError>
     ensures { IfOk result (λ found. IfSome found (λ won. IsRight problem.now won.0)) }
 {
-    let (rt, alloc, time) = (task.rt, task.alloc, task.time);
+    let (rt, alloc) = (task.rt, task.alloc);
     let race = Race::new();
-    let mut search = SearchLane {
+    let mut learning = LearnerLane {
         clock: rt,
         race: &race,
-        time,
-        inner: watch,
+        time: task.time,
     };
     // (the first closure may run in another thread, and the log of the search belongs to this one)
-    let (learned, searched) = join(
+    let (learned, (ran, searched)) = join(
         rt,
-        || learner_lane(rt, alloc, problem, &race, time),
-        || search_lane(rt, alloc, problem, &mut search),
+        || learner_lane(rt, alloc, problem, &mut learning),
+        || run_and_search(task, problem, &race, watch),
     );
-    first_of(problem, searched, learned)
+    first_of(
+        problem,
+        Found {
+            searched,
+            learned,
+            ran,
+        },
+    )
 }
 
 /// Returns an answer; none only where the time is limited, and over. The watch hears what found it. The only error is out of memory.
@@ -129,9 +167,9 @@ fn write_decided<V: EndWatch, W: Sink, R: Threads + Wait + Clock + Sync>(
     }
 }
 
-/// Reads a problem to its end, and writes an exact cover of it, with the options in the order of the file, or `none`, whichever of two
-/// lanes finds it first: a search that keeps states and looks for a reason, or a learner, which begins a tenth of a second later.
-/// Where the time is limited it may write `no answer`. How far the search has come, and which lane was first, goes to the log.
+/// Reads a problem to its end, and writes an exact cover of it, with the options in the order of the file, or `none`, whichever of three
+/// lanes finds it first: a search that keeps states and looks for a reason; a learner, which begins a tenth of a second later; and,
+/// where more than two threads may work, the workers of a run in memory, which begin then, too. Where the time is limited it may write `no answer`. How far the search has come, and which lane was first, goes to the log.
 ///
 /// # Errors
 ///

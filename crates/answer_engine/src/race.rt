@@ -1,5 +1,7 @@
 //! What the lanes of a race share.
 
+ghost use Rattle.std.specs.Prelude.{◌≤◌};
+
 use std::sync::Wait;
 use std::sync::atomic::{AtomicBool, Ordering};
 use std::thread::Parker;
@@ -8,6 +10,12 @@ use std::time::Duration;
 /// How many milliseconds the search is alone: what it decides in them needs no second thread at work.
 const ALONE: u64 = 100;
 
+/// How many threads the first two lanes have: what is more works in the third.
+const LANES: u64 = 2;
+
+/// How many workers a node has at most.
+const MOST_WORKERS: u64 = 8;
+
 /// What found an answer.
 #[derive(Clone, Copy, Debug, PartialEq, Eq)]
 pub enum Way {
@@ -15,6 +23,8 @@ pub enum Way {
     Search,
     /// A learner.
     Learning,
+    /// The workers of a run in memory.
+    Run,
 }
 
 impl Way {
@@ -23,19 +33,29 @@ impl Way {
         match self {
             Way::Search => "answered by the search",
             Way::Learning => "answered by learning",
+            Way::Run => "answered by workers",
         }
     }
 }
 
-/// What the lanes of a race tell each other. No answer depends on it: it says when the second one begins, and when both end.
+/// How many workers the third lane has where so many threads may work; none where the first two need all.
+pub(crate) fn workers_of(threads: u64) -> u8
+    ensures { result ≤ 8 }
+{
+    threads.saturating_sub(LANES).min(MOST_WORKERS) as u8
+}
+
+/// What the lanes of a race tell each other. No answer depends on it: it says when the others begin, and when all end.
 #[derive(Drop)]
 pub(crate) struct Race {
     /// The search has begun.
     has_begun: AtomicBool,
-    /// A lane has an answer, so the other ends.
-    is_won: AtomicBool,
+    /// A lane has an answer, or the time is over, so all end.
+    is_over: AtomicBool,
     /// Where the learner waits before it begins.
-    start: Parker,
+    learner: Parker,
+    /// Where the run waits before it begins.
+    run: Parker,
 }
 
 impl Race {
@@ -43,8 +63,9 @@ impl Race {
     pub(crate) fn new() -> Race {
         Race {
             has_begun: AtomicBool::new(false),
-            is_won: AtomicBool::new(false),
-            start: Parker::new(),
+            is_over: AtomicBool::new(false),
+            learner: Parker::new(),
+            run: Parker::new(),
         }
     }
 
@@ -53,23 +74,37 @@ impl Race {
         self.has_begun.store(true, Ordering::SeqCst);
     }
 
-    /// Waits until the search has lasted long enough for a second lane, or has ended. Returns whether the learner is to begin: not where
-    /// there is an answer, nor where the search hasn't begun. (The lane of a thread that can't be started runs before the other one.)
-    pub(crate) fn wait<R: Wait>(&self, rt: &R) -> bool {
-        self.start.park_timeout(rt, Duration::from_millis(ALONE));
-        self.has_begun.load(Ordering::SeqCst) && !self.is_won()
+    /// Waits, for the learner, as `is_begun` does for any lane.
+    pub(crate) fn begins_learning<R: Wait>(&self, rt: &R) -> bool {
+        self.is_begun(rt, &self.learner)
     }
 
-    /// A lane has ended, with an answer or without one.
-    pub(crate) fn end(&self, is_answered: bool) {
-        if is_answered {
-            self.is_won.store(true, Ordering::SeqCst);
-        }
-        self.start.unpark();
+    /// Waits, for the run, as `is_begun` does for any lane.
+    pub(crate) fn begins_run<R: Wait>(&self, rt: &R) -> bool {
+        self.is_begun(rt, &self.run)
     }
 
-    /// Whether a lane has an answer.
-    pub(crate) fn is_won(&self) -> bool {
-        self.is_won.load(Ordering::SeqCst)
+    /// Waits until the search has lasted long enough for a further lane, or has ended. Returns whether the lane is to begin: not where
+    /// the race is over, nor where the search hasn't begun. (The lane of a thread that can't be started runs before the others.)
+    fn is_begun<R: Wait>(&self, rt: &R, start: &Parker) -> bool {
+        start.park_timeout(rt, Duration::from_millis(ALONE));
+        self.has_begun.load(Ordering::SeqCst) && !self.is_over()
+    }
+
+    /// All lanes end, and those that wait don't begin.
+    pub(crate) fn end(&self) {
+        self.is_over.store(true, Ordering::SeqCst);
+        self.learner.unpark();
+        self.run.unpark();
+    }
+
+    /// Whether all lanes are to end.
+    pub(crate) fn is_over(&self) -> bool {
+        self.is_over.load(Ordering::SeqCst)
+    }
+
+    /// The flag that says so.
+    pub(crate) fn over(&self) -> &AtomicBool {
+        &self.is_over
     }
 }

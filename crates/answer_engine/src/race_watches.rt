@@ -1,4 +1,4 @@
-//! What stops the lanes of a race: the other one's answer, or the limit of time.
+//! What stops the lanes of a race: another one's answer, or the limit of time.
 
 use crate::race::Race;
 use brancher::Watch;
@@ -9,8 +9,22 @@ use std::time::Clock;
 /// Whether a lane is to end.
 fn is_over<C: Clock>(clock: &C, race: &Race, time: &Option<TimeLimit>) -> bool {
     match time {
-        Some(time) => race.is_won() || time.is_over(clock),
-        None => race.is_won(),
+        Some(time) => race.is_over() || time.is_over(clock),
+        None => race.is_over(),
+    }
+}
+
+/// Stops the learner once the race is over, or the time.
+#[derive(Drop)]
+pub(crate) struct LearnerLane<'a, 'b, C: Clock> {
+    pub(crate) clock: &'a C,
+    pub(crate) race: &'b Race,
+    pub(crate) time: Option<TimeLimit>,
+}
+
+impl<'a, 'b, C: Clock> LearnerWatch for LearnerLane<'a, 'b, C> {
+    fn look(&mut self, _figures: &Figures) -> bool {
+        is_over(self.clock, self.race, &self.time)
     }
 }
 
@@ -32,18 +46,9 @@ impl<'a, 'b, 'c, V: EndWatch, C: Clock> Watch for SearchLane<'a, 'b, 'c, V, C> {
         // (the other one looks first, so that a search that is stopped has its last line)
         self.inner.look(chosen, left) || is_over(self.clock, self.race, &self.time)
     }
-}
 
-/// Stops the learner.
-#[derive(Drop)]
-pub(crate) struct LearnerLane<'a, 'b, C: Clock> {
-    pub(crate) clock: &'a C,
-    pub(crate) race: &'b Race,
-    pub(crate) time: Option<TimeLimit>,
-}
-
-impl<'a, 'b, C: Clock> LearnerWatch for LearnerLane<'a, 'b, C> {
-    fn look(&mut self, _figures: &Figures) -> bool {
-        is_over(self.clock, self.race, &self.time)
+    #[inline(always)]
+    fn made(&mut self, visits: u64, left: u64) {
+        self.inner.made(visits, left);
     }
 }

@@ -1,6 +1,7 @@
 //! `learn` over texts in memory, each with one cover or none; the expected values were worked out by hand.
 
 mod answers;
+mod memory;
 
 use dlx_reader::{CountedReader, CountedWriter};
 use learn_engine::{LearnProgress, learn_engine};

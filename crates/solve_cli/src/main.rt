@@ -30,7 +30,7 @@ use std::io::{self, ErrorKind, IsTerminal, Stdin};
 use std::net::Net;
 use std::process::ExitCode;
 use std::sync::Wait;
-use std::thread::Threads;
+use std::thread::{self, Threads};
 use std::time::{Clock, Duration};
 
 /// What is read: a file, or standard input. The text is kept, so that a message can quote a name in it.
@@ -124,6 +124,14 @@ fn search_alone<W: Sink>(
     alone_within(rt, rt.alloc(), limits, source, &mut sink, log)
 }
 
+/// How many processors this process may use; one where the system doesn't say.
+fn processors<R: Threads>(threads: &R) -> u64 {
+    match thread::available_parallelism(threads) {
+        Ok(count) => count.get() as u64,
+        Err(_) => 1,
+    }
+}
+
 /// Runs `answer` on a file, and returns the exit status.
 fn run_answer<R: Threads + Wait + Clock + Sync>(
     rt: &HostRuntime,
@@ -141,6 +149,7 @@ fn run_answer<R: Threads + Wait + Clock + Sync>(
         rt: threads,
         alloc: rt.alloc(),
         time: limits.time,
+        threads: processors(threads),
     };
     let mut sink = CountedWriter::new(rt.stdout());
     let log = ProgressLog::new(&mut errors, line_style(rt, request.progress));

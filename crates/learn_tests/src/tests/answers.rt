@@ -46,6 +46,7 @@ fn answer_writes_answers(rt: HostRuntime) {
         rt,
         alloc,
         time: None,
+        threads: 4,
     };
     for (text, out, errors, status) in ANSWERS.iter() {
         let written = answered(&task, text, LineStyle::Silent);
@@ -58,8 +59,14 @@ fn answer_writes_answers(rt: HostRuntime) {
 fn answer_says_what_was_first(rt: HostRuntime) {
     let (rt, alloc) = (&rt, rt.alloc());
     let time = Some(TimeLimit::from_now(rt, Duration::from_secs(3_600)));
-    let task = Task { rt, alloc, time };
+    let task = Task {
+        rt,
+        alloc,
+        time,
+        threads: 1,
+    };
     let written = answered(&task, NO_COVER, LineStyle::Listed);
     assert!(rt; written.is("none\n", "answered by the search\n", 1));
     assert!(rt; Way::Learning.line() == "answered by learning");
+    assert!(rt; Way::Run.line() == "answered by workers");
 }
