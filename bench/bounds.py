@@ -12,21 +12,25 @@ named, or all, are measured:
 - `idle-entries`: the bytes that a book takes for an entry of a site without work: such entries share a step;
 - `only-worker`: how many searches the only worker of a run makes for a problem of 650,000 visits: it has no limit;
 - `equal-parts`: the processor seconds of four workers of a node to those of one, where 32 parts of the search are equal: what one
-  worker found the others know. Workers meet by chance, so a run without this may stay below the bound.
+  worker found the others know. Workers meet by chance, so a run without this may stay below the bound;
+- `late-seconds`: how many seconds after the one that it has `alone --unlimited` ends, on files of the most items and options that a search doesn't decide:
+  the search for a reason is ended, too.
 
 The least of five audits counts, and all of five runs. Seconds of audits are by the clock: on a busy machine they may be beyond a bound where
 nothing is wrong.
 
-It wants the program: (cd crates/workbench && rt run) builds it. The exit status is 0, 1 where a figure is beyond its bound or an answer
-is wrong, 2 for a mistake on the command line or where the program is missing.
+It wants the programs: (cd crates/workbench && rt run) and (cd crates/solve_cli && rt run -- --version) build them. The exit status is 0, 1 where a figure is beyond its bound or an answer
+is wrong, 2 for a mistake on the command line or where a program is missing.
 """
 from __future__ import annotations
 
 import math
 import os
+import random
 import subprocess
 import sys
 import tempfile
+import time
 from collections.abc import Callable
 from typing import NamedTuple
 
@@ -34,7 +38,8 @@ HERE = os.path.dirname(os.path.abspath(__file__))
 sys.path.insert(0, os.path.join(HERE, "..", "scripts"))
 import audits  # noqa: E402
 import books  # noqa: E402
-from built import WORKBENCH, parser_of, stop, want_program  # noqa: E402
+import finding  # noqa: E402
+from built import SOLVE_CLI, WORKBENCH, parser_of, stop, want_program  # noqa: E402
 from instances import torus_queens  # noqa: E402
 from solve import behind  # noqa: E402
 from zarfepoch import generate  # noqa: E402
@@ -105,6 +110,25 @@ def equal_parts(folder: str) -> float:
     return seconds[1] / seconds[0]
 
 
+def drawn(path: str, items: int, options: int, length: int) -> None:
+    """Options of so many items each, drawn at random."""
+    draw = random.Random(items + length)
+    finding.write(path, [[f"i{item}" for item in sorted(draw.sample(range(items), length))] for _ in range(options)])
+
+
+def late_seconds(folder: str) -> float:
+    late = 0.0
+    for items, options, length in ((1_000, 20_000, 4), (1_000, 20_000, 20), (1_000, 4_000, 100), (500, 20_000, 3)):
+        path = os.path.join(folder, "drawn.dlx")
+        drawn(path, items, options, length)
+        began = time.perf_counter()
+        ran = subprocess.run([SOLVE_CLI, "alone", path, "--unlimited", "--seconds", "1"], capture_output=True)
+        took = time.perf_counter() - began
+        if ran.returncode == 4:
+            late = max(late, took - 1)
+    return late
+
+
 class Bound(NamedTuple):
     """What is measured, and the greatest figure that is good."""
     measure: Callable[[str], float]
@@ -117,6 +141,7 @@ BOUNDS = {
     "idle-entries": Bound(idle_entries, 64),
     "only-worker": Bound(only_worker, 4),
     "equal-parts": Bound(equal_parts, 2),
+    "late-seconds": Bound(late_seconds, 0.2),
 }
 
 
@@ -128,6 +153,7 @@ def main() -> int:
         if name not in BOUNDS:
             stop(f"there is no bound {name}")
     want_program(WORKBENCH, "workbench")
+    want_program(SOLVE_CLI)
     print("| Bound | Figure | At most |\n|---|---|---|", flush=True)
     is_good = True
     with tempfile.TemporaryDirectory() as folder:

@@ -55,11 +55,11 @@ impl Kind {
     }
 
     /// Makes the kind that of an item: of each option of its owners the item that is most like it, of those that no option names beside it.
-    /// Returns how many items were looked at.
+    /// Returns about how many items, and words of sets of items, were looked at.
     pub fn set(&mut self, problem: &Problem, neighbours: &Neighbours, one: usize) -> usize {
         self.items.clear();
-        self.compare(problem, neighbours, one);
-        let mut steps = self.meet_companions(problem, neighbours, one);
+        let mut steps = self.compare(problem, neighbours, one);
+        steps = steps.saturating_add(self.meet_companions(problem, neighbours, one));
         self.items.insert(one);
         let Some(owners) = neighbours.owners(one) else {
             return steps;
@@ -91,8 +91,8 @@ impl Kind {
         common != before || common != self.items.count()
     }
 
-    /// Notes how like the one all items are.
-    fn compare(&mut self, problem: &Problem, neighbours: &Neighbours, one: usize) {
+    /// Notes how like the one all items are. Returns how many words of sets were looked at.
+    fn compare(&mut self, problem: &Problem, neighbours: &Neighbours, one: usize) -> usize {
         for item in 0..problem.items() {
             let likeness = if neighbours.is_plain(item) {
                 neighbours.likeness(one, item)
@@ -101,6 +101,8 @@ impl Kind {
             };
             self.likeness.put(item, likeness);
         }
+        // (each likeness goes through the sets of both items' owners)
+        problem.items().saturating_mul(problem.primary() / 64 + 1)
     }
 
     /// Notes the items that options name beside the one. Returns how many items were looked at.

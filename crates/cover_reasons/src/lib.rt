@@ -12,6 +12,7 @@ mod matching;
 mod neighbours;
 mod reason;
 mod reason_finder;
+mod reason_watch;
 mod room;
 mod room_finder;
 mod room_test;
@@ -23,7 +24,8 @@ mod weights_test;
 
 pub use laws::{lack_of_room_excludes_covers, reasons_exclude_covers, weights_exclude_covers};
 pub use reason::{Reason, holds_of};
-pub use reason_finder::find_reason;
+pub use reason_finder::{find_reason, find_reason_until};
+pub use reason_watch::{Endless, ReasonWatch};
 pub use room::Room;
 pub use room_finder::find_room;
 pub use room_test::{fits, is_plain, is_too_little, whole_amount};

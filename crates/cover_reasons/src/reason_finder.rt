@@ -6,8 +6,9 @@ ghost use Rattle.cover_reasons.specs.Reasons.{holds_of};
 
 use crate::laws::reasons_exclude_covers;
 use crate::reason::Reason;
-use crate::room_finder::find_room;
-use crate::weights_finder::find_weights;
+use crate::reason_watch::{Endless, ReasonWatch};
+use crate::room_finder::find_room_until;
+use crate::weights_finder::find_weights_until;
 use cover_problem::Problem;
 use std::alloc::{AllocError, Global};
 
@@ -23,14 +24,27 @@ pub fn find_reason(alloc: Global, problem: &Problem) -> Result<Option<Reason>, A
         IfSome found (λ reason. holds_of problem.now reason ≡ true)) }
     ensures barren { IfOk result (λ found. IfSome found (λ reason. IsBarren problem.now [])) }
 {
+    find_reason_until(alloc, problem, &mut Endless)
+}
+
+/// A reason as `find_reason` gives it, looked for until the watch ends that: then there is none.
+pub fn find_reason_until<W: ReasonWatch>(
+    alloc: Global,
+    problem: &Problem,
+    watch: &mut W,
+) -> Result<Option<Reason>, AllocError>
+    ensures holds { IfOk result (λ found.
+        IfSome found (λ reason. holds_of problem.now reason ≡ true)) }
+    ensures barren { IfOk result (λ found. IfSome found (λ reason. IsBarren problem.now [])) }
+{
     // (a law, which does nothing: by its clauses a reason that holds leaves no cover)
     reasons_exclude_covers();
     problem.recall_rules();
     // (before weights: a reader understands what it says of his items sooner than sums modulo a number)
-    if let Some(room) = find_room(alloc, problem)? {
+    if let Some(room) = find_room_until(alloc, problem, watch)? {
         return Ok(Some(Reason::TooLittleRoom(room)));
     }
-    match find_weights(alloc, problem, &MODULI)? {
+    match find_weights_until(alloc, problem, &MODULI, watch)? {
         Some(weights) => Ok(Some(Reason::Weighed(weights))),
         None => Ok(None),
     }

@@ -8,6 +8,7 @@ use crate::demand::Demand;
 use crate::kinds::Kind;
 use crate::matching::{Matching, ones_of};
 use crate::neighbours::Neighbours;
+use crate::reason_watch::{Endless, ReasonWatch};
 use crate::room::Room;
 use crate::room_test::is_too_little;
 use crate::row::Row;
@@ -15,18 +16,29 @@ use crate::sides::{Sides, are_pairs};
 use cover_problem::Problem;
 use std::alloc::{AllocError, Global};
 
-/// About how many items of options are looked at for kinds, a tenth of a second.
+/// About how many items of options, and words of sets of items, are looked at for kinds: a tenth of a second.
 const MOST_STEPS: usize = 20_000_000;
 
 /// Room that is too little for an exact cover: that of an item in no option; of one kind, as one teacher's periods, for the primary items
 /// each of whose options names some of it; or of one side, as the dark squares of a board, for the items of the other.
 ///
 /// Where it finds none there may be a cover or none. It looks at some 20,000,000 items of options at most, each option's items counted as
-/// often as it looks at them, and takes memory of the order of the items' square. The only error is out of memory.
+/// often as it looks at them or adds them up, and takes memory of the order of the items' square. The only error is out of memory.
 pub fn find_room(alloc: Global, problem: &Problem) -> Result<Option<Room>, AllocError>
     ensures { IfOk result (λ found. IfSome found (λ room. is_too_little problem.now room ≡ true)) }
 {
-    let found = search_room(alloc, problem)?;
+    find_room_until(alloc, problem, &mut Endless)
+}
+
+/// Room as `find_room` gives it, looked for until the watch ends that: then there may be none.
+pub fn find_room_until<W: ReasonWatch>(
+    alloc: Global,
+    problem: &Problem,
+    watch: &mut W,
+) -> Result<Option<Room>, AllocError>
+    ensures { IfOk result (λ found. IfSome found (λ room. is_too_little problem.now room ≡ true)) }
+{
+    let found = search_room(alloc, problem, watch)?;
     match found {
         // (tested once more, so nothing has to be proved of how it was found)
         Some(room) if is_too_little(problem, &room) => Ok(Some(room)),
@@ -35,18 +47,22 @@ pub fn find_room(alloc: Global, problem: &Problem) -> Result<Option<Room>, Alloc
 }
 
 /// Room that may be too little.
-fn search_room(alloc: Global, problem: &Problem) -> Result<Option<Room>, AllocError> {
+fn search_room<W: ReasonWatch>(
+    alloc: Global,
+    problem: &Problem,
+    watch: &mut W,
+) -> Result<Option<Room>, AllocError> {
     let neighbours = Neighbours::new(alloc, problem)?;
     let bare = bare_room(alloc, problem, &neighbours)?;
     if bare.is_some() {
         return Ok(bare);
     }
     let mut finder = Finder::new(alloc, problem)?;
-    let paired = finder.paired_room(alloc, problem, &neighbours)?;
+    let paired = finder.paired_room(alloc, problem, &neighbours, watch)?;
     if paired.is_some() {
         return Ok(paired);
     }
-    finder.least_room(alloc, problem, &neighbours)
+    finder.least_room(alloc, problem, &neighbours, watch)
 }
 
 /// The room, where it is too little.
@@ -99,7 +115,19 @@ struct Finder {
     demand: Demand,
     matching: Matching,
     sides: Sides,
+    /// How many items all options name: so many are added up where room is tested.
+    size: usize,
+    /// About how many items of options were looked at so far, and words of sets.
     steps: usize,
+}
+
+/// How many items all options name.
+fn size_of(problem: &Problem) -> usize {
+    let mut size: usize = 0;
+    for option in 0..problem.options() as u16 {
+        size = size.saturating_add(problem.option(option).len());
+    }
+    size
 }
 
 impl Finder {
@@ -109,21 +137,23 @@ impl Finder {
             demand: Demand::new(alloc, problem)?,
             matching: Matching::new(alloc, problem)?,
             sides: Sides::new(alloc, problem)?,
+            size: size_of(problem),
             steps: 0,
         })
     }
 
     /// Of the room of all kinds that is too little the smallest.
-    fn least_room(
+    fn least_room<W: ReasonWatch>(
         &mut self,
         alloc: Global,
         problem: &Problem,
         neighbours: &Neighbours,
+        watch: &mut W,
     ) -> Result<Option<Room>, AllocError> {
         let mut least = None;
         let seeds = seeds(alloc, problem, neighbours)?;
         for one in &seeds {
-            if self.steps > MOST_STEPS {
+            if self.steps > MOST_STEPS || watch.look() {
                 break;
             }
             if self.kind.is_new(neighbours, *one as usize) {
@@ -171,20 +201,25 @@ impl Finder {
             return Ok(None);
         }
         let room = self.matching.room(alloc, problem, &self.demand)?;
+        self.steps = self.steps.saturating_add(self.size);
         Ok(tested(problem, room))
     }
 
     /// Room of one side, where each option names two primary items.
-    fn paired_room(
+    fn paired_room<W: ReasonWatch>(
         &mut self,
         alloc: Global,
         problem: &Problem,
         neighbours: &Neighbours,
+        watch: &mut W,
     ) -> Result<Option<Room>, AllocError> {
         if !are_pairs(problem) {
             return Ok(None);
         }
         for item in 0..problem.primary() {
+            if watch.look() {
+                break;
+            }
             if !self.sides.has(item) {
                 self.sides.clear();
                 self.sides.spread(problem, neighbours, item);

@@ -4,6 +4,7 @@ ghost use Rattle.std.specs.Prelude.{◌≡◌, ◌≤◌, true, IfOk, IfSome};
 ghost use Rattle.cover_reasons.specs.Weights.{excludes};
 
 use crate::kernel::Kernel;
+use crate::reason_watch::{Endless, ReasonWatch};
 use crate::weights::Weights;
 use crate::weights_test::excludes;
 use cover_problem::Problem;
@@ -21,10 +22,22 @@ pub fn find_weights(
 ) -> Result<Option<Weights>, AllocError>
     ensures { IfOk result (λ found. IfSome found (λ weights. excludes problem.now weights ≡ true)) }
 {
+    find_weights_until(alloc, problem, moduli, &mut Endless)
+}
+
+/// Weights as `find_weights` gives them, looked for until the watch ends that: then there are none.
+pub fn find_weights_until<W: ReasonWatch>(
+    alloc: Global,
+    problem: &Problem,
+    moduli: &[u8],
+    watch: &mut W,
+) -> Result<Option<Weights>, AllocError>
+    ensures { IfOk result (λ found. IfSome found (λ weights. excludes problem.now weights ≡ true)) }
+{
     for modulus in moduli {
         // (two numbers below 128 are added in one byte)
         if *modulus >= 2 && *modulus < 128 {
-            let found = weights_modulo(alloc, problem, *modulus)?;
+            let found = weights_modulo(alloc, problem, *modulus, watch)?;
             if found.is_some() {
                 return Ok(found);
             }
@@ -34,16 +47,22 @@ pub fn find_weights(
 }
 
 /// The same for one modulus.
-fn weights_modulo(
+fn weights_modulo<W: ReasonWatch>(
     alloc: Global,
     problem: &Problem,
     modulus: u8,
+    watch: &mut W,
 ) -> Result<Option<Weights>, AllocError>
     requires { 2 ≤ modulus }
     ensures { IfOk result (λ found. IfSome found (λ weights. excludes problem.now weights ≡ true)) }
 {
+    if watch.look() {
+        return Ok(None);
+    }
     let mut kernel = Kernel::new(alloc, modulus, problem.primary())?;
-    add_options(&mut kernel, problem);
+    if !are_balanced_by(&mut kernel, problem, watch) {
+        return Ok(None);
+    }
     let Some(place) = kernel.best(alloc)? else {
         return Ok(None);
     };
@@ -54,12 +73,13 @@ fn weights_modulo(
     Ok(None)
 }
 
-/// Makes each option weigh 0, as long as all items together weigh something.
-fn add_options(kernel: &mut Kernel, problem: &Problem) {
+/// Makes each option weigh 0, as long as all items together weigh something and the watch doesn't end it. Returns whether each one does.
+fn are_balanced_by<W: ReasonWatch>(kernel: &mut Kernel, problem: &Problem, watch: &mut W) -> bool {
     for option in 0..problem.options() as u16 {
-        if !kernel.has_whole() {
-            break;
+        if !kernel.has_whole() || watch.look() {
+            return false;
         }
         kernel.add(problem.option(option));
     }
+    true
 }

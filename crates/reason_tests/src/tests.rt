@@ -1,10 +1,14 @@
 //! Reasons that are found and reasons that are given by hand.
+//!
+//! Of the bugs of `cover_reasons` that are kept outside the gate, `a_watch_ends_the_search_for_a_reason` finds
+//! `weights_are_found_to_the_end` and `kinds_are_looked_at_to_the_end`.
 
 mod texts;
 
 use cover_problem::Problem;
 use cover_reasons::{
-    Reason, Room, Weights, excludes, find_reason, find_room, find_weights, is_too_little,
+    Reason, ReasonWatch, Room, Weights, excludes, find_reason, find_reason_until, find_room,
+    find_weights, is_too_little,
 };
 use dlx_reader::read_problem;
 use std::alloc::{AllocError, Global};
@@ -104,6 +108,53 @@ fn families(rt: HostRuntime) -> Result<(), Fail> {
     for (family, found) in &CASES {
         let text = text_of(rt.alloc(), *family)?;
         assert_eq!(rt; found_in(&rt, rt.alloc(), text.as_str()), *found);
+    }
+    Ok(())
+}
+
+/// A watch that lets a search go on for so many looks, and counts them.
+#[derive(Drop)]
+struct Patience {
+    most: u64,
+    looks: u64,
+}
+
+impl ReasonWatch for Patience {
+    fn look(&mut self) -> bool {
+        self.looks = self.looks.saturating_add(1);
+        self.looks > self.most
+    }
+}
+
+/// What is found before so many looks are over, and how many there were.
+fn found_within<R: Abort>(rt: &R, alloc: Global, problem: &Problem, most: u64) -> (Found, u64) {
+    let mut watch = Patience { most, looks: 0 };
+    let reason = find_reason_until(alloc, problem, &mut watch).expect(rt, "memory");
+    (found_of(reason), watch.looks)
+}
+
+/// Problems of which something is found by weights, by the periods of a teacher, and by the sides of a board.
+static ENDED: [(Family, Found); 3] = [
+    (Family::Tetrominoes(6), Found::Modulo(8)),
+    (Family::Lessons(25, 1, 24), Found::Needs(25, 24)),
+    (Family::Board(6), Found::Needs(18, 16)),
+];
+
+#[test]
+fn a_watch_ends_the_search_for_a_reason(rt: HostRuntime) -> Result<(), Fail> {
+    for (family, found) in &ENDED {
+        let text = text_of(rt.alloc(), *family)?;
+        let problem = problem_of(&rt, rt.alloc(), text.as_str());
+        let (whole, looks) = found_within(&rt, rt.alloc(), &problem, u64::MAX);
+        assert_eq!(rt; whole, *found);
+        let (early, _) = found_within(&rt, rt.alloc(), &problem, 0);
+        assert_eq!(rt; early, Found::Nothing);
+        if let Found::Modulo(_) = found {
+            // (it is asked before each option; at the last of these looks there are no weights yet)
+            assert!(rt; looks >= problem.options() as u64);
+            let (late, _) = found_within(&rt, rt.alloc(), &problem, looks.saturating_sub(1));
+            assert_eq!(rt; late, Found::Nothing);
+        }
     }
     Ok(())
 }

@@ -8,7 +8,7 @@ ghost use Rattle.search_engines.specs.Alone.{answer_by};
 use crate::stopwatch::Stopwatch;
 use brancher::{ROOM, Tables, Watch};
 use cover_problem::{Answer, Problem, in_order};
-use cover_reasons::{find_reason, holds_of};
+use cover_reasons::{ReasonWatch, find_reason_until, holds_of};
 use decider::{Decider, Decision};
 use std::alloc::{AllocError, Global};
 use std::time::{Clock, Duration};
@@ -57,21 +57,48 @@ fn searched<V: Watch>(
     }
 }
 
-/// Returns whether a reason is found why there is no cover. Where memory runs out none is found, and that is no error: a search may need
-/// less.
-fn is_excluded(alloc: Global, problem: &Problem) -> bool
+/// The watch of a search, while a reason is looked for: no option is chosen, and no visit made.
+#[derive(Drop)]
+struct RootWatch<'a, V: Watch> {
+    watch: &'a mut V,
+}
+
+impl<'a, V: Watch> ReasonWatch for RootWatch<'a, V> {
+    fn look(&mut self) -> bool {
+        self.watch.look(&[], u64::MAX)
+    }
+}
+
+/// Returns whether a reason is found why there is no cover, before the watch ends that. Where memory runs out none is found, and that is
+/// no error: a search may need less.
+pub fn is_excluded<V: Watch>(alloc: Global, problem: &Problem, watch: &mut V) -> bool
     ensures { result ≡ true → first problem.now [] ≡ None }
 {
-    match find_reason(alloc, problem) {
+    let mut root = RootWatch { watch };
+    match find_reason_until(alloc, problem, &mut root) {
         // (for its clause, that a search finds nothing then: the finder has tested the reason already)
         Ok(Some(reason)) => holds_of(problem, &reason),
         _ => false,
     }
 }
 
+/// Returns the answer of a problem by a search alone: its first cover, with its options in the order of the file, or that there is none; no
+/// answer where the watch stopped it. The only error is out of memory.
+pub fn search_until<V: Watch>(
+    alloc: Global,
+    problem: &Problem,
+    watch: &mut V,
+) -> Result<Option<Answer>, AllocError>
+    ensures answer { IfOk result (λ found. MatchOption found (V.may_stop ≡ true)
+        (λ answer. answer ≡ answer_by problem.now (first problem.now []))) }
+    ensures order { IfOk result (λ found. IfSome found (IsWritable problem.now)) }
+{
+    searched(alloc, &Tables::build(alloc, problem)?, watch)
+}
+
 /// Returns the answer of a problem: its first cover, with its options in the order of the file, or that there is none; no answer where the
-/// watch stopped the search. A search that lasts longer than a tenth of a second is begun again under the watch, if no reason is found
-/// that excludes a cover. The only error is out of memory.
+/// watch stopped the search, or it and the search for a reason. A search that lasts longer than a tenth of a second is begun again under
+/// the watch, if no reason is found that excludes a cover. The only error is out of memory.
 pub fn answer_until<V: Watch, C: Clock>(
     clock: &C,
     alloc: Global,
@@ -88,7 +115,7 @@ pub fn answer_until<V: Watch, C: Clock>(
     if let Some(answer) = searched(alloc, &tables, &mut short)? {
         return Ok(Some(answer));
     }
-    if is_excluded(alloc, problem) {
+    if is_excluded(alloc, problem, watch) {
         return Ok(Some(Answer::NoCover));
     }
     // (from the start once more: what the short search did is a tenth of a second, little beside what may follow)

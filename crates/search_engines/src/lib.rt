@@ -25,7 +25,7 @@ mod within;
 
 pub use alone::{AloneEnd, alone_engine};
 pub use check::{CheckEnd, check_engine, check_unlimited};
-pub use deciding::{answer_until, first_answer};
+pub use deciding::{answer_until, first_answer, is_excluded, search_until};
 pub use engine::EngineEnd;
 pub use fault::EngineFault;
 pub use forecast::Forecast;

@@ -1,0 +1,18 @@
+//! What may end the search for a reason.
+
+/// What looks at the search for a reason now and then, and may end it.
+pub trait ReasonWatch {
+    /// Whether the search is to end. It is asked before each kind of items and before each option that is made to weigh nothing, so once
+    /// in some thousandths of a second at most, but for problems at the limits of their format.
+    fn look(&mut self) -> bool;
+}
+
+/// The watch that ends nothing.
+#[derive(Clone, Copy, Debug, PartialEq, Eq)]
+pub struct Endless;
+
+impl ReasonWatch for Endless {
+    fn look(&mut self) -> bool {
+        false
+    }
+}
