@@ -1,0 +1,4 @@
+pub mod Lists
+pub mod Nones
+pub mod Reordering
+pub mod Using

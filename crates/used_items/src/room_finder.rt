@@ -1,0 +1,114 @@
+//! The search for room that is just enough.
+
+ghost use Rattle.std.specs.Prelude.{◌≡◌};
+
+use crate::classes::Classes;
+use crate::demand::Demand;
+use crate::enough::is_just_enough;
+use crate::matching::Matching;
+use crate::row::Row;
+use cover_problem::Problem;
+use cover_reasons::Room;
+use std::alloc::{AllocError, Global};
+
+/// About how many items of options are looked at, a tenth of a second.
+const MOST_STEPS: usize = 20_000_000;
+
+/// Needs and rooms of several classes together.
+#[derive(Drop)]
+struct Total {
+    needs: Row,
+    rooms: Row,
+    is_some: bool,
+}
+
+impl Total {
+    fn new(alloc: Global, problem: &Problem) -> Result<Total, AllocError> {
+        Ok(Total {
+            needs: Row::zeros(alloc, problem.primary())?,
+            rooms: Row::zeros(alloc, problem.items())?,
+            is_some: false,
+        })
+    }
+
+    /// Adds room that is just enough, if it is that of an item that had none before.
+    fn add(&mut self, problem: &Problem, room: &Room) {
+        if self.has_all(room.rooms()) || !is_just_enough(problem, room) {
+            return;
+        }
+        self.needs.add(room.needs());
+        self.rooms.add(room.rooms());
+        self.is_some = true;
+    }
+
+    /// Whether each item that has room had some before.
+    fn has_all(&self, rooms: &[u16]) -> bool {
+        for (item, amount) in rooms.iter().enumerate() {
+            if *amount != 0 && self.rooms.at(item) == 0 {
+                return false;
+            }
+        }
+        true
+    }
+}
+
+/// Room that may be just enough for an exact cover: that of secondary items of one class, no two of which an option names, or of all
+/// classes, for primary items that name them in each of their options; several such rooms are added up.
+///
+/// It looks at some 20,000,000 items of options at most, and takes memory of the order of the problem. The only error is out of memory.
+pub(crate) fn find_full_room(alloc: Global, problem: &Problem) -> Result<Option<Room>, AllocError> {
+    let classes = Classes::new(alloc, problem, MOST_STEPS)?;
+    if classes.count() == 0 {
+        return Ok(None);
+    }
+    let mut total = Total::new(alloc, problem)?;
+    add_classes(alloc, problem, &classes, &mut total)?;
+    let Total {
+        needs,
+        rooms,
+        is_some,
+    } = total;
+    if !is_some {
+        return Ok(None);
+    }
+    Ok(Some(Room::from_parts(needs.into_vec(), rooms.into_vec())))
+}
+
+/// Adds the room of each class, and at last of all of them as one.
+fn add_classes(
+    alloc: Global,
+    problem: &Problem,
+    classes: &Classes,
+    total: &mut Total,
+) -> Result<(), AllocError> {
+    let mut matching = Matching::new(alloc, problem)?;
+    let mut steps = classes.steps();
+    for turn in 1..=classes.count() {
+        if steps > MOST_STEPS {
+            return Ok(());
+        }
+        let used = add_class(alloc, problem, classes, turn, &mut matching, total)?;
+        steps = steps.saturating_add(used);
+    }
+    if classes.count() > 1 && steps <= MOST_STEPS {
+        add_class(alloc, problem, classes, 0, &mut matching, total)?;
+    }
+    Ok(())
+}
+
+/// Adds the room of a class. Returns how many items were looked at.
+fn add_class(
+    alloc: Global,
+    problem: &Problem,
+    classes: &Classes,
+    class: u16,
+    matching: &mut Matching,
+    total: &mut Total,
+) -> Result<usize, AllocError> {
+    let demand = Demand::new(alloc, problem, classes, class)?;
+    if matching.meets(problem, &demand) {
+        let room = matching.full_room(alloc, problem, &demand)?;
+        total.add(problem, &room);
+    }
+    Ok(demand.steps().saturating_add(matching.steps()))
+}
