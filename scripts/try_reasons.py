@@ -67,7 +67,7 @@ def random_text(draw: random.Random) -> str:
 def changed(draw: random.Random, reason: bytes) -> bytes:
     """The reason with one number changed, or with a line less."""
     lines = reason.rstrip(b"\n").split(b"\n")
-    place = draw.randrange(2, len(lines))
+    place = draw.choice([place for place, line in enumerate(lines) if line.startswith((b"weigh ", b"need ", b"room "))])
     if draw.random() < 0.3:
         del lines[place]
     else:
@@ -106,6 +106,13 @@ def random_problems(count: int) -> collections.Counter[str]:
 def lines(primary: list[str], secondary: list[str], options: list[list[str]]) -> str:
     head = " ".join(primary) + (" | " + " ".join(secondary) if secondary else "")
     return "\n".join([head, *(" ".join(option) for option in options)]) + "\n"
+
+
+def edges(points: int, colours: int) -> str:
+    """Edges between any two points, none of which has the colour of another one at a point."""
+    pairs = list(itertools.combinations(range(points), 2))
+    return lines([f"{a}-{b}" for a, b in pairs], [f"{point}.{colour}" for point in range(points) for colour in range(colours)],
+                 [[f"{a}-{b}", f"{a}.{colour}", f"{b}.{colour}"] for a, b in pairs for colour in range(colours)])
 
 
 def lessons(count: int, periods: int, length: int = 1, teachers: Sequence[str] = ("ann",)) -> str:
@@ -148,6 +155,8 @@ FAMILIES = [
     ("a board", board(8), "too little room: 32 needed, 30 there"),
     ("a larger board", board(30), "too little room: 450 needed, 448 there"),
     *((f"{size} Langford pairs", langford(size), "weights modulo 2" if size % 4 in (1, 2) else None) for size in (4, 5, 13, 14, 17, 18, 22)),
+    *((f"edges of {points} points in {colours} colours", edges(points, colours), wanted) for points, colours, wanted in (
+        (5, 4, "just enough room, weights modulo 2"), (5, 5, None), (6, 5, None), (13, 12, "just enough room, weights modulo 2"))),
     ("triples of 9 points", triples(9), None),
     ("triples of 10 points", triples(10), "weights modulo 2"),
     ("triples of 11 points", triples(11), "weights modulo 3"),
@@ -162,8 +171,8 @@ def said_of(text: str) -> Optional[str]:
     reason = Reason(written)
     if not (is_checked(text, written) and reason.holds(read_problem(text.encode()))):
         return "a reason that doesn't hold"
-    return f"weights modulo {reason.modulus}" if reason.modulus else (
-        f"too little room: {sum(reason.needs.values())} needed, {sum(reason.rooms.values())} there")
+    return "just enough room, " * bool(reason.full_rooms) + (f"weights modulo {reason.modulus}" if reason.modulus else
+                                                             f"too little room: {sum(reason.needs.values())} needed, {sum(reason.rooms.values())} there")
 
 
 # ---- the examples
@@ -230,7 +239,8 @@ def main() -> int:
     examples()
     with tempfile.TemporaryDirectory() as folder:
         odd_words(folder)
-    print(f"{count} random problems with a cover, {count} without: {found['too lit']} have too little room, {found['weights']} weights, {found['']} no reason that is found")
+    print(f"{count} random problems with a cover, {count} without: {found['too lit']} have too little room, {found['weights']} weights, "
+          f"{found['just en']} a reason once items are primary that each cover uses, {found['']} no reason that is found")
     return trial.end()
 
 

@@ -4,7 +4,8 @@
 
 REASON is a file with what `why` wrote, or - for the standard input. No search and no part of the program is needed: an exact cover names
 each primary item once. So where the weights in each option are a multiple of the modulus, all weights together are one; and where
-each option brings as much room as it needs, all needs together are at most all rooms.
+each option brings as much room as it needs, all needs together are at most all rooms. Where they are as much, the cover also names each item that
+has room once, so a reason behind it counts these as primary.
 
 The exit status is 0 where the reason holds, 1 where it doesn't, 2 for a mistake on the command line, 3 for a file that can't be read, or a FILE
 that the program refuses.
@@ -24,28 +25,51 @@ def check(problem: Lines, reason: Lines) -> str:
     bar = next((place for place, word in enumerate(items) if word.startswith(b"|")), len(items))
     primary = set(items[:bar])
     options = [option for option in options if primary.intersection(option)]    # the others are in no cover
-    amounts: dict[bytes, dict[bytes, int]] = {b"weigh": {}, b"need": {}, b"room": {}}
-    for kind, number, name in reason[2:]:
-        if not number.isdigit():
-            return "a weight, a need or a room isn't a number from 0"
-        amounts[kind][name] = int(number)
-    weights, needs, rooms = amounts.values()
+    lines = reason[1:]
+    if lines[0] == [b"just", b"enough", b"room"]:
+        end = next(place for place, words in enumerate(lines) if words[0] in (b"weights", b"too"))
+        _, needs, rooms = amounts_of(lines[1:end])
+        if not primary.issuperset(needs):
+            return "an item has a need, and isn't primary"
+        if sum(needs.values()) < sum(rooms.values()):
+            return "room is more than just enough"
+        wrong = unfit(options, needs, rooms)
+        if wrong:
+            return wrong
+        primary.update(name for name, room in rooms.items() if room)
+        lines = lines[end:]
+
+    head, *lines = lines
+    weights, needs, rooms = amounts_of(lines)
     if not primary.issuperset([*weights, *needs]):
         return "an item has a weight or a need, and isn't primary"
-
-    if reason[1][0] == b"weights":
-        modulus = int(reason[1][-1])
+    if head[0] == b"weights":
+        modulus = int(head[-1])
         for option in options:
             if sum(weights.get(name, 0) for name in option) % modulus:
                 return f"the weights in this option are no multiple of {modulus}: {shown(b' '.join(option))}"
         return "" if sum(weights.values()) % modulus else f"all weights together are a multiple of {modulus}"
+    return unfit(options, needs, rooms) or ("" if sum(needs.values()) > sum(rooms.values()) else "all needs together are no more than all rooms")
 
+
+def amounts_of(lines: Lines) -> list[dict[bytes, int]]:
+    """The weights, the needs and the rooms that these lines give to items; a ValueError where a number isn't one from 0."""
+    amounts: dict[bytes, dict[bytes, int]] = {b"weigh": {}, b"need": {}, b"room": {}}
+    for kind, number, name in lines:
+        if not number.isdigit():
+            raise ValueError("a weight, a need or a room isn't a number from 0")
+        amounts[kind][name] = int(number)
+    return list(amounts.values())
+
+
+def unfit(options: Lines, needs: dict[bytes, int], rooms: dict[bytes, int]) -> str:
+    """What is wrong with these needs and rooms in some option; nothing where each brings as much room as it needs."""
     for option in options:
         if any(word.partition(b":")[0] in rooms for word in option if b":" in word):
             return f"this option gives a colour to an item that has room: {shown(b' '.join(option))}"
         if sum(needs.get(name, 0) for name in option) > sum(rooms.get(name, 0) for name in option):
             return f"this option needs more than it has room for: {shown(b' '.join(option))}"
-    return "" if sum(needs.values()) > sum(rooms.values()) else "all needs together are no more than all rooms"
+    return ""
 
 
 def lines_of(text: bytes) -> Lines:
@@ -73,7 +97,7 @@ def main() -> int:
         return 1
     try:
         wrong = check(problem, reason)
-    except (KeyError, ValueError, IndexError, ZeroDivisionError):
+    except (KeyError, ValueError, IndexError, ZeroDivisionError, StopIteration):
         wrong = "this isn't the text of a reason, or of a problem"
     print(f"wrong: {wrong}" if wrong else "right: the reason holds, so there is no exact cover")
     return 1 if wrong else 0

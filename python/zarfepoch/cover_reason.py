@@ -1,6 +1,7 @@
 """Reasons for `none` as `solve_cli why` writes them: read, added up again, and told in words.
 
-A reason is either weights of primary items modulo a number, or what primary items need and the room that items have for it.
+A reason is either weights of primary items modulo a number, or what primary items need and the room that items have for it. Room that is just
+enough may stand before it: then each cover uses the items that have some, and they count as primary behind it.
 `docs/FORMAT.md` has the text; `holds` is all that has to be believed.
 """
 from __future__ import annotations
@@ -20,40 +21,50 @@ Named = Callable[[bytes], str]
 
 SHOWN = 12
 LINE = re.compile(rb"(weigh|need|room) ([0-9]+) (\S+)")
+ENOUGH = b"just enough room"
+HEAD = re.compile(rb"weights modulo [0-9]+|too little room|just enough room")
 
 
 class Reason:
-    """The weights, needs and rooms of a reason, by names, and its modulus, 0 where it has none."""
+    """The weights, needs and rooms of a reason, by names, and its modulus, 0 where it has none; those of room that is just enough before it."""
 
     def __init__(self, text: bytes) -> None:
-        head, *lines = text.removeprefix(b"none\n").rstrip(b"\n").split(b"\n")
-        self.modulus = int(head.rpartition(b" ")[2]) if head.startswith(b"weights modulo ") else 0
+        lines = text.removeprefix(b"none\n").rstrip(b"\n").split(b"\n")
+        heads = [line for line in lines if HEAD.fullmatch(line)]
+        if heads != lines[:1] + heads[1:] or len(heads) != 1 + (lines[0] == ENOUGH) or heads[-1] == ENOUGH:
+            raise ValueError("this is no reason: not one kind, with just enough room before it or not")
+        last = lines.index(heads[-1])
+        self.modulus = int(lines[last].rpartition(b" ")[2]) if lines[last].startswith(b"weights modulo ") else 0
         self.weights: Amounts = {}
         self.needs: Amounts = {}
         self.rooms: Amounts = {}
-        kinds = {b"weigh": self.weights, b"need": self.needs, b"room": self.rooms}
-        for line in lines:
-            found = LINE.fullmatch(line)
-            if not found:
-                raise ValueError(f"this is no line of a reason: {shown(line)}")
-            kind, number, name = found.groups()
-            kinds[kind][name] = int(number)
+        self.full_needs: Amounts = {}
+        self.full_rooms: Amounts = {}
+        read_lines(lines[1:last], {b"need": self.full_needs, b"room": self.full_rooms})
+        read_lines(lines[last + 1:], {b"weigh": self.weights, b"need": self.needs, b"room": self.rooms})
 
     def holds(self, problem: Problem) -> bool:
         """Whether the reason shows that the problem has no cover."""
+        coloured = {name for option in problem.options for name, colour in zip(option.names, option.colours) if colour is not None}
+
+        def fit(needs: Amounts, rooms: Amounts) -> bool:
+            return coloured.isdisjoint(rooms) and all(added(needs, option.names) <= added(rooms, option.names) for option in problem.options)
+
         primary = set(problem.primary_names())
+        if not (primary.issuperset(self.full_needs) and sum(self.full_rooms.values()) <= sum(self.full_needs.values())
+                and fit(self.full_needs, self.full_rooms)):
+            return False
+        primary.update(name for name, room in self.full_rooms.items() if room)
         if not primary.issuperset([*self.weights, *self.needs]):
             return False
         if self.modulus:
             return (sum(self.weights.values()) % self.modulus != 0
                     and all(added(self.weights, option.names) % self.modulus == 0 for option in problem.options))
-        coloured = {name for option in problem.options for name, colour in zip(option.names, option.colours) if colour is not None}
-        return (coloured.isdisjoint(self.rooms) and sum(self.rooms.values()) < sum(self.needs.values())
-                and all(added(self.needs, option.names) <= added(self.rooms, option.names) for option in problem.options))
+        return sum(self.rooms.values()) < sum(self.needs.values()) and fit(self.needs, self.rooms)
 
     def words(self, problem: Problem, named: Named = shown) -> list[str]:
         """Lines that say why there is no cover, in which items are named so."""
-        return list(weight_words(self, problem, named) if self.modulus else room_words(self, named))
+        return [*full_words(self, named), *(weight_words(self, problem, named) if self.modulus else room_words(self, named))]
 
     def line(self, problem: Problem) -> str:
         """The same in one line."""
@@ -68,12 +79,29 @@ class Reason:
         return {name: weight if 2 * weight <= self.modulus else weight - self.modulus for name, weight in self.weights.items()}
 
 
+def read_lines(lines: list[bytes], kinds: dict[bytes, Amounts]) -> None:
+    """Adds what lines say of items to the amounts of their kinds; a ValueError where one is no such line."""
+    for line in lines:
+        found = LINE.fullmatch(line)
+        if not found or found[1] not in kinds:
+            raise ValueError(f"this is no line of a reason: {shown(line)}")
+        kinds[found[1]][found[3]] = int(found[2])
+
+
 def added(amounts: Amounts, names: Iterable[bytes]) -> int:
     return sum(amounts.get(name, 0) for name in names)
 
 
 def names_line(names: Iterable[bytes], named: Named) -> str:
     return f"  {listed([named(name) for name in names], SHOWN)}"
+
+
+# ---- just enough room
+
+def full_words(reason: Reason, named: Named) -> Iterator[str]:
+    if reason.full_rooms:
+        yield f"there is just enough room, {plural(sum(reason.full_rooms.values()), 'place')} for as many, so each cover uses each of these:"
+        yield names_line(reason.full_rooms, named)
 
 
 # ---- too little room

@@ -47,12 +47,16 @@ class Reason(NamedTuple):
     """Why there is no cover, so that anybody can add it up.
 
     With a `modulus`, the `weights` of each option's items add up to a multiple of it, and all weights together don't. Without one, each option
-    brings at least as much room as it needs, and all `needs` together are more than all `rooms`. The rest of the items count as 0.
+    brings at least as much room as it needs, and all `needs` together are more than all `rooms`. The rest of the items count as 0. Secondary items
+    in `full_rooms` may have weights and needs, too: each cover uses them, since each option brings at least as much of this room as it has
+    `full_needs`, and all of these together are as much as all of this room.
     """
     modulus: Optional[int]
     weights: dict[Hashable, int]
     needs: dict[Hashable, int]
     rooms: dict[Hashable, int]
+    full_needs: dict[Hashable, int] = {}
+    full_rooms: dict[Hashable, int] = {}
 
     def __str__(self) -> str:
         if self.modulus:
@@ -202,8 +206,9 @@ class Problem:
         if not found.holds(cover_files.read_problem(self._numbered_text(self._numbered_lines()))):
             raise ProgramError("the program's reason doesn't hold", status)
         items = (*self.primary, *self.secondary)
-        weights, needs, rooms = ({items[int(name)]: number for name, number in some.items()} for some in (found.weights, found.needs, found.rooms))
-        return Reason(found.modulus or None, weights, needs, rooms)
+        weights, *rooms = ({items[int(name)]: number for name, number in some.items()}
+                           for some in (found.weights, found.needs, found.rooms, found.full_needs, found.full_rooms))
+        return Reason(found.modulus or None, weights, *rooms)
 
     def is_cover(self, places: Iterable[int]) -> bool:
         """Whether the options at these places are an exact cover, by counting; `ProblemError` where there is no option at one."""

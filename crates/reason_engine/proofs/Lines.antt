@@ -1,6 +1,6 @@
 -- The lines of the items so far, and one more.
 use Rattle.std.proofs.Common.{◌≡◌, ℕ, zero, suc, ◌+◌, List, [], ◌∷◌, ◌++◌, sym, ap, ◌∙◌, arith}
-use Rattle.std.proofs.lemmas.List.{flat_map_more}
+use Rattle.std.proofs.lemmas.List.{append_assoc, flat_map_more}
 use Rattle.std.specs.List.{flat_map, range_with_len}
 
 range_more : (a n : ℕ) → range_with_len a (suc n) ≡ range_with_len a n ++ (a + n) ∷ []
@@ -16,3 +16,12 @@ range_next k =
 pub lines_more : (f : ℕ → List ℕ) (before now new : List ℕ) (k : ℕ) → now ≡ before ++ flat_map f (range_with_len 0 k) → new ≡ now ++ f k → new ≡ before ++ flat_map f (range_with_len 0 (k + 1))
 lines_more f before now new k was is =
     is ∙ ap (λ xs. xs ++ f k) was ∙ flat_map_more f before (range_with_len 0 k) k ∙ ap (λ xs. before ++ flat_map f xs) (sym (range_next k))
+
+-- ---- a text that grows by pieces
+
+pub two_pieces : (old a b now new : List ℕ) → now ≡ old ++ a → new ≡ now ++ b → new ≡ old ++ (a ++ b)
+two_pieces old a b now new was is = is ∙ ap (λ xs. xs ++ b) was ∙ append_assoc old a b
+
+pub four_pieces : (old a b c d first second third new : List ℕ) → first ≡ old ++ a → second ≡ first ++ b → third ≡ second ++ c → new ≡ third ++ d → new ≡ old ++ (((a ++ b) ++ c) ++ d)
+four_pieces old a b c d first second third new one two three is =
+    two_pieces old ((a ++ b) ++ c) d third new (two_pieces old (a ++ b) c second third (two_pieces old a b first second one two) three) is

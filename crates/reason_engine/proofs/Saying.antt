@@ -1,8 +1,12 @@
 -- What says one thing says one of those that may be said.
-use Rattle.std.proofs.Common.{ℕ, List, Option, Result, Ok, Err}
+use Rattle.std.proofs.Common.{ℕ, List, [], Option, Result, Ok, Err, refl}
+use Rattle.cover_problem.specs.Prefix.{IsBarren}
+use Rattle.cover_problem.specs.Problem.{Problem}
+use Rattle.cover_reasons.specs.Room.{Room}
 use Rattle.search_engines.specs.Output.{Said, IsOutput, IsOutputOf}
 use Rattle.search_engines.specs.declared.fault.EngineFault.{EngineFault}
 use Rattle.search_engines.specs.declared.fault.EngineFault.TheVariants as faults
+use Rattle.used_items.specs.Orders.{IsPromoted}
 
 pub output_of : (may : Said → Type 0) (what : Said) (old new : Option (List ℕ)) (r : Result ℕ EngineFault) → may what → IsOutput what old new r → IsOutputOf may old new r
 output_of may what old new (Ok status) allowed output = record { what = what; may_be = allowed; is = output }
@@ -11,3 +15,7 @@ output_of may what old new (Err faults.Memory) allowed output = output
 output_of may what old new (Err faults.Read) allowed output = output
 output_of may what old new (Err (faults.File fault)) allowed output = output
 output_of may what old new (Err (faults.Answer fault)) allowed output = output
+
+-- what has no exact cover with more items primary has none
+pub barren_too : (problem : Problem) (room : Room) (made : Problem) → IsPromoted problem room made → IsBarren made [] → IsBarren problem []
+barren_too problem room made promoted barren = λ chosen cover over. barren chosen (promoted.covers.there chosen cover) refl

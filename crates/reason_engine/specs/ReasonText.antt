@@ -1,9 +1,10 @@
--- The text of a reason: its kind, and a line for each item that counts.
+-- The text of a reason: its kind, and a line for each item that counts; before it those of room that is just enough, if the reason is one of
+-- the problem with more items primary.
 use Rattle.std.specs.Prelude.{ℕ, List, [], ◌∷◌, ◌++◌, length, codes, ◌==◌, if◌then◌else◌}
 use Rattle.std.specs.Fmt.{decimal}
 use Rattle.std.specs.List.{flat_map, range_with_len}
 use Rattle.cover_problem.specs.Problem.{Problem}
-use Rattle.cover_reasons.specs.Room.{amount_of}
+use Rattle.cover_reasons.specs.Room.{Room, amount_of}
 use Rattle.cover_reasons.specs.declared.reason.Reason.{Reason}
 use Rattle.cover_reasons.specs.declared.reason.Reason.TheVariants as reasons
 use Rattle.dlx_reader.specs.Writing.{name_text}
@@ -17,8 +18,19 @@ line_text problem word amounts item =
 abbrev pub lines_text : Problem → List ℕ → List ℕ → List ℕ
 lines_text problem word amounts = flat_map (line_text problem word amounts) (range_with_len 0 (length problem.names))
 
--- that there is no cover, the kind of the reason, and the modulus and what each item weighs, or what each item needs and for how much
--- each item has room
+-- what each item needs, and for how much each item has room
+abbrev pub room_text : Problem → Room → List ℕ
+room_text problem room = lines_text problem (codes "need") room.needs ++ lines_text problem (codes "room") room.rooms
+
+-- the kind of the reason, and the modulus and what each item weighs, or needs and rooms
+abbrev pub kind_text : Problem → Reason → List ℕ
+kind_text problem (reasons.Weighed weights) = codes "weights modulo" ++ 32 ∷ decimal weights.modulus ++ codes "\n" ++ lines_text problem (codes "weigh") weights.list
+kind_text problem (reasons.TooLittleRoom room) = codes "too little room\n" ++ room_text problem room
+
+-- that there is no cover, and the reason
 abbrev pub reason_text : Problem → Reason → List ℕ
-reason_text problem (reasons.Weighed weights) = codes "none\nweights modulo" ++ 32 ∷ decimal weights.modulus ++ codes "\n" ++ lines_text problem (codes "weigh") weights.list
-reason_text problem (reasons.TooLittleRoom room) = codes "none\ntoo little room\n" ++ lines_text problem (codes "need") room.needs ++ lines_text problem (codes "room") room.rooms
+reason_text problem reason = codes "none\n" ++ kind_text problem reason
+
+-- that there is no cover, the room that is just enough, and the reason of the problem that was made by it
+abbrev pub promoted_text : Problem → Room → Problem → Reason → List ℕ
+promoted_text problem room made reason = codes "none\njust enough room\n" ++ room_text problem room ++ kind_text made reason

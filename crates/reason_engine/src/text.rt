@@ -4,7 +4,7 @@ ghost use Rattle.std.specs.Prelude.{◌≡◌, ◌<◌, [], ◌∷◌, ◌++◌,
 ghost use Rattle.std.specs.Fmt.{decimal};
 ghost use Rattle.cover_reasons.specs.Room.{amount_of};
 ghost use Rattle.dlx_reader.specs.Writing.{name_text};
-ghost use Rattle.reason_engine.specs.ReasonText.{line_text, lines_text, reason_text};
+ghost use Rattle.reason_engine.specs.ReasonText.{line_text, lines_text, room_text, kind_text, reason_text, promoted_text};
 
 use cover_problem::Problem;
 use cover_reasons::{Reason, Room, Weights};
@@ -100,33 +100,66 @@ fn push_lines(
     Ok(())
 }
 
-/// Returns the text of weights. The only error is out of memory.
-fn weights_text(alloc: Global, problem: &Problem, weights: &Weights) -> Result<Vec<u8>, AllocError>
-    ensures { IfOk result (λ text. text.items ≡ reason_text problem.now (Reason.Weighed weights.now)) }
+/// Adds the lines of weights to a text, and the modulus before them.
+fn push_weights(text: &mut Vec<u8>, problem: &Problem, weights: &Weights) -> Result<(), AllocError>
+    ensures { OnOk result
+        (text.new.items ≡ text.old.items ++ kind_text problem.now (Reason.Weighed weights.now)) }
 {
-    let mut text = Vec::from_slice(alloc, b"none\nweights modulo")?;
-    push_number(&mut text, weights.modulus())?;
+    text.extend_from_slice(b"weights modulo")?;
+    push_number(text, weights.modulus())?;
     text.extend_from_slice(b"\n")?;
-    push_lines(&mut text, problem, b"weigh", weights.as_slice())?;
-    Ok(text)
+    push_lines(text, problem, b"weigh", weights.as_slice())
 }
 
-/// Returns the text of needs and room. The only error is out of memory.
-fn room_text(alloc: Global, problem: &Problem, room: &Room) -> Result<Vec<u8>, AllocError>
-    ensures { IfOk result (λ text. text.items ≡ reason_text problem.now (Reason.TooLittleRoom room.now)) }
+/// Adds the lines of needs and rooms to a text.
+fn push_room(text: &mut Vec<u8>, problem: &Problem, room: &Room) -> Result<(), AllocError>
+    ensures { OnOk result (text.new.items ≡ text.old.items ++ room_text problem.now room.now) }
 {
-    let mut text = Vec::from_slice(alloc, b"none\ntoo little room\n")?;
-    push_lines(&mut text, problem, b"need", room.needs())?;
-    push_lines(&mut text, problem, b"room", room.rooms())?;
-    Ok(text)
+    push_lines(text, problem, b"need", room.needs())?;
+    push_lines(text, problem, b"room", room.rooms())
+}
+
+/// Adds that there is too little room, and the lines of needs and rooms, to a text.
+fn push_lack(text: &mut Vec<u8>, problem: &Problem, room: &Room) -> Result<(), AllocError>
+    ensures { OnOk result
+        (text.new.items ≡ text.old.items ++ kind_text problem.now (Reason.TooLittleRoom room.now)) }
+{
+    text.extend_from_slice(b"too little room\n")?;
+    push_room(text, problem, room)
+}
+
+/// Adds the kind of a reason and its lines to a text.
+fn push_reason(text: &mut Vec<u8>, problem: &Problem, reason: &Reason) -> Result<(), AllocError>
+    ensures { OnOk result (text.new.items ≡ text.old.items ++ kind_text problem.now reason.now) }
+{
+    match reason {
+        Reason::Weighed(weights) => push_weights(text, problem, weights),
+        Reason::TooLittleRoom(room) => push_lack(text, problem, room),
+    }
 }
 
 /// Returns the text of a reason. The only error is out of memory.
 pub fn text_of(alloc: Global, problem: &Problem, reason: &Reason) -> Result<Vec<u8>, AllocError>
     ensures { IfOk result (λ text. text.items ≡ reason_text problem.now reason.now) }
 {
-    match reason {
-        Reason::Weighed(weights) => weights_text(alloc, problem, weights),
-        Reason::TooLittleRoom(room) => room_text(alloc, problem, room),
-    }
+    let mut text = Vec::from_slice(alloc, b"none\n")?;
+    push_reason(&mut text, problem, reason)?;
+    Ok(text)
+}
+
+/// Returns the text of room that is just enough, and of a reason of the problem that was made by it. The only error is out of memory.
+pub fn promoted_text_of(
+    alloc: Global,
+    problem: &Problem,
+    room: &Room,
+    made: &Problem,
+    reason: &Reason,
+) -> Result<Vec<u8>, AllocError>
+    ensures { IfOk result (λ text. text.items
+        ≡ promoted_text problem.now room.now made.now reason.now) }
+{
+    let mut text = Vec::from_slice(alloc, b"none\njust enough room\n")?;
+    push_room(&mut text, problem, room)?;
+    push_reason(&mut text, made, reason)?;
+    Ok(text)
 }
