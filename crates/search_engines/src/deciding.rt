@@ -12,6 +12,7 @@ use cover_reasons::{ReasonWatch, find_reason_until, holds_of};
 use decider::{Decider, Decision};
 use std::alloc::{AllocError, Global};
 use std::time::{Clock, Duration};
+use used_items::is_excluded_by_used_items;
 
 /// How many milliseconds a search lasts before a reason is looked for. Most searches are shorter, and to look may take most of a second.
 const SHORT: u64 = 100;
@@ -78,7 +79,18 @@ pub fn is_excluded<V: Watch>(alloc: Global, problem: &Problem, watch: &mut V) ->
     match find_reason_until(alloc, problem, &mut root) {
         // (for its clause, that a search finds nothing then: the finder has tested the reason already)
         Ok(Some(reason)) => holds_of(problem, &reason),
-        _ => false,
+        Ok(None) => is_excluded_by_use(alloc, problem),
+        Err(_) => false,
+    }
+}
+
+/// Returns whether one is found once the items are primary that each cover uses.
+fn is_excluded_by_use(alloc: Global, problem: &Problem) -> bool
+    ensures { result ≡ true → first problem.now [] ≡ None }
+{
+    match is_excluded_by_used_items(alloc, problem) {
+        Ok(is_excluded) => is_excluded,
+        Err(_) => false,
     }
 }
 
