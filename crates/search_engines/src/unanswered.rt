@@ -35,7 +35,8 @@ impl Display for Unanswered {
     fn fmt<W: Write>(&self, f: &mut Formatter<W>) -> fmt::Result {
         f.write_str(match self {
             Unanswered::Fuel => "the fuel is spent: try more --fuel, or --unlimited",
-            Unanswered::GreatestFuel => "the greatest fuel is spent: try --unlimited",
+            Unanswered::GreatestFuel =>
+                "more visits than can be counted, 2^64 - 1: try answer FILE, or --unlimited, which have no such limit",
             Unanswered::Room =>
                 "the room for what is learned is full: try another --seed, or alone",
             Unanswered::Time => "the time is over: try more --seconds, or solve",

@@ -181,7 +181,7 @@ static UNANSWERED: [(u8, Unanswered, &str); 7] = [
     (
         4,
         Unanswered::GreatestFuel,
-        "ended: the greatest fuel is spent: try --unlimited\n",
+        "ended: more visits than can be counted, 2^64 - 1: try answer FILE, or --unlimited, which have no such limit\n",
     ),
     (
         4,
