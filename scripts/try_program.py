@@ -103,6 +103,29 @@ def examples(folder: str) -> None:
         expect(name + " wrong answer", out.startswith(b"wrong: ") and status == 1)
 
 
+def certificates(folder: str) -> None:
+    """A certificate is written where there is no cover, tested by the program and by a script, and there is none else."""
+    script = os.path.join(TOP, "scripts", "check_certificate.py")
+    for name in ("letters.dlx", "langford-5.dlx", "tetrominoes-4x5.dlx"):
+        file, path = os.path.join(TOP, "examples", name), os.path.join(folder, name + ".certificate")
+        out, errors, status = run("learn", file, "--certificate", path)
+        if name not in NONE:
+            expect(name + " has no certificate", is_exact(file, out) and (errors, status) == (b"", 0) and not os.path.exists(path))
+            continue
+        expect(name + " certified", (out, errors, status) == (b"none\n", f"certificate right: {path}\n".encode(), 1))
+        expect(name + " certificate checked", run("check", file, path) == (b"right\n", b"", 0))
+        ran = subprocess.run([sys.executable, script, file, path], capture_output=True)
+        expect(name + " certificate checked by the script", (ran.stdout, ran.returncode) == (b"right\n", 0))
+        with open(path, "rb") as opened:
+            lines = opened.read().split(b"\n")
+        with open(path, "wb") as opened:
+            opened.write(b"\n".join(lines[:-2]) + b"\n")
+        cut = f"wrong: line {len(lines) - 1}: expected 'd' and a number, or literals and hints\n".encode()
+        expect(name + " certificate cut off", run("check", file, path) == (cut, b"", 1))
+        expect(name + " to a full disk", run("learn", file, "--certificate", "/dev/full") == (b"none\n", b"cannot write: /dev/full\n", 3))
+    expect("the full disk is still there", os.path.exists("/dev/full"))
+
+
 def unread(name: str, why: str) -> bytes:
     """The line of a file that can't be read."""
     return f"cannot read: {name}: {why}\n".encode()
@@ -462,6 +485,7 @@ def main() -> int:
     os.environ["ZARFEPOCH"] = PROGRAM
     with tempfile.TemporaryDirectory() as folder:
         examples(folder)
+        certificates(folder)
         bad_input(folder)
         many_visits(folder)
         timed(folder)

@@ -42,6 +42,10 @@ versioned app = record app { top = record app.top { has_version = true } }
 abbrev pub timed : App → App
 timed app = with_rule app (limit_rule (codes "seconds"))
 
+-- which file gets a certificate that there is no cover, if any does
+abbrev pub certified : App → App
+certified app = with_rule app (limit_rule (codes "certificate"))
+
 -- what one thread searches, whether it writes how far it has come, whether it has no limit of visits, and when it ends
 abbrev pub alone_app : App
 alone_app =
@@ -60,9 +64,9 @@ answer_app = timed (with_rule (with_rule (versioned (new_app (codes "answer"))) 
 abbrev pub why_app : App
 why_app = with_rule (versioned (new_app (codes "why"))) (file_rule (codes "file"))
 
--- in which file any cover is looked for, with which seed, whether it writes how far it has come, and when it ends
+-- in which file any cover is looked for, with which seed, whether it writes how far it has come, when it ends, and where a certificate goes
 abbrev pub learn_app : App
-learn_app = timed (with_rule (with_rule (with_rule (versioned (new_app (codes "learn"))) (file_rule (codes "file"))) (number_rule (codes "seed") (codes "1"))) (flag_rule (codes "progress")))
+learn_app = certified (timed (with_rule (with_rule (with_rule (versioned (new_app (codes "learn"))) (file_rule (codes "file"))) (number_rule (codes "seed") (codes "1"))) (flag_rule (codes "progress"))))
 
 -- what sites search, how many nodes there are, and the seed of what is drawn
 abbrev pub sites_app : Text → App
@@ -160,6 +164,7 @@ pub record IsSpelled (name : Text) (given : Text → Option Text) (request : Req
   pub seconds_given : SpellsIf (given (codes "seconds")) request.seconds
   pub progress_given : IsFlag (given (codes "progress")) request.progress
   pub unlimited_given : IsFlag (given (codes "unlimited")) request.unlimited
+  pub certificate_given : option_map (λ certificate. certificate.now) request.certificate ≡ given (codes "certificate")
 
 -- The problem and the answer are both to be read from standard input.
 pub record ReadsInputTwice (settings : Settings) : Type 0 where

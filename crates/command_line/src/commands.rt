@@ -44,7 +44,7 @@ fn answer_argument<'a>(alloc: Global) -> Arg<'a>
     ensures own { result.global ≡ false }
 {
     Arg::new(alloc, "answer").required(true).help(
-        "The answer's file, as alone writes it; - is standard input",
+        "The answer's file, as alone writes it, or a certificate's; - is standard input",
     )
 }
 
@@ -143,6 +143,18 @@ fn time_argument<'a>(alloc: Global) -> Arg<'a>
     limit_argument(alloc, "seconds", SECONDS_HELP)
 }
 
+/// Where a certificate goes.
+fn certificate_argument<'a>(alloc: Global) -> Arg<'a>
+    ensures rule { rule_of result ≡ limit_rule (codes "certificate") }
+    ensures own { result.global ≡ false }
+{
+    limit_argument(
+        alloc,
+        "certificate",
+        "Where there is no cover, writes lines by which anybody can check that to this file; check tests them",
+    )
+}
+
 fn alone_command<'a>(alloc: Global) -> Result<Command<'a>, AllocError>
     ensures app { IfOk result (λ command. app_of command ≡ alone_app) }
     ensures local { IfOk result (λ command. (out-Command command).has_globals ≡ false) }
@@ -158,7 +170,8 @@ fn check_command<'a>(alloc: Global) -> Result<Command<'a>, AllocError>
     ensures app { IfOk result (λ command. app_of command ≡ check_app) }
     ensures local { IfOk result (λ command. (out-Command command).has_globals ≡ false) }
 {
-    let about = "Tests whether an answer to the problem is right";
+    let about =
+        "Tests whether an answer to the problem is right, or a certificate that it has none";
     let command = described(alloc, "check", about).after_help(CHECK_STATUSES);
     let command = with_two(command, file_argument(alloc), answer_argument(alloc))?;
     let command = with_two(command, fuel_argument(alloc), unlimited_argument(alloc))?;
@@ -199,7 +212,8 @@ fn learn_command<'a>(alloc: Global) -> Result<Command<'a>, AllocError>
         file_argument(alloc),
         number_argument(alloc, "seed", "1", SEED_HELP),
     )?;
-    with_two(command, progress_argument(alloc), time_argument(alloc))
+    let command = with_two(command, progress_argument(alloc), time_argument(alloc))?;
+    command.arg(certificate_argument(alloc))
 }
 
 /// What sites search, how many nodes there are, and the seed of what is drawn.

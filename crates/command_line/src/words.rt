@@ -112,6 +112,7 @@ fn requested<'a>(name: &'a str, inner: &ArgMatches<'a>) -> Option<Request<'a>>
         seconds: seconds(inner)?,
         progress: is_set(inner, "progress"),
         unlimited: is_set(inner, "unlimited"),
+        certificate: inner.get_str("certificate"),
     })
 }
 

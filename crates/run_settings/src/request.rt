@@ -16,6 +16,8 @@ pub struct Request<'a> {
     pub progress: bool,
     /// Whether a search by one thread has no limit of visits.
     pub unlimited: bool,
+    /// The file that is to get a certificate, if one is asked for, that there is no exact cover.
+    pub certificate: Option<&'a str>,
     pub ghost some_seconds: { ForSome seconds (λ seconds. 1 ≤ seconds) },
     pub ghost most_seconds: { ForSome seconds (λ seconds. seconds ≤ 1000000) },
 }

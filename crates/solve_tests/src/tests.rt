@@ -158,6 +158,7 @@ fn solve<R: Threads + Wait + Clock + Net + RandomSource + Sync>(
         seconds: None,
         progress: false,
         unlimited: false,
+        certificate: None,
     };
     let Solved {
         out,
@@ -244,6 +245,7 @@ fn a_run_in_which_states_repeat_ends(rt: HostRuntime) {
         seconds: None,
         progress: false,
         unlimited: false,
+        certificate: None,
     };
     let network = Loopback {
         rt: &rt,

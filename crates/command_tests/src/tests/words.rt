@@ -214,6 +214,32 @@ fn reads_how_long_a_search_may_last(rt: HostRuntime) {
     }
 }
 
+/// Words that name a file for a certificate, or don't.
+static CERTIFICATES: [(&[&str], Option<&str>); 5] = [
+    (&["solve_cli", "learn", "a.dlx"], None),
+    (
+        &["solve_cli", "learn", "a.dlx", "--certificate", "b"],
+        Some("b"),
+    ),
+    (
+        &["solve_cli", "learn", "--certificate=b/c", "a.dlx"],
+        Some("b/c"),
+    ),
+    (
+        &["solve_cli", "learn", "a.dlx", "--certificate=", "--seed=2"],
+        Some(""),
+    ),
+    (&["solve_cli", "learn", "--", "--certificate"], None),
+];
+
+#[test]
+fn reads_where_a_certificate_goes(rt: HostRuntime) {
+    for (words, certificate) in CERTIFICATES.iter() {
+        let request = request(rt.alloc(), words).expect(&rt, "lawful words");
+        assert!(rt; request.certificate == *certificate);
+    }
+}
+
 /// Words that ask for progress, or don't.
 static PROGRESSES: [(&[&str], bool); 6] = [
     (&["solve_cli", "alone", "a.dlx", "--progress"], true),
@@ -249,7 +275,7 @@ fn reads_whether_there_is_a_limit(rt: HostRuntime) {
 }
 
 /// Each with the status.
-static WORDS: [(&[&str], u8); 67] = [
+static WORDS: [(&[&str], u8); 69] = [
     (&["solve_cli"], 2),
     (&["solve_cli", "--help"], 0),
     (&["solve_cli", "--version"], 0),
@@ -287,6 +313,8 @@ static WORDS: [(&[&str], u8); 67] = [
     (&["solve_cli", "solve", "a", "--seconds"], 2),
     (&["solve_cli", "alone", "a", "--seconds", "5"], 9),
     (&["solve_cli", "alone", "a", "--seconds", "0"], 2),
+    (&["solve_cli", "alone", "a", "--certificate", "b"], 2),
+    (&["solve_cli", "learn", "a", "--certificate"], 2),
     (&["solve_cli", "check", "a", "b", "--seconds", "5"], 9),
     (&["solve_cli", "check", "a", "b", "--seconds", "1000001"], 2),
     (&["solve_cli", "why", "a", "--seconds", "5"], 2),

@@ -4,7 +4,7 @@ use crate::run_words;
 use std::fs;
 
 /// Each with its status; the files are those that are written below.
-static WORDS: [(&[&str], u8); 43] = [
+static WORDS: [(&[&str], u8); 50] = [
     (&["solve_cli"], 2),
     (&["solve_cli", "--help"], 0),
     (&["solve_cli", "check", "--help"], 0),
@@ -100,6 +100,25 @@ static WORDS: [(&[&str], u8); 43] = [
             "7",
         ],
         0,
+    ),
+    (
+        &["solve_cli", "learn", "q.dlx", "--certificate", "c.txt"],
+        1,
+    ),
+    (&["solve_cli", "check", "q.dlx", "c.txt"], 0),
+    (&["solve_cli", "check", "p.dlx", "c.txt"], 1),
+    (
+        &["solve_cli", "learn", "p.dlx", "--certificate", "c.txt"],
+        0,
+    ),
+    (&["solve_cli", "check", "q.dlx", "c.txt"], 3),
+    (
+        &["solve_cli", "learn", "q.dlx", "--certificate", "q.dlx"],
+        3,
+    ),
+    (
+        &["solve_cli", "learn", "q.dlx", "--certificate", "no/such"],
+        3,
     ),
     (&["solve_cli", "simulate", "p.dlx"], 0),
     (&["solve_cli", "simulate", "p.dlx", "--fuel", "1"], 0),
