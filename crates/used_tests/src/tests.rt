@@ -56,7 +56,7 @@ static SMALL: [(&str, &str); 11] = [
     // a third lesson that may be in the full periods needs another one
     (
         "a b c | x y z w\na x\na y\nb x\nb y\nc z\nc x\nc w\n",
-        "a b x y | z w ",
+        "a b c x y | z w ",
     ),
     // each lesson needs a period and a room
     (
