@@ -79,16 +79,16 @@ pub fn is_excluded<V: Watch>(alloc: Global, problem: &Problem, watch: &mut V) ->
     match find_reason_until(alloc, problem, &mut root) {
         // (for its clause, that a search finds nothing then: the finder has tested the reason already)
         Ok(Some(reason)) => holds_of(problem, &reason),
-        Ok(None) => is_excluded_by_use(alloc, problem),
+        Ok(None) => is_excluded_by_use(alloc, problem, &mut root),
         Err(_) => false,
     }
 }
 
 /// Returns whether one is found once the items are primary that each cover uses.
-fn is_excluded_by_use(alloc: Global, problem: &Problem) -> bool
+fn is_excluded_by_use<W: ReasonWatch>(alloc: Global, problem: &Problem, watch: &mut W) -> bool
     ensures { result ≡ true → first problem.now [] ≡ None }
 {
-    match is_excluded_by_used_items(alloc, problem) {
+    match is_excluded_by_used_items(alloc, problem, watch) {
         Ok(is_excluded) => is_excluded,
         Err(_) => false,
     }

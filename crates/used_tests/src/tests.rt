@@ -84,7 +84,7 @@ static SMALL: [(&str, &str); 11] = [
 fn small_problems(rt: HostRuntime) -> Result<(), Fail> {
     for (text, made) in &SMALL {
         let names = made_of(&rt, rt.alloc(), *text)?;
-        assert!(rt; names.as_slice() == made.as_bytes());
+        assert!(rt; names.as_slice() == made.as_bytes(), "{text}");
     }
     Ok(())
 }
