@@ -27,6 +27,9 @@ by_first problem None e = record {
   first = e;
 }
 
+pub none_is_right : (problem : Problem) → first problem [] ≡ None → IsRight problem NoCover
+none_is_right problem e = by_first problem None e
+
 pub first_is_right : (problem : Problem) → IsRight problem (answer_by problem (first problem []))
 first_is_right problem = by_first problem (first problem []) refl
 

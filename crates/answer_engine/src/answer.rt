@@ -7,8 +7,8 @@ ghost use Rattle.search_engines.specs.Engines.{IsEnded, refuses_none};
 ghost use Rattle.search_engines.specs.Output.{IsOutputOf};
 
 use crate::lanes::{learner_lane, run_lane, search_lane};
-use crate::race::{Race, Way};
-use crate::race_watches::{LearnerLane, SearchLane};
+use crate::race::{Race, Way, workers_of};
+use crate::race_watches::{LaneWatch, SearchWatch};
 use brancher::Unwatched;
 use cover_problem::{Answer, Problem};
 use dlx_reader::{Sink, Source};
@@ -42,22 +42,34 @@ pub struct Task<'a, R: Threads + Wait + Clock + Sync> {
 struct Found {
     searched: Result<Option<Answer>, AllocError>,
     learned: Result<Option<Answer>, AllocError>,
-    ran: Option<Answer>,
+    ran: Option<(Answer, Way)>,
 }
 
 /// An answer of a lane that has one, and which lane that is. The only error is out of memory, where none has one.
 fn first_of(_problem: &Problem, found: Found) -> Result<Option<(Answer, Way)>, AllocError>
     requires searched { IfOk found.searched (λ answer. IfSome answer (IsRight _problem.now)) }
     requires learned { IfOk found.learned (λ answer. IfSome answer (IsRight _problem.now)) }
-    requires ran { IfSome found.ran (IsRight _problem.now) }
+    requires ran { IfSome found.ran (λ won. IsRight _problem.now won.0) }
     ensures { IfOk result (λ found. IfSome found (λ won. IsRight _problem.now won.0)) }
 {
     match (found.searched, found.learned, found.ran) {
         (Ok(Some(answer)), _, _) => Ok(Some((answer, Way::Search))),
         (_, Ok(Some(answer)), _) => Ok(Some((answer, Way::Learning))),
-        (_, _, Some(answer)) => Ok(Some((answer, Way::Run))),
+        (_, _, Some(won)) => Ok(Some(won)),
         (Ok(None), Ok(None), None) => Ok(None),
         (Err(fault), _, _) | (_, Err(fault), _) => Err(fault),
+    }
+}
+
+/// A watch of a lane.
+fn lane_watch<'a, 'b, R: Threads + Wait + Clock + Sync>(
+    task: &Task<'a, R>,
+    race: &'b Race,
+) -> LaneWatch<'a, 'b, R> {
+    LaneWatch {
+        clock: task.rt,
+        race,
+        time: task.time,
     }
 }
 
@@ -67,12 +79,13 @@ fn run_and_search<V: EndWatch, R: Threads + Wait + Clock + Sync>(
     problem: &Problem,
     race: &Race,
     inner: &mut V,
-) -> (Option<Answer>, Result<Option<Answer>, AllocError>)
-    ensures ran { IfSome result.0 (IsRight problem.now) }
+) -> (Option<(Answer, Way)>, Result<Option<Answer>, AllocError>)
+    ensures ran { IfSome result.0 (λ won. IsRight problem.now won.0) }
     ensures searched { IfOk result.1 (λ found. IfSome found (IsRight problem.now)) }
 {
     let (rt, alloc, threads) = (task.rt, task.alloc, task.threads);
-    let mut search = SearchLane {
+    let mut run = lane_watch(task, race);
+    let mut search = SearchWatch {
         clock: rt,
         race,
         time: task.time,
@@ -80,8 +93,8 @@ fn run_and_search<V: EndWatch, R: Threads + Wait + Clock + Sync>(
     };
     join(
         rt,
-        || run_lane(rt, alloc, problem, threads, race),
-        || search_lane(alloc, problem, &mut search),
+        || run_lane(rt, alloc, problem, threads, &mut run),
+        || search_lane(alloc, problem, &mut search, workers_of(threads) == 0),
     )
 }
 
@@ -95,11 +108,7 @@ fn raced<V: EndWatch, R: Threads + Wait + Clock + Sync>(
 {
     let (rt, alloc) = (task.rt, task.alloc);
     let race = Race::new();
-    let mut learning = LearnerLane {
-        clock: rt,
-        race: &race,
-        time: task.time,
-    };
+    let mut learning = lane_watch(task, &race);
     // (the first closure may run in another thread, and the log of the search belongs to this one)
     let (learned, (ran, searched)) = join(
         rt,

@@ -19,8 +19,10 @@ const MOST_WORKERS: u64 = 8;
 /// What found an answer.
 #[derive(Clone, Copy, Debug, PartialEq, Eq)]
 pub enum Way {
-    /// A search that keeps states, or a reason that excludes covers.
+    /// A search that keeps states, or where two threads work a reason that excludes covers, too.
     Search,
+    /// A reason that excludes covers, where a thread of its own looks for it.
+    Reason,
     /// A learner.
     Learning,
     /// The workers of a run in memory.
@@ -32,6 +34,7 @@ impl Way {
     pub fn line(self) -> &'static str {
         match self {
             Way::Search => "answered by the search",
+            Way::Reason => "answered by a reason",
             Way::Learning => "answered by learning",
             Way::Run => "answered by workers",
         }

@@ -14,15 +14,25 @@ fn is_over<C: Clock>(clock: &C, race: &Race, time: &Option<TimeLimit>) -> bool {
     }
 }
 
-/// Stops the learner once the race is over, or the time.
+/// Stops a lane once the race is over, or the time.
 #[derive(Drop)]
-pub(crate) struct LearnerLane<'a, 'b, C: Clock> {
+pub(crate) struct LaneWatch<'a, 'b, C: Clock> {
     pub(crate) clock: &'a C,
     pub(crate) race: &'b Race,
     pub(crate) time: Option<TimeLimit>,
 }
 
-impl<'a, 'b, C: Clock> LearnerWatch for LearnerLane<'a, 'b, C> {
+impl<'a, 'b, C: Clock> Watch for LaneWatch<'a, 'b, C> {
+    ghost use Rattle.std.specs.Prelude.{true};
+
+    ghost may_stop = { true };
+
+    fn look(&mut self, _chosen: &[u16], _left: u64) -> bool {
+        is_over(self.clock, self.race, &self.time)
+    }
+}
+
+impl<'a, 'b, C: Clock> LearnerWatch for LaneWatch<'a, 'b, C> {
     fn look(&mut self, _figures: &Figures) -> bool {
         is_over(self.clock, self.race, &self.time)
     }
@@ -30,14 +40,14 @@ impl<'a, 'b, C: Clock> LearnerWatch for LearnerLane<'a, 'b, C> {
 
 /// Stops the search, and does what another watch does.
 #[derive(Drop)]
-pub(crate) struct SearchLane<'a, 'b, 'c, V: EndWatch, C: Clock> {
+pub(crate) struct SearchWatch<'a, 'b, 'c, V: EndWatch, C: Clock> {
     pub(crate) clock: &'a C,
     pub(crate) race: &'b Race,
     pub(crate) time: Option<TimeLimit>,
     pub(crate) inner: &'c mut V,
 }
 
-impl<'a, 'b, 'c, V: EndWatch, C: Clock> Watch for SearchLane<'a, 'b, 'c, V, C> {
+impl<'a, 'b, 'c, V: EndWatch, C: Clock> Watch for SearchWatch<'a, 'b, 'c, V, C> {
     ghost use Rattle.std.specs.Prelude.{true};
 
     ghost may_stop = { true };

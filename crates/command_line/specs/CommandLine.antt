@@ -56,9 +56,10 @@ abbrev pub check_app : App
 check_app =
     timed (with_rule (with_rule (with_rule (with_rule (versioned (new_app (codes "check"))) (file_rule (codes "file"))) (file_rule (codes "answer"))) greatest_fuel_rule) (flag_rule (codes "unlimited")))
 
--- to which file an answer is looked for, whether it writes how far that has come, and when it ends
+-- to which file an answer is looked for, whether it writes how far that has come, by how many threads, and when it ends
 abbrev pub answer_app : App
-answer_app = timed (with_rule (with_rule (versioned (new_app (codes "answer"))) (file_rule (codes "file"))) (flag_rule (codes "progress")))
+answer_app =
+    timed (with_rule (with_rule (with_rule (versioned (new_app (codes "answer"))) (file_rule (codes "file"))) (flag_rule (codes "progress"))) (limit_rule (codes "threads")))
 
 -- of which file a reason is looked for
 abbrev pub why_app : App
@@ -164,6 +165,7 @@ pub record IsSpelled (name : Text) (given : Text → Option Text) (request : Req
   pub seconds_given : SpellsIf (given (codes "seconds")) request.seconds
   pub progress_given : IsFlag (given (codes "progress")) request.progress
   pub unlimited_given : IsFlag (given (codes "unlimited")) request.unlimited
+  pub threads_given : SpellsIf (given (codes "threads")) request.threads
   pub certificate_given : option_map (λ certificate. certificate.now) request.certificate ≡ given (codes "certificate")
 
 -- The problem and the answer are both to be read from standard input.

@@ -7,8 +7,8 @@ ghost use Rattle.command_line.specs.CommandLine.{alone_app, answer_app, answerin
 
 use crate::ranges::{
     ENTRIES_HELP, FUEL_HELP, GREATEST_FUEL, JOB_FUEL_HELP, NODE_RESTARTS_HELP, NODES_HELP,
-    RESTARTS_HELP, RUN_SECONDS_HELP, SECONDS_HELP, SEED_HELP, THREAD_TURNS_HELP, TURNS_HELP,
-    WORKERS_HELP,
+    RESTARTS_HELP, RUN_SECONDS_HELP, SECONDS_HELP, SEED_HELP, THREAD_TURNS_HELP, THREADS_HELP,
+    TURNS_HELP, WORKERS_HELP,
 };
 use clap::error::ErrorKind;
 use clap::{Arg, ArgAction, Command, Error};
@@ -186,7 +186,8 @@ fn answer_command<'a>(alloc: Global) -> Result<Command<'a>, AllocError>
         "Writes any exact cover of the problem, or none, by whatever is first: a search, a reason, or learning from dead ends";
     let command = described(alloc, "answer", about).after_help(SEARCH_STATUSES);
     let command = with_two(command, file_argument(alloc), progress_argument(alloc))?;
-    command.arg(time_argument(alloc))
+    let threads = limit_argument(alloc, "threads", THREADS_HELP);
+    with_two(command, threads, time_argument(alloc))
 }
 
 fn why_command<'a>(alloc: Global) -> Result<Command<'a>, AllocError>

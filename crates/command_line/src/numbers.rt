@@ -7,9 +7,9 @@ ghost use Rattle.clap.specs.Words.{first_value, found_of};
 ghost use Rattle.command_line.specs.CommandLine.{Spells, SpellsIf, SpellsOr, greatest_fuel};
 
 use crate::ranges::{
-    ENTRIES_REFUSED, FUEL_REFUSED, MOST_ENTRIES, MOST_NODES, MOST_RESTARTS, MOST_SECONDS,
-    MOST_TURNS, MOST_WORKERS, NODES_REFUSED, RESTARTS_REFUSED, SECONDS_REFUSED, SEED_REFUSED,
-    TURNS_REFUSED, WORKERS_REFUSED,
+    ENTRIES_REFUSED, FUEL_REFUSED, LEAST_THREADS, MOST_ENTRIES, MOST_NODES, MOST_RESTARTS,
+    MOST_SECONDS, MOST_THREADS, MOST_TURNS, MOST_WORKERS, NODES_REFUSED, RESTARTS_REFUSED,
+    SECONDS_REFUSED, SEED_REFUSED, THREADS_REFUSED, TURNS_REFUSED, WORKERS_REFUSED,
 };
 use clap::ArgMatches;
 
@@ -115,6 +115,26 @@ pub fn restarts(inner: &ArgMatches<'_>) -> Option<u32>
     Some(restarts as u32)
 }
 
+/// Returns the number that an option spells, in this range, if it is given; none where the value is out of it.
+fn number_within(inner: &ArgMatches<'_>, id: &str, least: u64, most: u64) -> Option<Option<u32>>
+    requires { most < 2 ^ 32 }
+    ensures given { IfSome result (SpellsIf (first_value (found_of inner.now) id.now)) }
+    ensures least { IfSome result (λ found. ForSome found (λ n. least ≤ n)) }
+    ensures most { IfSome result (λ found. ForSome found (λ n. n ≤ most)) }
+    ensures none { IfNone result ((found : Option ℕ) →
+        SpellsIf (first_value (found_of inner.now) id.now) found →
+        ForSome found (λ n. least ≤ n) → ForSome found (λ n. n ≤ most) → ⊥) }
+{
+    let Some(text) = inner.get_str(id) else {
+        return Some(None);
+    };
+    let number = number(text)?;
+    if number < least || number > most {
+        return None;
+    }
+    Some(Some(number as u32))
+}
+
 /// Returns after how many seconds a run ends, from 1 to 1,000,000, if it is asked to end; none where the value is out of this range.
 pub fn seconds(inner: &ArgMatches<'_>) -> Option<Option<u32>>
     ensures given { IfSome result (SpellsIf (first_value (found_of inner.now) (codes "seconds"))) }
@@ -124,14 +144,19 @@ pub fn seconds(inner: &ArgMatches<'_>) -> Option<Option<u32>>
         SpellsIf (first_value (found_of inner.now) (codes "seconds")) seconds →
         ForSome seconds (λ n. 1 ≤ n) → ForSome seconds (λ n. n ≤ 1000000) → ⊥) }
 {
-    let Some(text) = inner.get_str("seconds") else {
-        return Some(None);
-    };
-    let seconds = number(text)?;
-    if seconds == 0 || seconds > MOST_SECONDS {
-        return None;
-    }
-    Some(Some(seconds as u32))
+    number_within(inner, "seconds", 1, MOST_SECONDS)
+}
+
+/// Returns how many threads may work at once, from 2 to 10, if that is given; none where the value is out of this range.
+pub fn threads(inner: &ArgMatches<'_>) -> Option<Option<u32>>
+    ensures given { IfSome result (SpellsIf (first_value (found_of inner.now) (codes "threads"))) }
+    ensures some { IfSome result (λ threads. ForSome threads (λ threads. 2 ≤ threads)) }
+    ensures most { IfSome result (λ threads. ForSome threads (λ threads. threads ≤ 10)) }
+    ensures none { IfNone result ((threads : Option ℕ) →
+        SpellsIf (first_value (found_of inner.now) (codes "threads")) threads →
+        ForSome threads (λ n. 2 ≤ n) → ForSome threads (λ n. n ≤ 10) → ⊥) }
+{
+    number_within(inner, "threads", LEAST_THREADS, MOST_THREADS)
 }
 
 /// Returns how many visits a search may take, from 1; none where the value is out of this range.
@@ -172,6 +197,9 @@ pub fn out_of_range(inner: &ArgMatches<'_>) -> &'static str {
     }
     if seconds(inner).is_none() {
         return SECONDS_REFUSED;
+    }
+    if threads(inner).is_none() {
+        return THREADS_REFUSED;
     }
     // Only the seed is left: one of them is out of its range.
     SEED_REFUSED

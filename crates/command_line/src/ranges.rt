@@ -79,6 +79,19 @@ pub const RUN_SECONDS_HELP: &str =
 /// What is written of a `--seconds` outside.
 pub const SECONDS_REFUSED: &str = "--seconds takes 1 to 1000000";
 
+/// `--threads`, from 2: as many as there are processors where none are given.
+pub const LEAST_THREADS: u64 = 2;
+
+/// The most of them: two search and learn, and a node has at most eight workers.
+pub const MOST_THREADS: u64 = 10;
+
+/// What help says of `--threads`.
+pub const THREADS_HELP: &str =
+    "How many threads may work at once, 2 to 10; as many as there are processors if not given";
+
+/// What is written of a `--threads` outside.
+pub const THREADS_REFUSED: &str = "--threads takes 2 to 10";
+
 /// `--seed`: any number.
 pub const SEED_HELP: &str = "The seed of what is drawn";
 

@@ -16,8 +16,12 @@ pub struct Request<'a> {
     pub progress: bool,
     /// Whether a search by one thread has no limit of visits.
     pub unlimited: bool,
+    /// How many threads may look for an answer by whatever is first, from 2 to 10; none for as many as there are processors.
+    pub threads: Option<u32>,
     /// The file that is to get a certificate, if one is asked for, that there is no exact cover.
     pub certificate: Option<&'a str>,
     pub ghost some_seconds: { ForSome seconds (λ seconds. 1 ≤ seconds) },
     pub ghost most_seconds: { ForSome seconds (λ seconds. seconds ≤ 1000000) },
+    pub ghost some_threads: { ForSome threads (λ threads. 2 ≤ threads) },
+    pub ghost most_threads: { ForSome threads (λ threads. threads ≤ 10) },
 }

@@ -127,11 +127,13 @@ fn search_alone<W: Sink>(
     alone_within(rt, rt.alloc(), limits, source, &mut sink, log)
 }
 
-/// How many processors this process may use; one where the system doesn't say.
-fn processors<R: Threads>(threads: &R) -> u64 {
-    match thread::available_parallelism(threads) {
-        Ok(count) => count.get() as u64,
-        Err(_) => 1,
+/// How many threads may look for an answer at once: as many as asked for, or else as there are processors; one where the system doesn't
+/// say.
+fn threads_of<R: Threads>(threads: &R, request: &Request<'_>) -> u64 {
+    match (request.threads, thread::available_parallelism(threads)) {
+        (Some(asked), _) => u64::from(asked),
+        (None, Ok(count)) => count.get() as u64,
+        (None, Err(_)) => 1,
     }
 }
 
@@ -152,7 +154,7 @@ fn run_answer<R: Threads + Wait + Clock + Sync>(
         rt: threads,
         alloc: rt.alloc(),
         time: limits.time,
-        threads: processors(threads),
+        threads: threads_of(threads, request),
     };
     let mut sink = CountedWriter::new(rt.stdout());
     let log = ProgressLog::new(&mut errors, line_style(rt, request.progress));

@@ -158,6 +158,7 @@ fn solve<R: Threads + Wait + Clock + Net + RandomSource + Sync>(
         seconds: None,
         progress: false,
         unlimited: false,
+        threads: None,
         certificate: None,
     };
     let Solved {
@@ -245,6 +246,7 @@ fn a_run_in_which_states_repeat_ends(rt: HostRuntime) {
         seconds: None,
         progress: false,
         unlimited: false,
+        threads: None,
         certificate: None,
     };
     let network = Loopback {

@@ -214,6 +214,22 @@ fn reads_how_long_a_search_may_last(rt: HostRuntime) {
     }
 }
 
+/// Words that say how many threads may work, or don't.
+static THREADS: [(&[&str], Option<u32>); 4] = [
+    (&["solve_cli", "answer", "a.dlx"], None),
+    (&["solve_cli", "answer", "a.dlx", "--threads", "2"], Some(2)),
+    (&["solve_cli", "answer", "--threads=10", "a.dlx"], Some(10)),
+    (&["solve_cli", "alone", "a.dlx"], None),
+];
+
+#[test]
+fn reads_how_many_threads_may_work(rt: HostRuntime) {
+    for (words, threads) in THREADS.iter() {
+        let request = request(rt.alloc(), words).expect(&rt, "lawful words");
+        assert!(rt; request.threads == *threads);
+    }
+}
+
 /// Words that name a file for a certificate, or don't.
 static CERTIFICATES: [(&[&str], Option<&str>); 5] = [
     (&["solve_cli", "learn", "a.dlx"], None),
@@ -275,7 +291,7 @@ fn reads_whether_there_is_a_limit(rt: HostRuntime) {
 }
 
 /// Each with the status.
-static WORDS: [(&[&str], u8); 69] = [
+static WORDS: [(&[&str], u8); 76] = [
     (&["solve_cli"], 2),
     (&["solve_cli", "--help"], 0),
     (&["solve_cli", "--version"], 0),
@@ -319,6 +335,13 @@ static WORDS: [(&[&str], u8); 69] = [
     (&["solve_cli", "check", "a", "b", "--seconds", "1000001"], 2),
     (&["solve_cli", "why", "a", "--seconds", "5"], 2),
     (&["solve_cli", "simulate", "a", "--seconds", "5"], 2),
+    (&["solve_cli", "answer", "a", "--threads", "2"], 9),
+    (&["solve_cli", "answer", "a", "--threads", "10"], 9),
+    (&["solve_cli", "answer", "a", "--threads", "1"], 2),
+    (&["solve_cli", "answer", "a", "--threads", "11"], 2),
+    (&["solve_cli", "answer", "a", "--threads", "+2"], 2),
+    (&["solve_cli", "alone", "a", "--threads", "2"], 2),
+    (&["solve_cli", "solve", "a", "--threads", "2"], 2),
     (&["solve_cli", "check", "a", "b", "--progress"], 2),
     (&["solve_cli", "simulate", "a", "--progress"], 2),
     (&["solve_cli", "alone", "a", "--progress", "1"], 2),
@@ -376,7 +399,7 @@ fn reported<R: Abort>(rt: &R, alloc: Global, words: &[&str]) -> String {
 
 /// Values that are refused, each with what is reported: the option and its range, and the usage of its own subcommand by the name that
 /// the program was called by.
-static VALUES: [(&[&str], &str); 10] = [
+static VALUES: [(&[&str], &str); 11] = [
     (
         &["solve_cli", "alone", "a", "--fuel", "x"],
         "error: --fuel takes 1 to 18446744073709551615\n\nUsage: solve_cli alone [OPTIONS] <file>\n",
@@ -412,6 +435,10 @@ static VALUES: [(&[&str], &str); 10] = [
     (
         &["solve_cli", "alone", "a", "--seconds", "1000001"],
         "error: --seconds takes 1 to 1000000\n\nUsage: solve_cli alone [OPTIONS] <file>\n",
+    ),
+    (
+        &["solve_cli", "answer", "a", "--threads", "64"],
+        "error: --threads takes 2 to 10\n\nUsage: solve_cli answer [OPTIONS] <file>\n",
     ),
     (
         &["solve_cli", "check", "-", "-"],

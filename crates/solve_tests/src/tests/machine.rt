@@ -173,6 +173,7 @@ fn request(audit: bool) -> Request<'static> {
         seconds: None,
         progress: false,
         unlimited: false,
+        threads: None,
         certificate: None,
     }
 }
@@ -208,6 +209,7 @@ fn a_limit_is_counted_in_seconds(rt: HostRuntime) -> Result<(), Fail> {
         seconds: Some(1),
         progress: true,
         unlimited: false,
+        threads: None,
         certificate: None,
     };
     let wrong = Wrong::Mute;
