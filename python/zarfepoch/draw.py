@@ -1,7 +1,7 @@
 """Draws an answer to a problem file: as text in the terminal, and as a picture in SVG.
 
     python3 scripts/draw.py FILE ANSWER [--svg OUT] [--plan NAME ..] [--csv OUT]
-    crates/solve_cli/out/solve_cli alone FILE | python3 scripts/draw.py FILE -
+    crates/solve_cli/out/solve_cli answer FILE | python3 scripts/draw.py FILE -
 
 The kind of picture follows from the names of the items: tilings (cells are named by row and column, as 07, 0011 or 3-12) and solids (by layer,
 row and column, as 0-1-2), queens (r0 c0 and diagonals), sudokus (p00 r01 c01 b01, with regions of any shape, diagonals x1 y1, cages k0.1),
