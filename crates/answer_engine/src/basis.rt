@@ -18,7 +18,7 @@ pub enum Basis {
     /// A learner, and how many clauses it learned.
     Learning(u64),
     /// A run in memory, and how many workers it had.
-    Run(u8),
+    Run(u64),
 }
 
 /// An answer, and what it rests on.
@@ -89,8 +89,13 @@ pub(crate) fn basis_lines(
             )
         }
         Basis::Run(workers) => {
-            let workers = u64::from(*workers);
-            count_line(alloc, b"by a run of ", workers, b" worker\n", b" workers\n")
+            count_line(
+                alloc,
+                b"by a run of ",
+                *workers,
+                b" worker\n",
+                b" workers\n",
+            )
         }
     }
 }

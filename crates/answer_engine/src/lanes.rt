@@ -196,7 +196,7 @@ fn ran<R: Threads + Wait + Clock + Sync>(
     match run_in_memory(rt, alloc, problem, workers, over) {
         Ok(Some(answer)) => Some(Won {
             answer,
-            basis: Basis::Run(workers),
+            basis: Basis::Run(u64::from(workers)),
         }),
         // (where memory runs out for it, the other lanes may go on)
         Ok(None) | Err(_) => None,
